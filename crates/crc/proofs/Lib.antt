@@ -1,0 +1,3 @@
+mod Ends
+mod Entries
+mod Linear

@@ -1,0 +1,4 @@
+pub mod Answers
+pub mod Crc
+pub mod Examples
+pub mod Laws

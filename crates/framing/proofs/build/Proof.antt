@@ -1,0 +1,95 @@
+-- `framing::build` meets its contract.
+use Rattle.framing.specs.Enclose.{build-copied}
+use Rattle.framing.specs.Build.{outcome}
+use mathlib.Core.Path.{_≡_, sym, _∙_}
+use native.Mathlib.Omega.{arith}
+use Rattle.framing.specs.Enclose.{place-fits, build-refused, build-done}
+use borrow.Author.Needs.{needs}
+use Rattle.framing.proofs.build.Statement.{statement}
+use Rattle.framing.proofs.build.Tie as tie
+use Rattle.framing.proofs.build.Reads as reads
+use Rattle.framing.proofs.build.Lts as lts
+use Rattle.bytes.proofs.copy.Reads as copy-reads
+use Rattle.framing.proofs.enclose.Reads as enclose-reads
+use Rattle.framing.proofs.room_for.Reads as room-for-reads
+
+room-for-requires : tie.Need-room-for-requires
+room-for-requires c κs = search needs
+
+enum-known-start : tie.Need-enum-known-start
+enum-known-start c = search needs
+
+sub-copy : tie.Need-sub-copy
+sub-copy c =
+    let x = sym (c .before .start .given .1) ∙ c .before .before .before .room-for .ensures in
+    let k = place-fits (c .before .before .before .before .before .before .args .format) _ _ _ x in
+    omega arith
+
+part-copy-start : tie.Need-part-copy-start
+part-copy-start c =
+    let x = sym (c .before .start .given .1) ∙ c .before .before .before .room-for .ensures in
+    let k = place-fits (c .before .before .before .before .before .before .args .format) _ _ _ x in
+    omega arith
+
+part-copy-end : tie.Need-part-copy-end
+part-copy-end c = search needs
+
+copy-requires : tie.Need-copy-requires
+copy-requires c κs =
+    let x = sym (c .before .before .start .given .1) ∙ c .before .before .before .before .room-for .ensures in
+    let k = place-fits (c .before .before .before .before .before .before .before .args .format) _ _ _ x in
+    omega arith
+
+enclose-requires : tie.Need-enclose-requires
+enclose-requires c κs =
+    let x = sym (c .before .before .before .before .before .before .start .given .1) ∙ c .before .before .before .before .before .before .before .before .room-for .ensures in
+    let k = place-fits (c .before .before .before .before .before .before .before .before .before .before .before .args .format) _ _ _ x in
+    (k .short, rw (c .before .before .buffer .given .1) (k .inside))
+
+add-t11 : tie.Need-add-t11
+add-t11 c =
+    let x = sym (c .before .before .before .before .before .before .before .before .before .start .given .1) ∙ c .before .before .before .before .before .before .before .before .before .before .before .room-for .ensures in
+    let k = place-fits (c .before .before .before .before .before .before .before .before .before .before .before .before .before .before .args .format) _ _ _ x in
+    omega arith
+
+add-t13 : tie.Need-add-t13
+add-t13 c =
+    let x = sym (c .before .before .before .before .before .before .before .before .before .start .given .1) ∙ c .before .before .before .before .before .before .before .before .before .before .before .room-for .ensures in
+    let k = place-fits (c .before .before .before .before .before .before .before .before .before .before .before .before .before .before .args .format) _ _ _ x in
+    omega arith
+
+enum-known-refusal : tie.Need-enum-known-refusal
+enum-known-refusal c = search needs
+
+same-length : tie.Need-same-length
+same-length c = search needs
+
+returns : tie.Need-returns
+unfolding outcome
+returns c =
+    let x = sym (c .before .before .before .before .before .before .before .before .before .start .given .1) ∙ c .before .before .before .before .before .before .before .before .before .before .before .room-for .ensures in
+    build-copied _ _ _ _ _ _ x (c .before .before .before .before .before .before .copy .ensures .1) (c .before .before .enclose .ensures)
+
+returns-2 : tie.Need-returns-2
+unfolding outcome
+returns-2 c =
+    let x = sym (c .before .refusal .given .1) ∙ c .before .before .before .room-for .ensures in
+    build-refused _ _ _ _ x
+
+pub build-spec : {M : Type 1} → statement M
+build-spec =
+    tie.close
+    (tie.spec
+    room-for-requires
+    enum-known-start
+    sub-copy
+    part-copy-start
+    part-copy-end
+    copy-requires
+    enclose-requires
+    add-t11
+    add-t13
+    enum-known-refusal
+    same-length
+    returns
+    returns-2)

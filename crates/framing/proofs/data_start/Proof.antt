@@ -1,0 +1,38 @@
+-- `framing::data_start` meets its contract.
+use borrow.Author.Tests.{lt-ltb, le-ltb}
+use Rattle.framing.specs.Frames.{headOf, startOf, longest, lengthBytes}
+use Rattle.errors.specs.Choice.{pick}
+use borrow.Author.Needs.{needs}
+use Rattle.framing.proofs.data_start.Statement.{statement}
+use Rattle.framing.proofs.data_start.Tie as tie
+use Rattle.framing.proofs.data_start.Reads as reads
+use Rattle.framing.proofs.data_start.Lts as lts
+
+enum-told : tie.Need-enum-told
+enum-told c = search needs
+
+enum-told-2 : tie.Need-enum-told-2
+enum-told-2 c = search needs
+
+enum-told-3 : tie.Need-enum-told-3
+enum-told-3 c = search needs
+
+returns : tie.Need-returns
+unfolding startOf
+returns c = rw (c .enum-told .given .1)
+
+returns-2 : tie.Need-returns-2
+unfolding startOf
+returns-2 c = rw (c .enum-told2 .given .1)
+
+returns-3 : tie.Need-returns-3
+unfolding startOf pick
+returns-3 c = rw (c .before .enum-told3 .given .1, lt-ltb _ _ (c .if1 .taken))
+
+returns-4 : tie.Need-returns-4
+unfolding startOf pick
+returns-4 c = rw (c .before .enum-told3 .given .1, le-ltb _ _ (c .if1 .left))
+
+pub data-start-spec : {M : Type 1} → statement M
+data-start-spec =
+    tie.close (tie.spec enum-told enum-told-2 enum-told-3 returns returns-2 returns-3 returns-4)

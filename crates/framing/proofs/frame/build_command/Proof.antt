@@ -1,0 +1,131 @@
+-- `framing::frame::build_command` meets its contract.
+use native.Mathlib.Numerals.{add-two}
+use mathlib.Core.Path.{_≡_, sym, ap, _∙_}
+use native.Mathlib.Omega.{arith}
+use lib.ListN.{length, length-set, length-take, length-drop}
+use Rattle.framing.specs.Build.{outcome, placeOf}
+use Rattle.framing.specs.Enclose.{Fits, place-fits, build-refused, command-placed}
+use Rattle.framing.specs.Settings.{rcs956}
+use Rattle.framing.specs.declared.Place.the-variants.{At}
+use Prim.Native.Nat.{_+_}
+use borrow.Author.Needs.{needs}
+use Rattle.framing.proofs.frame.build_command.Statement.{statement}
+use Rattle.framing.proofs.frame.build_command.Tie as tie
+use Rattle.framing.proofs.frame.build_command.Reads as reads
+use Rattle.framing.proofs.frame.build_command.Lts as lts
+use Rattle.bytes.proofs.copy.Reads as copy-reads
+use Rattle.framing.proofs.enclose.Reads as enclose-reads
+use Rattle.framing.proofs.frame.Rcs956Format.format.Reads as format-reads
+use Rattle.framing.proofs.room_for.Reads as room-for-reads
+
+add-n : tie.Need-add-n
+add-n c = search needs
+
+format-requires : tie.Need-format-requires
+format-requires c κs = search needs
+
+room-for-requires : tie.Need-room-for-requires
+room-for-requires c κs = search needs
+
+enum-known-start : tie.Need-enum-known-start
+enum-known-start c = search needs
+
+-- what the place that was found says
+placed : (c : tie.After-start) → At (c .start .given .0 .0) ≡ placeOf rcs956 (length (c .before .before .before .before .before .before .args .bytes .now) + 2) (length (c .before .before .before .before .before .before .args .buffer .now))
+placed c = rw (c .before .before .before .format .ensures) at (sym (c .start .given .1) ∙ c .before .before .room-for .ensures)
+
+fits : (c : tie.After-start) → Fits rcs956 (length (c .before .before .before .before .before .before .args .bytes .now) + 2) (length (c .before .before .before .before .before .before .args .buffer .now)) (c .start .given .0 .0)
+fits c = place-fits rcs956 _ _ _ (placed c)
+
+slice-write-buffer : tie.Need-slice-write-buffer
+slice-write-buffer c =
+    let k = fits (c .before) in
+    omega arith
+
+add-buffer : tie.Need-add-buffer
+add-buffer c =
+    let k = fits (c .before) in
+    omega arith
+
+slice-write-buffer-2 : tie.Need-slice-write-buffer-2
+slice-write-buffer-2 c =
+    let k = fits (c .before) in
+    simp length-set (omega arith)
+
+add-copy : tie.Need-add-copy
+add-copy c =
+    let k = fits (c .before) in
+    omega arith
+
+sub-copy : tie.Need-sub-copy
+sub-copy c =
+    let k = fits (c .before) in
+    simp length-set (omega arith)
+
+part-copy-start : tie.Need-part-copy-start
+part-copy-start c =
+    let k = fits (c .before) in
+    simp length-set (omega arith)
+
+part-copy-end : tie.Need-part-copy-end
+part-copy-end c = search needs
+
+copy-requires : tie.Need-copy-requires
+copy-requires c κs =
+    let k = fits (c .before .before) in
+    simp (length-set, length-take, length-drop) (omega arith)
+
+enclose-requires : tie.Need-enclose-requires
+enclose-requires c κs =
+    let k = fits (c .before .before .before .before .before .before) in
+    (k .short, rw (c .before .before .buffer .given .1) (simp length-set (k .inside)))
+
+add-t12 : tie.Need-add-t12
+add-t12 c =
+    let k = fits (c .before .before .before .before .before .before .before .before .before) in
+    omega arith
+
+add-t14 : tie.Need-add-t14
+add-t14 c =
+    let k = fits (c .before .before .before .before .before .before .before .before .before) in
+    omega arith
+
+enum-known-refusal : tie.Need-enum-known-refusal
+enum-known-refusal c = search needs
+
+same-length : tie.Need-same-length
+same-length c = c .before .before .enclose .kept .1 .1 .0 ∙ (c .before .before .before .before .before .buffer .given .1 ∙ simp length-set)
+
+returns : tie.Need-returns
+unfolding outcome
+returns c = command-placed _ _ _ _ _ _ _ _ (placed (c .before .before .before .before .before .before .before .before .before)) (c .before .before .before .before .before .before .copy .ensures .1) (c .before .before .enclose .ensures)
+
+returns-2 : tie.Need-returns-2
+unfolding outcome
+returns-2 c =
+    build-refused _ _ _ _
+    (rw (c .before .before .before .before .format .ensures, add-two) at (sym (c .before .refusal .given .1) ∙ c .before .before .before .room-for .ensures))
+
+pub build-command-spec : {M : Type 1} → statement M
+build-command-spec =
+    tie.close
+    (tie.spec
+    add-n
+    format-requires
+    room-for-requires
+    enum-known-start
+    slice-write-buffer
+    add-buffer
+    slice-write-buffer-2
+    add-copy
+    sub-copy
+    part-copy-start
+    part-copy-end
+    copy-requires
+    enclose-requires
+    add-t12
+    add-t14
+    enum-known-refusal
+    same-length
+    returns
+    returns-2)

@@ -1,0 +1,30 @@
+-- `framing::has_marker` meets its contract.
+use Rattle.framing.specs.Valid.{marker-short}
+use Rattle.framing.specs.Rules.{steps}
+use Rattle.framing.specs.Checks.{hasMarker}
+use borrow.Author.Needs.{needs}
+use Rattle.framing.proofs.has_marker.Statement.{statement}
+use Rattle.framing.proofs.has_marker.Tie as tie
+use Rattle.framing.proofs.has_marker.Reads as reads
+use Rattle.framing.proofs.has_marker.Lts as lts
+
+returns : tie.Need-returns
+returns c = search (marker-short, needs)
+
+shared-slice-read-if2 : tie.Need-shared-slice-read-if2
+shared-slice-read-if2 c = search needs
+
+shared-slice-read-result : tie.Need-shared-slice-read-result
+shared-slice-read-result c = search needs
+
+returns-2 : tie.Need-returns-2
+unfolding hasMarker
+returns-2 c = search (steps, needs) depth 8
+
+returns-3 : tie.Need-returns-3
+unfolding hasMarker
+returns-3 c = search (steps, needs) depth 8
+
+pub has-marker-spec : {M : Type 1} → statement M
+has-marker-spec =
+    tie.close (tie.spec returns shared-slice-read-if2 shared-slice-read-result returns-2 returns-3)

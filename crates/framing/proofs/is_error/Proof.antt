@@ -1,0 +1,50 @@
+-- `framing::is_error` meets its contract.
+use mathlib.Core.Path.{refl}
+use Rattle.framing.specs.Parse.{isError}
+use Rattle.framing.specs.Valid.{byte-past}
+use borrow.Author.Needs.{needs}
+use Rattle.framing.proofs.is_error.Statement.{statement}
+use Rattle.framing.proofs.is_error.Tie as tie
+use Rattle.framing.proofs.is_error.Reads as reads
+use Rattle.framing.proofs.is_error.Lts as lts
+use Rattle.framing.proofs.is_exactly.Reads as is-exactly-reads
+
+enum-told : tie.Need-enum-told
+enum-told c = search needs
+
+slice-aggregate-is-exactly : tie.Need-slice-aggregate-is-exactly
+slice-aggregate-is-exactly c = search needs
+
+is-exactly-requires : tie.Need-is-exactly-requires
+is-exactly-requires c κs = search needs
+
+enum-told-2 : tie.Need-enum-told-2
+enum-told-2 c = search needs
+
+returns : tie.Need-returns
+unfolding isError
+returns c = rw (c .before .enum-told2 .given .1) (byte-past (c .before .before .before .before .args .packet .now) 5 0x7F (c .if1 .taken) refl)
+
+shared-slice-read-result : tie.Need-shared-slice-read-result
+shared-slice-read-result c = search needs
+
+returns-2 : tie.Need-returns-2
+unfolding isError
+returns-2 c = rw (c .before .before .enum-told .given .1) (c .is-exactly .ensures)
+
+returns-3 : tie.Need-returns-3
+unfolding isError
+returns-3 c = rw (c .before .before .enum-told2 .given .1)
+
+pub is-error-spec : {M : Type 1} → statement M
+is-error-spec =
+    tie.close
+    (tie.spec
+    enum-told
+    slice-aggregate-is-exactly
+    is-exactly-requires
+    enum-told-2
+    returns
+    shared-slice-read-result
+    returns-2
+    returns-3)

@@ -1,0 +1,23 @@
+-- `framing::is_exactly` meets its contract.
+use Rattle.framing.specs.Rules.{steps}
+use Rattle.framing.specs.Lists.{same}
+use borrow.Author.Needs.{needs}
+use Rattle.framing.proofs.is_exactly.Statement.{statement}
+use Rattle.framing.proofs.is_exactly.Tie as tie
+use Rattle.framing.proofs.is_exactly.Reads as reads
+use Rattle.framing.proofs.is_exactly.Lts as lts
+use Rattle.framing.proofs.starts_with.Reads as starts-with-reads
+
+returns : tie.Need-returns
+unfolding same
+returns c = search (steps, needs) depth 8
+
+starts-with-requires : tie.Need-starts-with-requires
+starts-with-requires c κs = search needs
+
+returns-2 : tie.Need-returns-2
+unfolding same
+returns-2 c = search (steps, needs) depth 8
+
+pub is-exactly-spec : {M : Type 1} → statement M
+is-exactly-spec = tie.close (tie.spec returns starts-with-requires returns-2)

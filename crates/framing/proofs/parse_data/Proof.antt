@@ -1,0 +1,35 @@
+-- `framing::parse_data` meets its contract.
+use Rattle.framing.specs.Lists.{Bytes}
+use Rattle.framing.specs.Rules.{told}
+use Rattle.framing.specs.Valid.{data-extended, data-normal}
+use borrow.Author.Needs.{needs}
+use Rattle.framing.proofs.parse_data.Statement.{statement}
+use Rattle.framing.proofs.parse_data.Tie as tie
+use Rattle.framing.proofs.parse_data.Reads as reads
+use Rattle.framing.proofs.parse_data.Lts as lts
+use Rattle.framing.proofs.is_extended.Reads as is-extended-reads
+use Rattle.framing.proofs.parse_extended.Reads as parse-extended-reads
+use Rattle.framing.proofs.parse_normal.Reads as parse-normal-reads
+
+is-extended-requires : tie.Need-is-extended-requires
+is-extended-requires c κs = search needs
+
+parse-extended-requires : tie.Need-parse-extended-requires
+parse-extended-requires c κs = (c .before .before .before .pre, search (told, needs))
+
+parse-normal-requires : tie.Need-parse-normal-requires
+parse-normal-requires c κs = search needs
+
+returns : tie.Need-returns
+returns c =
+    let p = c .before .before .before .before .args .packet .now in
+    let bytes : Bytes p = λ k. c .before .before .before .shared-slice-known .given k .fits in
+    search (data-extended, told, needs) depth 6
+
+returns-2 : tie.Need-returns-2
+returns-2 c = search (data-normal, told, needs) depth 6
+
+pub parse-data-spec : {M : Type 1} → statement M
+parse-data-spec =
+    tie.close
+    (tie.spec is-extended-requires parse-extended-requires parse-normal-requires returns returns-2)

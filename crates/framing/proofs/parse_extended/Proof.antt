@@ -1,0 +1,53 @@
+-- `framing::parse_extended` meets its contract.
+use Rattle.framing.specs.Lists.{Bytes}
+use Rattle.framing.specs.Valid.{extended-too-short, extended-found, extended-none}
+use borrow.Author.Needs.{needs}
+use Rattle.framing.proofs.parse_extended.Statement.{statement}
+use Rattle.framing.proofs.parse_extended.Tie as tie
+use Rattle.framing.proofs.parse_extended.Reads as reads
+use Rattle.framing.proofs.parse_extended.Lts as lts
+use Rattle.framing.proofs.pair_length.Reads as pair-length-reads
+use Rattle.framing.proofs.validated.Reads as validated-reads
+
+returns : tie.Need-returns
+returns c = search (extended-too-short, needs)
+
+shared-slice-read-pair-length : tie.Need-shared-slice-read-pair-length
+shared-slice-read-pair-length c = search needs
+
+shared-slice-read-pair-length-2 : tie.Need-shared-slice-read-pair-length-2
+shared-slice-read-pair-length-2 c = search needs
+
+pair-length-requires : tie.Need-pair-length-requires
+pair-length-requires c κs = search needs
+
+validated-requires : tie.Need-validated-requires
+validated-requires c κs = search needs
+
+add-t12 : tie.Need-add-t12
+add-t12 c = search needs
+
+returns-2 : tie.Need-returns-2
+returns-2 c =
+    let p = c .before .before .before .before .before .before .before .args .packet .now in
+    let bytes : Bytes p = λ k. c .before .before .before .before .before .before .shared-slice-known .given k .fits in
+    search (extended-found, needs) depth 6
+
+returns-3 : tie.Need-returns-3
+returns-3 c =
+    let p = c .before .before .before .before .before .before .before .args .packet .now in
+    let bytes : Bytes p = λ k. c .before .before .before .before .before .before .shared-slice-known .given k .fits in
+    search (extended-none, needs) depth 6
+
+pub parse-extended-spec : {M : Type 1} → statement M
+parse-extended-spec =
+    tie.close
+    (tie.spec
+    returns
+    shared-slice-read-pair-length
+    shared-slice-read-pair-length-2
+    pair-length-requires
+    validated-requires
+    add-t12
+    returns-2
+    returns-3)

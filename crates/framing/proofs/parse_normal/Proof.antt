@@ -1,0 +1,49 @@
+-- `framing::parse_normal` meets its contract.
+use Rattle.framing.specs.Lists.{Bytes}
+use Rattle.framing.specs.Valid.{normal-too-short, normal-found, normal-none}
+use borrow.Author.Needs.{needs}
+use Rattle.framing.proofs.parse_normal.Statement.{statement}
+use Rattle.framing.proofs.parse_normal.Tie as tie
+use Rattle.framing.proofs.parse_normal.Reads as reads
+use Rattle.framing.proofs.parse_normal.Lts as lts
+use Rattle.framing.proofs.validated.Reads as validated-reads
+use Rattle.framing.proofs.wide.Reads as wide-reads
+
+returns : tie.Need-returns
+returns c = search (normal-too-short, needs)
+
+shared-slice-read-wide : tie.Need-shared-slice-read-wide
+shared-slice-read-wide c = search needs
+
+wide-requires : tie.Need-wide-requires
+wide-requires c κs = search needs
+
+validated-requires : tie.Need-validated-requires
+validated-requires c κs = search needs
+
+add-t9 : tie.Need-add-t9
+add-t9 c = search needs
+
+returns-2 : tie.Need-returns-2
+returns-2 c =
+    let p = c .before .before .before .before .before .before .args .packet .now in
+    let bytes : Bytes p = λ k. c .before .before .before .before .before .shared-slice-known .given k .fits in
+    search (normal-found, needs) depth 6
+
+returns-3 : tie.Need-returns-3
+returns-3 c =
+    let p = c .before .before .before .before .before .before .args .packet .now in
+    let bytes : Bytes p = λ k. c .before .before .before .before .before .shared-slice-known .given k .fits in
+    search (normal-none, needs) depth 6
+
+pub parse-normal-spec : {M : Type 1} → statement M
+parse-normal-spec =
+    tie.close
+    (tie.spec
+    returns
+    shared-slice-read-wide
+    wide-requires
+    validated-requires
+    add-t9
+    returns-2
+    returns-3)

@@ -1,0 +1,54 @@
+-- `framing::put_normal_head` meets its contract.
+use native.Mathlib.Omega.{arith}
+use lib.ListN.{length-set}
+use lib.Seq.{sets-eq}
+use Rattle.framing.specs.Frames.{normalHead}
+use borrow.Author.Needs.{needs}
+use Rattle.framing.proofs.put_normal_head.Statement.{statement}
+use Rattle.framing.proofs.put_normal_head.Tie as tie
+use Rattle.framing.proofs.put_normal_head.Reads as reads
+use Rattle.framing.proofs.put_normal_head.Lts as lts
+use Rattle.framing.proofs.length_checksum.Reads as length-checksum-reads
+
+cast-len : tie.Need-cast-len
+cast-len c = search needs
+
+slice-write-buffer : tie.Need-slice-write-buffer
+slice-write-buffer c = search needs
+
+slice-write-buffer-2 : tie.Need-slice-write-buffer-2
+slice-write-buffer-2 c = simp length-set (omega arith)
+
+slice-write-buffer-3 : tie.Need-slice-write-buffer-3
+slice-write-buffer-3 c = simp length-set (omega arith)
+
+slice-write-buffer-4 : tie.Need-slice-write-buffer-4
+slice-write-buffer-4 c = simp length-set (omega arith)
+
+length-checksum-requires : tie.Need-length-checksum-requires
+length-checksum-requires c κs = search needs
+
+slice-write-buffer-5 : tie.Need-slice-write-buffer-5
+slice-write-buffer-5 c = simp length-set (omega arith)
+
+same-length : tie.Need-same-length
+same-length c = simp length-set
+
+returns : tie.Need-returns
+returns c =
+    let a = c .before .before .args in
+    rw (c .length-checksum .ensures) (sets-eq (normalHead (a .n)) (a .buffer .now) 0 (omega arith))
+
+pub put-normal-head-spec : {M : Type 1} → statement M
+put-normal-head-spec =
+    tie.close
+    (tie.spec
+    cast-len
+    slice-write-buffer
+    slice-write-buffer-2
+    slice-write-buffer-3
+    slice-write-buffer-4
+    length-checksum-requires
+    slice-write-buffer-5
+    same-length
+    returns)

@@ -1,0 +1,48 @@
+-- `framing::room_for` meets its contract.
+use native.Mathlib.Omega.{arith}
+use Rattle.framing.specs.Enclose.{place-long, place-short, place-at, start-most, longest-most}
+use borrow.Author.Needs.{needs}
+use Rattle.framing.proofs.room_for.Statement.{statement}
+use Rattle.framing.proofs.room_for.Tie as tie
+use Rattle.framing.proofs.room_for.Reads as reads
+use Rattle.framing.proofs.room_for.Lts as lts
+use Rattle.framing.proofs.data_start.Reads as data-start-reads
+use Rattle.framing.proofs.least.Reads as least-reads
+use Rattle.framing.proofs.longest_payload.Reads as longest-payload-reads
+
+longest-payload-requires : tie.Need-longest-payload-requires
+longest-payload-requires c κs = search needs
+
+least-requires : tie.Need-least-requires
+least-requires c κs = search needs
+
+returns : tie.Need-returns
+returns c = search (place-long, needs) depth 6
+
+data-start-requires : tie.Need-data-start-requires
+data-start-requires c κs = search needs
+
+add-if2 : tie.Need-add-if2
+add-if2 c = omega (arith, start-most (c .before .before .before .before .args .format .length) (c .before .before .before .before .args .n), longest-most (c .before .before .before .before .args .format .length))
+
+add-if2-2 : tie.Need-add-if2-2
+add-if2-2 c = omega (arith, start-most (c .before .before .before .before .args .format .length) (c .before .before .before .before .args .n), longest-most (c .before .before .before .before .args .format .length))
+
+returns-2 : tie.Need-returns-2
+returns-2 c = search (place-short, needs) depth 6
+
+returns-3 : tie.Need-returns-3
+returns-3 c = search (place-at, needs) depth 6
+
+pub room-for-spec : {M : Type 1} → statement M
+room-for-spec =
+    tie.close
+    (tie.spec
+    longest-payload-requires
+    least-requires
+    returns
+    data-start-requires
+    add-if2
+    add-if2-2
+    returns-2
+    returns-3)

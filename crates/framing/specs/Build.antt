@@ -1,0 +1,49 @@
+-- What `build` answers and leaves in the buffer: refusal 3 before 2, nothing written; else the frame at the buffer's start.
+use mathlib.Core.Bool.{Bool, true, false}
+use mathlib.Core.List.{List, [], _∷_, _++_}
+use Prim.Native.Nat.{ℕ, _+_, min}
+use lib.Dec.{ltb}
+use lib.ListN.{length, take, drop}
+use Rattle.errors.specs.Refusals.{Outcome, answered, refused, numbered, plain}
+use Rattle.errors.specs.declared.Refusal.the-variants.{OverLong, ShortBuffer}
+use Rattle.framing.specs.Frames.{frameOf, startOf, longest}
+use Rattle.errors.specs.Choice.{pick}
+use Rattle.framing.specs.declared.Built.{Built}
+use Rattle.framing.specs.declared.Built.the-variants.{Frame, Refused}
+use Rattle.framing.specs.declared.FrameFormat.{FrameFormat}
+use Rattle.framing.specs.declared.LengthEncoding.{LengthEncoding}
+use Rattle.framing.specs.declared.Place.{Place}
+use Rattle.framing.specs.declared.Place.the-variants.{At}
+
+-- document 01's number or the frame's length
+unfoldable pub outcome : Built → Outcome
+outcome (Frame n) = answered n
+outcome (Refused e) = refused (numbered e)
+
+-- the longest payload under a format: its limit, as far as its length form reaches
+unfoldable pub limitOf : FrameFormat → ℕ
+limitOf f = min (f .limit) (longest (f .length))
+
+-- an outcome and the buffer after it
+pub record Left : Type 0 where
+  pub told : Outcome
+  pub buffer : List ℕ
+
+abbrev pub left : Outcome → List ℕ → Left
+left o b = record { told = o; buffer = b }
+
+unfoldable pub putFrame : List ℕ → List ℕ → Left
+putFrame frame b = pick (ltb (length b) (length frame)) (left (refused (plain 2)) b) (left (answered (length frame)) (frame ++ drop (length frame) b))
+
+unfoldable pub buildOf : FrameFormat → List ℕ → List ℕ → Left
+buildOf f payload b = pick (ltb (limitOf f) (length payload)) (left (refused (plain 3)) b) (putFrame (frameOf (f .length) payload) b)
+
+-- head and ending put around the n bytes that stand at their place in the buffer b
+unfoldable pub enclosed : LengthEncoding → ℕ → List ℕ → List ℕ
+enclosed e n b = frameOf e (take n (drop (startOf e n) b)) ++ drop (startOf e n + n + 2) b
+
+-- where the payload is put, or why not
+unfoldable pub placeOf : FrameFormat → ℕ → ℕ → Place
+placeOf f n room =
+    pick (ltb (limitOf f) n) (Place.Refused OverLong)
+    (pick (ltb room (startOf (f .length) n + n + 2)) (Place.Refused ShortBuffer) (At (startOf (f .length) n)))

@@ -1,0 +1,15 @@
+pub mod Frames
+pub mod Parse
+pub mod Build
+pub mod Lists
+pub mod Sums
+pub mod Starts
+pub mod Checks
+pub mod Rules
+pub mod Valid
+pub mod Parts
+pub mod Enclose
+pub mod Copied
+pub mod Settings
+pub mod Exact
+pub mod RoundTrip

@@ -1,0 +1,34 @@
+-- The six settings in document 01's order. A setting's payload limit is the longest that its length form can carry.
+use mathlib.Core.Bool.{Bool, true, false}
+use mathlib.Core.List.{List, _∷_}
+use Prim.Native.Nat.{ℕ}
+use lib.Dec.{eqb}
+use Rattle.framing.specs.Frames.{longest}
+use Rattle.errors.specs.Choice.{pick}
+use Rattle.framing.specs.declared.ErrorDetection.{ErrorDetection}
+use Rattle.framing.specs.declared.ErrorDetection.the-variants.{ErrorFrame, StatusByte}
+use Rattle.framing.specs.declared.FrameFormat.{FrameFormat}
+use Rattle.framing.specs.declared.LengthEncoding.{LengthEncoding}
+use Rattle.framing.specs.declared.LengthEncoding.the-variants.{Normal, ExtendedLittleEndian, NormalOrExtendedBigEndian}
+use Rattle.framing.specs.declared.settings.Setting.{Setting}
+use Rattle.framing.specs.declared.settings.Setting.the-variants.{Format, Nothing}
+
+abbrev pub formatOf : LengthEncoding → ErrorDetection → FrameFormat
+formatOf e d = record { length = e; error = d; limit = longest e }
+
+unfoldable pub settingOf : ℕ → Setting
+settingOf n =
+    pick (eqb n 0) (Format (formatOf Normal ErrorFrame))
+    (pick (eqb n 1) (Format (formatOf Normal StatusByte))
+    (pick (eqb n 2) (Format (formatOf ExtendedLittleEndian ErrorFrame))
+    (pick (eqb n 3) (Format (formatOf ExtendedLittleEndian StatusByte))
+    (pick (eqb n 4) (Format (formatOf NormalOrExtendedBigEndian ErrorFrame))
+    (pick (eqb n 5) (Format (formatOf NormalOrExtendedBigEndian StatusByte)) Nothing)))))
+
+-- the RC-S956's own
+abbrev pub rcs956 : FrameFormat
+rcs956 = formatOf NormalOrExtendedBigEndian ErrorFrame
+
+-- a command's payload: TFI D4, the code, the data
+abbrev pub commandPayload : ℕ → List ℕ → List ℕ
+commandPayload code bytes = 0xD4 ∷ code ∷ bytes

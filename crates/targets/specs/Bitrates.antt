@@ -1,0 +1,76 @@
+-- What the functions answer. That `isRate` and `parseOf` take exactly the texts of `Form` is proved in `proofs/Exact`.
+use mathlib.Core.Bool.{Bool, true, false, cond, _&&_, _||_}
+use mathlib.Core.List.{List, [], _∷_}
+use Prim.Native.Nat.{ℕ, _+_, _-_, _≤_}
+use Prim.Native.Char.{code}
+use Prim.Native.String.{String, [] as empty, _∷_ as _then_}
+use lib.Dec.{leb, eqb}
+use lib.ListN.{length, take, drop, getD}
+use Rattle.errors.specs.Choice.{same}
+use Rattle.errors.specs.declared.Numbered.{Numbered}
+use Rattle.errors.specs.Refusals.{Outcome, answered, refused, plain, numbered}
+use Rattle.targets.specs.declared.Bitrate.{Bitrate}
+use Rattle.targets.specs.declared.Bitrate.the-variants.{B106A, B212F, B424F, B106B, B212B, B424B, B848B, Other}
+use Rattle.targets.specs.declared.Coded.{Coded}
+use Rattle.targets.specs.declared.Coded.the-variants.{Code, Refused as Uncoded}
+use Rattle.targets.specs.declared.Parsed.{Parsed}
+use Rattle.targets.specs.declared.Parsed.the-variants.{Send, Refused}
+use Rattle.targets.specs.Form.{allDigits, isCapital}
+
+-- One rate, as a test: at least two bytes, all digits but the last, and that a capital letter.
+unfoldable pub isRate : List ℕ → Bool
+isRate t = leb 2 (length t) && allDigits (take (length t - 1) t) && isCapital (getD t (length t - 1) 0)
+
+-- The length of the send part: the bytes before the first `/` (47), or all where there is none.
+unfoldable pub sendLength : List ℕ → ℕ
+sendLength [] = 0
+sendLength (b ∷ bs) = cond (eqb b 47) 0 (sendLength bs + 1)
+
+-- A bitrate: the send part is a rate, and it is the whole text or what stands behind the `/` is a rate.
+unfoldable pub isBitrate : List ℕ → Bool
+isBitrate t = isRate (take (sendLength t) t) && (eqb (sendLength t) (length t) || isRate (drop (sendLength t + 1) t))
+
+-- `Parsed`: the length of the send part, or refusal 5.
+abbrev pub parsed : Parsed → Outcome
+parsed (Send n) = answered n
+parsed (Refused e) = refused (numbered e)
+
+unfoldable pub parseOf : List ℕ → Outcome
+parseOf t = cond (isBitrate t) (answered (sendLength t)) (refused (plain 5))
+
+-- The bytes of a text in quotes.
+abbrev pub ascii : String → List ℕ
+ascii empty = []
+ascii (c then s) = code c ∷ ascii s
+
+-- The code of a send part, by its text.
+unfoldable pub codeOf : List ℕ → Bitrate
+codeOf s =
+    cond (same s (ascii "106A")) B106A
+    (cond (same s (ascii "212F")) B212F
+    (cond (same s (ascii "424F")) B424F
+    (cond (same s (ascii "106B")) B106B
+    (cond (same s (ascii "212B")) B212B
+    (cond (same s (ascii "424B")) B424B
+    (cond (same s (ascii "848B")) B848B
+    Other))))))
+
+-- `Coded`: the code of the send part, or refusal 5.
+pub data Choice : Type 0 where
+  chosen : Bitrate → Choice
+  noCode : Numbered → Choice
+
+abbrev pub coded : Coded → Choice
+coded (Code b) = chosen b
+coded (Uncoded e) = noCode (numbered e)
+
+abbrev pub choiceOn : List ℕ → Outcome → Choice
+choiceOn t (answered n) = chosen (codeOf (take n t))
+choiceOn t (refused k) = noCode k
+
+unfoldable pub choiceOf : List ℕ → Choice
+choiceOf t = choiceOn t (parseOf t)
+
+-- A digit, as two bounds.
+abbrev pub Digit : ℕ → Type 0
+Digit b = (48 ≤ b) × (b ≤ 57)

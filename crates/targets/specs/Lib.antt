@@ -1,0 +1,2 @@
+pub mod Bitrates
+pub mod Form
