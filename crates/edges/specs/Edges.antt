@@ -18,12 +18,12 @@ use Rattle.framing.specs.declared.LengthEncoding.{LengthEncoding}
 use Rattle.framing.specs.declared.LengthEncoding.the-variants.{Normal, ExtendedLittleEndian, NormalOrExtendedBigEndian}
 
 pub data Edge : Type 0 where
-  frame : LengthEncoding → List ℕ → List ℕ → Edge -- the frame of a payload
-  length-field : LengthEncoding → ℕ → List ℕ → Edge -- what stands behind the start bytes, up to the payload
-  parsed : FrameFormat → List ℕ → FrameType → Edge -- what a packet is under a format
-  payload : FrameFormat → List ℕ → List ℕ → Edge -- the payload of a packet
-  ack-led : List ℕ → Edge -- the exchange skips the packet (its step 4)
-  crc : Kind → List ℕ → List ℕ → Edge -- the CRC of some bytes
+  frame : LengthEncoding → List ℕ → List ℕ → Edge  -- the frame of a payload
+  length-field : LengthEncoding → ℕ → List ℕ → Edge  -- what stands behind the start bytes, up to the payload
+  parsed : FrameFormat → List ℕ → FrameType → Edge  -- what a packet is under a format
+  payload : FrameFormat → List ℕ → List ℕ → Edge  -- the payload of a packet
+  ack-led : List ℕ → Edge  -- the exchange skips the packet (its step 4)
+  crc : Kind → List ℕ → List ℕ → Edge  -- the CRC of some bytes
 
 abbrev pub Holds : Edge → Type 0
 Holds (frame e p bs) = frameOf e p ≡ bs

@@ -1,0 +1,7 @@
+mod AnswerLaws
+mod CodecLaws
+mod DecimalLaws
+mod HexLaws
+mod LineLaws
+mod TextLaws
+mod WordLaws

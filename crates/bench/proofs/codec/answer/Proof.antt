@@ -1,0 +1,42 @@
+-- `codec::answer` meets its contract.
+use Rattle.framing.specs.Rules.{cases}
+use Rattle.bench.specs.Codec.{answerOf}
+use Rattle.bench.proofs.CodecLaws.{placed-true, placed-false}
+use borrow.Author.Needs.{needs}
+use Rattle.bench.proofs.codec.answer.Statement.{statement}
+use Rattle.bench.proofs.codec.answer.Tie as tie
+use Rattle.bench.proofs.codec.answer.Reads as reads
+use Rattle.bench.proofs.codec.answer.Lts as lts
+use Rattle.bench.proofs.codec.by_words.Reads as by-words-reads
+use Rattle.bench.proofs.codec.unreadable.Reads as unreadable-reads
+
+unreadable-requires : tie.Need-unreadable-requires
+unreadable-requires c κs = search needs
+
+returns : tie.Need-returns
+unfolding answerOf
+returns c = search (placed-true, cases, needs)
+
+slice-aggregate-by-words : tie.Need-slice-aggregate-by-words
+slice-aggregate-by-words c = search needs
+
+slice-aggregate-by-words-2 : tie.Need-slice-aggregate-by-words-2
+slice-aggregate-by-words-2 c = search needs
+
+by-words-requires : tie.Need-by-words-requires
+by-words-requires c κs = search needs
+
+returns-2 : tie.Need-returns-2
+unfolding answerOf
+returns-2 c = search (placed-false, cases, needs)
+
+pub answer-spec : {M : Type 1} → statement M
+answer-spec =
+    tie.close
+    (tie.spec
+    unreadable-requires
+    returns
+    slice-aggregate-by-words
+    slice-aggregate-by-words-2
+    by-words-requires
+    returns-2)

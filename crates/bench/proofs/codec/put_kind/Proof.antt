@@ -1,0 +1,24 @@
+-- `codec::put_kind` meets its contract.
+use Rattle.bench.proofs.CodecLaws.{kind-room, kind-done}
+use borrow.Author.Needs.{needs}
+use Rattle.bench.proofs.codec.put_kind.Statement.{statement}
+use Rattle.bench.proofs.codec.put_kind.Tie as tie
+use Rattle.bench.proofs.codec.put_kind.Reads as reads
+use Rattle.bench.proofs.codec.put_kind.Lts as lts
+use Rattle.bench.proofs.text.put.Reads as put-reads
+use Rattle.bench.proofs.text.put_decimal.Reads as put-decimal-reads
+
+put-requires : tie.Need-put-requires
+put-requires c κs = search needs
+
+put-decimal-requires : tie.Need-put-decimal-requires
+put-decimal-requires c κs = search (kind-room, needs)
+
+same-length : tie.Need-same-length
+same-length c = search needs
+
+returns : tie.Need-returns
+returns c = search (kind-done, needs)
+
+pub put-kind-spec : {M : Type 1} → statement M
+put-kind-spec = tie.close (tie.spec put-requires put-decimal-requires same-length returns)

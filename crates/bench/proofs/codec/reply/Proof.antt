@@ -1,0 +1,65 @@
+-- `codec::reply` meets its contract.
+use Rattle.bench.proofs.AnswerLaws.{text-part, text-fits, feed-place, feed-done, answer-fits, answer-below, unreadable-below, reply-text, reply-long, reply-end}
+use native.Mathlib.Omega.{arith}
+use lib.ListN.{take}
+use borrow.Author.Needs.{needs}
+use Rattle.bench.proofs.codec.reply.Statement.{statement}
+use Rattle.bench.proofs.codec.reply.Tie as tie
+use Rattle.bench.proofs.codec.reply.Reads as reads
+use Rattle.bench.proofs.codec.reply.Lts as lts
+use Rattle.bench.proofs.codec.answer.Reads as answer-reads
+use Rattle.bench.proofs.codec.put_feed.Reads as put-feed-reads
+use Rattle.bench.proofs.codec.unreadable.Reads as unreadable-reads
+
+enum-known-told : tie.Need-enum-known-told
+enum-known-told c = search needs
+
+slice-aggregate-answer : tie.Need-slice-aggregate-answer
+slice-aggregate-answer c = search (text-part, needs)
+
+answer-requires : tie.Need-answer-requires
+answer-requires c κs = search needs
+
+put-feed-requires : tie.Need-put-feed-requires
+put-feed-requires c κs = search (feed-place, answer-fits, needs)
+
+enum-told : tie.Need-enum-told
+enum-told c = search needs
+
+unreadable-requires : tie.Need-unreadable-requires
+unreadable-requires c κs = search needs
+
+put-feed-requires-2 : tie.Need-put-feed-requires-2
+put-feed-requires-2 c κs = feed-place _ _ _ _ (c .before .unreadable .ensures) (omega arith)
+
+enum-told-2 : tie.Need-enum-told-2
+enum-told-2 c = search needs
+
+returns : tie.Need-returns
+returns c =
+    let before = c .before .before .answer .ensures in
+    reply-text _ _ _ _ _ (c .before .before .before .before .before .before .told .given .1) (feed-done _ _ _ _ before _ (answer-below (take (c .before .before .before .before .before .before .told .given .0 .0) (c .before .before .before .before .before .before .before .before .before .args .line .now)) (c .before .before .before .before .before .before .before .before .before .args .out .now) (search needs)) (c .put-feed .ensures))
+
+returns-2 : tie.Need-returns-2
+returns-2 c =
+    let before = c .before .before .unreadable .ensures in
+    reply-long _ _ _ _ (c .before .before .before .before .enum-told .given .1) (feed-done _ _ _ _ before _ (unreadable-below (c .before .before .before .before .before .before .before .args .out .now) (search needs)) (c .put-feed2 .ensures))
+
+returns-3 : tie.Need-returns-3
+returns-3 c = search (reply-end, needs)
+
+pub reply-spec : {M : Type 1} → statement M
+reply-spec =
+    tie.close
+    (tie.spec
+    enum-known-told
+    slice-aggregate-answer
+    answer-requires
+    put-feed-requires
+    enum-told
+    unreadable-requires
+    put-feed-requires-2
+    enum-told-2
+    returns
+    returns-2
+    returns-3)

@@ -1,0 +1,96 @@
+-- `codec::run` is safe and ends. The invariant: each buffer has its length.
+use Prim.Native.Nat.{ℕ}
+use mathlib.Core.Path.{_≡_, sym}
+use lib.ListN.{length, length-replicate}
+use Rattle.bench.proofs.AnswerLaws.{reply-inside, reply-part, reply-keeps}
+use borrow.Author.Needs.{needs}
+use Rattle.bench.proofs.codec.run.Statement.{statement}
+use Rattle.bench.proofs.codec.run.Tie as tie
+use Rattle.bench.proofs.codec.run.Reads as reads
+use Rattle.bench.proofs.codec.run.Lts as lts
+use Rattle.bench.proofs.codec.reply.Reads as reply-reads
+use Rattle.bench.proofs.lines.Held.nothing.Reads as nothing-reads
+use Rattle.bench.proofs.lines.next.Reads as next-reads
+use Rattle.io.proofs.large_buffer.Reads as large-buffer-reads
+use Rattle.io.proofs.write_all.Reads as write-all-reads
+
+abbrev Inv-loop : tie.InvT-loop
+Inv-loop buffer₀ line₀ out₀ held₀ turns₀ buffer line out held turns = (length buffer ≡ 65536) × (length line ≡ 262144) × (length out ≡ 262176)
+
+abbrev μ-loop : tie.MeasureT-loop
+μ-loop buffer₀ line₀ out₀ held₀ turns₀ buffer line out held turns = turns
+
+large-buffer-requires : tie.Need-large-buffer-requires Inv-loop μ-loop
+large-buffer-requires c κs = search needs
+
+nothing-requires : tie.Need-nothing-requires Inv-loop μ-loop
+nothing-requires c κs = search needs
+
+loop-holds : tie.Need-loop-holds Inv-loop μ-loop
+loop-holds c = (sym (c .before .large-buffer .ensures), length-replicate {A = ℕ} 262144 0, length-replicate {A = ℕ} 262176 0)
+
+slice-aggregate-next : tie.Need-slice-aggregate-next Inv-loop μ-loop
+slice-aggregate-next c = search needs
+
+slice-aggregate-next-2 : tie.Need-slice-aggregate-next-2 Inv-loop μ-loop
+slice-aggregate-next-2 c = search needs
+
+next-requires : tie.Need-next-requires Inv-loop μ-loop
+next-requires c κs = search needs
+
+slice-aggregate-reply : tie.Need-slice-aggregate-reply Inv-loop μ-loop
+slice-aggregate-reply c = search needs
+
+reply-requires : tie.Need-reply-requires Inv-loop μ-loop
+reply-requires c κs = search needs
+
+returns : tie.Need-returns Inv-loop μ-loop
+returns c = search needs
+
+array-share-prefix-out : tie.Need-array-share-prefix-out Inv-loop μ-loop
+array-share-prefix-out c = search (reply-inside, needs)
+
+slice-aggregate-write-all : tie.Need-slice-aggregate-write-all Inv-loop μ-loop
+slice-aggregate-write-all c = search (reply-part, needs)
+
+write-all-requires : tie.Need-write-all-requires Inv-loop μ-loop
+write-all-requires c κs = search needs
+
+returns-2 : tie.Need-returns-2 Inv-loop μ-loop
+returns-2 c = search needs
+
+sub-turns : tie.Need-sub-turns Inv-loop μ-loop
+sub-turns c = search needs
+
+loop-less : tie.Need-loop-less Inv-loop μ-loop
+loop-less c = search needs
+
+loop-again : tie.Need-loop-again Inv-loop μ-loop
+loop-again c = (search needs, search needs, search (reply-keeps, needs))
+
+returns-3 : tie.Need-returns-3 Inv-loop μ-loop
+returns-3 c = search needs
+
+pub run-spec : {M : Type 1} → statement M
+run-spec =
+    tie.close
+    (tie.spec
+    Inv-loop
+    μ-loop
+    large-buffer-requires
+    nothing-requires
+    loop-holds
+    slice-aggregate-next
+    slice-aggregate-next-2
+    next-requires
+    slice-aggregate-reply
+    reply-requires
+    returns
+    array-share-prefix-out
+    slice-aggregate-write-all
+    write-all-requires
+    returns-2
+    sub-turns
+    loop-less
+    loop-again
+    returns-3)

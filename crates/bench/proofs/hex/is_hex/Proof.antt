@@ -1,0 +1,47 @@
+-- `hex::is_hex` meets its contract.
+use Rattle.framing.specs.Rules.{steps}
+use Rattle.bench.specs.Hex.{isHex}
+use borrow.Author.Needs.{needs}
+use Rattle.bench.proofs.hex.is_hex.Statement.{statement}
+use Rattle.bench.proofs.hex.is_hex.Tie as tie
+use Rattle.bench.proofs.hex.is_hex.Reads as reads
+use Rattle.bench.proofs.hex.is_hex.Lts as lts
+use Rattle.bench.proofs.hex.all_digits.Reads as all-digits-reads
+use Rattle.bench.proofs.words.is.Reads as is-reads
+
+slice-aggregate-is : tie.Need-slice-aggregate-is
+slice-aggregate-is c = search needs
+
+is-requires : tie.Need-is-requires
+is-requires c κs = search needs
+
+returns : tie.Need-returns
+unfolding isHex
+returns c = search (steps, needs) depth 12
+
+all-digits-requires : tie.Need-all-digits-requires
+all-digits-requires c κs = search needs
+
+returns-2 : tie.Need-returns-2
+unfolding isHex
+returns-2 c = search (steps, needs) depth 12
+
+returns-3 : tie.Need-returns-3
+unfolding isHex
+returns-3 c = search (steps, needs) depth 12
+
+returns-4 : tie.Need-returns-4
+unfolding isHex
+returns-4 c = search (steps, needs) depth 12
+
+pub is-hex-spec : {M : Type 1} → statement M
+is-hex-spec =
+    tie.close
+    (tie.spec
+    slice-aggregate-is
+    is-requires
+    returns
+    all-digits-requires
+    returns-2
+    returns-3
+    returns-4)

@@ -1,0 +1,53 @@
+-- `hex::put` meets its contract.
+use Rattle.bench.proofs.HexLaws.{dash-room, put-dash, digits-room, put-some}
+use native.Mathlib.Omega.{arith}
+use borrow.Author.Needs.{needs}
+use Rattle.bench.proofs.hex.put.Statement.{statement}
+use Rattle.bench.proofs.hex.put.Tie as tie
+use Rattle.bench.proofs.hex.put.Reads as reads
+use Rattle.bench.proofs.hex.put.Lts as lts
+use Rattle.bench.proofs.hex.put_digits.Reads as put-digits-reads
+use Rattle.bench.proofs.text.put.Reads as put-reads
+
+slice-aggregate-put : tie.Need-slice-aggregate-put
+slice-aggregate-put c = search needs
+
+put-requires : tie.Need-put-requires
+put-requires c κs = search (dash-room, needs)
+
+same-length : tie.Need-same-length
+same-length c = search needs
+
+returns : tie.Need-returns
+returns c = search (put-dash, needs)
+
+put-digits-requires : tie.Need-put-digits-requires
+put-digits-requires c κs = search (digits-room, needs)
+
+mul-result : tie.Need-mul-result
+mul-result c = search needs
+
+add-result : tie.Need-add-result
+add-result c =
+    let h = digits-room _ _ (c .before .before .before .before .if1 .left) _ (c .before .before .before .before .before .before .before .pre) in
+    omega arith
+
+same-length-2 : tie.Need-same-length-2
+same-length-2 c = search needs
+
+returns-2 : tie.Need-returns-2
+returns-2 c = search (put-some, needs)
+
+pub put-spec : {M : Type 1} → statement M
+put-spec =
+    tie.close
+    (tie.spec
+    slice-aggregate-put
+    put-requires
+    same-length
+    returns
+    put-digits-requires
+    mul-result
+    add-result
+    same-length-2
+    returns-2)

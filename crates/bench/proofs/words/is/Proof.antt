@@ -1,0 +1,20 @@
+-- `words::is` meets its contract.
+use Rattle.framing.specs.Rules.{steps}
+use Rattle.framing.specs.Lists.{same}
+use borrow.Author.Needs.{needs}
+use Rattle.bench.proofs.words.is.Statement.{statement}
+use Rattle.bench.proofs.words.is.Tie as tie
+
+returns : tie.Need-returns
+unfolding same
+returns c = search (steps, needs) depth 8
+
+starts-with-requires : tie.Need-starts-with-requires
+starts-with-requires c κs = search needs
+
+returns-2 : tie.Need-returns-2
+unfolding same
+returns-2 c = search (steps, needs) depth 8
+
+pub is-spec : {M : Type 1} → statement M
+is-spec = tie.close (tie.spec returns starts-with-requires returns-2)

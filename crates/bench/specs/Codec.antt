@@ -1,0 +1,126 @@
+-- The lines of the program `codec`, and the text that is printed for each. A line that cannot be read gives `refused 4`.
+use mathlib.Core.Bool.{Bool, true, false}
+use mathlib.Core.List.{List, [], _∷_, _++_}
+use Prim.Native.Nat.{ℕ, _+_, _-_}
+use lib.Dec.{eqb, ltb}
+use lib.ListN.{length, take, getD}
+use Rattle.errors.specs.Refusals.{Outcome, answered, refused}
+use Rattle.framing.specs.Build.{limitOf}
+use Rattle.framing.specs.Frames.{frameOf, checksumOf}
+use Rattle.errors.specs.Choice.{pick}
+use Rattle.framing.specs.Lists.{same}
+use Rattle.framing.specs.Parse.{parseOf, payloadOf}
+use Rattle.framing.specs.Settings.{settingOf}
+use Rattle.framing.specs.declared.FrameFormat.{FrameFormat}
+use Rattle.framing.specs.declared.FrameType.{FrameType}
+use Rattle.framing.specs.declared.FrameType.the-variants.{Ack, Error, Data, Nothing}
+use Rattle.framing.specs.declared.settings.Setting.{Setting}
+use Rattle.framing.specs.declared.settings.Setting.the-variants.{Format, Nothing as NoSetting}
+use Rattle.crc.specs.Crc.{Kind, typeA, typeB, checks, crcBytes}
+use Rattle.targets.specs.Bitrates.{ascii, parseOf as bitrateOf}
+use Rattle.bench.specs.Texts.{decimalOf}
+use Rattle.bench.specs.Hex.{dash, isHex, pairsOf, hexOf}
+use Rattle.bench.specs.Words.{wordsOf}
+use Rattle.bench.specs.declared.lines.Line.{Line}
+use Rattle.bench.specs.declared.lines.Line.the-variants.{Text, OverLong, End}
+
+-- the longest line, without its line feed; room for its bytes, for a frame or those bytes with their CRC, and for any answer
+abbrev pub lineLimit : ℕ
+lineLimit = 262144
+
+abbrev pub bytesRoom : ℕ
+bytesRoom = 131072
+
+abbrev pub frameRoom : ℕ
+frameRoom = 131088
+
+abbrev pub answerRoom : ℕ
+answerRoom = 262176
+
+abbrev pub unreadable : List ℕ
+unreadable = ascii "refused 4"
+
+-- the setting of a word: one digit, 0 to 5
+unfoldable pub settingNamed : List ℕ → Setting
+settingNamed w = pick (eqb (length w) 1) (pick (ltb (getD w 0 0) 48) NoSetting (settingOf (getD w 0 0 - 48))) NoSetting
+
+-- `build`: the frame, or refusal 3 above the format's limit
+unfoldable pub buildText : FrameFormat → List ℕ → List ℕ
+buildText f p = pick (ltb (limitOf f) (length p)) (ascii "refused 3") (hexOf (frameOf (f .length) p))
+
+-- `parse`: the kind, the frame's length, and of a data frame the payload
+unfoldable pub dataText : ℕ → List ℕ → List ℕ
+dataText n payload = ascii "data " ++ decimalOf n ++ ascii " " ++ hexOf payload
+
+unfoldable pub foundText : FrameType → List ℕ → List ℕ
+foundText (Ack n) p = ascii "ack " ++ decimalOf n
+foundText (Error n) p = ascii "error " ++ decimalOf n
+foundText (Data start len n) p = dataText n (payloadOf (Data start len n) p)
+foundText Nothing p = ascii "none"
+
+unfoldable pub parseText : FrameFormat → List ℕ → List ℕ
+parseText f p = foundText (parseOf f p) p
+
+-- `checksum`: one byte
+unfoldable pub checksumText : List ℕ → List ℕ
+checksumText p = hexOf (checksumOf p ∷ [])
+
+-- `crc_a_check`, `crc_b_check`
+abbrev pub yesOrNo : Bool → List ℕ
+yesOrNo true = ascii "yes"
+yesOrNo false = ascii "no"
+
+-- `crc_a_append`, `crc_b_append`: the bytes with the CRC behind them
+unfoldable pub appendText : Kind → List ℕ → List ℕ
+appendText k p = hexOf (p ++ crcBytes k p)
+
+-- `bitrate`: the send part, or refusal 5; `-` is the empty text
+unfoldable pub sendText : Outcome → List ℕ → List ℕ
+sendText (answered n) t = ascii "ok " ++ take n t
+sendText (refused e) t = ascii "refused 5"
+
+unfoldable pub bitrateText : List ℕ → List ℕ
+bitrateText t = sendText (bitrateOf t) t
+
+unfoldable pub bitrateWord : List ℕ → List ℕ
+bitrateWord w = pick (eqb (length w) 0) unreadable (pick (same dash w) (bitrateText []) (bitrateText w))
+
+-- a name and bytes
+unfoldable pub onBytes : List ℕ → List ℕ → List ℕ
+onBytes name p =
+    pick (same (ascii "checksum") name) (checksumText p)
+    (pick (same (ascii "crc_a_check") name) (yesOrNo (checks typeA p))
+    (pick (same (ascii "crc_b_check") name) (yesOrNo (checks typeB p))
+    (pick (same (ascii "crc_a_append") name) (appendText typeA p)
+    (pick (same (ascii "crc_b_append") name) (appendText typeB p) unreadable))))
+
+-- a name, a format and bytes
+unfoldable pub onFormat : List ℕ → FrameFormat → List ℕ → List ℕ
+onFormat name f p =
+    pick (same (ascii "build") name) (buildText f p)
+    (pick (same (ascii "parse") name) (parseText f p) unreadable)
+
+unfoldable pub twoWords : List ℕ → List ℕ → List ℕ
+twoWords name w =
+    pick (same (ascii "bitrate") name) (bitrateWord w)
+    (pick (isHex w) (onBytes name (pairsOf w)) unreadable)
+
+unfoldable pub onSetting : Setting → List ℕ → List ℕ → List ℕ
+onSetting (Format f) name w = pick (isHex w) (onFormat name f (pairsOf w)) unreadable
+onSetting NoSetting name w = unreadable
+
+unfoldable pub onWords : List (List ℕ) → List ℕ
+onWords [] = unreadable
+onWords (name ∷ []) = unreadable
+onWords (name ∷ word ∷ []) = twoWords name word
+onWords (name ∷ number ∷ word ∷ []) = onSetting (settingNamed number) name word
+onWords (name ∷ number ∷ word ∷ more ∷ words) = unreadable
+
+unfoldable pub answerOf : List ℕ → List ℕ
+answerOf l = pick (ltb lineLimit (length l)) unreadable (onWords (wordsOf l))
+
+-- what is written for what was told of a line that stands at the start of b: the text and a line feed (10), and nothing at the end
+unfoldable pub replyOf : Line → List ℕ → List ℕ
+replyOf (Text n) b = answerOf (take n b) ++ (10 ∷ [])
+replyOf OverLong b = unreadable ++ (10 ∷ [])
+replyOf End b = []

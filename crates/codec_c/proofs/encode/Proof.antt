@@ -1,0 +1,41 @@
+-- `codec_c::encode` meets its contract: each arm's answer is its case of `foundOf`.
+use borrow.Author.Needs.{needs}
+use Rattle.codec_c.proofs.encode.Statement.{statement}
+use Rattle.codec_c.proofs.encode.Tie as tie
+
+enum-known-parsed : tie.Need-enum-known-parsed
+enum-known-parsed c = search needs
+
+enum-known-parsed-2 : tie.Need-enum-known-parsed-2
+enum-known-parsed-2 c = search needs
+
+enum-known-parsed-3 : tie.Need-enum-known-parsed-3
+enum-known-parsed-3 c = search needs
+
+enum-told : tie.Need-enum-told
+enum-told c = search needs
+
+returns : tie.Need-returns
+returns c = rw (c .before .parsed .given .1)
+
+returns-2 : tie.Need-returns-2
+returns-2 c = rw (c .before .parsed2 .given .1)
+
+returns-3 : tie.Need-returns-3
+returns-3 c = rw (c .before .parsed3 .given .1)
+
+returns-4 : tie.Need-returns-4
+returns-4 c = rw (c .enum-told .given .1)
+
+pub encode-spec : {M : Type 1} → statement M
+encode-spec =
+    tie.close
+    (tie.spec
+    enum-known-parsed
+    enum-known-parsed-2
+    enum-known-parsed-3
+    enum-told
+    returns
+    returns-2
+    returns-3
+    returns-4)

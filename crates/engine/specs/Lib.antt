@@ -1,0 +1,11 @@
+pub mod Plans
+pub mod Names
+pub mod Moves
+pub mod Sessions
+pub mod Laws
+pub mod Inputs
+pub mod Places
+pub mod Exchanges
+pub mod Tie
+pub mod Follows
+pub mod Unchanged

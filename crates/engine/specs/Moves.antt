@@ -1,0 +1,173 @@
+-- What an event does to a running call, as call.rt has it: a few numbers, apart from buffer and session.
+use mathlib.Core.Path.{_≡_, refl, sym, ap, _∙_, subst}
+use mathlib.Core.Bool.{Bool, true, false}
+use mathlib.Core.List.{List, [], _∷_}
+use Prim.Native.Nat.{ℕ, zero, suc, _+_, _≤_}
+use native.Mathlib.Omega.{arith}
+use lib.Dec.{eqb, leb}
+use lib.ListN.{take, drop}
+use Rattle.errors.specs.Choice.{pick}
+use Rattle.errors.specs.Refusals.{numbered}
+use Rattle.errors.specs.declared.Refusal.{Refusal}
+use Rattle.errors.specs.declared.Refusal.the-variants.{Transport}
+use Rattle.framing.specs.Frames.{ack}
+use Rattle.framing.specs.Lists.{both}
+use Rattle.framing.specs.Rules.{at-true, at-false}
+use borrow.Author.Tests.{eq-eqb}
+use Rattle.exchange.specs.Exchange.{Event, unfit, pending, ended, onWrite, onRead, onPause, Step, sending, reading, waiting, cancelling, rejecting, draining, ExchangeResult, advance}
+use Rattle.exchange.specs.Exchange.{Order as HostOrder, write, read, drain, pause}
+use Rattle.exchange.specs.Packets.{Reply, response, failed}
+use Rattle.exchange.specs.Steps.{stepOf, exchangeAt, resultIn, replyIn, Kept}
+use Rattle.exchange.specs.Steps.{orderOf as nextOrder}
+use Rattle.exchange.specs.declared.Advanced.{Advanced}
+use Rattle.exchange.specs.declared.Next.{Next}
+use Rattle.exchange.specs.declared.Reply.{Reply as CodeReply}
+use Rattle.exchange.specs.declared.Exchange.{Exchange}
+use Rattle.engine.specs.declared.call.Call.{Call}
+use Rattle.engine.specs.declared.call.Order.{Order}
+use Rattle.engine.specs.declared.call.Order.the-variants.{Ack, Read, Drain, Pause}
+use Rattle.engine.specs.declared.call.Move.{Move}
+use Rattle.engine.specs.declared.call.Move.the-variants.{Unfit, Orders, Enters, Replies, Refuses}
+
+-- a call at another phase, and at its next command
+abbrev pub at : Call → ℕ → Call
+at c phase = record { kind = c .kind; stage = c .stage; phase = phase }
+
+abbrev pub following : Call → Call
+following c = record { kind = c .kind; stage = c .stage + 1; phase = 0 }
+
+-- the opening's commands 0 and 8 are resets
+unfoldable pub isReset : Call → Bool
+isReset c = pick (eqb (c .kind) 1) (pick (eqb (c .stage) 0) true (eqb (c .stage) 8)) false
+
+-- all of version, and the opening's command 1, is get_firmware_version
+unfoldable pub asksVersion : Call → Bool
+asksVersion c = pick (eqb (c .kind) 1) (eqb (c .stage) 1) true
+
+-- the number of an exchange's step
+abbrev pub phaseOf : Step → ℕ
+phaseOf (sending code clock) = 0
+phaseOf (reading code clock) = 1
+phaseOf (waiting code clock) = 2
+phaseOf (cancelling r) = pick (eqb (numbered r .0) 7) 3 4
+phaseOf rejecting = 5
+phaseOf draining = 6
+
+-- the exchange at another step
+abbrev pub exchangeIn : Exchange → Step → Exchange
+exchangeIn x step = exchangeAt (phaseOf step) (x .code) (x .clock)
+
+-- what the code's Move says, with a response by its bytes
+pub data Moved : Type 0 where
+  unfitting : Moved
+  orders : HostOrder → Call → Exchange → Moved
+  enters : Call → Moved
+  replies : List ℕ → Moved
+  refuses : Refusal → Moved
+
+abbrev pub orderOf : Order → HostOrder
+orderOf Ack = write ack
+orderOf (Read ms) = read ms
+orderOf Drain = drain
+orderOf (Pause us) = pause us
+
+abbrev pub moveIn : List ℕ → Move → Moved
+moveIn packet Unfit = unfitting
+moveIn packet (Orders o c x) = orders (orderOf o) c x
+moveIn packet (Enters c) = enters c
+moveIn packet (Replies part) = replies (take (part .len) (drop (part .start) packet))
+moveIn packet (Refuses r) = refuses r
+
+-- behind a command's exchange: a reset's is followed by ACK whatever the reply
+unfoldable pub endedMove : Call → Exchange → Reply → Moved
+endedMove c x (response bytes) = pick (isReset c) (orders (write ack) (at c 1) x) (replies bytes)
+endedMove c x (failed r) = pick (isReset c) (orders (write ack) (at c 1) x) (refuses r)
+
+unfoldable pub exchangeMove : Call → Exchange → ExchangeResult → Moved
+exchangeMove c x unfit = unfitting
+exchangeMove c x (pending o step) = orders o c (exchangeIn x step)
+exchangeMove c x (ended r) = endedMove c x r
+
+abbrev pub resetAckMove : Call → Exchange → Event → Moved
+resetAckMove c x e = onWrite unfitting (orders (pause 10000) (at c 2) x) (refuses Transport) e
+
+abbrev pub resetPauseMove : Call → Event → Moved
+resetPauseMove c e = onPause unfitting (enters (following c)) e
+
+abbrev pub openingAckMove : Call → Exchange → Event → Moved
+openingAckMove c x e = onWrite unfitting (orders (read 10) (at c 4) x) (refuses Transport) e
+
+abbrev pub openingReadsMove : Call → Exchange → Event → Moved
+openingReadsMove c x e = onRead unfitting (λ p. orders (read 10) c x) (enters (at c 0)) (enters (at c 0)) unfitting e
+
+unfoldable pub moveOf : Call → Exchange → Event → Moved
+moveOf c x e =
+    pick (eqb (c .phase) 0) (exchangeMove c x (advance (stepOf x) e))
+    (pick (eqb (c .phase) 1) (resetAckMove c x e)
+    (pick (eqb (c .phase) 2) (resetPauseMove c e)
+    (pick (eqb (c .phase) 3) (openingAckMove c x e)
+    (pick (eqb (c .phase) 4) (openingReadsMove c x e) unfitting))))
+
+abbrev pub fits : Moved → Bool
+fits unfitting = false
+fits (orders o c x) = true
+fits (enters c) = true
+fits (replies bytes) = true
+fits (refuses r) = true
+
+-- every field of a call is in its range
+unfoldable pub validCall : Call → Bool
+validCall c = both (leb (c .kind) 2) (both (leb (c .stage) 9) (leb (c .phase) 4))
+
+-- ---- laws
+
+pub ended-reset : (c : Call) (x : Exchange) (r : Reply) → isReset c ≡ true → orders (write ack) (at c 1) x ≡ endedMove c x r
+unfolding endedMove pick
+ended-reset c x (response bytes) h = rw h
+ended-reset c x (failed r) h = rw h
+
+-- the exchange that goes on is the old one at its new step
+phase-of : (n code clock : ℕ) → n ≤ 6 → phaseOf (stepOf (exchangeAt n code clock)) ≡ n
+unfolding stepOf pick
+phase-of zero code clock h = refl
+phase-of (suc zero) code clock h = refl
+phase-of (suc (suc zero)) code clock h = refl
+phase-of (suc (suc (suc zero))) code clock h = refl
+phase-of (suc (suc (suc (suc zero)))) code clock h = refl
+phase-of (suc (suc (suc (suc (suc zero))))) code clock h = refl
+phase-of (suc (suc (suc (suc (suc (suc zero)))))) code clock h = refl
+phase-of (suc (suc (suc (suc (suc (suc (suc n))))))) code clock h = absurd (omega arith)
+
+exchange-kept : (x y : Exchange) → y .phase ≤ 6 → y .code ≡ x .code → y .clock ≡ x .clock → y ≡ exchangeIn x (stepOf y)
+exchange-kept x y h p q =
+    λ i. exchangeAt (sym (phase-of (y .phase) (y .code) (y .clock) h) i) (p i) (q i)
+
+module _ (c : Call) (x : Exchange) (packet : List ℕ) (a : Advanced) (r : ExchangeResult) (is : resultIn packet a ≡ r) where
+  pub exchange-unfit : a ≡ Advanced.Unfit → unfitting ≡ exchangeMove c x r
+  unfolding exchangeMove
+  exchange-unfit h = let e : r ≡ unfit = sym is ∙ ap (resultIn packet) h in rw e
+
+  pub exchange-pending : (m : Moved) (n : Next) (y : Exchange) → a ≡ Advanced.Pending n y → Kept x packet a → m ≡ orders (nextOrder n) c y → m ≡ exchangeMove c x r
+  unfolding exchangeMove
+  exchange-pending m n y h kept p =
+      let e : r ≡ pending (nextOrder n) (stepOf y) = sym is ∙ ap (resultIn packet) h in
+      let k = subst (Kept x packet) h kept in
+      rw e (p ∙ ap (λ z. orders (nextOrder n) c z) (exchange-kept x y (k .0) (k .1) (k .2)))
+
+  pub exchange-ended : (m : Moved) (reply : CodeReply) → a ≡ Advanced.Ended reply → m ≡ endedMove c x (replyIn packet reply) → m ≡ exchangeMove c x r
+  unfolding exchangeMove
+  exchange-ended m reply h p = let e : r ≡ ended (replyIn packet reply) = sym is ∙ ap (resultIn packet) h in rw e p
+
+module _ (c : Call) (x : Exchange) (e : Event) (m : Moved) where
+  pub moves-exchange : c .phase ≡ 0 → m ≡ exchangeMove c x (advance (stepOf x) e) → m ≡ moveOf c x e
+  unfolding moveOf
+  moves-exchange h p = at-true m _ _ _ (eq-eqb (c .phase) 0 h) p
+
+  pub moves-reads : c .phase ≡ 4 → m ≡ openingReadsMove c x e → m ≡ moveOf c x e
+  unfolding moveOf
+  moves-reads h p =
+      at-false m _ _ _ (other 0 refl) (at-false m _ _ _ (other 1 refl) (at-false m _ _ _ (other 2 refl) (at-false m _ _ _ (other 3 refl)
+      (at-true m _ _ _ (eq-eqb (c .phase) 4 h) p))))
+    where
+      other : (k : ℕ) → eqb 4 k ≡ false → eqb (c .phase) k ≡ false
+      other k q = ap (λ n. eqb n k) h ∙ q

@@ -1,0 +1,63 @@
+-- The opening's answer: three version bytes and the chip's name.
+use mathlib.Core.Path.{_≡_, sym, ap, ap₂, _∙_}
+use mathlib.Core.Bool.{Bool, true, false}
+use mathlib.Core.List.{List, [], _∷_, _++_}
+use Prim.Native.Nat.{ℕ, _+_, _/_, _%_, _<_, _≤_}
+use native.Mathlib.Omega.{arith}
+use borrow.Author.Tests.{lt-ltb, le-ltb}
+use lib.Dec.{ltb}
+use lib.ListN.{length, take, drop, getD, drop-of-length-le}
+use lib.Seq.{drop-cons, take-append-add}
+use Rattle.errors.specs.Choice.{pick}
+
+-- a byte in lower-case hex, unpadded
+unfoldable pub hexDigit : ℕ → ℕ
+hexDigit n = pick (ltb n 10) (0x30 + n) (0x57 + n)
+
+unfoldable pub hex : ℕ → List ℕ
+hex b = pick (ltb b 16) (hexDigit b ∷ []) (hexDigit (b / 16) ∷ hexDigit (b % 16) ∷ [])
+
+-- version, a dot, revision, in hex
+unfoldable pub dotted : ℕ → ℕ → List ℕ
+dotted ver rev = hex ver ++ (0x2E ∷ hex rev)
+
+-- the bytes, RCS956v, and these
+unfoldable pub openedBytes : ℕ → ℕ → ℕ → List ℕ
+openedBytes ic ver rev = ic ∷ ver ∷ rev ∷ 0x52 ∷ 0x43 ∷ 0x53 ∷ 0x39 ∷ 0x35 ∷ 0x36 ∷ 0x76 ∷ dotted ver rev
+
+-- ---- laws
+
+module _ (b one : ℕ) (low : one ≡ hexDigit (b % 16)) where
+  pub hex-short : b < 16 → one ∷ [] ≡ hex b
+  unfolding hex pick
+  hex-short h =
+      let e : b % 16 ≡ b = omega arith in
+      rw (lt-ltb b 16 h) (ap (λ d. d ∷ []) (low ∙ ap hexDigit e))
+
+  pub hex-long : (ten : ℕ) → ten ≡ hexDigit (b / 16) → 16 ≤ b → ten ∷ one ∷ [] ≡ hex b
+  unfolding hex pick
+  hex-long ten high h = rw (le-ltb b 16 h) (ap₂ (λ t o. t ∷ o ∷ []) high low)
+
+pub dotted-is : (x y : List ℕ) (ver rev : ℕ) → x ≡ hex ver → y ≡ hex rev → x ++ (0x2E ∷ y) ≡ dotted ver rev
+unfolding dotted
+dotted-is x y ver rev p q = ap₂ (λ a b. a ++ (0x2E ∷ b)) p q
+
+five : (l : List ℕ) → length l ≡ 5 → getD l 0 0 ∷ getD l 1 0 ∷ getD l 2 0 ∷ getD l 3 0 ∷ getD l 4 0 ∷ [] ≡ l
+five l h =
+    sym
+    (drop-cons l 0 0 (omega arith)
+    ∙ ap (λ r. getD l 0 0 ∷ r) (drop-cons l 1 0 (omega arith)
+    ∙ ap (λ r. getD l 1 0 ∷ r) (drop-cons l 2 0 (omega arith)
+    ∙ ap (λ r. getD l 2 0 ∷ r) (drop-cons l 3 0 (omega arith)
+    ∙ ap (λ r. getD l 3 0 ∷ r) (drop-cons l 4 0 (omega arith)
+    ∙ ap (λ r. getD l 4 0 ∷ r) (drop-of-length-le l {i = 5} (omega arith)))))))
+
+-- the bytes and RCS956v, with a list of five behind them that is cut to the dotted numbers
+pub opened-is : (ic ver rev n : ℕ) (l : List ℕ) → length l ≡ 5 → take n l ≡ dotted ver rev
+    → take (10 + n) (ic ∷ ver ∷ rev ∷ 0x52 ∷ 0x43 ∷ 0x53 ∷ 0x39 ∷ 0x35 ∷ 0x36 ∷ 0x76
+    ∷ getD l 0 0 ∷ getD l 1 0 ∷ getD l 2 0 ∷ getD l 3 0 ∷ getD l 4 0 ∷ [])
+    ≡ openedBytes ic ver rev
+unfolding openedBytes
+opened-is ic ver rev n l h e =
+    let ten : List ℕ = ic ∷ ver ∷ rev ∷ 0x52 ∷ 0x43 ∷ 0x53 ∷ 0x39 ∷ 0x35 ∷ 0x36 ∷ 0x76 ∷ [] in
+    ap (λ r. take (10 + n) (ten ++ r)) (five l h) ∙ take-append-add ten l n ∙ ap (λ r. ten ++ r) e

@@ -1,0 +1,187 @@
+-- Where a session of the engine stands, and the session of the definitions that its fields stand for.
+use mathlib.Core.Path.{_≡_}
+use mathlib.Core.Bool.{Bool, true}
+use mathlib.Core.List.{List, [], _∷_, _++_}
+use Prim.Native.Nat.{ℕ, _≤_}
+use lib.Dec.{leb, ltb}
+use lib.ListN.{length, getD}
+use Rattle.errors.specs.declared.Refusal.the-variants.{ShortResponse, Status}
+use Rattle.exchange.specs.Steps.{stepOf}
+use Rattle.exchange.specs.declared.Exchange.{Exchange}
+use Rattle.protocol.specs.Scripts.{Script, finish, reset, either, refuse, ifElse, done}
+use Rattle.protocol.specs.Chipset.{versionBytes, getFirmwareVersion, rfFieldOff, rfConfiguration, setParameters, writeRegister, anyNonzero}
+use Rattle.protocol.specs.Device.{chipsetName, deviceNew}
+use Rattle.protocol.specs.Calls.{Call as CallOf, opening, version}
+use Rattle.protocol.specs.Session.{Rest, byReply, ofReset, Phase, exchange, resetAck, resetPause, openingAck, openingReads}
+use Rattle.protocol.specs.Session.{idle, busy, Session as Meant}
+use Rattle.engine.specs.Sessions.{noCall}
+use Rattle.engine.specs.declared.call.Call.{Call}
+use Rattle.engine.specs.declared.session.State.{State}
+use Rattle.engine.specs.declared.session.Session.{Session}
+
+-- ---- where a call stands
+
+-- the opening's commands, and the two of them that are resets
+pub data Stage : Type 0 where
+  c0 c1 c2 c3 c4 c5 c6 c7 c8 c9 : Stage
+
+pub data Reset : Type 0 where
+  first second : Reset
+
+pub data Place : Type 0 where
+  atAck atReads atVersion : Place
+  atCommand : Stage → Place
+  atResetAck atResetPause : Reset → Place
+
+abbrev pub number : Stage → ℕ
+number c0 = 0
+number c1 = 1
+number c2 = 2
+number c3 = 3
+number c4 = 4
+number c5 = 5
+number c6 = 6
+number c7 = 7
+number c8 = 8
+number c9 = 9
+
+abbrev pub resetNumber : Reset → ℕ
+resetNumber first = 0
+resetNumber second = 8
+
+abbrev pub which : Place → CallOf
+which atAck = opening
+which atReads = opening
+which atVersion = version
+which (atCommand s) = opening
+which (atResetAck r) = opening
+which (atResetPause r) = opening
+
+abbrev pub stageOf : Place → ℕ
+stageOf atAck = 0
+stageOf atReads = 0
+stageOf atVersion = 0
+stageOf (atCommand s) = number s
+stageOf (atResetAck r) = resetNumber r
+stageOf (atResetPause r) = resetNumber r
+
+abbrev pub phaseNumber : Place → ℕ
+phaseNumber atAck = 3
+phaseNumber atReads = 4
+phaseNumber atVersion = 0
+phaseNumber (atCommand s) = 0
+phaseNumber (atResetAck r) = 1
+phaseNumber (atResetPause r) = 2
+
+abbrev pub kindOf : CallOf → ℕ
+kindOf opening = 1
+kindOf version = 2
+
+abbrev pub callAt : Place → Call
+callAt p = record { kind = kindOf (which p); stage = stageOf p; phase = phaseNumber p }
+
+-- version runs in an open reader alone
+abbrev pub openedFor : CallOf → Bool → Bool
+openedFor opening o = o
+openedFor version o = true
+
+-- ---- the scripts left, by the version bytes
+
+abbrev pub s10 : ℕ → ℕ → ℕ → Script
+s10 a b c = finish (done (versionBytes 1 a b c ++ chipsetName b c))
+
+abbrev pub s9 : ℕ → ℕ → ℕ → Script
+s9 a b c = writeRegister (0x03 ∷ 0x28 ∷ 0x59 ∷ []) (s10 a b c)
+
+abbrev pub s8 : ℕ → ℕ → ℕ → Script
+s8 a b c = reset (s9 a b c)
+
+abbrev pub s7 : ℕ → ℕ → ℕ → Script
+s7 a b c = setParameters 0x08 (s8 a b c)
+
+abbrev pub s6 : ℕ → ℕ → ℕ → Script
+s6 a b c = rfConfiguration 0x0A (0x5A ∷ 0xF4 ∷ 0x3F ∷ 0x11 ∷ 0x4D ∷ 0x85 ∷ 0x61 ∷ 0x6F ∷ 0x26 ∷ 0x62 ∷ 0x87 ∷ []) (s7 a b c)
+
+abbrev pub s5 : ℕ → ℕ → ℕ → Script
+s5 a b c = rfConfiguration 0x05 (0x00 ∷ 0x00 ∷ 0x01 ∷ []) (s6 a b c)
+
+abbrev pub s4 : ℕ → ℕ → ℕ → Script
+s4 a b c = rfConfiguration 0x04 (0x00 ∷ []) (s5 a b c)
+
+abbrev pub s3 : ℕ → ℕ → ℕ → Script
+s3 a b c = rfConfiguration 0x02 (0x0B ∷ 0x0B ∷ 0x0A ∷ []) (s4 a b c)
+
+abbrev pub s1 : Script
+s1 = getFirmwareVersion (λ a b c. rfFieldOff (s3 a b c))
+
+-- behind get_firmware_version
+abbrev pub ofVersion : (ℕ → ℕ → ℕ → Script) → Rest
+ofVersion f = byReply (either (λ bs. ifElse (ltb (length bs) 4) (refuse ShortResponse) (f (getD bs 0 0) (getD bs 1 0) (getD bs 2 0))) refuse)
+
+abbrev pub behind : Script → Rest
+behind s = byReply (either (λ _. s) refuse)
+
+abbrev pub restAt : Stage → ℕ → ℕ → ℕ → Rest
+restAt c0 a b c = ofReset s1
+restAt c1 a b c = ofVersion (λ x y z. rfFieldOff (s3 x y z))
+restAt c2 a b c = behind (s3 a b c)
+restAt c3 a b c = behind (s4 a b c)
+restAt c4 a b c = behind (s5 a b c)
+restAt c5 a b c = behind (s6 a b c)
+restAt c6 a b c = behind (s7 a b c)
+restAt c7 a b c = behind (s8 a b c)
+restAt c8 a b c = ofReset (s9 a b c)
+restAt c9 a b c = byReply (either (λ bs. ifElse (anyNonzero bs) (refuse (Status 0xFE)) (s10 a b c)) refuse)
+
+abbrev pub scriptAt : Reset → ℕ → ℕ → ℕ → Script
+scriptAt first a b c = s1
+scriptAt second a b c = s9 a b c
+
+abbrev pub phaseAt : Place → Exchange → ℕ → ℕ → ℕ → Phase
+phaseAt atAck x a b c = openingAck deviceNew
+phaseAt atReads x a b c = openingReads deviceNew
+phaseAt atVersion x a b c = exchange (stepOf x) (ofVersion (λ x y z. finish (done (versionBytes 0 x y z))))
+phaseAt (atCommand s) x a b c = exchange (stepOf x) (restAt s a b c)
+phaseAt (atResetAck r) x a b c = resetAck (scriptAt r a b c)
+phaseAt (atResetPause r) x a b c = resetPause (scriptAt r a b c)
+
+-- ---- a session's other fields
+
+pub record Fields : Type 0 where
+  pub opened : Bool
+  pub command : List ℕ
+  pub found : List ℕ
+  pub kept : ℕ
+  pub exchange : Exchange
+  pub frames : ℕ
+  pub long : 3 ≤ length found
+  pub keptFits : leb kept 1024 ≡ true
+  pub phaseFits : leb (exchange .phase) 6 ≡ true
+  pub few : frames ≤ 4294967295
+
+abbrev pub stateWith : Fields → Call → Bool → State
+stateWith v c o = record { command = 0; found = v .kept; exchange = v .exchange; call = c; opened = o; frames = v .frames }
+
+abbrev pub sessionWith : Fields → State → Session
+sessionWith v s = record { command = v .command; found = v .found; state = s }
+
+-- no call runs
+abbrev pub freeState : Fields → State
+freeState v = stateWith v noCall (v .opened)
+
+abbrev pub freeMeant : Fields → Meant
+freeMeant v = record { activity = idle (v .opened); count = v .frames }
+
+-- a call runs
+abbrev pub stateAt : Place → Fields → State
+stateAt p v = stateWith v (callAt p) (openedFor (which p) (v .opened))
+
+abbrev pub phaseIn : Place → Exchange → List ℕ → Phase
+phaseIn p x l = phaseAt p x (getD l 0 0) (getD l 1 0) (getD l 2 0)
+
+abbrev pub meantAt : Place → Fields → Meant
+meantAt p v = record { activity = busy (which p) (phaseIn p (v .exchange) (v .found)); count = v .frames }
+
+pub data Means (s : Session) (m : Meant) : Type 0 where
+  free : (v : Fields) → s ≡ sessionWith v (freeState v) → m ≡ freeMeant v → Means s m
+  runs : (p : Place) (v : Fields) → s ≡ sessionWith v (stateAt p v) → m ≡ meantAt p v → Means s m

@@ -1,0 +1,203 @@
+-- What each entry does to a session, field by field, and to the buffer: the contracts of session.rt.
+use mathlib.Core.Bool.{Bool, true, false}
+use mathlib.Core.List.{List, [], _∷_, _++_}
+use Prim.Native.Nat.{ℕ, _+_}
+use lib.Dec.{eqb, leb, ltb}
+use lib.ListN.{length, take, drop, getD, set, replicate}
+use Rattle.errors.specs.Choice.{pick}
+use Rattle.errors.specs.declared.Refusal.{Refusal}
+use Rattle.errors.specs.declared.Refusal.the-variants.{OutOfTurn, ShortBuffer, OverLong, ShortResponse, Status}
+use Rattle.framing.specs.Frames.{ack}
+use Rattle.framing.specs.Lists.{both}
+use Rattle.exchange.specs.Exchange.{Event, onRead}
+use Rattle.exchange.specs.Exchange.{Order, write, read, drain, pause}
+use Rattle.exchange.specs.Packets.{commandFrame}
+use Rattle.exchange.specs.Steps.{exchangeAt}
+use Rattle.exchange.specs.declared.Exchange.{Exchange}
+use Rattle.protocol.specs.Chipset.{anyNonzero}
+use Rattle.engine.specs.Moves.{validCall, fits, asksVersion, following, Moved, unfitting, orders, enters, replies, refuses, moveOf}
+use Rattle.engine.specs.Names.{openedBytes}
+use Rattle.engine.specs.Plans.{Command, planOf}
+use Rattle.engine.specs.declared.call.Call.{Call}
+use Rattle.engine.specs.declared.session.State.{State}
+use Rattle.engine.specs.declared.session.Session.{Session}
+use Rattle.engine.specs.declared.session.Effect.{Effect}
+use Rattle.engine.specs.declared.session.Step.{Step}
+use Rattle.engine.specs.declared.session.Output.{Output}
+use Rattle.engine.specs.declared.session.Output.the-variants.{Write, Read, Drain, Pause, Done, Nothing, Refused}
+
+-- every field is in its range
+unfoldable pub isValid : State → Bool
+isValid s = both (leb (s .command) 512) (both (leb (s .found) 1024) (both (leb (s .exchange .phase) 6) (validCall (s .call))))
+
+-- ---- the state with some fields anew
+
+abbrev pub running : State → Call → Exchange → State
+running s c x = record { command = s .command; found = s .found; exchange = x; call = c; opened = s .opened; frames = s .frames }
+
+abbrev pub noCall : Call
+noCall = record { kind = 0; stage = 0; phase = 0 }
+
+abbrev pub idle : State → Bool → State
+idle s open? = record { command = s .command; found = s .found; exchange = s .exchange; call = noCall; opened = open?; frames = s .frames }
+
+-- one command frame more, up to the ceiling
+unfoldable pub counted : ℕ → ℕ
+counted n = pick (ltb n 4294967295) (n + 1) n
+
+abbrev pub sent : State → Call → Command → State
+sent s c m =
+    record { command = s .command; found = s .found; exchange = exchangeAt 0 (m .code) (m .clock); call = c; opened = s .opened; frames = counted (s .frames) }
+
+abbrev pub withFound : State → ℕ → State
+withFound s n = record { command = s .command; found = n; exchange = s .exchange; call = s .call; opened = s .opened; frames = s .frames }
+
+-- an opening begins: nothing is found and no frame is counted yet
+abbrev pub uncounted : State → State
+uncounted s = record { command = s .command; found = 0; exchange = s .exchange; call = s .call; opened = s .opened; frames = 0 }
+
+-- ---- state, first found bytes, output and buffer after an entry
+
+pub record After : Type 0 where
+  pub state : State
+  pub found : List ℕ
+  pub output : Output
+  pub buffer : List ℕ
+
+abbrev pub after : State → List ℕ → Output → List ℕ → After
+after s f o b = record { state = s; found = f; output = o; buffer = b }
+
+abbrev pub effected : Effect → List ℕ → After
+effected e b = after (e .state) (e .found) (e .output) b
+
+-- bytes at the buffer's start
+abbrev pub put : List ℕ → List ℕ → List ℕ
+put bytes b = bytes ++ drop (length bytes) b
+
+abbrev pub ordersOf : State → List ℕ → Order → Call → Exchange → List ℕ → After
+ordersOf s f (write bytes) c x b = after (running s c x) f (Write (length bytes)) (put bytes b)
+ordersOf s f (read ms) c x b = after (running s c x) f (Read ms) b
+ordersOf s f drain c x b = after (running s c x) f Drain b
+ordersOf s f (pause us) c x b = after (running s c x) f (Pause us) b
+
+-- the command of the call's stage
+unfoldable pub entersOf : State → List ℕ → Call → List ℕ → After
+entersOf s f c b =
+    let m = planOf (c .kind) (c .stage) in
+    let frame = commandFrame (m .code) (m .bytes) in
+    after (sent s c m) f (Write (length frame)) (put frame b)
+
+-- an opening that fails leaves the reader unopened, one that is done leaves it open; any other call leaves it as it was
+abbrev pub openedAfter : State → Bool → Bool
+openedAfter s ok? = pick (eqb (s .call .kind) 1) ok? (s .opened)
+
+abbrev pub refusesOf : State → List ℕ → Refusal → List ℕ → After
+refusesOf s f r b = after (idle s (openedAfter s false)) f (Refused r) b
+
+abbrev pub doneOf : State → List ℕ → List ℕ → List ℕ → After
+doneOf s f bytes b = after (idle s (openedAfter s true)) f (Done (length bytes)) (put bytes b)
+
+-- get_firmware_version wants four bytes, and keeps three
+abbrev pub versionOf : State → List ℕ → List ℕ → List ℕ → After
+versionOf s f bytes b =
+    pick (eqb (s .call .kind) 1) (entersOf (withFound s 3) (take 3 bytes) (following (s .call)) b) (doneOf s f (take 3 bytes) b)
+
+-- the opening's last command is write_register
+abbrev pub lastOf : State → List ℕ → List ℕ → List ℕ → After
+lastOf s f bytes b =
+    pick (anyNonzero bytes) (refusesOf s f (Status 0xFE) b) (doneOf s f (openedBytes (getD f 0 0) (getD f 1 0) (getD f 2 0)) b)
+
+unfoldable pub repliesOf : State → List ℕ → List ℕ → List ℕ → After
+repliesOf s f bytes b =
+    pick (asksVersion (s .call))
+    (pick (ltb (length bytes) 4) (refusesOf s f ShortResponse b) (versionOf s f bytes b))
+    (pick (eqb (s .call .stage) 9) (lastOf s f bytes b) (entersOf s f (following (s .call)) b))
+
+unfoldable pub movedOf : State → List ℕ → Moved → List ℕ → After
+movedOf s f unfitting b = after s f (Refused OutOfTurn) b
+movedOf s f (orders o c x) b = ordersOf s f o c x b
+movedOf s f (enters c) b = entersOf s f c b
+movedOf s f (replies bytes) b = repliesOf s f bytes b
+movedOf s f (refuses r) b = refusesOf s f r b
+
+-- ---- the entries
+
+unfoldable pub isLong : Event → Bool
+isLong e = ltb 1024 (onRead 0 length 0 0 0 e)
+
+abbrev pub unchanged : State → List ℕ → Refusal → List ℕ → After
+unchanged s f r b = after s f (Refused r) b
+
+-- an event: 1, 2, 3, then what it does
+unfoldable pub admittedOf : State → List ℕ → Moved → Event → List ℕ → After
+admittedOf s f m e b =
+    pick (fits m)
+    (pick (ltb (length b) 1024) (unchanged s f ShortBuffer b) (pick (isLong e) (unchanged s f OverLong b) (movedOf s f m b)))
+    (unchanged s f OutOfTurn b)
+
+unfoldable pub eventAfter : State → List ℕ → Event → List ℕ → After
+eventAfter s f e b =
+    pick (isValid s)
+    (pick (eqb (s .call .kind) 0) (unchanged s f OutOfTurn b) (admittedOf s f (moveOf (s .call) (s .exchange) e) e b))
+    (unchanged s f OutOfTurn b)
+
+-- a call: 1, 2
+abbrev pub isFree : State → Bool
+isFree s = both (isValid s) (eqb (s .call .kind) 0)
+
+abbrev pub withRoom : State → List ℕ → List ℕ → After → After
+withRoom s f b x = pick (ltb (length b) 1024) (unchanged s f ShortBuffer b) x
+
+unfoldable pub openAfter : State → List ℕ → List ℕ → After
+openAfter s f b =
+    pick (isFree s) (withRoom s f b (ordersOf (uncounted s) f (write ack) (record { kind = 1; stage = 0; phase = 3 }) (s .exchange) b))
+    (unchanged s f OutOfTurn b)
+
+abbrev pub versionWithRoom : State → List ℕ → List ℕ → After
+versionWithRoom s f b = withRoom s f b (entersOf s f (record { kind = 2; stage = 0; phase = 0 }) b)
+
+unfoldable pub versionAfter : State → List ℕ → List ℕ → After
+versionAfter s f b =
+    pick (isFree s)
+    (pick (s .opened) (versionWithRoom s f b) (unchanged s f OutOfTurn b))
+    (unchanged s f OutOfTurn b)
+
+-- ---- the session whole
+
+pub record Stepped : Type 0 where
+  pub session : Session
+  pub output : Output
+  pub buffer : List ℕ
+
+abbrev pub stepped : Step → List ℕ → Stepped
+stepped r b = record { session = r .session; output = r .output; buffer = b }
+
+-- the first three found bytes, and a list with them put back
+abbrev pub firstFound : Session → List ℕ
+firstFound s = getD (s .found) 0 0 ∷ getD (s .found) 1 0 ∷ getD (s .found) 2 0 ∷ []
+
+abbrev pub withFirst : List ℕ → List ℕ → List ℕ
+withFirst l f = set (set (set l 0 (getD f 0 0)) 1 (getD f 1 0)) 2 (getD f 2 0)
+
+abbrev pub keptSession : Session → State → List ℕ → Session
+keptSession s st f = record { command = s .command; found = withFirst (s .found) f; state = st }
+
+abbrev pub sessionAfter : Session → After → Stepped
+sessionAfter s a = record { session = keptSession s (a .state) (a .found); output = a .output; buffer = a .buffer }
+
+abbrev pub eventStep : Session → Event → List ℕ → Stepped
+eventStep s e b = sessionAfter s (eventAfter (s .state) (firstFound s) e b)
+
+abbrev pub openStep : Session → List ℕ → Stepped
+openStep s b = sessionAfter s (openAfter (s .state) (firstFound s) b)
+
+abbrev pub versionStep : Session → List ℕ → Stepped
+versionStep s b = sessionAfter s (versionAfter (s .state) (firstFound s) b)
+
+abbrev pub freshSession : Session
+freshSession =
+    record {
+      command = replicate 512 0;
+      found = replicate 1024 0;
+      state = record { command = 0; found = 0; exchange = exchangeAt 0 0 0; call = noCall; opened = false; frames = 0 };
+    }

@@ -1,0 +1,241 @@
+// A running call, as a few numbers: what an event does to it, apart from buffer and session.
+use errors::Refusal;
+use exchange::Advanced;
+use exchange::Event;
+use exchange::Exchange;
+use exchange::Next;
+use exchange::Part;
+use exchange::Reply;
+ghost use mathlib.Core.Bool.{Bool};
+ghost use mathlib.Core.List.{List};
+ghost use mathlib.Core.Path.{_≡_};
+ghost use Prim.Native.Nat.{ℕ, _<_};
+ghost use Rattle.exchange.specs.Exchange.{advance};
+ghost use Rattle.exchange.specs.Steps.{eventOf, orderOf, replyIn, stepOf};
+ghost use Rattle.engine.specs.Moves.{validCall, fits, asksVersion, at, following, isReset, moveIn, moveOf, endedMove, exchangeMove, orders, resetAckMove, resetPauseMove, openingAckMove, openingReadsMove};
+
+// The calls.
+pub const NO_CALL: u8 = 0;
+
+pub const OPEN: u8 = 1;
+
+pub const VERSION: u8 = 2;
+
+// What a call waits for: its command's exchange, a reset's ACK or pause, the opening's ACK or reads.
+pub const EXCHANGE: u8 = 0;
+
+pub const RESET_ACK: u8 = 1;
+
+pub const RESET_PAUSE: u8 = 2;
+
+pub const OPENING_ACK: u8 = 3;
+
+pub const OPENING_READS: u8 = 4;
+
+// Which call runs, which of its commands is on or comes next, and what is awaited.
+pub struct Call {
+    pub kind: u8,
+    pub stage: u8,
+    pub phase: u8,
+}
+
+// An order that writes no command.
+pub enum Order {
+    Ack,
+    Read(u32),
+    Drain,
+    Pause(u32),
+}
+
+// What an event does to a call: it does not fit, an order follows, a command comes next, a response is in, or a refusal.
+pub enum Move {
+    Unfit,
+    Orders(Order, Call, Exchange),
+    Enters(Call),
+    Replies(Part),
+    Refuses(Refusal),
+}
+
+impl Call {
+    // Every field is in its range.
+    pub(crate) fn is_valid(self) -> bool
+        ensures { λ r. ⌜ r ≡ validCall self ⌝ }
+    {
+        if self.kind <= 2 {
+            if self.stage <= 9 {
+                self.phase <= 4
+            } else {
+                false
+            }
+        } else {
+            false
+        }
+    }
+
+    // The command is a reset's.
+    fn is_reset(self) -> bool
+        ensures { λ r. ⌜ r ≡ isReset self ⌝ }
+    {
+        if self.kind == OPEN {
+            if self.stage == 0 {
+                true
+            } else {
+                self.stage == 8
+            }
+        } else {
+            false
+        }
+    }
+
+    // The command is get_firmware_version.
+    pub(crate) fn asks_version(self) -> bool
+        ensures { λ r. ⌜ r ≡ asksVersion self ⌝ }
+    {
+        if self.kind == OPEN {
+            self.stage == 1
+        } else {
+            true
+        }
+    }
+
+    fn at(self, phase: u8) -> Call
+        ensures { λ r. ⌜ r ≡ at self phase ⌝ }
+    {
+        Call {
+            kind: self.kind,
+            stage: self.stage,
+            phase,
+        }
+    }
+
+    // At its next command.
+    pub(crate) fn following(self) -> Call
+        requires { ⌜ self .stage < 255 ⌝ }
+        ensures { λ r. ⌜ r ≡ following self ⌝ }
+    {
+        Call {
+            kind: self.kind,
+            stage: self.stage + 1,
+            phase: EXCHANGE,
+        }
+    }
+
+    fn pending(self, next: Next, exchange: Exchange) -> Move
+        ensures { λ r. ⌜ ((p : List ℕ) → moveIn p r ≡ orders (orderOf next) self exchange) ⌝ }
+    {
+        match next {
+            Next::WriteAck => Move::Orders(Order::Ack, self, exchange),
+            Next::Read(ms) => Move::Orders(Order::Read(ms), self, exchange),
+            Next::Drain => Move::Orders(Order::Drain, self, exchange),
+        }
+    }
+
+    fn ended(self, exchange: Exchange, reply: Reply) -> Move
+        ensures { λ r. ⌜ ((p : List ℕ) → moveIn p r ≡ endedMove self exchange (replyIn p reply)) ⌝ }
+    {
+        if self.is_reset() {
+            return Move::Orders(Order::Ack, self.at(RESET_ACK), exchange);
+        }
+        match reply {
+            Reply::Response(part) => Move::Replies(part),
+            Reply::Failed(refusal) => Move::Refuses(refusal),
+        }
+    }
+
+    fn on_exchange(self, exchange: Exchange, event: Event, packet: &[u8]) -> Move
+        ensures { λ r. ⌜ moveIn (now (packet .entry)) r ≡ exchangeMove self exchange (advance (stepOf exchange) (eventOf event (now (packet .entry)))) ⌝ }
+    {
+        match exchange.advance(event, packet) {
+            Advanced::Unfit => Move::Unfit,
+            Advanced::Pending(next, x) => self.pending(next, x),
+            Advanced::Ended(reply) => self.ended(exchange, reply),
+        }
+    }
+
+    fn on_reset_ack(self, exchange: Exchange, event: Event) -> Move
+        ensures { λ r. ⌜ ((p : List ℕ) → moveIn p r ≡ resetAckMove self exchange (eventOf event p)) ⌝ }
+    {
+        match event {
+            Event::Ok => Move::Orders(Order::Pause(10000), self.at(RESET_PAUSE), exchange),
+            Event::Bad => Move::Refuses(Refusal::Transport),
+            Event::Packet => Move::Unfit,
+            Event::Time => Move::Unfit,
+            Event::Fail => Move::Unfit,
+            Event::Late => Move::Unfit,
+            Event::Slept => Move::Unfit,
+        }
+    }
+
+    fn on_reset_pause(self, event: Event) -> Move
+        requires { ⌜ self .stage < 255 ⌝ }
+        ensures { λ r. ⌜ ((p : List ℕ) → moveIn p r ≡ resetPauseMove self (eventOf event p)) ⌝ }
+    {
+        match event {
+            Event::Slept => Move::Enters(self.following()),
+            Event::Ok => Move::Unfit,
+            Event::Bad => Move::Unfit,
+            Event::Packet => Move::Unfit,
+            Event::Time => Move::Unfit,
+            Event::Fail => Move::Unfit,
+            Event::Late => Move::Unfit,
+        }
+    }
+
+    fn on_opening_ack(self, exchange: Exchange, event: Event) -> Move
+        ensures { λ r. ⌜ ((p : List ℕ) → moveIn p r ≡ openingAckMove self exchange (eventOf event p)) ⌝ }
+    {
+        match event {
+            Event::Ok => Move::Orders(Order::Read(10), self.at(OPENING_READS), exchange),
+            Event::Bad => Move::Refuses(Refusal::Transport),
+            Event::Packet => Move::Unfit,
+            Event::Time => Move::Unfit,
+            Event::Fail => Move::Unfit,
+            Event::Late => Move::Unfit,
+            Event::Slept => Move::Unfit,
+        }
+    }
+
+    fn on_opening_reads(self, exchange: Exchange, event: Event) -> Move
+        ensures { λ r. ⌜ ((p : List ℕ) → moveIn p r ≡ openingReadsMove self exchange (eventOf event p)) ⌝ }
+    {
+        match event {
+            Event::Packet => Move::Orders(Order::Read(10), self, exchange),
+            Event::Time => Move::Enters(self.at(EXCHANGE)),
+            Event::Fail => Move::Enters(self.at(EXCHANGE)),
+            Event::Ok => Move::Unfit,
+            Event::Bad => Move::Unfit,
+            Event::Late => Move::Unfit,
+            Event::Slept => Move::Unfit,
+        }
+    }
+
+    // What an event does to the call.
+    pub(crate) fn moved(self, exchange: Exchange, event: Event, packet: &[u8]) -> Move
+        requires { ⌜ self .stage < 255 ⌝ }
+        ensures { λ r. ⌜ moveIn (now (packet .entry)) r ≡ moveOf self exchange (eventOf event (now (packet .entry))) ⌝ }
+    {
+        let phase = self.phase;
+        match phase {
+            EXCHANGE => self.on_exchange(exchange, event, packet),
+            RESET_ACK => self.on_reset_ack(exchange, event),
+            RESET_PAUSE => self.on_reset_pause(event),
+            OPENING_ACK => self.on_opening_ack(exchange, event),
+            OPENING_READS => self.on_opening_reads(exchange, event),
+            _ => Move::Unfit,
+        }
+    }
+}
+
+impl Move {
+    pub(crate) fn fits(self) -> bool
+        ensures { λ r. ⌜ ((p : List ℕ) → r ≡ fits (moveIn p self)) ⌝ }
+    {
+        match self {
+            Move::Unfit => false,
+            Move::Orders(_, _, _) => true,
+            Move::Enters(_) => true,
+            Move::Replies(_) => true,
+            Move::Refuses(_) => true,
+        }
+    }
+}

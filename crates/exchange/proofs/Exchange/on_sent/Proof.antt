@@ -1,0 +1,42 @@
+-- `exchange::Exchange::on_sent` meets its contract.
+use borrow.Author.Needs.{needs}
+use Rattle.exchange.specs.Rules.{goes-on, stays}
+use Rattle.exchange.specs.Steps.{stepOf}
+use Rattle.exchange.proofs.Tags.{not-written}
+use Rattle.exchange.proofs.Exchange.on_sent.Statement.{statement}
+use Rattle.exchange.proofs.Exchange.on_sent.Tie as tie
+
+enum-told : tie.Need-enum-told
+enum-told c = search needs
+
+pending-requires : tie.Need-pending-requires
+pending-requires c κs = search needs
+
+enum-told-2 : tie.Need-enum-told-2
+enum-told-2 c = search needs
+
+pending-requires-2 : tie.Need-pending-requires-2
+pending-requires-2 c κs = search needs
+
+returns : tie.Need-returns
+unfolding stepOf
+returns c p = rw (c .before .enum-told .given .1) (search (goes-on, needs) depth 6)
+
+returns-2 : tie.Need-returns-2
+unfolding stepOf
+returns-2 c p = rw (c .before .enum-told2 .given .1) (search (goes-on, needs) depth 6)
+
+returns-3 : tie.Need-returns-3
+returns-3 c p = stays _ _ _ (not-written _ _ _ (c .before .args .event) p (c .match .keys3))
+
+pub on-sent-spec : {M : Type 1} → statement M
+on-sent-spec =
+    tie.close
+    (tie.spec
+    enum-told
+    pending-requires
+    enum-told-2
+    pending-requires-2
+    returns
+    returns-2
+    returns-3)

@@ -1,0 +1,5 @@
+pub mod Packets
+pub mod Exchange
+pub mod Steps
+pub mod Parts
+pub mod Rules

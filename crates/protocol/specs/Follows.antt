@@ -1,0 +1,68 @@
+-- A machine that follows the session of the definitions gives out the same, and so has demand 3.
+use mathlib.Core.Path.{_≡_, refl, ap₂}
+use mathlib.Core.List.{List, [], _∷_, map}
+use Prim.Native.Nat.{ℕ}
+use Rattle.protocol.specs.Scripts.{Byte, value, Answer, done, nothing, refused}
+use Rattle.protocol.specs.Session.{Session, fresh, Entry, Output, orders, answers, step, outputs, sessionAfter}
+use Rattle.protocol.specs.Claim.{Demand3}
+use Rattle.protocol.specs.Demand3.{demand3}
+
+-- what is given out, its bytes without their places
+abbrev pub plainAnswer : Answer Byte → Answer ℕ
+plainAnswer (done bytes) = done (map value bytes)
+plainAnswer nothing = nothing
+plainAnswer (refused r) = refused r
+
+abbrev pub plain : Output Byte → Output ℕ
+plain (orders x) = orders x
+plain (answers a) = answers (plainAnswer a)
+
+-- `Means s m`: the state s of the machine, such as the fields of a struct, stands for the session m of the definitions.
+-- An input is a call or an event with all that it is lent; `entry` is what the list holds of it.
+pub record Machine : Type 1 where
+  pub State : Type 0
+  pub Input : Type 0
+  pub entry : Input → Entry
+  pub new : State
+  pub act : State → Input → State × Output ℕ
+  pub count : State → ℕ
+  pub Means : State → Session → Type 0
+  pub begins : Means new fresh
+  pub counts : (s : State) (m : Session) → Means s m → count s ≡ m .count
+  pub follows : (s : State) (m : Session) (i : Input) → Means s m
+      → Means ((act s i) .0) ((step m (entry i)) .0) × ((act s i) .1 ≡ plain ((step m (entry i)) .1))
+
+module _ (M : Machine) where
+  abbrev pub givenOut : M .State → List (M .Input) → List (Output ℕ)
+  givenOut s [] = []
+  givenOut s (i ∷ is) = (M .act s i) .1 ∷ givenOut ((M .act s i) .0) is
+
+  abbrev pub stateAfter : M .State → List (M .Input) → M .State
+  stateAfter s [] = s
+  stateAfter s (i ∷ is) = stateAfter ((M .act s i) .0) is
+
+  abbrev pub entries : List (M .Input) → List Entry
+  entries is = map (M .entry) is
+
+  -- demand 3 of the machine: what it gives out is what the definitions give out, places left out, and the count is its own
+  pub record Obeys (is : List (M .Input)) : Type 0 where
+    pub same : givenOut (M .new) is ≡ map plain (outputs fresh (entries is))
+    pub demand : Demand3 (entries is) (outputs fresh (entries is)) (M .count (stateAfter (M .new) is))
+
+  same-out : (s : M .State) (m : Session) → M .Means s m → (is : List (M .Input)) → givenOut s is ≡ map plain (outputs m (entries is))
+  same-out s m h [] = refl
+  same-out s m h (i ∷ is) =
+      let f = M .follows s m i h in
+      ap₂ (λ (x : Output ℕ) (xs : List (Output ℕ)). x ∷ xs) (f .1) (same-out ((M .act s i) .0) ((step m (M .entry i)) .0) (f .0) is)
+
+  still-means : (s : M .State) (m : Session) → M .Means s m → (is : List (M .Input)) → M .Means (stateAfter s is) (sessionAfter m (entries is))
+  still-means s m h [] = h
+  still-means s m h (i ∷ is) = still-means ((M .act s i) .0) ((step m (M .entry i)) .0) ((M .follows s m i h) .0) is
+
+  pub obeys : (is : List (M .Input)) → Obeys is
+  obeys is = record {
+    same = same-out (M .new) fresh (M .begins) is;
+    demand =
+        rw (M .counts (stateAfter (M .new) is) (sessionAfter fresh (entries is)) (still-means (M .new) fresh (M .begins) is))
+        (demand3 (entries is));
+  }

@@ -1,0 +1,161 @@
+-- Runs checked by computation: document 01's whole case, an opening and a version as the Rust has them, single packets.
+use mathlib.Core.Path.{_≡_, refl}
+use mathlib.Core.List.{List, [], _∷_, _++_, map}
+use Prim.Native.Nat.{ℕ}
+use lib.ListN.{replicate}
+use Rattle.errors.specs.declared.Refusal.the-variants.{OutOfTurn, ShortBuffer, OverLong, Transport, TimeOut, BrokenFrame, Length, FrameKind, Identifier, Code, Status}
+use Rattle.framing.specs.Frames.{ack, total, checksumOf, lengthBytes, normalFrame, extendedFrame, headOf, frameOf}
+use Rattle.errors.specs.Choice.{pick}
+use Rattle.framing.specs.Lists.{starts, same}
+use Rattle.framing.specs.Parse.{isError, extends, lengthAt, normalAt, extendedAt, normalOf, extendedOf, dataOf, parseOf, payloadOf}
+use Rattle.exchange.specs.Packets.{commandFrame, isAck, hasStart, ackLed, Reply, replyOf, response, failed}
+use Rattle.exchange.specs.Exchange.{write, read, pause, Event, ok, bad, pkt, time, late, slept, pending, reading, waiting, cancelling, advance}
+use Rattle.protocol.specs.Scripts.{done, refused}
+use Rattle.protocol.specs.Calls.{opening, version}
+use Rattle.protocol.specs.Session.{Entry, call, event, Output, orders, answers, fresh, outputs, sessionAfter}
+use Rattle.protocol.specs.Record.{Item, recordOf, linesOf, frames, events, resets, idleReads, allowed}
+use Rattle.protocol.specs.Follows.{plain}
+
+-- an entry, and what is given out for it
+abbrev Pair : Type 0
+Pair = Entry × Output ℕ
+
+abbrev on : Event → Output ℕ → Pair
+on e out = (event e 1024, out)
+
+abbrev entriesOf : List Pair → List Entry
+entriesOf ps = map (λ (p : Pair). p .0) ps
+
+abbrev givenFor : List Pair → List (Output ℕ)
+givenFor ps = map (λ (p : Pair). p .1) ps
+
+abbrev writes : List ℕ → Output ℕ
+writes bytes = orders (write bytes)
+
+-- the run is what the definitions give out
+abbrev Runs : List Pair → Type 0
+Runs ps = map plain (outputs fresh (entriesOf ps)) ≡ givenFor ps
+
+-- document 01's whole case: `open`, `bad`, `version`
+whole-case : Runs ((call opening 1024, writes ack) ∷ on bad (answers (refused Transport)) ∷ (call version 1024, answers (refused OutOfTurn)) ∷ [])
+whole-case = refl
+
+-- refusals in their order; nothing changes by them
+refusals : Runs
+    ((call opening 1023, answers (refused ShortBuffer))
+    ∷ (event ok 0, answers (refused OutOfTurn))
+    ∷ (call opening 1024, writes ack)
+    ∷ (call opening 0, answers (refused OutOfTurn))
+    ∷ (event time 0, answers (refused OutOfTurn))
+    ∷ (event ok 1023, answers (refused ShortBuffer))
+    ∷ (event ok 1024, orders (read 10))
+    ∷ (event late 1024, answers (refused OutOfTurn))
+    ∷ (event (pkt (replicate 1025 0)) 1023, answers (refused ShortBuffer))
+    ∷ (event (pkt (replicate 1025 0)) 1024, answers (refused OverLong))
+    ∷ (event (pkt (replicate 1024 0)) 1024, orders (read 10))
+    ∷ [])
+refusals = refl
+
+-- ---- an opening and a version, with the packets and orders of the Rust
+
+-- a command is acknowledged and answered
+abbrev answeredBy : ℕ → List ℕ → Output ℕ → List Pair
+answeredBy clock packet out = on ok (orders (read 100)) ∷ on (pkt ack) (orders (read clock)) ∷ on (pkt packet) out ∷ []
+
+abbrev configured : List ℕ
+configured = 0x00 ∷ 0x00 ∷ 0xFF ∷ 0x02 ∷ 0xFE ∷ 0xD5 ∷ 0x33 ∷ 0xF8 ∷ 0x00 ∷ []
+
+abbrev resetDone : List ℕ
+resetDone = 0x00 ∷ 0x00 ∷ 0xFF ∷ 0x02 ∷ 0xFE ∷ 0xD5 ∷ 0x19 ∷ 0x12 ∷ 0x00 ∷ []
+
+abbrev versionIs : List ℕ
+versionIs = 0x00 ∷ 0x00 ∷ 0xFF ∷ 0x06 ∷ 0xFA ∷ 0xD5 ∷ 0x03 ∷ 0x33 ∷ 0x01 ∷ 0x30 ∷ 0x07 ∷ 0xBD ∷ 0x00 ∷ []
+
+abbrev resetMode : Output ℕ
+resetMode = writes (0x00 ∷ 0x00 ∷ 0xFF ∷ 0x03 ∷ 0xFD ∷ 0xD4 ∷ 0x18 ∷ 0x01 ∷ 0x13 ∷ 0x00 ∷ [])
+
+abbrev getVersion : Output ℕ
+getVersion = writes (0x00 ∷ 0x00 ∷ 0xFF ∷ 0x02 ∷ 0xFE ∷ 0xD4 ∷ 0x02 ∷ 0x2A ∷ 0x00 ∷ [])
+
+abbrev afterReset : Output ℕ → List Pair
+afterReset out = on ok (orders (pause 10000)) ∷ on slept out ∷ []
+
+-- with one empty packet in the opening's drain
+abbrev openingRun : List Pair
+openingRun =
+    ((call opening 1024, writes ack) ∷ on ok (orders (read 10)) ∷ on (pkt []) (orders (read 10)) ∷ on time resetMode ∷ [])
+    ++ (answeredBy 100 resetDone (writes ack)
+    ++ (afterReset getVersion
+    ++ (answeredBy 100 versionIs (writes (0x00 ∷ 0x00 ∷ 0xFF ∷ 0x04 ∷ 0xFC ∷ 0xD4 ∷ 0x32 ∷ 0x01 ∷ 0x02 ∷ 0xF7 ∷ 0x00 ∷ []))
+    ++ (answeredBy 100 configured (writes (0x00 ∷ 0x00 ∷ 0xFF ∷ 0x06 ∷ 0xFA ∷ 0xD4 ∷ 0x32 ∷ 0x02 ∷ 0x0B ∷ 0x0B ∷ 0x0A ∷ 0xD8 ∷ 0x00 ∷ []))
+    ++ (answeredBy 100 configured (writes (0x00 ∷ 0x00 ∷ 0xFF ∷ 0x04 ∷ 0xFC ∷ 0xD4 ∷ 0x32 ∷ 0x04 ∷ 0x00 ∷ 0xF6 ∷ 0x00 ∷ []))
+    ++ (answeredBy 100 configured (writes (0x00 ∷ 0x00 ∷ 0xFF ∷ 0x06 ∷ 0xFA ∷ 0xD4 ∷ 0x32 ∷ 0x05 ∷ 0x00 ∷ 0x00 ∷ 0x01 ∷ 0xF4 ∷ 0x00 ∷ []))
+    ++ (answeredBy 100 configured
+    (writes (0x00 ∷ 0x00 ∷ 0xFF ∷ 0x0E ∷ 0xF2 ∷ 0xD4 ∷ 0x32 ∷ 0x0A ∷ 0x5A ∷ 0xF4 ∷ 0x3F ∷ 0x11 ∷ 0x4D ∷ 0x85 ∷ 0x61 ∷ 0x6F ∷ 0x26 ∷ 0x62 ∷ 0x87 ∷ 0xA1 ∷ 0x00 ∷ []))
+    ++ (answeredBy 100 configured (writes (0x00 ∷ 0x00 ∷ 0xFF ∷ 0x03 ∷ 0xFD ∷ 0xD4 ∷ 0x12 ∷ 0x08 ∷ 0x12 ∷ 0x00 ∷ []))
+    ++ (answeredBy 100 (0x00 ∷ 0x00 ∷ 0xFF ∷ 0x02 ∷ 0xFE ∷ 0xD5 ∷ 0x13 ∷ 0x18 ∷ 0x00 ∷ []) resetMode
+    ++ (answeredBy 100 resetDone (writes ack)
+    ++ (afterReset (writes (0x00 ∷ 0x00 ∷ 0xFF ∷ 0x05 ∷ 0xFB ∷ 0xD4 ∷ 0x08 ∷ 0x03 ∷ 0x28 ∷ 0x59 ∷ 0xA0 ∷ 0x00 ∷ []))
+    ++ answeredBy 250 (0x00 ∷ 0x00 ∷ 0xFF ∷ 0x03 ∷ 0xFD ∷ 0xD5 ∷ 0x09 ∷ 0x00 ∷ 0x22 ∷ 0x00 ∷ [])
+    (answers (done (0x33 ∷ 0x01 ∷ 0x30 ∷ 0x52 ∷ 0x43 ∷ 0x53 ∷ 0x39 ∷ 0x35 ∷ 0x36 ∷ 0x76 ∷ 0x31 ∷ 0x2E ∷ 0x33 ∷ 0x30 ∷ []))))))))))))))
+
+abbrev versionRun : List Pair
+versionRun = (call version 1024, getVersion) ∷ answeredBy 100 versionIs (answers (done (0x33 ∷ 0x01 ∷ 0x30 ∷ [])))
+
+abbrev run : List Pair
+run = openingRun ++ versionRun
+
+-- to unfold this is to unfold the formats
+formats : Unit {0}
+unfolding total checksumOf lengthBytes normalFrame extendedFrame headOf frameOf pick starts same isError extends lengthAt normalAt extendedAt normalOf extendedOf dataOf parseOf payloadOf commandFrame isAck hasStart ackLed replyOf
+formats = tt
+
+opened : Runs run
+unfolding formats
+opened = refl
+
+-- the record of the opening: ten frames, two resets, one idle read, 37 events of the 47 allowed
+abbrev openingLines : List Item
+openingLines = linesOf 0 ((recordOf (entriesOf run) (outputs fresh (entriesOf run))) .lines)
+
+abbrev counts : List Item → List ℕ
+counts xs = frames xs ∷ resets xs ∷ idleReads xs ∷ events xs ∷ allowed opening xs ∷ []
+
+opening-counts : counts openingLines ≡ 10 ∷ 2 ∷ 1 ∷ 37 ∷ 47 ∷ []
+unfolding formats
+opening-counts = refl
+
+count-after : (sessionAfter fresh (entriesOf run)) .count ≡ 11
+unfolding formats
+count-after = refl
+
+-- ---- single packets
+
+abbrev replies : List (List ℕ) → List Reply
+replies ps = map (replyOf 0x02) ps
+
+step-5 : replies
+    ((0x00 ∷ 0x00 ∷ 0xFF ∷ 0x01 ∷ 0xFF ∷ 0x7F ∷ 0x81 ∷ 0x00 ∷ [])
+    ∷ (0x00 ∷ 0x00 ∷ 0xFF ∷ 0x00 ∷ 0x00 ∷ 0x00 ∷ 0x00 ∷ [])
+    ∷ (0x00 ∷ 0x00 ∷ 0xFF ∷ 0x01 ∷ 0xFF ∷ 0xD5 ∷ 0x2B ∷ 0x00 ∷ [])
+    ∷ (0x00 ∷ 0x00 ∷ 0xFF ∷ 0x02 ∷ 0xFE ∷ 0xD5 ∷ 0x04 ∷ 0x27 ∷ 0x00 ∷ [])
+    ∷ (0x00 ∷ 0x00 ∷ 0xFF ∷ 0x02 ∷ 0xFE ∷ 0xD4 ∷ 0x03 ∷ 0x29 ∷ 0x00 ∷ [])
+    ∷ (0x00 ∷ 0x00 ∷ 0xFF ∷ 0xFF ∷ 0xFF ∷ 0x00 ∷ [])
+    ∷ (0x00 ∷ 0x00 ∷ 0xFF ∷ 0xFF ∷ 0xFF ∷ 0x00 ∷ 0x00 ∷ 0x00 ∷ 0x00 ∷ 0x00 ∷ [])
+    ∷ (0x00 ∷ 0x00 ∷ 0xFF ∷ 0x02 ∷ 0xFE ∷ 0xD5 ∷ 0x03 ∷ 0x28 ∷ 0x00 ∷ 0x00 ∷ [])
+    ∷ (0x00 ∷ 0x00 ∷ 0xFF ∷ [])
+    ∷ (0x00 ∷ 0x00 ∷ 0xFF ∷ 0x02 ∷ 0xFE ∷ 0xD5 ∷ 0x03 ∷ 0x28 ∷ 0x00 ∷ [])
+    ∷ [])
+    ≡ failed (Status 0x7F) ∷ failed Identifier ∷ failed Code ∷ failed Code ∷ failed Identifier ∷ failed FrameKind ∷ failed Identifier
+    ∷ failed Length ∷ failed BrokenFrame ∷ response [] ∷ []
+unfolding formats
+step-5 = refl
+
+-- ACK and one 00 more is skipped; with a clock of 0 ms no read follows
+skipped : advance (reading 0x02 100) (pkt (ack ++ (0x00 ∷ []))) ≡ pending (read 100) (waiting 0x02 100)
+unfolding formats
+skipped = refl
+
+no-clock : advance (reading 0x42 0) (pkt ack) ≡ pending (write ack) (cancelling TimeOut)
+unfolding formats
+no-clock = refl
