@@ -1,0 +1,5 @@
+mod DecimalLaws
+mod TextLaws
+mod OutputLaws
+mod InputLaws
+mod AnswerLaws

@@ -1,0 +1,161 @@
+-- Laws of the text of an output: what each function printed, and that it fits.
+use mathlib.Core.Path.{_≡_, sym, ap}
+use mathlib.Core.Bool.{Bool, true, false}
+use mathlib.Core.List.{List, [], _∷_, _++_}
+use Prim.Native.Nat.{ℕ, _+_, _≤_, _<_}
+use native.Mathlib.Omega.{arith}
+use borrow.Author.Tests.{eq-eqb, ne-eqb}
+use lib.Dec.{eqb}
+use lib.ListN.{length, take, length-append, length-take}
+use lib.Seq.{length-take-le, take-all}
+use Rattle.errors.specs.Choice.{pick}
+use Rattle.errors.specs.Refusals.{numbered}
+use Rattle.errors.specs.declared.Numbered.{Numbered}
+use Rattle.errors.specs.declared.Refusal.{Refusal}
+use Rattle.targets.specs.Bitrates.{ascii}
+use Rattle.engine.specs.declared.session.Output.{Output}
+use Rattle.engine.specs.declared.session.Output.the-variants.{Write, Read, Drain, Pause, Done, Nothing, Refused}
+use Rattle.bench.specs.Hex.{hexOf}
+use Rattle.bench.specs.Texts.{Placed, placed, placedAt, decimalOf}
+use Rattle.bench_session.specs.Outputs.{outRoom, textLimit, doneText, refusedText, textOf}
+use Rattle.bench_session.proofs.DecimalLaws.{decimal-short}
+use Rattle.bench_session.proofs.TextLaws.{next-place, put-behind, hex-short}
+
+-- the first n bytes
+pub first-part : (n : ℕ) (p : List ℕ) → n < length p → n ≡ length (take n p)
+first-part n p h = sym (length-take-le n p (omega arith))
+
+pub first-all : (n : ℕ) (p : List ℕ) → length p ≤ n → p ≡ take n p
+first-all n p h = sym (take-all n p h)
+
+pub first-short : (n : ℕ) (p q : List ℕ) → p ≡ take n q → length q ≤ 1024 → length p ≤ 1024
+first-short n p q e h = omega (arith, ap length e, length-take n q)
+
+-- a test that decides what is printed
+module _ (x : Placed) (t : Bool) (a c b : List ℕ) where
+  pub placed-true : t ≡ true → x ≡ placedAt 0 a b → x ≡ placedAt 0 (pick t a c) b
+  unfolding pick
+  placed-true h e = rw h e
+
+  pub placed-false : t ≡ false → x ≡ placedAt 0 c b → x ≡ placedAt 0 (pick t a c) b
+  unfolding pick
+  placed-false h e = rw h e
+
+-- bytes or a number behind a name
+module _ (t b o : List ℕ) (r : ℕ) (before : placed r o ≡ placedAt 0 t b) (room : outRoom ≤ length b) where
+  pub hex-room : (p : List ℕ) → length t ≤ 6 → length p ≤ 1024 → length o ≡ length b → r + length (hexOf p) ≤ length o
+  hex-room p h k l = omega (arith, next-place t b o r before, hex-short p)
+
+  pub hex-behind : (p : List ℕ) (x : Placed) → length t ≤ 6 → length p ≤ 1024 → x ≡ placedAt r (hexOf p) o → x ≡ placedAt 0 (t ++ hexOf p) b
+  hex-behind p x h k e = put-behind t b o r before (hexOf p) x e (omega (arith, hex-short p))
+
+  pub number-room : length t ≤ 8 → length o ≡ length b → r + 20 ≤ length o
+  number-room h l = omega (arith, next-place t b o r before)
+
+  pub number-behind : (n : ℕ) (x : Placed) → length t ≤ 8 → x ≡ placedAt r (decimalOf n) o → x ≡ placedAt 0 (t ++ decimalOf n) b
+  number-behind n x h e = put-behind t b o r before (decimalOf n) x e (omega (arith, decimal-short n))
+
+-- a status behind a refusal's number n
+module _ (n r : ℕ) (b o : List ℕ) (before : placed r o ≡ placedAt 0 (ascii "refused " ++ decimalOf n) b) (room : outRoom ≤ length b) where
+  number-short : length (ascii "refused " ++ decimalOf n) ≤ 28
+  number-short = rw (length-append (ascii "refused ") (decimalOf n)) (omega (arith, decimal-short n))
+
+  pub space-room : length o ≡ length b → r + 1 ≤ length o
+  space-room l = omega (arith, number-short, next-place (ascii "refused " ++ decimalOf n) b o r before)
+
+  module _ (r′ : ℕ) (o′ : List ℕ) (space : placed r′ o′ ≡ placedAt r (ascii " ") o) where
+    spaced : placed r′ o′ ≡ placedAt 0 (ascii "refused " ++ decimalOf n ++ ascii " ") b
+    spaced = put-behind (ascii "refused " ++ decimalOf n) b o r before (ascii " ") (placed r′ o′) space (omega (arith, number-short))
+
+    spaced-short : length (ascii "refused " ++ decimalOf n ++ ascii " ") ≤ 29
+    spaced-short = rw (length-append (ascii "refused " ++ decimalOf n) (ascii " ")) (omega (arith, number-short))
+
+    pub status-room : (s : ℕ) → length o ≡ length b → length o′ ≡ length o → r′ + length (hexOf (s ∷ [])) ≤ length o′
+    status-room s l m = omega (arith, spaced-short, hex-short (s ∷ []), next-place (ascii "refused " ++ decimalOf n ++ ascii " ") b o′ r′ spaced)
+
+    pub status-done : (s : ℕ) (x : Placed) → x ≡ placedAt r′ (hexOf (s ∷ [])) o′ → x ≡ placedAt 0 (ascii "refused " ++ decimalOf n ++ ascii " " ++ hexOf (s ∷ [])) b
+    status-done s x e =
+        put-behind (ascii "refused " ++ decimalOf n ++ ascii " ") b o′ r′ spaced (hexOf (s ∷ [])) x e (omega (arith, spaced-short, hex-short (s ∷ [])))
+
+-- the number m that was asked of a refusal
+module _ (n m : Numbered) (b : List ℕ) (x : Placed) (is : m ≡ n) where
+  pub refused-15 : m .0 ≡ 15 → x ≡ placedAt 0 (ascii "refused " ++ decimalOf (m .0) ++ ascii " " ++ hexOf (m .1 ∷ [])) b → x ≡ placedAt 0 (refusedText n) b
+  unfolding refusedText pick
+  refused-15 h e = rw (← is, eq-eqb (m .0) 15 h) e
+
+  pub refused-other : (m .0 ≡ 15 → ⊥) → x ≡ placedAt 0 (ascii "refused " ++ decimalOf (m .0)) b → x ≡ placedAt 0 (refusedText n) b
+  unfolding refusedText pick
+  refused-other h e = rw (← is, ne-eqb (m .0) 15 h) e
+
+-- a text within the limit
+abbrev Fits : List ℕ → Type 0
+Fits t = length t ≤ textLimit
+
+pick-fits : (t : Bool) (a c : List ℕ) → Fits a → Fits c → Fits (pick t a c)
+unfolding pick
+pick-fits true a c h k = h
+pick-fits false a c h k = k
+
+bytes-fit : (t p : List ℕ) → length t ≤ 6 → length p ≤ 1024 → Fits (t ++ hexOf p)
+bytes-fit t p h k = rw (length-append t (hexOf p)) (omega (arith, hex-short p))
+
+number-fits : (t : List ℕ) (n : ℕ) → length t ≤ 8 → Fits (t ++ decimalOf n)
+number-fits t n h = rw (length-append t (decimalOf n)) (omega (arith, decimal-short n))
+
+refused-fits : (n : Numbered) → Fits (refusedText n)
+unfolding refusedText
+refused-fits n =
+    pick-fits (eqb (n .0) 15) _ _
+    (rw (length-append (ascii "refused " ++ decimalOf (n .0) ++ ascii " ") (hexOf (n .1 ∷ [])), length-append (ascii "refused " ++ decimalOf (n .0)) (ascii " "), length-append (ascii "refused ") (decimalOf (n .0)))
+    (omega (arith, decimal-short (n .0), hex-short (n .1 ∷ []))))
+    (number-fits (ascii "refused ") (n .0) (omega arith))
+
+pub text-fits : (o : Output) (b : List ℕ) → length b ≤ 1024 → length (textOf o b) ≤ textLimit
+unfolding textOf doneText
+text-fits (Write n) b h = bytes-fit (ascii "write ") (take n b) (omega arith) (omega (arith, length-take n b))
+text-fits (Read ms) b h = number-fits (ascii "read ") ms (omega arith)
+text-fits Drain b h = omega arith
+text-fits (Pause us) b h = number-fits (ascii "pause ") us (omega arith)
+text-fits (Done n) b h = pick-fits (eqb (length (take n b)) 0) _ _ (omega arith) (bytes-fit (ascii "done ") (take n b) (omega arith) (omega (arith, length-take n b)))
+text-fits Nothing b h = omega arith
+text-fits (Refused e) b h = refused-fits (numbered e)
+
+-- the text that was printed, and its bound
+pub text-bound : (f : Output) (b out o : List ℕ) (r : ℕ) → length b ≤ 1024 → length o ≡ outRoom → placed r o ≡ placedAt 0 (textOf f b) out
+    → (placed r o ≡ placedAt 0 (textOf f b) out) × (r ≤ textLimit) × (length o ≡ outRoom)
+text-bound f b out o r h l e = (e, omega (arith, text-fits f b h, ap (λ p. p .next) e), l)
+
+pub out-part : (n : ℕ) (o : List ℕ) → n ≤ outRoom → length o ≡ outRoom → n ≡ length (take n o)
+out-part n o h l = sym (length-take-le n o (omega arith))
+
+-- the text of a known output
+module _ (f : Output) (b out : List ℕ) (x : Placed) where
+  pub text-write : (n : ℕ) (p : List ℕ) → f ≡ Write n → p ≡ take n b → x ≡ placedAt 0 (ascii "write " ++ hexOf p) out → x ≡ placedAt 0 (textOf f b) out
+  unfolding textOf
+  text-write n p h q e = rw h (rw q at e)
+
+  pub text-read : (ms : ℕ) → f ≡ Read ms → x ≡ placedAt 0 (ascii "read " ++ decimalOf ms) out → x ≡ placedAt 0 (textOf f b) out
+  unfolding textOf
+  text-read ms h e = rw h e
+
+  pub text-drain : f ≡ Drain → x ≡ placedAt 0 (ascii "drain") out → x ≡ placedAt 0 (textOf f b) out
+  unfolding textOf
+  text-drain h e = rw h e
+
+  pub text-pause : (us : ℕ) → f ≡ Pause us → x ≡ placedAt 0 (ascii "pause " ++ decimalOf us) out → x ≡ placedAt 0 (textOf f b) out
+  unfolding textOf
+  text-pause us h e = rw h e
+
+  pub text-done : (n : ℕ) (p : List ℕ) → f ≡ Done n → p ≡ take n b → x ≡ placedAt 0 (doneText p) out → x ≡ placedAt 0 (textOf f b) out
+  unfolding textOf
+  text-done n p h q e = rw h (rw q at e)
+
+  pub text-none : f ≡ Nothing → x ≡ placedAt 0 (ascii "none") out → x ≡ placedAt 0 (textOf f b) out
+  unfolding textOf
+  text-none h e = rw h e
+
+  pub text-refused : (e : Refusal) → f ≡ Refused e → x ≡ placedAt 0 (refusedText (numbered e)) out → x ≡ placedAt 0 (textOf f b) out
+  unfolding textOf
+  text-refused e h d = rw h d
+
+pub ruleset texts = (text-write, text-read, text-drain, text-pause, text-done, text-none, text-refused)

@@ -1,0 +1,58 @@
+-- The session, the engine's buffer and the text after a line.
+use mathlib.Core.List.{List}
+use Prim.Native.Nat.{ℕ, _+_}
+use lib.ListN.{length, take, set, replicate}
+use Rattle.errors.specs.declared.Refusal.the-variants.{BadArgument}
+use Rattle.exchange.specs.Steps.{eventOf}
+use Rattle.engine.specs.Sessions.{Stepped, openStep, versionStep, eventStep}
+use Rattle.engine.specs.declared.session.Output.the-variants.{Refused}
+use Rattle.engine.specs.declared.session.Session.{Session}
+use Rattle.bench.specs.Texts.{over}
+use Rattle.bench.specs.declared.lines.Line.{Line}
+use Rattle.bench.specs.declared.lines.Line.the-variants.{Text, OverLong, End}
+use Rattle.bench_session.specs.Inputs.{Read, inputOf}
+use Rattle.bench_session.specs.Outputs.{textOf}
+use Rattle.bench_session.specs.declared.input.Input.{Input}
+use Rattle.bench_session.specs.declared.input.Input.the-variants.{Open, Version, Happened, Unreadable}
+
+-- a line that cannot be read: the session stays as it was
+abbrev pub kept : Session → List ℕ → Stepped
+kept s b = record { session = s; output = Refused BadArgument; buffer = b }
+
+-- what the engine does with what was read; a packet's bytes stand at the start of p
+unfoldable pub stepOf : Session → Input → List ℕ → List ℕ → Stepped
+stepOf s Open p b = openStep s b
+stepOf s Version p b = versionStep s b
+stepOf s (Happened e n) p b = eventStep s (eventOf e (take n p)) b
+stepOf s Unreadable p b = kept s b
+
+-- a session and a text's length, with the engine's buffer and the text's buffer
+pub record After : Type 0 where
+  pub session : Session
+  pub len : ℕ
+  pub buffer : List ℕ
+  pub out : List ℕ
+
+abbrev pub after : Session → ℕ → List ℕ → List ℕ → After
+after s n b o = record { session = s; len = n; buffer = b; out = o }
+
+-- the text of an output at the start of o
+unfoldable pub printed : Stepped → List ℕ → After
+printed t o = after (t .session) (length (textOf (t .output) (t .buffer))) (t .buffer) (over 0 (textOf (t .output) (t .buffer)) o)
+
+unfoldable pub readStep : Session → Read → List ℕ → Stepped
+readStep s r b = stepOf s (r .input) (r .buffer) b
+
+-- the line l, read with room for 4,096 bytes of a packet
+unfoldable pub answerOf : Session → List ℕ → List ℕ → List ℕ → After
+answerOf s l b o = printed (readStep s (inputOf l (replicate 4096 0)) b) o
+
+-- a line feed (10) behind the text
+unfoldable pub fed : After → After
+fed a = after (a .session) (a .len + 1) (a .buffer) (set (a .out) (a .len) 10)
+
+-- what is written for what was told of a line that stands at the start of l: nothing at the end of the input
+unfoldable pub replyOf : Session → Line → List ℕ → List ℕ → List ℕ → After
+replyOf s (Text n) l b o = fed (answerOf s (take n l) b o)
+replyOf s OverLong l b o = fed (printed (kept s b) o)
+replyOf s End l b o = after s 0 b o

@@ -1,0 +1,39 @@
+-- The text that is printed for an order or an answer.
+use mathlib.Core.List.{List, [], _∷_, _++_}
+use Prim.Native.Nat.{ℕ}
+use lib.Dec.{eqb}
+use lib.ListN.{length, take}
+use Rattle.errors.specs.Choice.{pick}
+use Rattle.errors.specs.Refusals.{numbered}
+use Rattle.errors.specs.declared.Numbered.{Numbered}
+use Rattle.targets.specs.Bitrates.{ascii}
+use Rattle.engine.specs.declared.session.Output.{Output}
+use Rattle.engine.specs.declared.session.Output.the-variants.{Write, Read, Drain, Pause, Done, Nothing, Refused}
+use Rattle.bench.specs.Texts.{decimalOf}
+use Rattle.bench.specs.Hex.{hexOf}
+
+-- the longest text: a write order of 1,024 bytes
+abbrev pub textLimit : ℕ
+textLimit = 2055
+
+-- room for any text and a line feed
+abbrev pub outRoom : ℕ
+outRoom = 2064
+
+-- an answer's bytes; `done` alone where it has none
+unfoldable pub doneText : List ℕ → List ℕ
+doneText p = pick (eqb (length p) 0) (ascii "done") (ascii "done " ++ hexOf p)
+
+-- a refusal's number, and of 15 the status
+unfoldable pub refusedText : Numbered → List ℕ
+refusedText n = pick (eqb (n .0) 15) (ascii "refused " ++ decimalOf (n .0) ++ ascii " " ++ hexOf (n .1 ∷ [])) (ascii "refused " ++ decimalOf (n .0))
+
+-- an output whose bytes stand at the start of b
+unfoldable pub textOf : Output → List ℕ → List ℕ
+textOf (Write n) b = ascii "write " ++ hexOf (take n b)
+textOf (Read ms) b = ascii "read " ++ decimalOf ms
+textOf Drain b = ascii "drain"
+textOf (Pause us) b = ascii "pause " ++ decimalOf us
+textOf (Done n) b = doneText (take n b)
+textOf Nothing b = ascii "none"
+textOf (Refused e) b = refusedText (numbered e)

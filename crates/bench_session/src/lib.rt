@@ -1,0 +1,145 @@
+// The lines of the program `session`: a call or an event in, an order or an answer out.
+pub mod input;
+pub mod output;
+mod text;
+
+use bench::lines;
+use bench::lines::Held;
+use bench::lines::Line;
+use engine::session::Output;
+use engine::session::Session;
+use engine::session::Step;
+use errors::Refusal;
+use input::Input;
+ghost use mathlib.Core.Path.{_≡_};
+ghost use Prim.Native.Nat.{_+_, _≤_};
+ghost use lib.ListN.{length, set};
+ghost use Rattle.engine.specs.Sessions.{stepped};
+ghost use Rattle.bench.specs.Lines.{lengthOf};
+ghost use Rattle.bench_session.specs.Inputs.{countOf};
+ghost use Rattle.bench_session.specs.Outputs.{outRoom, textLimit};
+ghost use Rattle.bench_session.specs.Answers.{kept, stepOf, after, answerOf, replyOf};
+
+// The longest line, without its line feed, room for its packet, for the engine's bytes, and for any answer and a line feed.
+pub const LINE: usize = 8192;
+
+pub const PACKET: usize = 4096;
+
+pub const BUFFER: usize = 1024;
+
+pub const OUT: usize = 2064;
+
+// The session after a line, and the length of the text printed for it.
+pub struct Answered {
+    pub session: Session,
+    pub len: usize,
+}
+
+// A line that cannot be read: the session stays as it was.
+fn unreadable(session: Session) -> Step
+    ensures { λ r. ⌜ (r .session ≡ session) × (r .output ≡ Output.Refused Refusal.BadArgument) ⌝ }
+{
+    Step {
+        session,
+        output: Output::Refused(Refusal::BadArgument),
+    }
+}
+
+// What the engine does with what was read.
+fn step(session: Session, input: Input, packet: &[u8], buffer: &mut [u8]) -> Step
+    requires { ⌜ countOf input ≤ length (now packet) ⌝ }
+    ensures { λ r. ⌜ stepped r (now (buffer .exit)) ≡ stepOf session input (now (packet .entry)) (now (buffer .entry)) ⌝ }
+{
+    match input {
+        Input::Open => session.open(buffer),
+        Input::Version => session.version(buffer),
+        Input::Happened(event, n) => session.event(event, &packet[..n], buffer),
+        Input::Unreadable => unreadable(session),
+    }
+}
+
+// Hands a line to the session, and puts the text printed for it at the start of `out`.
+pub fn answer(
+    session: Session,
+    line: &[u8],
+    buffer: &mut [u8; BUFFER],
+    out: &mut [u8; OUT],
+) -> Answered
+    ensures { λ r. ⌜ (after (r .session) (r .len) (now (buffer .exit)) (now (out .exit)) ≡ answerOf session (now (line .entry)) (now (buffer .entry)) (now (out .entry))) × (r .len ≤ textLimit) × (length (now (out .exit)) ≡ outRoom) ⌝ }
+{
+    let mut packet = [0u8; PACKET];
+    let read = input::read(line, &mut packet);
+    let stepped = step(session, read, &packet, buffer);
+    let output = stepped.output;
+    let len = output::print(output, buffer, out);
+    let after = stepped.session;
+    Answered {
+        session: after,
+        len,
+    }
+}
+
+// The answer to what was told of a line, with its line feed; nothing at the end of the input.
+fn reply(
+    session: Session,
+    told: Line,
+    line: &[u8],
+    buffer: &mut [u8; BUFFER],
+    out: &mut [u8; OUT],
+) -> Answered
+    requires { ⌜ (lengthOf told ≤ length (now line)) × (length (now out) ≡ outRoom) ⌝ }
+    ensures { λ r. ⌜ (after (r .session) (r .len) (now (buffer .exit)) (now (out .exit)) ≡ replyOf session told (now (line .entry)) (now (buffer .entry)) (now (out .entry))) × (r .len ≤ outRoom) × (length (now (out .exit)) ≡ outRoom) ⌝ }
+{
+    match told {
+        Line::Text(n) => {
+            let answered = answer(session, &line[..n], buffer, out);
+            fed(answered, out)
+        }
+        Line::OverLong => {
+            let len = output::print(Output::Refused(Refusal::BadArgument), buffer, out);
+            fed(Answered { session, len }, out)
+        }
+        Line::End => Answered { session, len: 0 },
+    }
+}
+
+// A line feed behind the text.
+fn fed(answer: Answered, out: &mut [u8; OUT]) -> Answered
+    requires { ⌜ (answer .len ≤ textLimit) × (length (now out) ≡ outRoom) ⌝ }
+    ensures { λ r. ⌜ (r .session ≡ answer .session) × (r .len ≡ answer .len + 1) × (now (out .exit) ≡ set (now (out .entry)) (answer .len) 10) × (length (now (out .exit)) ≡ outRoom) ⌝ }
+{
+    let n = answer.len;
+    let session = answer.session;
+    out[n] = b'\n';
+    Answered {
+        session,
+        len: n + 1,
+    }
+}
+
+// Answers standard input line by line on standard output.
+pub fn run() {
+    let mut read = io::large_buffer();
+    let mut line = [0u8; LINE];
+    let mut buffer = [0u8; BUFFER];
+    let mut out = [0u8; OUT];
+    let mut session = Session::fresh();
+    let mut held = Held::nothing();
+    let mut turns = u64::MAX;
+    while turns > 0 {
+        let given = lines::next(held, &mut read, &mut line);
+        held = given.held;
+        let told = given.line;
+        let replied = reply(session, told, &line, &mut buffer, &mut out);
+        let n = replied.len;
+        let after = replied.session;
+        session = after;
+        if n == 0 {
+            return;
+        }
+        if !io::write_all(libc::STDOUT_FILENO, &out[..n]) {
+            return;
+        }
+        turns -= 1;
+    }
+}

@@ -1,0 +1,85 @@
+// What is printed for an order or an answer.
+use super::BUFFER;
+use super::OUT;
+use super::text;
+use engine::session::Output;
+use errors::Refusal;
+ghost use mathlib.Core.Path.{_≡_};
+ghost use mathlib.Core.List.{_++_};
+ghost use Prim.Native.Nat.{_≤_};
+ghost use lib.ListN.{length, take};
+ghost use Rattle.errors.specs.Refusals.{numbered as numberedOf};
+ghost use Rattle.bench.specs.Texts.{placed, placedAt, decimalOf};
+ghost use Rattle.bench.specs.Hex.{hexOf};
+ghost use Rattle.bench_session.specs.Outputs.{outRoom, textLimit, doneText, refusedText, textOf};
+
+// The first n bytes; all of them where there are fewer.
+fn first(n: usize, bytes: &[u8]) -> &[u8]
+    ensures { λ r. ⌜ now r ≡ take n (now (bytes .entry)) ⌝ }
+{
+    if n < bytes.len() { &bytes[..n] } else { bytes }
+}
+
+fn put_bytes(name: &[u8], bytes: &[u8], out: &mut [u8]) -> usize
+    requires { ⌜ (length (now name) ≤ 6) × (length (now bytes) ≤ 1024) × (outRoom ≤ length (now out)) ⌝ }
+    ensures { λ r. ⌜ placed r (now (out .exit)) ≡ placedAt 0 (now (name .entry) ++ hexOf (now (bytes .entry))) (now (out .entry)) ⌝ }
+{
+    let at = text::put(name, out, 0);
+    text::put_hex(bytes, out, at)
+}
+
+fn put_number(name: &[u8], number: u64, out: &mut [u8]) -> usize
+    requires { ⌜ (length (now name) ≤ 8) × (outRoom ≤ length (now out)) ⌝ }
+    ensures { λ r. ⌜ placed r (now (out .exit)) ≡ placedAt 0 (now (name .entry) ++ decimalOf number) (now (out .entry)) ⌝ }
+{
+    let at = text::put(name, out, 0);
+    text::put_decimal(number, out, at)
+}
+
+// An answer's bytes; `done` alone where it has none.
+fn put_done(bytes: &[u8], out: &mut [u8]) -> usize
+    requires { ⌜ (length (now bytes) ≤ 1024) × (outRoom ≤ length (now out)) ⌝ }
+    ensures { λ r. ⌜ placed r (now (out .exit)) ≡ placedAt 0 (doneText (now (bytes .entry))) (now (out .entry)) ⌝ }
+{
+    if bytes.len() == 0 {
+        return text::put(b"done", out, 0);
+    }
+    put_bytes(b"done ", bytes, out)
+}
+
+// A refusal's number, and the status of 15.
+fn put_refused(refusal: Refusal, out: &mut [u8]) -> usize
+    requires { ⌜ outRoom ≤ length (now out) ⌝ }
+    ensures { λ r. ⌜ placed r (now (out .exit)) ≡ placedAt 0 (refusedText (numberedOf refusal)) (now (out .entry)) ⌝ }
+{
+    let numbered = refusal.numbered();
+    let at = put_number(b"refused ", numbered.0 as u64, out);
+    if numbered.0 == 15 {
+        let status = [numbered.1];
+        let next = text::put(b" ", out, at);
+        return text::put_hex(&status, out, next);
+    }
+    at
+}
+
+fn put_output(output: Output, bytes: &[u8], out: &mut [u8; OUT]) -> usize
+    requires { ⌜ length (now bytes) ≤ 1024 ⌝ }
+    ensures { λ r. ⌜ (placed r (now (out .exit)) ≡ placedAt 0 (textOf output (now (bytes .entry))) (now (out .entry))) × (r ≤ textLimit) × (length (now (out .exit)) ≡ outRoom) ⌝ }
+{
+    match output {
+        Output::Write(n) => put_bytes(b"write ", first(n, bytes), out),
+        Output::Read(ms) => put_number(b"read ", ms as u64, out),
+        Output::Drain => text::put(b"drain", out, 0),
+        Output::Pause(us) => put_number(b"pause ", us as u64, out),
+        Output::Done(n) => put_done(first(n, bytes), out),
+        Output::Nothing => text::put(b"none", out, 0),
+        Output::Refused(refusal) => put_refused(refusal, out),
+    }
+}
+
+// Puts the text of an output, whose bytes stand at the start of `buffer`, at the start of `out`, and gives its length.
+pub fn print(output: Output, buffer: &[u8; BUFFER], out: &mut [u8; OUT]) -> usize
+    ensures { λ r. ⌜ (placed r (now (out .exit)) ≡ placedAt 0 (textOf output (now (buffer .entry))) (now (out .entry))) × (r ≤ textLimit) × (length (now (out .exit)) ≡ outRoom) ⌝ }
+{
+    put_output(output, buffer, out)
+}
