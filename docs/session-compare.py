@@ -1,12 +1,13 @@
 #!/usr/bin/env python3
-"""Compares the program `session` with the oracle on scripts of `open`, `version` and events alone.
+"""Compares the program `session` with the oracle on generated scripts of some or all calls.
 
-    python3 session-compare.py FOLDER PROGRAM [--seed 1] [--first 0] [--cases 1000] [--jobs 2] [--coverage]
+    python3 session-compare.py FOLDER PROGRAM [--calls opening|commands|all] [--seed 1] [--first 0] [--cases 1000] [--jobs 2] [--coverage]
 
 FOLDER has the oracle's bench program `oracle` and its scripts fuzz.py and diff.py. A script is made by talking to the
 oracle line by line, with fuzz.py's simulated chip at the other end. Then PROGRAM gets the whole script on its input; every
 tenth case goes line by line instead, the next line only after the answer. The first difference is cut down and printed,
-and the end code is 1.
+and the end code is 1. `opening` is `open` and `version` with more that goes wrong in openings, `commands` the calls of
+chipset.rs, `all` the whole language.
 """
 import argparse
 import multiprocessing
@@ -15,15 +16,20 @@ import sys
 import time
 
 
-def imports(folder):
-    """fuzz and diff of the folder, with fuzz's calls cut down to two."""
+def imports(folder, calls):
+    """fuzz and diff of the folder, with fuzz's calls cut down."""
     folder = os.path.abspath(folder)
-    sys.path.insert(0, folder)
+    if folder not in sys.path:
+        sys.path.insert(0, folder)
     os.environ["ORACLE"] = os.path.join(folder, "oracle")
     import fuzz
     import diff
-    fuzz.CALLS = {name: fuzz.CALLS[name] for name in ("open", "version")}
-    fuzz.WEIGHTS = {"open": 1, "version": 3}
+    if calls == "opening":
+        names = ("open", "version")
+    else:
+        names = [name for name in fuzz.CALLS if calls == "all" or not name.startswith(("detect", "transceive"))]
+    fuzz.CALLS = {name: fuzz.CALLS[name] for name in names}
+    fuzz.WEIGHTS = {name: fuzz.WEIGHTS[name] for name in names}
     return fuzz, diff
 
 
@@ -103,9 +109,12 @@ def line_by_line(fuzz, command, script):
 
 def one_case(job):
     args, index = job
-    fuzz, diff = imports(args.folder)
+    fuzz, diff = imports(args.folder, args.calls)
     count = fuzz.Coverage()
-    script, output = script_of(fuzz, args.seed, index, count)
+    if args.calls == "opening":
+        script, output = script_of(fuzz, args.seed, index, count)
+    else:
+        script, output = fuzz.session_case(args.seed, index, coverage=count)
     run = line_by_line if index % 10 == 9 else lambda fuzz, command, script: fuzz.run(command, script)
     told = run(fuzz, [args.program], script)
     differs = diff.first_difference(output, told) is not None
@@ -116,6 +125,7 @@ def main():
     parser = argparse.ArgumentParser(description=__doc__, formatter_class=argparse.RawDescriptionHelpFormatter)
     parser.add_argument("folder")
     parser.add_argument("program")
+    parser.add_argument("--calls", choices=("opening", "commands", "all"), default="all")
     parser.add_argument("--seed", default="1")
     parser.add_argument("--first", type=int, default=0)
     parser.add_argument("--cases", type=int, default=1000)
@@ -123,7 +133,7 @@ def main():
     parser.add_argument("--coverage", action="store_true", help="print the outcomes reached, to the error output")
     args = parser.parse_args()
     args.program = os.path.abspath(args.program)
-    fuzz, diff = imports(args.folder)
+    fuzz, diff = imports(args.folder, args.calls)
     start, lines, total = time.time(), 0, fuzz.Coverage()
     with multiprocessing.Pool(args.jobs) as pool:
         jobs = ((args, index) for index in range(args.first, args.first + args.cases))

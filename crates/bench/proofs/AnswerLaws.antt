@@ -2,12 +2,12 @@
 use mathlib.Core.Path.{_≡_, refl, sym, ap, ap₂, _∙_}
 use mathlib.Core.Bool.{Bool, true, false}
 use mathlib.Core.List.{List, [], _∷_, _++_, append-assoc}
-use Prim.Native.Nat.{ℕ, zero, suc, _+_, _*_, _≤_, _<_}
+use Prim.Native.Nat.{ℕ, suc, _+_, _≤_, _<_}
 use native.Mathlib.Nat.{zero-add}
 use native.Mathlib.Omega.{arith}
 use borrow.Author.Tests.{ltb-false}
 use lib.Dec.{ltb, eqb}
-use lib.ListN.{length, take, drop, getD, set, length-append, length-take, length-drop, length-set}
+use lib.ListN.{length, take, drop, getD, set, length-append, length-take}
 use lib.Seq.{set-at, drop-cons, length-take-le}
 use Rattle.errors.specs.Refusals.{Outcome, answered, refused}
 use Rattle.framing.specs.Build.{limitOf}
@@ -25,16 +25,15 @@ use Rattle.crc.specs.Laws.{crc-length}
 use Rattle.targets.specs.Bitrates.{ascii, parseOf as bitrateOf}
 use Rattle.bench.specs.Codec.{lineLimit, bytesRoom, answerRoom, unreadable, settingNamed, buildText, dataText, foundText, parseText, checksumText, yesOrNo, appendText, sendText, bitrateText, bitrateWord, onBytes, onFormat, twoWords, onSetting, onWords, answerOf, replyOf}
 use Rattle.bench.specs.Hex.{dash, isHex, pairsOf, hexOf}
-use Rattle.bench.specs.Lines.{lengthOf}
 use Rattle.bench.specs.Texts.{over, Placed, placed, placedAt, decimalOf}
 use Rattle.bench.specs.Words.{wordsOf}
 use Rattle.bench.specs.declared.lines.Line.{Line}
 use Rattle.bench.specs.declared.lines.Line.the-variants.{Text, OverLong, End}
 use Rattle.bench.proofs.CodecLaws.{length-frame, longest-65535, payload-short}
-use Rattle.bench.proofs.DecimalLaws.{decimal-short}
-use Rattle.bench.proofs.HexLaws.{hex-short, length-pairs}
-use Rattle.bench.proofs.TextLaws.{length-over}
-use Rattle.bench.proofs.WordLaws.{word-short}
+use Rattle.bench.specs.DecimalLaws.{decimal-short}
+use Rattle.bench.specs.HexLaws.{hex-short, length-pairs}
+use Rattle.bench.specs.TextLaws.{length-over}
+use Rattle.bench.specs.WordLaws.{word-short}
 
 -- the longest answer: `data`, 20 digits and the payload of a line's bytes
 abbrev Fits : List ℕ → Type 0
@@ -178,14 +177,6 @@ module _ (t : Line) (b o c : List ℕ) (r : ℕ) (told : placed r o ≡ placedAt
 
   pub reply-part : length c ≡ answerRoom → r ≡ length (take r o)
   reply-part h = sym (length-take-le r o (reply-inside h))
-
--- the line that was told stands in its buffer
-module _ (t : Line) (n : ℕ) (l : List ℕ) (is : t ≡ Text n) (inside : lengthOf t ≤ length l) where
-  pub text-fits : n ≤ length l
-  text-fits = omega (arith, ap lengthOf is)
-
-  pub text-part : n ≡ length (take n l)
-  text-part = sym (length-take-le n l text-fits)
 
 -- the replies
 pub reply-text : (n : ℕ) (t : Line) (l b : List ℕ) (x : Placed) → t ≡ Text n → x ≡ placedAt 0 (answerOf (take n l) ++ (10 ∷ [])) b → x ≡ placedAt 0 (replyOf t l) b

@@ -1,15 +1,14 @@
 -- Laws of the answers of `codec`: what each function printed, by what it tested and what its callees answered.
-use mathlib.Core.Path.{_≡_, refl, sym, ap, ap₂, _∙_}
+use mathlib.Core.Path.{_≡_, refl, sym, ap, _∙_}
 use mathlib.Core.Bool.{Bool, true, false}
 use mathlib.Core.List.{List, [], _∷_, _++_}
-use Prim.Native.Nat.{ℕ, zero, suc, _+_, _-_, _*_, _/_, _≤_, _<_, min}
-use native.Mathlib.Nat.{zero-add}
+use Prim.Native.Nat.{ℕ, suc, _+_, _/_, _≤_}
 use native.Mathlib.Omega.{arith}
-use borrow.Author.Tests.{lt-ltb, le-ltb, ltb-true, ltb-false}
+use borrow.Author.Tests.{le-ltb, ltb-false}
 use lib.Dec.{ltb, eqb}
 use lib.ListN.{length, take, drop, getD, length-append, length-take, length-drop}
 use lib.Seq.{take-at, length-take-le}
-use Rattle.errors.specs.Refusals.{Outcome, answered, refused, plain, numbered}
+use Rattle.errors.specs.Refusals.{Outcome, answered, refused, plain}
 use Rattle.errors.specs.declared.Refusal.{Refusal}
 use Rattle.framing.specs.Build.{outcome as built, left as leaves, limitOf, putFrame, buildOf}
 use Rattle.framing.specs.Enclose.{length-head}
@@ -20,7 +19,7 @@ use Rattle.framing.specs.declared.Built.{Built}
 use Rattle.framing.specs.declared.Built.the-variants.{Frame, Refused as NotBuilt}
 use Rattle.framing.specs.declared.FrameFormat.{FrameFormat}
 use Rattle.framing.specs.declared.FrameType.{FrameType}
-use Rattle.framing.specs.declared.FrameType.the-variants.{Ack, Error, Data, Nothing}
+use Rattle.framing.specs.declared.FrameType.the-variants.{Data}
 use Rattle.framing.specs.declared.LengthEncoding.{LengthEncoding}
 use Rattle.framing.specs.declared.LengthEncoding.the-variants.{Normal, ExtendedLittleEndian, NormalOrExtendedBigEndian}
 use Rattle.framing.specs.declared.settings.Setting.{Setting}
@@ -35,24 +34,14 @@ use Rattle.targets.specs.declared.Parsed.{Parsed}
 use Rattle.targets.specs.declared.Parsed.the-variants.{Send, Refused as NotSent}
 use Rattle.bench.specs.Codec.{lineLimit, bytesRoom, frameRoom, answerRoom, unreadable, buildText, dataText, foundText, parseText, checksumText, yesOrNo, appendText, sendText, bitrateText, onBytes, onFormat, twoWords, onSetting, onWords, settingNamed}
 use Rattle.bench.specs.Hex.{isHex, pairsOf, readOf, hexOf}
-use Rattle.bench.specs.Texts.{outcome, over, left, putOf, Placed, placed, placedAt, decimalOf}
+use Rattle.bench.specs.Texts.{outcome, over, left, Placed, placed, placedAt, decimalOf}
 use Rattle.bench.specs.Words.{wordsOf}
 use Rattle.bench.specs.declared.Put.{Put}
 use Rattle.bench.specs.declared.Put.the-variants.{Bytes, Refused}
-use Rattle.bench.proofs.DecimalLaws.{decimal-short}
-use Rattle.bench.proofs.HexLaws.{hex-short, length-pairs}
-use Rattle.bench.proofs.TextLaws.{over-over}
-use Rattle.bench.proofs.WordLaws.{word-short}
-
--- a test that decides what is printed
-module _ (x : Placed) (t : Bool) (a c b : List ℕ) where
-  pub placed-true : t ≡ true → x ≡ placedAt 0 a b → x ≡ placedAt 0 (pick t a c) b
-  unfolding pick
-  placed-true h e = rw h e
-
-  pub placed-false : t ≡ false → x ≡ placedAt 0 c b → x ≡ placedAt 0 (pick t a c) b
-  unfolding pick
-  placed-false h e = rw h e
+use Rattle.bench.specs.DecimalLaws.{decimal-short}
+use Rattle.bench.specs.HexLaws.{hex-short, length-pairs, was-read, read-count, read-into, not-read}
+use Rattle.bench.specs.TextLaws.{length-over, next-place, put-behind}
+use Rattle.bench.specs.WordLaws.{word-short}
 
 pub placed-yes : (r s : Bool) (x : Placed) (b : List ℕ) → x ≡ placedAt 0 (yesOrNo r) b → r ≡ s → x ≡ placedAt 0 (yesOrNo s) b
 placed-yes r s x b e h = rw h at e
@@ -63,26 +52,13 @@ told-yes r x b h e = rw h e
 pub told-no : (r : Bool) (x : Placed) (b : List ℕ) → r ≡ false → x ≡ placedAt 0 (ascii "no") b → x ≡ placedAt 0 (yesOrNo r) b
 told-no r x b h e = rw h e
 
--- a text behind the text t
-module _ (t u b o : List ℕ) (r : ℕ) (before : placed r o ≡ placedAt 0 t b) where
-  pub next-place : r ≡ length t
-  next-place = ap (λ p. p .next) before ∙ zero-add (length t)
-
-  pub put-behind : (x : Placed) → x ≡ placedAt r u o → length t + length u ≤ length b → x ≡ placedAt 0 (t ++ u) b
-  put-behind x e h =
-      let f : o ≡ over 0 t b = ap (λ p. p .buffer) before in
-      let g : r ≡ 0 + length t = ap (λ p. p .next) before in
-      let n : 0 + length t + length u ≡ 0 + length (t ++ u) = rw (length-append t u) (omega arith) in
-      let k : 0 + length t + length u ≤ length b = omega arith in
-      e ∙ ap₂ (λ m z. placed (m + length u) (over m u z)) g f ∙ ap₂ placed n (over-over b t u 0 k)
-
 -- a name of at most six bytes and a length
 module _ (t b o : List ℕ) (r n : ℕ) (before : placed r o ≡ placedAt 0 t b) (name : length t ≤ 6) (room : answerRoom ≤ length b) where
   pub kind-room : length o ≡ length b → r + 20 ≤ length o
-  kind-room l = let k = next-place t [] b o r before in omega arith
+  kind-room l = let k = next-place t b o r before in omega arith
 
   pub kind-done : (x : Placed) → x ≡ placedAt r (decimalOf n) o → x ≡ placedAt 0 (t ++ decimalOf n) b
-  kind-done x e = put-behind t (decimalOf n) b o r before x e (omega (arith, decimal-short n))
+  kind-done x e = put-behind t b o r before (decimalOf n) x e (omega (arith, decimal-short n))
 
 -- what was found of a packet
 pub found-done : (f : FrameFormat) (p b : List ℕ) (r k : FrameType) (x : Placed) → r ≡ parseOf f p → r ≡ k → x ≡ placedAt 0 (foundText k p) b → x ≡ placedAt 0 (parseText f p) b
@@ -99,23 +75,23 @@ module _ (q b o : List ℕ) (n r : ℕ) (kind : placed r o ≡ placedAt 0 (ascii
   kind-short = rw (length-append (ascii "data ") (decimalOf n)) (omega (arith, decimal-short n))
 
   pub space-room : length o ≡ length b → r + 1 ≤ length o
-  space-room l = let k = next-place (ascii "data " ++ decimalOf n) [] b o r kind in omega (arith, kind-short)
+  space-room l = let k = next-place (ascii "data " ++ decimalOf n) b o r kind in omega (arith, kind-short)
 
   module _ (o′ : List ℕ) (r′ : ℕ) (space : placed r′ o′ ≡ placedAt r (ascii " ") o) (short : length q ≤ bytesRoom) where
     spaced : placed r′ o′ ≡ placedAt 0 (ascii "data " ++ decimalOf n ++ ascii " ") b
-    spaced = put-behind (ascii "data " ++ decimalOf n) (ascii " ") b o r kind (placed r′ o′) space (omega (arith, kind-short))
+    spaced = put-behind (ascii "data " ++ decimalOf n) b o r kind (ascii " ") (placed r′ o′) space (omega (arith, kind-short))
 
     spaced-short : length (ascii "data " ++ decimalOf n ++ ascii " ") ≤ 26
     spaced-short = rw (length-append (ascii "data " ++ decimalOf n) (ascii " ")) (omega (arith, kind-short))
 
     pub payload-room : length o ≡ length b → length o′ ≡ length o → r′ + length (hexOf q) ≤ length o′
     payload-room l m =
-        let k = next-place (ascii "data " ++ decimalOf n ++ ascii " ") [] b o′ r′ spaced in
+        let k = next-place (ascii "data " ++ decimalOf n ++ ascii " ") b o′ r′ spaced in
         omega (arith, spaced-short, hex-short q)
 
     pub data-done : (x : Placed) → x ≡ placedAt r′ (hexOf q) o′ → x ≡ placedAt 0 (dataText n q) b
     unfolding dataText
-    data-done x e = put-behind (ascii "data " ++ decimalOf n ++ ascii " ") (hexOf q) b o′ r′ spaced x e (omega (arith, spaced-short, hex-short q))
+    data-done x e = put-behind (ascii "data " ++ decimalOf n ++ ascii " ") b o′ r′ spaced (hexOf q) x e (omega (arith, spaced-short, hex-short q))
 
 -- the payload q of the data frame that was found
 module _ (p q : List ℕ) (s len n : ℕ) (payload : q ≡ payloadOf (Data s len n) p) where
@@ -255,70 +231,44 @@ module _ (f : FrameFormat) (p b o : List ℕ) (r : Built) (told : leaves (built 
 
 -- the bytes of a word, in a buffer that has the room
 module _ (w b o : List ℕ) (r : Put) (told : left (outcome r) o ≡ readOf w b) (short : length w ≤ lineLimit) (room : length b ≡ bytesRoom) where
-  read-whole : isHex w ≡ true → left (outcome r) o ≡ left (answered (length (pairsOf w))) (over 0 (pairsOf w) b)
-  unfolding readOf putOf pick
-  read-whole h =
-      let n = length-pairs w in
-      told ∙ rw (h, le-ltb (length b) (length (pairsOf w)) (omega arith))
-
-  read-none : isHex w ≡ false → left (outcome r) o ≡ left (refused (plain 4)) b
-  unfolding readOf pick
-  read-none h = told ∙ rw h
-
-  not-read : (e : Refusal) → r ≡ Refused e → isHex w ≡ false
-  unfolding outcome
-  not-read e q = go (isHex w) refl
-    where
-      go : (t : Bool) → isHex w ≡ t → t ≡ false
-      go true h =
-          let z : _≡_ {A = ℕ} 0 1 = cc (ap (λ l. l .told) (read-whole h), ap outcome q) in
-          absurd (omega arith)
-      go false h = refl
+  read-room : length w / 2 ≤ length b
+  read-room = omega arith
 
   pub read-refused : (e : Refusal) (y out : List ℕ) (x : Placed) → r ≡ Refused e → x ≡ placedAt 0 unreadable out → x ≡ placedAt 0 (pick (isHex w) y unreadable) out
   unfolding pick
-  read-refused e y out x q d = rw (not-read e q) d
+  read-refused e y out x q d = rw (not-read w b o r read-room told e q) d
 
   module _ (n : ℕ) (q : r ≡ Bytes n) where
-    was-read : isHex w ≡ true
-    unfolding outcome
-    was-read = go (isHex w) refl
-      where
-        go : (t : Bool) → isHex w ≡ t → t ≡ true
-        go true h = refl
-        go false h =
-            let z : _≡_ {A = ℕ} 0 1 = cc (ap (λ l. l .told) (read-none h), ap outcome q) in
-            absurd (omega arith)
+    is-hex : isHex w ≡ true
+    is-hex = was-read w b o r read-room told n q
 
-    read-count : n ≡ length (pairsOf w)
-    unfolding outcome
-    read-count = cc (ap (λ l. l .told) (read-whole was-read), ap outcome q)
+    counted : n ≡ length (pairsOf w)
+    counted = read-count w b o r read-room told n q
+
+    filled : o ≡ over 0 (pairsOf w) b
+    filled = read-into w b o r read-room told n q
 
     read-text : take n o ≡ pairsOf w
     unfolding over
-    read-text = ap (λ l. take n (l .buffer)) (read-whole was-read) ∙ take-at (pairsOf w) (drop (0 + length (pairsOf w)) b) n (sym read-count)
+    read-text = ap (take n) filled ∙ take-at (pairsOf w) (drop (0 + length (pairsOf w)) b) n (sym counted)
 
     pub read-fits : n ≤ length o
-    unfolding over
-    read-fits =
-        let l = ap (λ z. length (z .buffer)) (read-whole was-read) in
-        let c = read-count in
-        omega (arith, simp (length-append, length-drop) at l)
+    read-fits = omega (arith, counted, length-pairs w, ap length filled, length-over b (pairsOf w) 0 (omega (arith, length-pairs w)))
 
     pub read-part : n ≡ length (take n o)
     read-part = sym (length-take-le n o read-fits)
 
     pub read-bytes : (name out : List ℕ) (x : Placed) → x ≡ placedAt 0 (onBytes name (take n o)) out → x ≡ placedAt 0 (pick (isHex w) (onBytes name (pairsOf w)) unreadable) out
     unfolding pick
-    read-bytes name out x e = rw was-read (rw read-text at e)
+    read-bytes name out x e = rw is-hex (rw read-text at e)
 
     pub read-format : (name out : List ℕ) (f : FrameFormat) (x : Placed) → x ≡ placedAt 0 (onFormat name f (take n o)) out
         → x ≡ placedAt 0 (pick (isHex w) (onFormat name f (pairsOf w)) unreadable) out
     unfolding pick
-    read-format name out f x e = rw was-read (rw read-text at e)
+    read-format name out f x e = rw is-hex (rw read-text at e)
 
     pub read-short : length (take n o) ≤ bytesRoom
-    read-short = let c = read-count in let m = length-pairs w in omega (arith, length-take n o)
+    read-short = let c = counted in let m = length-pairs w in omega (arith, length-take n o)
 
 -- the setting of a word
 module _ (v name w b : List ℕ) (s : Setting) (x : Placed) (told : s ≡ settingNamed v) where
@@ -360,13 +310,13 @@ module _ (t : List ℕ) (r : Parsed) (told : parsed r ≡ bitrateOf t) where
 
     module _ (out o : List ℕ) (k : ℕ) (before : placed k o ≡ placedAt 0 (ascii "ok ") out) (short : length t ≤ lineLimit) (room : answerRoom ≤ length out) where
       pub sent-room : length o ≡ length out → k + length (take n t) ≤ length o
-      sent-room l = let j = next-place (ascii "ok ") [] out o k before in omega (arith, length-take n t)
+      sent-room l = let j = next-place (ascii "ok ") out o k before in omega (arith, length-take n t)
 
       pub sent-done : (x : Placed) → x ≡ placedAt k (take n t) o → x ≡ placedAt 0 (bitrateText t) out
       unfolding bitrateText sendText
       sent-done x e =
           rw (sym told ∙ ap parsed q)
-          (put-behind (ascii "ok ") (take n t) out o k before x e (omega (arith, length-take n t)))
+          (put-behind (ascii "ok ") out o k before (take n t) x e (omega (arith, length-take n t)))
 
 -- the words of a line, by their number
 module _ (ws : List (List ℕ)) (n : ℕ) (counted : n ≡ length ws) (x : Placed) (b : List ℕ) where

@@ -1,5 +1,5 @@
 -- HEX: pairs of hex digits of either case, printed in upper case. `-` (45) stands for no bytes.
-use mathlib.Core.Bool.{Bool, true, false}
+use mathlib.Core.Bool.{Bool, true}
 use mathlib.Core.List.{List, [], _∷_}
 use Prim.Native.Nat.{ℕ, _+_, _-_, _*_, _%_, _/_}
 use lib.Dec.{leb, ltb, eqb}

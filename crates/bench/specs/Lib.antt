@@ -3,3 +3,8 @@ pub mod Hex
 pub mod Words
 pub mod Lines
 pub mod Codec
+pub mod TextLaws
+pub mod DecimalLaws
+pub mod HexLaws
+pub mod WordLaws
+pub mod LineLaws

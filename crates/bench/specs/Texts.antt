@@ -1,5 +1,4 @@
 -- A text put into a buffer, and a number as text. A text is the list of its bytes.
-use mathlib.Core.Bool.{Bool, true, false}
 use mathlib.Core.List.{List, [], _∷_, _++_}
 use Prim.Native.Nat.{ℕ, zero, suc, _+_, _%_, _/_}
 use lib.Dec.{ltb}

@@ -1,42 +1,25 @@
 -- Laws of an answer: what was read, the engine's step, and the text with its line feed.
-use mathlib.Core.Path.{_≡_, refl, sym, ap, ap₂, _∙_}
+use mathlib.Core.Path.{_≡_, refl, ap, ap₂, _∙_}
 use mathlib.Core.List.{List}
-use Prim.Native.Nat.{ℕ, _+_, _≤_}
+use Prim.Native.Nat.{ℕ, _+_}
 use native.Mathlib.Nat.{zero-add}
-use native.Mathlib.Omega.{arith}
-use lib.ListN.{length, take, set, replicate}
-use lib.Seq.{length-take-le}
-use Rattle.exchange.specs.declared.Event.{Event}
+use lib.ListN.{length, take, set}
 use Rattle.engine.specs.Sessions.{Stepped, stepped}
 use Rattle.errors.specs.declared.Refusal.the-variants.{BadArgument}
-use Rattle.engine.specs.declared.session.Output.{Output}
-use Rattle.engine.specs.declared.session.Output.the-variants.{Refused}
+use Rattle.engine.specs.declared.state.Output.{Output}
+use Rattle.engine.specs.declared.state.Output.the-variants.{Refused}
 use Rattle.engine.specs.declared.session.Session.{Session}
 use Rattle.engine.specs.declared.session.Step.{Step}
-use Rattle.bench.specs.Lines.{lengthOf}
 use Rattle.bench.specs.Texts.{over, Placed, placed, placedAt}
 use Rattle.bench.specs.declared.lines.Line.{Line}
 use Rattle.bench.specs.declared.lines.Line.the-variants.{Text, OverLong, End}
-use Rattle.bench_session.specs.Inputs.{read, inputOf, countOf}
+use Rattle.bench_input.specs.Arguments.{Said}
+use Rattle.bench_input.specs.Inputs.{inputOf}
 use Rattle.bench_session.specs.Outputs.{textOf}
-use Rattle.bench_session.specs.Answers.{kept, stepOf, After, after, printed, readStep, answerOf, fed, replyOf}
-use Rattle.bench_session.specs.declared.input.Input.{Input}
-use Rattle.bench_session.specs.declared.input.Input.the-variants.{Happened}
-
--- the engine's step on a known input
-module _ (s : Session) (i k : Input) (p b : List ℕ) (x : Stepped) (is : i ≡ k) where
-  pub step-is : x ≡ stepOf s k p b → x ≡ stepOf s i p b
-  step-is e = rw is e
+use Rattle.bench_session.specs.Answers.{kept, stepOf, After, after, printed, answerOf, fed, replyOf}
 
 pub kept-is : (s : Session) (r : Step) (b : List ℕ) → r .session ≡ s → r .output ≡ Refused BadArgument → stepped r b ≡ kept s b
 kept-is s r b p q = ap₂ (λ (x : Session) (y : Output). record { session = x; output = y; buffer = b }) p q
-
-module _ (i : Input) (e : Event) (n : ℕ) (p : List ℕ) (is : i ≡ Happened e n) (inside : countOf i ≤ length p) where
-  pub packet-fits : n ≤ length p
-  packet-fits = omega (arith, ap countOf is)
-
-  pub packet-part : n ≡ length (take n p)
-  packet-part = sym (length-take-le n p packet-fits)
 
 -- the text of a step
 pub print-done : (t : Stepped) (s : Session) (f : Output) (b o o′ : List ℕ) (n : ℕ) → record { session = s; output = f; buffer = b } ≡ t → placed n o′ ≡ placedAt 0 (textOf f b) o
@@ -44,15 +27,11 @@ pub print-done : (t : Stepped) (s : Session) (f : Output) (b o o′ : List ℕ) 
 unfolding printed
 print-done t s f b o o′ n e d = ap (λ (p : Placed). after s (p .next) b (p .buffer)) d ∙ ap (λ k. after s k b (over 0 (textOf f b) o)) (zero-add (length (textOf f b))) ∙ ap (λ z. printed z o) e
 
-pub answer-done : (s s′ : Session) (i : Input) (f : Output) (l p b b′ o o′ : List ℕ) (n : ℕ) → read i p ≡ inputOf l (replicate 4096 0)
-    → record { session = s′; output = f; buffer = b′ } ≡ stepOf s i p b → placed n o′ ≡ placedAt 0 (textOf f b′) o → after s′ n b′ o′ ≡ answerOf s l b o
-unfolding answerOf readStep
-answer-done s s′ i f l p b b′ o o′ n r e d =
-    print-done (stepOf s i p b) s′ f b′ o o′ n e d ∙ ap (λ z. printed (readStep s z b) o) r
-
--- the line that was told stands in its buffer
-pub text-part : (t : Line) (n : ℕ) (l : List ℕ) → t ≡ Text n → lengthOf t ≤ length l → n ≡ length (take n l)
-text-part t n l e h = sym (length-take-le n l (omega (arith, ap lengthOf e)))
+pub answer-done : (s s′ : Session) (i : Said) (f : Output) (l b b′ o o′ : List ℕ) (n : ℕ) → i ≡ inputOf l
+    → record { session = s′; output = f; buffer = b′ } ≡ stepOf s i b → placed n o′ ≡ placedAt 0 (textOf f b′) o → after s′ n b′ o′ ≡ answerOf s l b o
+unfolding answerOf
+answer-done s s′ i f l b b′ o o′ n r e d =
+    print-done (stepOf s i b) s′ f b′ o o′ n e d ∙ ap (λ z. printed (stepOf s z b) o) r
 
 -- a line feed behind the text
 pub fed-done : (s s′ : Session) (n n′ : ℕ) (b o o′ : List ℕ) (a : After) → after s n b o ≡ a → s′ ≡ s → n′ ≡ n + 1 → o′ ≡ set o n 10 → after s′ n′ b o′ ≡ fed a

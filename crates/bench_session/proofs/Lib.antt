@@ -1,5 +1,3 @@
-mod DecimalLaws
-mod TextLaws
+mod PrintLaws
 mod OutputLaws
-mod InputLaws
 mod AnswerLaws

@@ -13,13 +13,14 @@ use Rattle.errors.specs.Refusals.{numbered}
 use Rattle.errors.specs.declared.Numbered.{Numbered}
 use Rattle.errors.specs.declared.Refusal.{Refusal}
 use Rattle.targets.specs.Bitrates.{ascii}
-use Rattle.engine.specs.declared.session.Output.{Output}
-use Rattle.engine.specs.declared.session.Output.the-variants.{Write, Read, Drain, Pause, Done, Nothing, Refused}
+use Rattle.engine.specs.declared.state.Output.{Output}
+use Rattle.engine.specs.declared.state.Output.the-variants.{Write, Read, Drain, Pause, Done, Nothing, Refused}
+use Rattle.bench.specs.DecimalLaws.{decimal-short}
 use Rattle.bench.specs.Hex.{hexOf}
+use Rattle.bench.specs.HexLaws.{hex-short}
+use Rattle.bench.specs.TextLaws.{next-place, put-behind}
 use Rattle.bench.specs.Texts.{Placed, placed, placedAt, decimalOf}
 use Rattle.bench_session.specs.Outputs.{outRoom, textLimit, doneText, refusedText, textOf}
-use Rattle.bench_session.proofs.DecimalLaws.{decimal-short}
-use Rattle.bench_session.proofs.TextLaws.{next-place, put-behind, hex-short}
 
 -- the first n bytes
 pub first-part : (n : ℕ) (p : List ℕ) → n < length p → n ≡ length (take n p)
@@ -30,16 +31,6 @@ first-all n p h = sym (take-all n p h)
 
 pub first-short : (n : ℕ) (p q : List ℕ) → p ≡ take n q → length q ≤ 1024 → length p ≤ 1024
 first-short n p q e h = omega (arith, ap length e, length-take n q)
-
--- a test that decides what is printed
-module _ (x : Placed) (t : Bool) (a c b : List ℕ) where
-  pub placed-true : t ≡ true → x ≡ placedAt 0 a b → x ≡ placedAt 0 (pick t a c) b
-  unfolding pick
-  placed-true h e = rw h e
-
-  pub placed-false : t ≡ false → x ≡ placedAt 0 c b → x ≡ placedAt 0 (pick t a c) b
-  unfolding pick
-  placed-false h e = rw h e
 
 -- bytes or a number behind a name
 module _ (t b o : List ℕ) (r : ℕ) (before : placed r o ≡ placedAt 0 t b) (room : outRoom ≤ length b) where

@@ -1,30 +1,29 @@
 -- The session, the engine's buffer and the text after a line.
 use mathlib.Core.List.{List}
 use Prim.Native.Nat.{ℕ, _+_}
-use lib.ListN.{length, take, set, replicate}
+use lib.ListN.{length, take, set}
 use Rattle.errors.specs.declared.Refusal.the-variants.{BadArgument}
-use Rattle.exchange.specs.Steps.{eventOf}
-use Rattle.engine.specs.Sessions.{Stepped, openStep, versionStep, eventStep}
-use Rattle.engine.specs.declared.session.Output.the-variants.{Refused}
+use Rattle.protocol.specs.Calls.{opening, request}
+use Rattle.engine.specs.Sessions.{Stepped, openStep, requestStep, eventStep}
+use Rattle.engine.specs.declared.state.Output.the-variants.{Refused}
 use Rattle.engine.specs.declared.session.Session.{Session}
 use Rattle.bench.specs.Texts.{over}
 use Rattle.bench.specs.declared.lines.Line.{Line}
 use Rattle.bench.specs.declared.lines.Line.the-variants.{Text, OverLong, End}
-use Rattle.bench_session.specs.Inputs.{Read, inputOf}
+use Rattle.bench_input.specs.Arguments.{Said, calls, happens, unreadable}
+use Rattle.bench_input.specs.Inputs.{inputOf}
 use Rattle.bench_session.specs.Outputs.{textOf}
-use Rattle.bench_session.specs.declared.input.Input.{Input}
-use Rattle.bench_session.specs.declared.input.Input.the-variants.{Open, Version, Happened, Unreadable}
 
 -- a line that cannot be read: the session stays as it was
 abbrev pub kept : Session → List ℕ → Stepped
 kept s b = record { session = s; output = Refused BadArgument; buffer = b }
 
--- what the engine does with what was read; a packet's bytes stand at the start of p
-unfoldable pub stepOf : Session → Input → List ℕ → List ℕ → Stepped
-stepOf s Open p b = openStep s b
-stepOf s Version p b = versionStep s b
-stepOf s (Happened e n) p b = eventStep s (eventOf e (take n p)) b
-stepOf s Unreadable p b = kept s b
+-- what the engine does with what a line says
+unfoldable pub stepOf : Session → Said → List ℕ → Stepped
+stepOf s (calls opening) b = openStep s b
+stepOf s (calls (request r)) b = requestStep s r b
+stepOf s (happens e) b = eventStep s e b
+stepOf s unreadable b = kept s b
 
 -- a session and a text's length, with the engine's buffer and the text's buffer
 pub record After : Type 0 where
@@ -40,12 +39,9 @@ after s n b o = record { session = s; len = n; buffer = b; out = o }
 unfoldable pub printed : Stepped → List ℕ → After
 printed t o = after (t .session) (length (textOf (t .output) (t .buffer))) (t .buffer) (over 0 (textOf (t .output) (t .buffer)) o)
 
-unfoldable pub readStep : Session → Read → List ℕ → Stepped
-readStep s r b = stepOf s (r .input) (r .buffer) b
-
--- the line l, read with room for 4,096 bytes of a packet
+-- the line l
 unfoldable pub answerOf : Session → List ℕ → List ℕ → List ℕ → After
-answerOf s l b o = printed (readStep s (inputOf l (replicate 4096 0)) b) o
+answerOf s l b o = printed (stepOf s (inputOf l) b) o
 
 -- a line feed (10) behind the text
 unfoldable pub fed : After → After

@@ -7,8 +7,8 @@ use Rattle.errors.specs.Choice.{pick}
 use Rattle.errors.specs.Refusals.{numbered}
 use Rattle.errors.specs.declared.Numbered.{Numbered}
 use Rattle.targets.specs.Bitrates.{ascii}
-use Rattle.engine.specs.declared.session.Output.{Output}
-use Rattle.engine.specs.declared.session.Output.the-variants.{Write, Read, Drain, Pause, Done, Nothing, Refused}
+use Rattle.engine.specs.declared.state.Output.{Output}
+use Rattle.engine.specs.declared.state.Output.the-variants.{Write, Read, Drain, Pause, Done, Nothing, Refused}
 use Rattle.bench.specs.Texts.{decimalOf}
 use Rattle.bench.specs.Hex.{hexOf}
 

@@ -1,30 +1,31 @@
 // The lines of the program `session`: a call or an event in, an order or an answer out.
-pub mod input;
 pub mod output;
 mod text;
 
 use bench::lines;
 use bench::lines::Held;
 use bench::lines::Line;
-use engine::session::Output;
+use bench_input::BYTES;
+use bench_input::Command;
+use bench_input::Initiator;
+use bench_input::Input;
+use bench_input::LINE;
+use bench_input::Target;
+use bench_input::part;
 use engine::session::Session;
 use engine::session::Step;
+use engine::state::Output;
 use errors::Refusal;
-use input::Input;
 ghost use mathlib.Core.Path.{_≡_};
 ghost use Prim.Native.Nat.{_+_, _≤_};
 ghost use lib.ListN.{length, set};
-ghost use Rattle.engine.specs.Sessions.{stepped};
+ghost use Rattle.engine.specs.Sessions.{stepped, requestStep};
 ghost use Rattle.bench.specs.Lines.{lengthOf};
-ghost use Rattle.bench_session.specs.Inputs.{countOf};
+ghost use Rattle.bench_input.specs.Readings.{commandIn, initiatorIn, targetIn, inputIn};
 ghost use Rattle.bench_session.specs.Outputs.{outRoom, textLimit};
-ghost use Rattle.bench_session.specs.Answers.{kept, stepOf, after, answerOf, replyOf};
+ghost use Rattle.bench_session.specs.Answers.{stepOf, after, answerOf, replyOf};
 
-// The longest line, without its line feed, room for its packet, for the engine's bytes, and for any answer and a line feed.
-pub const LINE: usize = 8192;
-
-pub const PACKET: usize = 4096;
-
+// Room for the engine's bytes, and for any answer and a line feed.
 pub const BUFFER: usize = 1024;
 
 pub const OUT: usize = 2064;
@@ -45,15 +46,79 @@ fn unreadable(session: Session) -> Step
     }
 }
 
+// What the engine does with a call of the chip itself.
+fn chip(session: Session, call: Command, bytes: &[u8], buffer: &mut [u8]) -> Step
+    ensures { λ r. ⌜ stepped r (now (buffer .exit)) ≡ requestStep session (commandIn (now (bytes .entry)) call) (now (buffer .entry)) ⌝ }
+{
+    match call {
+        Command::Version => session.version(buffer),
+        Command::ResetMode => session.reset_mode(buffer),
+        Command::SetParameters(flags) => session.set_parameters(flags, buffer),
+        Command::RfConfiguration(item, n) => {
+            session.rf_configuration(item, part(bytes, 0, n), buffer)
+        }
+        Command::RfFieldOff => session.rf_field_off(buffer),
+        Command::ReadRegister(n) => session.read_register(part(bytes, 0, n), buffer),
+        Command::WriteRegister(n) => session.write_register(part(bytes, 0, n), buffer),
+        Command::ReadSingleRegister(address) => session.read_single_register(address, buffer),
+        Command::WriteSingleRegister(address, value) => {
+            session.write_single_register(address, value, buffer)
+        }
+    }
+}
+
+// What it does with a call of an initiator.
+fn in_call(session: Session, call: Initiator, bytes: &[u8], buffer: &mut [u8]) -> Step
+    ensures { λ r. ⌜ stepped r (now (buffer .exit)) ≡ requestStep session (initiatorIn (now (bytes .entry)) call) (now (buffer .entry)) ⌝ }
+{
+    match call {
+        Initiator::InListPassiveTarget(max_tg, bitrate, n) => {
+            session.in_list_passive_target(max_tg, bitrate, part(bytes, 0, n), buffer)
+        }
+        Initiator::InDataExchange(n, ms) => {
+            session.in_data_exchange(part(bytes, 0, n), ms, buffer)
+        }
+        Initiator::InCommunicateThru(n, ms) => {
+            session.in_communicate_thru(part(bytes, 0, n), ms, buffer)
+        }
+        Initiator::InJumpForDep(active, br, i, j, k) => {
+            let passive = part(bytes, 0, i);
+            let nfcid3 = part(bytes, i, j);
+            session.in_jump_for_dep(active, br, passive, nfcid3, part(bytes, j, k), buffer)
+        }
+    }
+}
+
+// What it does with a call of a target.
+fn tg_call(session: Session, call: Target, bytes: &[u8], buffer: &mut [u8]) -> Step
+    ensures { λ r. ⌜ stepped r (now (buffer .exit)) ≡ requestStep session (targetIn (now (bytes .entry)) call) (now (buffer .entry)) ⌝ }
+{
+    match call {
+        Target::TgInitTarget(mode, i, j, k, n, ms) => {
+            let mifare = part(bytes, 0, i);
+            let felica = part(bytes, i, j);
+            let nfcid3t = part(bytes, j, k);
+            session.tg_init_target(mode, mifare, felica, nfcid3t, part(bytes, k, n), ms, buffer)
+        }
+        Target::TgSetGeneralBytes(n) => session.tg_set_general_bytes(part(bytes, 0, n), buffer),
+        Target::TgGetInitiatorCommand(ms) => session.tg_get_initiator_command(ms, buffer),
+        Target::TgResponseToInitiator(n) => {
+            session.tg_response_to_initiator(part(bytes, 0, n), buffer)
+        }
+        Target::TgGetTargetStatus => session.tg_get_target_status(buffer),
+    }
+}
+
 // What the engine does with what was read.
-fn step(session: Session, input: Input, packet: &[u8], buffer: &mut [u8]) -> Step
-    requires { ⌜ countOf input ≤ length (now packet) ⌝ }
-    ensures { λ r. ⌜ stepped r (now (buffer .exit)) ≡ stepOf session input (now (packet .entry)) (now (buffer .entry)) ⌝ }
+fn step(session: Session, input: Input, bytes: &[u8; BYTES], buffer: &mut [u8]) -> Step
+    ensures { λ r. ⌜ stepped r (now (buffer .exit)) ≡ stepOf session (inputIn (now (bytes .entry)) input) (now (buffer .entry)) ⌝ }
 {
     match input {
         Input::Open => session.open(buffer),
-        Input::Version => session.version(buffer),
-        Input::Happened(event, n) => session.event(event, &packet[..n], buffer),
+        Input::Chip(call) => chip(session, call, bytes, buffer),
+        Input::In(call) => in_call(session, call, bytes, buffer),
+        Input::Tg(call) => tg_call(session, call, bytes, buffer),
+        Input::Happened(event, n) => session.event(event, part(bytes, 0, n), buffer),
         Input::Unreadable => unreadable(session),
     }
 }
@@ -67,9 +132,9 @@ pub fn answer(
 ) -> Answered
     ensures { λ r. ⌜ (after (r .session) (r .len) (now (buffer .exit)) (now (out .exit)) ≡ answerOf session (now (line .entry)) (now (buffer .entry)) (now (out .entry))) × (r .len ≤ textLimit) × (length (now (out .exit)) ≡ outRoom) ⌝ }
 {
-    let mut packet = [0u8; PACKET];
-    let read = input::read(line, &mut packet);
-    let stepped = step(session, read, &packet, buffer);
+    let mut bytes = [0u8; BYTES];
+    let input = bench_input::read(line, &mut bytes);
+    let stepped = step(session, input, &bytes, buffer);
     let output = stepped.output;
     let len = output::print(output, buffer, out);
     let after = stepped.session;

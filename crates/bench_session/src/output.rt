@@ -2,7 +2,7 @@
 use super::BUFFER;
 use super::OUT;
 use super::text;
-use engine::session::Output;
+use engine::state::Output;
 use errors::Refusal;
 ghost use mathlib.Core.Path.{_≡_};
 ghost use mathlib.Core.List.{_++_};

@@ -8,7 +8,7 @@ use lib.ListN.{replicate, length-replicate}
 use Rattle.exchange.specs.Steps.{exchangeAt}
 use Rattle.protocol.specs.Session.{outcomeOf, Session as Meant, fresh, step}
 use Rattle.protocol.specs.Follows.{plain, Machine, Obeys, obeys}
-use Rattle.engine.specs.Sessions.{firstFound, freshSession}
+use Rattle.engine.specs.Sessions.{freshSession}
 use Rattle.engine.specs.declared.session.Session.{Session}
 use Rattle.engine.specs.Inputs.{Input, entryOf, afterInput, stepped-is, act}
 use Rattle.engine.specs.Places.{Fields, Means, free, runs}
@@ -17,7 +17,7 @@ use Rattle.engine.specs.Tie.{Tied, running-tied, free-tied}
 abbrev pub Follows : Input → Session → Meant → Type 0
 Follows i s m = Means ((act s i) .0) ((step m (entryOf i)) .0) × ((act s i) .1 ≡ plain ((step m (entryOf i)) .1))
 
-by-input : (i : Input) (s : Session) (m : Meant) → Tied s m (afterInput (s .state) (firstFound s) i) (outcomeOf (m .activity) (m .count) (entryOf i)) → Follows i s m
+by-input : (i : Input) (s : Session) (m : Meant) → Tied s m (afterInput (s .state) (s .found) i) (outcomeOf (m .activity) (m .count) (entryOf i)) → Follows i s m
 by-input i s m h = rw (stepped-is s i) (h .means, h .told)
 
 pub follow : (s : Session) (m : Meant) (i : Input) → Means s m → Follows i s m

@@ -3,18 +3,18 @@ use mathlib.Core.Path.{_≡_, refl}
 use mathlib.Core.List.{List}
 use Prim.Native.Nat.{ℕ}
 use lib.ListN.{length, take}
-use lib.Seq.{set-getD}
 use Rattle.exchange.specs.Exchange.{write, read, drain, pause, Event}
 use Rattle.protocol.specs.Scripts.{done, nothing, refused}
-use Rattle.protocol.specs.Calls.{opening, version}
+use Rattle.protocol.specs.Calls.{Request, opening, request}
 use Rattle.protocol.specs.Session.{Entry, call, event}
 use Rattle.protocol.specs.Session.{Output as Given, orders, answers}
-use Rattle.engine.specs.Sessions.{After, withFirst, firstFound, sessionAfter, eventAfter, Stepped, openStep, versionStep, eventStep}
-use Rattle.engine.specs.Sessions.{openAfter as openedAt, versionAfter}
-use Rattle.engine.specs.declared.session.State.{State}
+use Rattle.chipset.specs.Launches.{launchOf}
+use Rattle.engine.specs.Sessions.{After, sessionAfter, eventAfter, Stepped, openStep, requestStep, eventStep}
+use Rattle.engine.specs.Sessions.{openAfter as openedAt, launchAfter}
+use Rattle.engine.specs.declared.state.State.{State}
+use Rattle.engine.specs.declared.state.Output.{Output}
+use Rattle.engine.specs.declared.state.Output.the-variants.{Write, Read, Drain, Pause, Done, Nothing, Refused}
 use Rattle.engine.specs.declared.session.Session.{Session}
-use Rattle.engine.specs.declared.session.Output.{Output}
-use Rattle.engine.specs.declared.session.Output.the-variants.{Write, Read, Drain, Pause, Done, Nothing, Refused}
 
 -- what the host is told: an output with the buffer's bytes
 abbrev pub outputOf : Output → List ℕ → Given ℕ
@@ -29,32 +29,33 @@ outputOf (Refused r) b = answers (refused r)
 -- a call or an event, each with the bytes of the buffer that is lent with it
 pub data Input : Type 0 where
   opens : List ℕ → Input
-  asksVersion : List ℕ → Input
+  asks : Request → List ℕ → Input
   tells : Event → List ℕ → Input
+
+abbrev pub bufferOf : Input → List ℕ
+bufferOf (opens b) = b
+bufferOf (asks q b) = b
+bufferOf (tells e b) = b
 
 abbrev pub entryOf : Input → Entry
 entryOf (opens b) = call opening (length b)
-entryOf (asksVersion b) = call version (length b)
+entryOf (asks q b) = call (request q) (length b)
 entryOf (tells e b) = event e (length b)
 
 abbrev pub stepWith : Session → Input → Stepped
 stepWith s (opens b) = openStep s b
-stepWith s (asksVersion b) = versionStep s b
+stepWith s (asks q b) = requestStep s q b
 stepWith s (tells e b) = eventStep s e b
 
 abbrev pub afterInput : State → List ℕ → Input → After
 afterInput s f (opens b) = openedAt s f b
-afterInput s f (asksVersion b) = versionAfter s f b
+afterInput s f (asks q b) = launchAfter s f (launchOf q) b
 afterInput s f (tells e b) = eventAfter s f e b
 
 abbrev pub act : Session → Input → Session × Given ℕ
 act s i = ((stepWith s i) .session, outputOf ((stepWith s i) .output) ((stepWith s i) .buffer))
 
-pub stepped-is : (s : Session) (i : Input) → stepWith s i ≡ sessionAfter s (afterInput (s .state) (firstFound s) i)
+pub stepped-is : (s : Session) (i : Input) → stepWith s i ≡ sessionAfter s (afterInput (s .state) (s .found) i)
 stepped-is s (opens b) = refl
-stepped-is s (asksVersion b) = refl
+stepped-is s (asks q b) = refl
 stepped-is s (tells e b) = refl
-
--- the first three found bytes put back where they were
-pub put-back : (s : Session) → withFirst (s .found) (firstFound s) ≡ s .found
-put-back s = rw (set-getD (s .found) 0 0, set-getD (s .found) 1 0, set-getD (s .found) 2 0)

@@ -1,14 +1,15 @@
 -- Laws of what the session's functions do.
 use mathlib.Core.Path.{_≡_, refl, sym, ap, ap₂, _∙_, subst}
 use mathlib.Core.Bool.{Bool, true, false, false≢true}
-use mathlib.Core.List.{List, [], _∷_, _++_}
+use mathlib.Core.List.{List, [], _∷_, _++_, append-assoc}
 use Prim.Native.Nat.{ℕ, suc, _+_, _-_, _≤_, _<_, min}
 use native.Mathlib.Numerals.{add-one}
 use native.Mathlib.Omega.{arith}
+use borrow.Rule.Slice.PartMut.{putMid}
 use borrow.Author.Tests.{eq-eqb, ne-eqb, lt-ltb, le-ltb, leb-true}
 use lib.Dec.{eqb, ltb, leb}
-use lib.ListN.{length, take, drop, getD, set, drop-of-length-le}
-use lib.Seq.{drop-cons, take-length}
+use lib.ListN.{length, take, drop, getD, length-append, length-drop}
+use lib.Seq.{drop-cons, take-length, take-append-seam, drop-append-add, drop-drop}
 use Rattle.errors.specs.Choice.{pick}
 use Rattle.errors.specs.Refusals.{Outcome, answered, refused, numbered, plain}
 use Rattle.errors.specs.declared.Refusal.{Refusal}
@@ -17,32 +18,19 @@ use Rattle.framing.specs.declared.Built.{Built}
 use Rattle.framing.specs.declared.Built.the-variants.{Frame, Refused}
 use Rattle.framing.specs.Enclose.{length-frame, start-most}
 use Rattle.framing.specs.Frames.{frameOf, startOf, longest}
+use Rattle.framing.specs.Copied.{copied}
 use Rattle.framing.specs.Settings.{rcs956, commandPayload}
 use Rattle.framing.specs.Lists.{both}
 use Rattle.exchange.specs.Packets.{commandFrame}
 use Rattle.exchange.specs.Steps.{exchangeAt}
 use Rattle.exchange.specs.declared.Exchange.{Exchange}
-use Rattle.protocol.specs.Chipset.{anyNonzero}
-use Rattle.engine.specs.Sessions.{After, Stepped, keptSession, sessionAfter, isValid, put, after, idle, counted, sent, openedAfter, doneOf, entersOf}
+use Rattle.chipset.specs.Launches.{Command}
+use Rattle.engine.specs.Sessions.{isValid, put, After, after, idle, counted, endsOf, doneOf, sendsOf}
 use Rattle.engine.specs.Moves.{validCall}
-use Rattle.engine.specs.Plans.{Command, planOf}
 use Rattle.engine.specs.declared.call.Call.{Call}
-use Rattle.engine.specs.declared.session.Session.{Session}
-use Rattle.engine.specs.declared.session.State.{State}
-use Rattle.engine.specs.declared.session.Output.{Output}
-use Rattle.engine.specs.declared.session.Output.the-variants.{Done, Write}
-
--- ---- a loop that looks for a byte other than 0
-
-module _ (l : List ℕ) (i : ℕ) (so-far : anyNonzero l ≡ anyNonzero (drop i l)) where
-  pub nonzero-here : i < length l → (getD l i 0 ≡ 0 → ⊥) → true ≡ anyNonzero l
-  nonzero-here h n = sym (so-far ∙ rw (drop-cons l i 0, ne-eqb (getD l i 0) 0 n))
-
-  pub nonzero-next : i < length l → getD l i 0 ≡ 0 → anyNonzero l ≡ anyNonzero (drop (i + 1) l)
-  nonzero-next h e = so-far ∙ rw (drop-cons l i 0, eq-eqb (getD l i 0) 0 e, add-one)
-
-  pub nonzero-end : length l ≤ i → false ≡ anyNonzero l
-  nonzero-end h = sym (so-far ∙ rw (drop-of-length-le l))
+use Rattle.engine.specs.declared.state.State.{State}
+use Rattle.engine.specs.declared.state.Output.{Output}
+use Rattle.engine.specs.declared.state.Output.the-variants.{Write, Done}
 
 -- ---- a command's frame fits a buffer of 1,024 bytes
 
@@ -81,31 +69,23 @@ module _ (code : ℕ) (bytes b b₁ : List ℕ) (h : length bytes ≤ 512) (room
 
 -- ---- a call that ends: the reader's state behind it
 
-module _ (s st : State) (f b : List ℕ) (o : Output) (ok? : Bool) where
-  pub ended-opening : s .call .kind ≡ 1 → st ≡ idle s ok? → after st f o b ≡ after (idle s (openedAfter s ok?)) f o b
+module _ (s st : State) (f b : List ℕ) (o : Output) (success : Bool) where
+  pub ended-opening : s .call .kind ≡ 1 → st ≡ idle s success → after st f o b ≡ endsOf s success f o b
   unfolding pick
   ended-opening h e = rw (e, eq-eqb (s .call .kind) 1 h)
 
-  pub ended-other : (s .call .kind ≡ 1 → ⊥) → st ≡ idle s (s .opened) → after st f o b ≡ after (idle s (openedAfter s ok?)) f o b
+  pub ended-other : (s .call .kind ≡ 1 → ⊥) → st ≡ idle s (s .opened) → after st f o b ≡ endsOf s success f o b
   unfolding pick
   ended-other h e = rw (e, ne-eqb (s .call .kind) 1 h)
 
--- an answer that was copied to the buffer's start
-pub done-copied : (s st : State) (f bytes b b₁ : List ℕ) (n : ℕ) → n ≡ length bytes → b₁ ≡ take (length bytes) bytes ++ drop (length bytes) b
-    → after st f (Done (length bytes)) (put bytes b) ≡ doneOf s f bytes b → after st f (Done n) b₁ ≡ doneOf s f bytes b
-done-copied s st f bytes b b₁ n p q e =
-    (λ i. after st f (Done (p i)) ((q ∙ ap (λ l. l ++ drop (length bytes) b) (take-length bytes)) i)) ∙ e
-
 -- ---- a command that was ordered
 
-pub entered-is : (s : State) (f : List ℕ) (c : Call) (b b₁ : List ℕ) (m : Command) (x : Exchange) (k n : ℕ) → m ≡ planOf (c .kind) (c .stage)
+pub sent-is : (s : State) (f : List ℕ) (c : Call) (b b₁ : List ℕ) (m : Command) (x : Exchange) (k n : ℕ)
     → x ≡ exchangeAt 0 (m .code) (m .clock) → k ≡ counted (s .frames) → n ≡ length (commandFrame (m .code) (m .bytes))
     → b₁ ≡ put (commandFrame (m .code) (m .bytes)) b
-    → after (record { command = s .command; found = s .found; exchange = x; call = c; opened = s .opened; frames = k }) f (Write n) b₁ ≡ entersOf s f c b
-unfolding entersOf
-entered-is s f c b b₁ m x k n plan p q r w =
-    (λ i. after (record { command = s .command; found = s .found; exchange = p i; call = c; opened = s .opened; frames = q i }) f (Write (r i)) (w i))
-    ∙ ap (λ y. after (sent s c y) f (Write (length (commandFrame (y .code) (y .bytes)))) (put (commandFrame (y .code) (y .bytes)) b)) plan
+    → after (record { command = s .command; found = s .found; exchange = x; call = c; opened = s .opened; frames = k }) f (Write n) b₁ ≡ sendsOf s f c m b
+sent-is s f c b b₁ m x k n p q r w i =
+    after (record { command = s .command; found = s .found; exchange = p i; call = c; opened = s .opened; frames = q i }) f (Write (r i)) (w i)
 
 -- the first three bytes of a list that has them
 pub first-three : (l : List ℕ) → 3 ≤ length l → getD l 0 0 ∷ getD l 1 0 ∷ getD l 2 0 ∷ [] ≡ take 3 l
@@ -128,10 +108,28 @@ pub valid-stage : (s : State) → isValid s ≡ true → s .call .stage < 255
 unfolding isValid validCall
 valid-stage s h =
     let c = both-r (leb (s .exchange .phase) 6) _ (both-r (leb (s .found) 1024) _ (both-r (leb (s .command) 512) _ h)) in
-    let k = leb-true (s .call .stage) 9 (both-l (leb (s .call .stage) 9) _ (both-r (leb (s .call .kind) 2) _ c)) in
+    let k = leb-true (s .call .stage) 9 (both-l (leb (s .call .stage) 9) _ (both-r (leb (s .call .kind) 14) _ c)) in
     omega arith
 
--- a session that kept an effect's state and found bytes
-pub kept-step : (s t : Session) (a : After) → t ≡ keptSession s (a .state) (a .found)
-    → record { session = t; output = a .output; buffer = a .buffer } ≡ sessionAfter s a
-kept-step s t a e i = record { session = e i; output = a .output; buffer = a .buffer }
+-- two lists, the second copied behind the first
+pub both-put : (b part tail b₁ piece : List ℕ) → length part + length tail ≤ length b → b₁ ≡ take (length part) part ++ drop (length part) b
+    → piece ≡ take (length tail) tail ++ drop (length tail) (take (length b₁ - length part) (drop (length part) b₁))
+    → putMid (length part) (length b₁ - length part) b₁ piece ≡ put (part ++ tail) b
+both-put b part tail b₁ piece room e p =
+    let first : b₁ ≡ part ++ drop (length part) b = e ∙ ap (λ l. l ++ drop (length part) b) (take-length part) in
+    let same : length b₁ ≡ length b = ap length first ∙ length-append part (drop (length part) b) ∙ ap (λ n. length part + n) (length-drop (length part) b) ∙ omega arith in
+    let front : take (length part) b₁ ≡ part = ap (take (length part)) first ∙ take-append-seam part (drop (length part) b) in
+    let back : drop (length part + length tail) b₁ ≡ drop (length part + length tail) b
+    = ap (drop (length part + length tail)) first ∙ drop-append-add part (drop (length part) b) (length tail) ∙ drop-drop (length tail) (length part) b in
+    copied b₁ tail (length part) (rw same room) piece p
+    ∙ ap₂ (λ f d. f ++ (tail ++ d)) front back
+    ∙ sym (append-assoc part tail (drop (length part + length tail) b))
+    ∙ ap (λ n. part ++ tail ++ drop n b) (sym (length-append part tail))
+
+-- bytes that were copied to the start of a list
+pub copied-start : (bytes b b₁ : List ℕ) → b₁ ≡ take (length bytes) bytes ++ drop (length bytes) b → b₁ ≡ put bytes b
+copied-start bytes b b₁ e = e ∙ ap (λ l. l ++ drop (length bytes) b) (take-length bytes)
+
+-- a call that is done with bytes at the buffer's start
+pub done-copied : (s : State) (f bytes b b₁ : List ℕ) (n : ℕ) (a : After) → n ≡ length bytes → b₁ ≡ put bytes b → a ≡ endsOf s true f (Done n) b₁ → a ≡ doneOf s f bytes b
+done-copied s f bytes b b₁ n a p q e = e ∙ (λ i. endsOf s true f (Done (p i)) (q i))

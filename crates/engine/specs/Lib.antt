@@ -4,8 +4,9 @@ pub mod Moves
 pub mod Sessions
 pub mod Laws
 pub mod Inputs
-pub mod Places
 pub mod Exchanges
+pub mod Judged
+pub mod Places
 pub mod Tie
 pub mod Follows
 pub mod Unchanged

@@ -5,7 +5,7 @@ use mathlib.Core.List.{List, [], _∷_}
 use Prim.Native.Nat.{ℕ, zero, suc, _+_, _≤_}
 use native.Mathlib.Omega.{arith}
 use lib.Dec.{eqb, leb}
-use lib.ListN.{take, drop}
+use lib.ListN.{length, take, drop}
 use Rattle.errors.specs.Choice.{pick}
 use Rattle.errors.specs.Refusals.{numbered}
 use Rattle.errors.specs.declared.Refusal.{Refusal}
@@ -27,7 +27,7 @@ use Rattle.engine.specs.declared.call.Call.{Call}
 use Rattle.engine.specs.declared.call.Order.{Order}
 use Rattle.engine.specs.declared.call.Order.the-variants.{Ack, Read, Drain, Pause}
 use Rattle.engine.specs.declared.call.Move.{Move}
-use Rattle.engine.specs.declared.call.Move.the-variants.{Unfit, Orders, Enters, Replies, Refuses}
+use Rattle.engine.specs.declared.call.Move.the-variants.{Unfit, Orders, Enters, Finishes, Replies, Refuses}
 
 -- a call at another phase, and at its next command
 abbrev pub at : Call → ℕ → Call
@@ -36,13 +36,9 @@ at c phase = record { kind = c .kind; stage = c .stage; phase = phase }
 abbrev pub following : Call → Call
 following c = record { kind = c .kind; stage = c .stage + 1; phase = 0 }
 
--- the opening's commands 0 and 8 are resets
+-- the opening's commands 0 and 8 are resets, and reset_mode's
 unfoldable pub isReset : Call → Bool
-isReset c = pick (eqb (c .kind) 1) (pick (eqb (c .stage) 0) true (eqb (c .stage) 8)) false
-
--- all of version, and the opening's command 1, is get_firmware_version
-unfoldable pub asksVersion : Call → Bool
-asksVersion c = pick (eqb (c .kind) 1) (eqb (c .stage) 1) true
+isReset c = pick (eqb (c .kind) 1) (pick (eqb (c .stage) 0) true (eqb (c .stage) 8)) (eqb (c .kind) 3)
 
 -- the number of an exchange's step
 abbrev pub phaseOf : Step → ℕ
@@ -62,6 +58,7 @@ pub data Moved : Type 0 where
   unfitting : Moved
   orders : HostOrder → Call → Exchange → Moved
   enters : Call → Moved
+  finishes : Moved
   replies : List ℕ → Moved
   refuses : Refusal → Moved
 
@@ -75,6 +72,7 @@ abbrev pub moveIn : List ℕ → Move → Moved
 moveIn packet Unfit = unfitting
 moveIn packet (Orders o c x) = orders (orderOf o) c x
 moveIn packet (Enters c) = enters c
+moveIn packet Finishes = finishes
 moveIn packet (Replies part) = replies (take (part .len) (drop (part .start) packet))
 moveIn packet (Refuses r) = refuses r
 
@@ -91,8 +89,12 @@ exchangeMove c x (ended r) = endedMove c x r
 abbrev pub resetAckMove : Call → Exchange → Event → Moved
 resetAckMove c x e = onWrite unfitting (orders (pause 10000) (at c 2) x) (refuses Transport) e
 
+-- a reset is over
+unfoldable pub restedMove : Call → Moved
+restedMove c = pick (eqb (c .kind) 3) finishes (enters (following c))
+
 abbrev pub resetPauseMove : Call → Event → Moved
-resetPauseMove c e = onPause unfitting (enters (following c)) e
+resetPauseMove c e = onPause unfitting (restedMove c) e
 
 abbrev pub openingAckMove : Call → Exchange → Event → Moved
 openingAckMove c x e = onWrite unfitting (orders (read 10) (at c 4) x) (refuses Transport) e
@@ -112,12 +114,25 @@ abbrev pub fits : Moved → Bool
 fits unfitting = false
 fits (orders o c x) = true
 fits (enters c) = true
+fits finishes = true
 fits (replies bytes) = true
 fits (refuses r) = true
 
+-- how many bytes of a packet come with an event, and how many a response has
+abbrev pub packetLength : Event → ℕ
+packetLength e = onRead 0 length 0 0 0 e
+
+abbrev pub replyLength : Moved → ℕ
+replyLength unfitting = 0
+replyLength (orders o c x) = 0
+replyLength (enters c) = 0
+replyLength finishes = 0
+replyLength (replies bytes) = length bytes
+replyLength (refuses r) = 0
+
 -- every field of a call is in its range
 unfoldable pub validCall : Call → Bool
-validCall c = both (leb (c .kind) 2) (both (leb (c .stage) 9) (leb (c .phase) 4))
+validCall c = both (leb (c .kind) 14) (both (leb (c .stage) 9) (leb (c .phase) 4))
 
 -- ---- laws
 
@@ -158,16 +173,22 @@ module _ (c : Call) (x : Exchange) (packet : List ℕ) (a : Advanced) (r : Excha
   unfolding exchangeMove
   exchange-ended m reply h p = let e : r ≡ ended (replyIn packet reply) = sym is ∙ ap (resultIn packet) h in rw e p
 
+-- a number that is n is none that n is not
+other : {p : ℕ} (n : ℕ) → p ≡ n → (k : ℕ) → eqb n k ≡ false → eqb p k ≡ false
+other n h k q = ap (λ j. eqb j k) h ∙ q
+
 module _ (c : Call) (x : Exchange) (e : Event) (m : Moved) where
   pub moves-exchange : c .phase ≡ 0 → m ≡ exchangeMove c x (advance (stepOf x) e) → m ≡ moveOf c x e
   unfolding moveOf
   moves-exchange h p = at-true m _ _ _ (eq-eqb (c .phase) 0 h) p
 
+  pub moves-pause : c .phase ≡ 2 → m ≡ resetPauseMove c e → m ≡ moveOf c x e
+  unfolding moveOf
+  moves-pause h p =
+      at-false m _ _ _ (other 2 h 0 refl) (at-false m _ _ _ (other 2 h 1 refl) (at-true m _ _ _ (eq-eqb (c .phase) 2 h) p))
+
   pub moves-reads : c .phase ≡ 4 → m ≡ openingReadsMove c x e → m ≡ moveOf c x e
   unfolding moveOf
   moves-reads h p =
-      at-false m _ _ _ (other 0 refl) (at-false m _ _ _ (other 1 refl) (at-false m _ _ _ (other 2 refl) (at-false m _ _ _ (other 3 refl)
+      at-false m _ _ _ (other 4 h 0 refl) (at-false m _ _ _ (other 4 h 1 refl) (at-false m _ _ _ (other 4 h 2 refl) (at-false m _ _ _ (other 4 h 3 refl)
       (at-true m _ _ _ (eq-eqb (c .phase) 4 h) p))))
-    where
-      other : (k : ℕ) → eqb 4 k ≡ false → eqb (c .phase) k ≡ false
-      other k q = ap (λ n. eqb n k) h ∙ q

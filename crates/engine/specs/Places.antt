@@ -11,26 +11,39 @@ use Rattle.exchange.specs.declared.Exchange.{Exchange}
 use Rattle.protocol.specs.Scripts.{Script, finish, reset, either, refuse, ifElse, done}
 use Rattle.protocol.specs.Chipset.{versionBytes, getFirmwareVersion, rfFieldOff, rfConfiguration, setParameters, writeRegister, anyNonzero}
 use Rattle.protocol.specs.Device.{chipsetName, deviceNew}
-use Rattle.protocol.specs.Calls.{Call as CallOf, opening, version}
+use Rattle.protocol.specs.Calls.{Request, Call as CallOf, opening, request, finished}
 use Rattle.protocol.specs.Session.{Rest, byReply, ofReset, Phase, exchange, resetAck, resetPause, openingAck, openingReads}
 use Rattle.protocol.specs.Session.{idle, busy, Session as Meant}
+use Rattle.chipset.specs.Verdicts.{judgeOf}
+use Rattle.engine.specs.Judged.{Judged, Rule}
 use Rattle.engine.specs.Sessions.{noCall}
 use Rattle.engine.specs.declared.call.Call.{Call}
-use Rattle.engine.specs.declared.session.State.{State}
+use Rattle.engine.specs.declared.state.State.{State}
 use Rattle.engine.specs.declared.session.Session.{Session}
 
 -- ---- where a call stands
 
--- the opening's commands, and the two of them that are resets
+-- the opening's commands, and the resets: two of these, and reset_mode's
 pub data Stage : Type 0 where
   c0 c1 c2 c3 c4 c5 c6 c7 c8 c9 : Stage
 
 pub data Reset : Type 0 where
   first second : Reset
+  alone : Request → Reset
+
+-- the one command of a call: the rule for its response, and the script behind it
+pub record Single : Type 0 where
+  pub request : Request
+  pub rule : ℕ
+  pub next : List ℕ → Script
+  pub isRule : Rule rule
+  pub judged : (bs : List ℕ) → Judged (next bs) (judgeOf rule bs)
 
 pub data Place : Type 0 where
-  atAck atReads atVersion : Place
+  atAck atReads : Place
   atCommand : Stage → Place
+  atSingle : Single → Place
+  atReset : Request → Place  -- the command of reset_mode
   atResetAck atResetPause : Reset → Place
 
 abbrev pub number : Stage → ℕ
@@ -48,42 +61,61 @@ number c9 = 9
 abbrev pub resetNumber : Reset → ℕ
 resetNumber first = 0
 resetNumber second = 8
+resetNumber (alone q) = 0
+
+abbrev pub resetKind : Reset → ℕ
+resetKind first = 1
+resetKind second = 1
+resetKind (alone q) = 3
+
+abbrev pub resetCall : Reset → CallOf
+resetCall first = opening
+resetCall second = opening
+resetCall (alone q) = request q
 
 abbrev pub which : Place → CallOf
 which atAck = opening
 which atReads = opening
-which atVersion = version
 which (atCommand s) = opening
-which (atResetAck r) = opening
-which (atResetPause r) = opening
+which (atSingle x) = request (x .request)
+which (atReset q) = request q
+which (atResetAck r) = resetCall r
+which (atResetPause r) = resetCall r
+
+abbrev pub kindAt : Place → ℕ
+kindAt atAck = 1
+kindAt atReads = 1
+kindAt (atCommand s) = 1
+kindAt (atSingle x) = x .rule
+kindAt (atReset q) = 3
+kindAt (atResetAck r) = resetKind r
+kindAt (atResetPause r) = resetKind r
 
 abbrev pub stageOf : Place → ℕ
 stageOf atAck = 0
 stageOf atReads = 0
-stageOf atVersion = 0
 stageOf (atCommand s) = number s
+stageOf (atSingle x) = 0
+stageOf (atReset q) = 0
 stageOf (atResetAck r) = resetNumber r
 stageOf (atResetPause r) = resetNumber r
 
 abbrev pub phaseNumber : Place → ℕ
 phaseNumber atAck = 3
 phaseNumber atReads = 4
-phaseNumber atVersion = 0
 phaseNumber (atCommand s) = 0
+phaseNumber (atSingle x) = 0
+phaseNumber (atReset q) = 0
 phaseNumber (atResetAck r) = 1
 phaseNumber (atResetPause r) = 2
 
-abbrev pub kindOf : CallOf → ℕ
-kindOf opening = 1
-kindOf version = 2
-
 abbrev pub callAt : Place → Call
-callAt p = record { kind = kindOf (which p); stage = stageOf p; phase = phaseNumber p }
+callAt p = record { kind = kindAt p; stage = stageOf p; phase = phaseNumber p }
 
--- version runs in an open reader alone
+-- any call but the opening runs in an open reader alone
 abbrev pub openedFor : CallOf → Bool → Bool
 openedFor opening o = o
-openedFor version o = true
+openedFor (request q) o = true
 
 -- ---- the scripts left, by the version bytes
 
@@ -136,12 +168,14 @@ restAt c9 a b c = byReply (either (λ bs. ifElse (anyNonzero bs) (refuse (Status
 abbrev pub scriptAt : Reset → ℕ → ℕ → ℕ → Script
 scriptAt first a b c = s1
 scriptAt second a b c = s9 a b c
+scriptAt (alone q) a b c = finished
 
 abbrev pub phaseAt : Place → Exchange → ℕ → ℕ → ℕ → Phase
 phaseAt atAck x a b c = openingAck deviceNew
 phaseAt atReads x a b c = openingReads deviceNew
-phaseAt atVersion x a b c = exchange (stepOf x) (ofVersion (λ x y z. finish (done (versionBytes 0 x y z))))
 phaseAt (atCommand s) x a b c = exchange (stepOf x) (restAt s a b c)
+phaseAt (atSingle y) x a b c = exchange (stepOf x) (byReply (either (y .next) refuse))
+phaseAt (atReset q) x a b c = exchange (stepOf x) (ofReset finished)
 phaseAt (atResetAck r) x a b c = resetAck (scriptAt r a b c)
 phaseAt (atResetPause r) x a b c = resetPause (scriptAt r a b c)
 

@@ -1,19 +1,12 @@
--- The command of each stage of a call: code, clock in ms, data.
+-- The command of each stage of the opening.
 use mathlib.Core.Bool.{Bool, true, false}
 use mathlib.Core.List.{List, [], _∷_}
 use Prim.Native.Nat.{ℕ}
 use lib.Dec.{eqb}
 use lib.ListN.{take}
 use Rattle.errors.specs.Choice.{pick}
-use Rattle.engine.specs.declared.chipset.Plan.{Plan}
-
-pub record Command : Type 0 where
-  pub code : ℕ
-  pub clock : ℕ
-  pub bytes : List ℕ
-
-abbrev pub cmd : ℕ → ℕ → List ℕ → Command
-cmd code clock bytes = record { code = code; clock = clock; bytes = bytes }
+use Rattle.chipset.specs.Launches.{Command, cmd}
+use Rattle.engine.specs.declared.device.Plan.{Plan}
 
 abbrev pub planned : Plan → Command
 planned p = cmd (p .0) (p .1) (take (p .3) (p .2))
@@ -35,7 +28,3 @@ openingPlan stage =
     (pick (eqb stage 3) (cmd 0x32 100 (0x02 ∷ 0x0B ∷ 0x0B ∷ 0x0A ∷ []))
     (pick (eqb stage 4) (cmd 0x32 100 (0x04 ∷ 0x00 ∷ []))
     (settingsPlan stage)))))
-
--- the opening's by its stage; get_firmware_version is all of version
-unfoldable pub planOf : ℕ → ℕ → Command
-planOf kind stage = pick (eqb kind 1) (openingPlan stage) (cmd 0x02 100 [])

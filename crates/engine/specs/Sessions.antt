@@ -1,30 +1,35 @@
--- What each entry does to a session, field by field, and to the buffer: the contracts of session.rt.
+-- What each entry does to a session, field by field, and to the buffer: the contracts of state.rt and session.rt.
 use mathlib.Core.Bool.{Bool, true, false}
 use mathlib.Core.List.{List, [], _∷_, _++_}
 use Prim.Native.Nat.{ℕ, _+_}
 use lib.Dec.{eqb, leb, ltb}
-use lib.ListN.{length, take, drop, getD, set, replicate}
+use lib.ListN.{length, take, drop, getD, replicate}
 use Rattle.errors.specs.Choice.{pick}
 use Rattle.errors.specs.declared.Refusal.{Refusal}
 use Rattle.errors.specs.declared.Refusal.the-variants.{OutOfTurn, ShortBuffer, OverLong, ShortResponse, Status}
 use Rattle.framing.specs.Frames.{ack}
 use Rattle.framing.specs.Lists.{both}
-use Rattle.exchange.specs.Exchange.{Event, onRead}
+use Rattle.exchange.specs.Exchange.{Event}
 use Rattle.exchange.specs.Exchange.{Order, write, read, drain, pause}
 use Rattle.exchange.specs.Packets.{commandFrame}
 use Rattle.exchange.specs.Steps.{exchangeAt}
 use Rattle.exchange.specs.declared.Exchange.{Exchange}
+use Rattle.protocol.specs.Scripts.{Answer, done, nothing, refused}
 use Rattle.protocol.specs.Chipset.{anyNonzero}
-use Rattle.engine.specs.Moves.{validCall, fits, asksVersion, following, Moved, unfitting, orders, enters, replies, refuses, moveOf}
+use Rattle.protocol.specs.Calls.{Request}
+use Rattle.chipset.specs.Launches.{Command, Launch, sends, launchOf}
+use Rattle.chipset.specs.Launches.{refuses as refusesAtOnce}
+use Rattle.chipset.specs.Verdicts.{judgeOf}
+use Rattle.engine.specs.Moves.{validCall, packetLength, fits, following, Moved, unfitting, orders, enters, finishes, replies, refuses, moveOf}
 use Rattle.engine.specs.Names.{openedBytes}
-use Rattle.engine.specs.Plans.{Command, planOf}
+use Rattle.engine.specs.Plans.{openingPlan}
 use Rattle.engine.specs.declared.call.Call.{Call}
-use Rattle.engine.specs.declared.session.State.{State}
+use Rattle.engine.specs.declared.state.State.{State}
+use Rattle.engine.specs.declared.state.Effect.{Effect}
+use Rattle.engine.specs.declared.state.Output.{Output}
+use Rattle.engine.specs.declared.state.Output.the-variants.{Write, Read, Drain, Pause, Done, Nothing, Refused}
 use Rattle.engine.specs.declared.session.Session.{Session}
-use Rattle.engine.specs.declared.session.Effect.{Effect}
 use Rattle.engine.specs.declared.session.Step.{Step}
-use Rattle.engine.specs.declared.session.Output.{Output}
-use Rattle.engine.specs.declared.session.Output.the-variants.{Write, Read, Drain, Pause, Done, Nothing, Refused}
 
 -- every field is in its range
 unfoldable pub isValid : State → Bool
@@ -56,7 +61,7 @@ withFound s n = record { command = s .command; found = n; exchange = s .exchange
 abbrev pub uncounted : State → State
 uncounted s = record { command = s .command; found = 0; exchange = s .exchange; call = s .call; opened = s .opened; frames = 0 }
 
--- ---- state, first found bytes, output and buffer after an entry
+-- ---- state, found bytes, output and buffer after an entry
 
 pub record After : Type 0 where
   pub state : State
@@ -67,10 +72,10 @@ pub record After : Type 0 where
 abbrev pub after : State → List ℕ → Output → List ℕ → After
 after s f o b = record { state = s; found = f; output = o; buffer = b }
 
-abbrev pub effected : Effect → List ℕ → After
-effected e b = after (e .state) (e .found) (e .output) b
+abbrev pub effected : Effect → List ℕ → List ℕ → After
+effected e f b = after (e .state) f (e .output) b
 
--- bytes at the buffer's start
+-- bytes at the start of a list
 abbrev pub put : List ℕ → List ℕ → List ℕ
 put bytes b = bytes ++ drop (length bytes) b
 
@@ -80,50 +85,67 @@ ordersOf s f (read ms) c x b = after (running s c x) f (Read ms) b
 ordersOf s f drain c x b = after (running s c x) f Drain b
 ordersOf s f (pause us) c x b = after (running s c x) f (Pause us) b
 
--- the command of the call's stage
-unfoldable pub entersOf : State → List ℕ → Call → List ℕ → After
-entersOf s f c b =
-    let m = planOf (c .kind) (c .stage) in
+-- a command
+abbrev pub sendsOf : State → List ℕ → Call → Command → List ℕ → After
+sendsOf s f c m b =
     let frame = commandFrame (m .code) (m .bytes) in
     after (sent s c m) f (Write (length frame)) (put frame b)
 
+-- the command of the opening's stage
+unfoldable pub entersOf : State → List ℕ → Call → List ℕ → After
+entersOf s f c b = sendsOf s f c (openingPlan (c .stage)) b
+
 -- an opening that fails leaves the reader unopened, one that is done leaves it open; any other call leaves it as it was
 abbrev pub openedAfter : State → Bool → Bool
-openedAfter s ok? = pick (eqb (s .call .kind) 1) ok? (s .opened)
+openedAfter s success = pick (eqb (s .call .kind) 1) success (s .opened)
+
+abbrev pub endsOf : State → Bool → List ℕ → Output → List ℕ → After
+endsOf s success f o b = after (idle s (openedAfter s success)) f o b
 
 abbrev pub refusesOf : State → List ℕ → Refusal → List ℕ → After
-refusesOf s f r b = after (idle s (openedAfter s false)) f (Refused r) b
+refusesOf s f r b = endsOf s false f (Refused r) b
 
 abbrev pub doneOf : State → List ℕ → List ℕ → List ℕ → After
-doneOf s f bytes b = after (idle s (openedAfter s true)) f (Done (length bytes)) (put bytes b)
+doneOf s f bytes b = endsOf s true f (Done (length bytes)) (put bytes b)
 
--- get_firmware_version wants four bytes, and keeps three
-abbrev pub versionOf : State → List ℕ → List ℕ → List ℕ → After
+abbrev pub answersOf : State → List ℕ → Answer ℕ → List ℕ → After
+answersOf s f (done bytes) b = doneOf s f bytes b
+answersOf s f nothing b = endsOf s false f Nothing b
+answersOf s f (refused r) b = refusesOf s f r b
+
+-- the one command of a call
+unfoldable pub judgedOf : State → List ℕ → List ℕ → List ℕ → After
+judgedOf s f bytes b = answersOf s f (judgeOf (s .call .kind) bytes) b
+
+-- the opening's get_firmware_version wants four bytes, and keeps three
+unfoldable pub versionOf : State → List ℕ → List ℕ → List ℕ → After
 versionOf s f bytes b =
-    pick (eqb (s .call .kind) 1) (entersOf (withFound s 3) (take 3 bytes) (following (s .call)) b) (doneOf s f (take 3 bytes) b)
+    pick (ltb (length bytes) 4) (refusesOf s f ShortResponse b) (entersOf (withFound s 3) (put (take 3 bytes) f) (following (s .call)) b)
 
--- the opening's last command is write_register
-abbrev pub lastOf : State → List ℕ → List ℕ → List ℕ → After
-lastOf s f bytes b =
-    pick (anyNonzero bytes) (refusesOf s f (Status 0xFE) b) (doneOf s f (openedBytes (getD f 0 0) (getD f 1 0) (getD f 2 0)) b)
+-- its last command is write_register
+unfoldable pub lastOf : State → List ℕ → List ℕ → List ℕ → List ℕ → After
+lastOf s f bytes answer b = pick (anyNonzero bytes) (refusesOf s f (Status 0xFE) b) (doneOf s f answer b)
+
+unfoldable pub openingOf : State → List ℕ → List ℕ → List ℕ → After
+openingOf s f bytes b =
+    pick (eqb (s .call .stage) 1) (versionOf s f bytes b)
+    (pick (eqb (s .call .stage) 9) (lastOf s f bytes (openedBytes (getD f 0 0) (getD f 1 0) (getD f 2 0)) b) (entersOf s f (following (s .call)) b))
 
 unfoldable pub repliesOf : State → List ℕ → List ℕ → List ℕ → After
-repliesOf s f bytes b =
-    pick (asksVersion (s .call))
-    (pick (ltb (length bytes) 4) (refusesOf s f ShortResponse b) (versionOf s f bytes b))
-    (pick (eqb (s .call .stage) 9) (lastOf s f bytes b) (entersOf s f (following (s .call)) b))
+repliesOf s f bytes b = pick (eqb (s .call .kind) 1) (openingOf s f bytes b) (judgedOf s f bytes b)
 
 unfoldable pub movedOf : State → List ℕ → Moved → List ℕ → After
 movedOf s f unfitting b = after s f (Refused OutOfTurn) b
 movedOf s f (orders o c x) b = ordersOf s f o c x b
 movedOf s f (enters c) b = entersOf s f c b
+movedOf s f finishes b = doneOf s f [] b
 movedOf s f (replies bytes) b = repliesOf s f bytes b
 movedOf s f (refuses r) b = refusesOf s f r b
 
 -- ---- the entries
 
 unfoldable pub isLong : Event → Bool
-isLong e = ltb 1024 (onRead 0 length 0 0 0 e)
+isLong e = ltb 1024 (packetLength e)
 
 abbrev pub unchanged : State → List ℕ → Refusal → List ℕ → After
 unchanged s f r b = after s f (Refused r) b
@@ -141,7 +163,7 @@ eventAfter s f e b =
     (pick (eqb (s .call .kind) 0) (unchanged s f OutOfTurn b) (admittedOf s f (moveOf (s .call) (s .exchange) e) e b))
     (unchanged s f OutOfTurn b)
 
--- a call: 1, 2
+-- a call: 1, 2, then its own refusals
 abbrev pub isFree : State → Bool
 isFree s = both (isValid s) (eqb (s .call .kind) 0)
 
@@ -153,13 +175,14 @@ openAfter s f b =
     pick (isFree s) (withRoom s f b (ordersOf (uncounted s) f (write ack) (record { kind = 1; stage = 0; phase = 3 }) (s .exchange) b))
     (unchanged s f OutOfTurn b)
 
-abbrev pub versionWithRoom : State → List ℕ → List ℕ → After
-versionWithRoom s f b = withRoom s f b (entersOf s f (record { kind = 2; stage = 0; phase = 0 }) b)
+unfoldable pub launchOn : State → List ℕ → Launch → List ℕ → After
+launchOn s f (refusesAtOnce r) b = unchanged s f r b
+launchOn s f (sends rule m) b = sendsOf s f (record { kind = rule; stage = 0; phase = 0 }) m b
 
-unfoldable pub versionAfter : State → List ℕ → List ℕ → After
-versionAfter s f b =
+unfoldable pub launchAfter : State → List ℕ → Launch → List ℕ → After
+launchAfter s f l b =
     pick (isFree s)
-    (pick (s .opened) (versionWithRoom s f b) (unchanged s f OutOfTurn b))
+    (pick (s .opened) (withRoom s f b (launchOn s f l b)) (unchanged s f OutOfTurn b))
     (unchanged s f OutOfTurn b)
 
 -- ---- the session whole
@@ -172,27 +195,22 @@ pub record Stepped : Type 0 where
 abbrev pub stepped : Step → List ℕ → Stepped
 stepped r b = record { session = r .session; output = r .output; buffer = b }
 
--- the first three found bytes, and a list with them put back
-abbrev pub firstFound : Session → List ℕ
-firstFound s = getD (s .found) 0 0 ∷ getD (s .found) 1 0 ∷ getD (s .found) 2 0 ∷ []
-
-abbrev pub withFirst : List ℕ → List ℕ → List ℕ
-withFirst l f = set (set (set l 0 (getD f 0 0)) 1 (getD f 1 0)) 2 (getD f 2 0)
-
-abbrev pub keptSession : Session → State → List ℕ → Session
-keptSession s st f = record { command = s .command; found = withFirst (s .found) f; state = st }
-
 abbrev pub sessionAfter : Session → After → Stepped
-sessionAfter s a = record { session = keptSession s (a .state) (a .found); output = a .output; buffer = a .buffer }
+sessionAfter s a =
+    record { session = record { command = s .command; found = a .found; state = a .state }; output = a .output; buffer = a .buffer }
 
 abbrev pub eventStep : Session → Event → List ℕ → Stepped
-eventStep s e b = sessionAfter s (eventAfter (s .state) (firstFound s) e b)
+eventStep s e b = sessionAfter s (eventAfter (s .state) (s .found) e b)
 
 abbrev pub openStep : Session → List ℕ → Stepped
-openStep s b = sessionAfter s (openAfter (s .state) (firstFound s) b)
+openStep s b = sessionAfter s (openAfter (s .state) (s .found) b)
 
-abbrev pub versionStep : Session → List ℕ → Stepped
-versionStep s b = sessionAfter s (versionAfter (s .state) (firstFound s) b)
+abbrev pub launchStep : Session → Launch → List ℕ → Stepped
+launchStep s l b = sessionAfter s (launchAfter (s .state) (s .found) l b)
+
+-- a call of an open reader
+abbrev pub requestStep : Session → Request → List ℕ → Stepped
+requestStep s r b = launchStep s (launchOf r) b
 
 abbrev pub freshSession : Session
 freshSession =

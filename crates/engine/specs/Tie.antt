@@ -6,8 +6,8 @@ use Prim.Native.Nat.{ℕ, suc, _+_, _/_, _%_, _≤_, min}
 use native.Mathlib.Omega.{arith}
 use borrow.Author.Tests.{ltb-true, ltb-false}
 use lib.Dec.{eqb, leb, ltb}
-use lib.ListN.{length, take, getD, length-set}
-use lib.Seq.{getD-take, take-append-seam}
+use lib.ListN.{length, take, drop, getD, length-append}
+use lib.Seq.{drop-cons, take-append-seam}
 use Rattle.errors.specs.Choice.{pick}
 use Rattle.errors.specs.declared.Refusal.{Refusal}
 use Rattle.errors.specs.declared.Refusal.the-variants.{OutOfTurn, ShortBuffer, OverLong, Transport, ShortResponse, Status}
@@ -16,27 +16,30 @@ use Rattle.exchange.specs.Packets.{commandFrame, Reply, response, failed}
 use Rattle.exchange.specs.Exchange.{Order, write, read, drain, pause, Event, ok, bad, pkt, time, fail, late, slept, unfit, pending, ended, onWrite, onRead, onPause, sending, ExchangeResult, advance}
 use Rattle.exchange.specs.Steps.{stepOf, exchangeAt}
 use Rattle.exchange.specs.declared.Exchange.{Exchange}
-use Rattle.protocol.specs.Scripts.{Byte, own, value, Answer, done, refused, finish, refuse, ifElse}
+use Rattle.protocol.specs.Scripts.{Byte, own, value, Answer, done, nothing, refused, Script, finish, either, refuse, ifElse}
 use Rattle.protocol.specs.Chipset.{versionBytes, rfFieldOff, anyNonzero}
 use Rattle.protocol.specs.Device.{deviceNew, chipsetName, hexDigit as hexDigitOf, hex as hexOf}
-use Rattle.protocol.specs.Calls.{Call as CallOf, opening, version}
-use Rattle.protocol.specs.Session.{Phase, exchange, Rest, CallResult, enter, afterReply, afterExchange, progress, idle, busy, counted, answered, openAfter, packetLength, admitted, eventOutcome, Outcome, outcomeOf, call}
+use Rattle.protocol.specs.Calls.{Request, Start, requestStart, Call as CallOf, opening, request, finished}
+use Rattle.protocol.specs.Session.{Phase, exchange, Rest, byReply, ofReset, CallResult, enter, afterReply, afterExchange, progress, idle, busy, counted, answered, openAfter, packetLength, admitted, eventOutcome, Outcome, started, withRoom, outcomeOf, call}
 use Rattle.protocol.specs.Session.{Session as Meant, orders, answers, after as afterOf, given, unchanged as unchangedOf, runs as runsOf, ends as endsOf}
 use Rattle.protocol.specs.Laws.{frame-not-ack}
 use Rattle.protocol.specs.Follows.{plain, plainAnswer}
-use Rattle.engine.specs.Laws.{first-three}
-use Rattle.engine.specs.Moves.{Moved, unfitting, orders as goesOn, enters, replies, refuses, fits, isReset, asksVersion as asksFirmware, moveOf, endedMove, exchangeMove, exchangeIn, validCall}
+use Rattle.chipset.specs.Launches.{Command, cmd, Launch, launchOf}
+use Rattle.chipset.specs.Verdicts.{judgeOf}
+use Rattle.engine.specs.Judged.{Judged, Rule, Begins, refusedAtOnce, single, alone, begins}
+use Rattle.engine.specs.Moves.{Moved, unfitting, orders as goesOn, enters, finishes, replies, refuses, fits, isReset, moveOf, endedMove, exchangeMove, restedMove, exchangeIn, validCall}
 use Rattle.engine.specs.Names.{hexDigit, hex, dotted, openedBytes}
-use Rattle.engine.specs.Plans.{Command, cmd, planOf, openingPlan, settingsPlan}
-use Rattle.engine.specs.Sessions.{isValid, After, after, unchanged, withFirst, firstFound, sessionAfter, ordersOf, entersOf, refusesOf, doneOf, admittedOf, isLong, movedOf, eventAfter, noCall}
-use Rattle.engine.specs.Sessions.{running, counted as oneMore, idle as idleState, openAfter as openedAt, versionAfter, repliesOf}
+use Rattle.engine.specs.Plans.{openingPlan, settingsPlan}
+use Rattle.engine.specs.Sessions.{isValid, After, after, unchanged, put, sessionAfter, ordersOf, sendsOf, entersOf, refusesOf, doneOf, answersOf, admittedOf, isLong, movedOf, eventAfter, noCall}
+use Rattle.engine.specs.Sessions.{endsOf as endsAfter, running, counted as oneMore, idle as idleState, openAfter as openedAt, launchOn, launchAfter, versionOf, lastOf, openingOf, judgedOf, repliesOf}
 use Rattle.engine.specs.declared.call.Call.{Call}
-use Rattle.engine.specs.declared.session.State.{State}
+use Rattle.engine.specs.declared.state.State.{State}
+use Rattle.engine.specs.declared.state.Output.{Output}
+use Rattle.engine.specs.declared.state.Output.the-variants.{Refused, Done, Nothing}
 use Rattle.engine.specs.declared.session.Session.{Session}
-use Rattle.engine.specs.declared.session.Output.{Output}
-use Rattle.engine.specs.declared.session.Output.the-variants.{Refused, Done}
-use Rattle.engine.specs.Inputs.{outputOf, Input, opens, asksVersion, tells, entryOf, afterInput, put-back}
-use Rattle.engine.specs.Places.{Stage, c0, c1, c2, c3, c4, c5, c6, c7, c8, c9, Reset, first, second, Place, atAck, atReads, atVersion, atCommand, atResetAck, atResetPause, number, resetNumber, which, kindOf, callAt, openedFor, s3, s10, ofVersion, restAt, phaseIn, Fields, stateWith, sessionWith, freeState, freeMeant, stateAt, meantAt, Means, free, runs}
+use Rattle.engine.specs.Inputs.{outputOf, Input, opens, asks, tells, entryOf, afterInput}
+use Rattle.engine.specs.Places.{Stage, c0, c1, c2, c3, c4, c5, c6, c7, c8, c9, Reset, first, second, Single, Place, atAck, atReads, atCommand, atSingle, atReset, atResetAck, atResetPause, number, resetNumber, resetKind, resetCall, which, kindAt, callAt, openedFor, s3, s10, restAt, scriptAt, phaseIn, Fields, stateWith, sessionWith, freeState, freeMeant, stateAt, meantAt, Means, free, runs}
+use Rattle.engine.specs.Places.{alone as aloneReset}
 use Rattle.engine.specs.Exchanges.{Good, ack-free, good}
 
 -- ---- what an entry leaves, beside what the definitions say
@@ -55,8 +58,8 @@ frame-counted code bytes n h = rw (frame-not-ack code bytes) (go (ltb n 42949672
     go false e = omega (arith, ltb-false n 4294967295 e)
 
 module _ {s : Session} {m : Meant} where
-  tied-unchanged : (r : Refusal) (b : List ℕ) → Means s m → Tied s m (unchanged (s .state) (firstFound s) r b) (unchangedOf r)
-  tied-unchanged r b h = record { means = rw (put-back s) h; told = refl }
+  tied-unchanged : (r : Refusal) (b : List ℕ) → Means s m → Tied s m (unchanged (s .state) (s .found) r b) (unchangedOf r)
+  tied-unchanged r b h = record { means = h; told = refl }
 
   tied-pick : (t : Bool) {x y : After} {u v : Outcome} → Tied s m x u → Tied s m y v → Tied s m (pick t x y) (cond t u v)
   unfolding pick
@@ -68,15 +71,12 @@ module _ (v : Fields) (c : Call) (open? : Bool) (m : Meant) where
   abbrev now : State
   now = stateWith v c open?
 
-  abbrev firsts : List ℕ
-  firsts = firstFound (sessionWith v now)
-
   abbrev Ties : After → Outcome → Type 0
   Ties = Tied (sessionWith v now) m
 
   -- the call goes on with an order that is no command
   at-place : (p : Place) (x : Exchange) (n : ℕ) → leb (x .phase) 6 ≡ true → open? ≡ openedFor (which p) (v .opened) → n ≡ v .frames
-      → Means (record { command = v .command; found = withFirst (v .found) firsts; state = running now (callAt p) x })
+      → Means (record { command = v .command; found = v .found; state = running now (callAt p) x })
       (record { activity = busy (which p) (phaseIn p x (v .found)); count = n })
   at-place p x n small opened e =
       let w : Fields = record {
@@ -91,11 +91,11 @@ module _ (v : Fields) (c : Call) (open? : Bool) (m : Meant) where
         phaseFits = small;
         few = v .few;
       } in
-      rw (put-back (sessionWith v now), opened, e) (runs p w refl refl)
+      rw (opened, e) (runs p w refl refl)
 
   tied-orders : (p : Place) (x : Exchange) (o : Order) (b : List ℕ) → leb (x .phase) 6 ≡ true → open? ≡ openedFor (which p) (v .opened)
       → counted o (v .frames) ≡ v .frames
-      → Ties (ordersOf now firsts o (callAt p) x b) (runsOf (which p) (counted o (v .frames)) o (phaseIn p x (v .found)))
+      → Ties (ordersOf now (v .found) o (callAt p) x b) (runsOf (which p) (counted o (v .frames)) o (phaseIn p x (v .found)))
   tied-orders p x (write bytes) b small opened e =
       record { means = at-place p x _ small opened e; told = ap (λ l. orders (write l)) (take-append-seam bytes _) }
   tied-orders p x (read ms) b small opened e = record { means = at-place p x _ small opened e; told = refl }
@@ -104,8 +104,8 @@ module _ (v : Fields) (c : Call) (open? : Bool) (m : Meant) where
 
   -- it ends
   tied-ends : (d : CallOf) (a : Answer Byte) (o : Output) (b : List ℕ) (next? : Bool) → next? ≡ openAfter d a → outputOf o b ≡ answers (plainAnswer a)
-      → Ties (after (idleState now next?) firsts o b) (endsOf d (v .frames) a)
-  tied-ends d a o b next? e out = record { means = rw (put-back (sessionWith v now), e) (free w refl refl); told = out }
+      → Ties (after (idleState now next?) (v .found) o b) (endsOf d (v .frames) a)
+  tied-ends d a o b next? e out = record { means = rw e (free w refl refl); told = out }
     where
       w : Fields
       w = record {
@@ -121,39 +121,46 @@ module _ (v : Fields) (c : Call) (open? : Bool) (m : Meant) where
         few = v .few;
       }
 
-  -- it orders its next command
-  tied-enters : (p : Place) (kept : ℕ) (f b : List ℕ) (code clock : ℕ) (bytes : List ℕ) (phase : Phase) → leb kept 1024 ≡ true
-      → open? ≡ openedFor (which p) (v .opened) → planOf (kindOf (which p)) (callAt p .stage) ≡ cmd code clock bytes
-      → phaseIn p (exchangeAt 0 code clock) (withFirst (v .found) f) ≡ phase
-      → Ties (entersOf (record { command = 0; found = kept; exchange = v .exchange; call = c; opened = open?; frames = v .frames }) f (callAt p) b)
+  -- it orders a command
+  tied-sends : (p : Place) (kept : ℕ) (f b : List ℕ) (code clock : ℕ) (bytes : List ℕ) (phase : Phase) → leb kept 1024 ≡ true → 3 ≤ length f
+      → open? ≡ openedFor (which p) (v .opened) → phaseIn p (exchangeAt 0 code clock) f ≡ phase
+      → Ties (sendsOf (record { command = 0; found = kept; exchange = v .exchange; call = c; opened = open?; frames = v .frames }) f (callAt p) (cmd code clock bytes) b)
       (runsOf (which p) (counted (write (commandFrame code bytes)) (v .frames)) (write (commandFrame code bytes)) phase)
-  unfolding entersOf
-  tied-enters p kept f b code clock bytes phase fits opened plan is =
+  tied-sends p kept f b code clock bytes phase fits long opened is =
       let n = frame-counted code bytes (v .frames) (v .few) in
-      let l : length (withFirst (v .found) f) ≡ length (v .found) = simp length-set in
       let w : Fields = record {
         opened = v .opened;
         command = v .command;
-        found = withFirst (v .found) f;
+        found = f;
         kept = kept;
         exchange = exchangeAt 0 code clock;
         frames = oneMore (v .frames);
-        long = omega (arith, v .long);
+        long = long;
         keptFits = fits;
         phaseFits = refl;
         few = n .1;
       } in
-      rw plan (record {
+      record {
         means = rw (opened, ← (n .0), ← is) (runs p w refl refl);
         told = ap (λ l. orders (write l)) (take-append-seam (commandFrame code bytes) _);
-      })
+      }
 
 -- ---- an event that a running call meets
 
-opened-after : (d : CallOf) (o ok? : Bool) (a : Answer Byte) → ok? ≡ answered a → pick (eqb (kindOf d) 1) ok? (openedFor d o) ≡ openAfter d a
+-- the kind 1 is the opening's alone
+kind-opening : (p : Place) (o success : Bool) (a : Answer Byte) → success ≡ answered a → pick (eqb (kindAt p) 1) success (openedFor (which p) o) ≡ openAfter (which p) a
 unfolding pick
-opened-after opening o ok? a e = e
-opened-after version o ok? a e = refl
+kind-opening atAck o success a e = e
+kind-opening atReads o success a e = e
+kind-opening (atCommand s) o success a e = e
+kind-opening (atSingle x) o success a e = rw (x .isRule .noOpening)
+kind-opening (atReset q) o success a e = refl
+kind-opening (atResetAck first) o success a e = e
+kind-opening (atResetAck second) o success a e = e
+kind-opening (atResetAck (aloneReset q)) o success a e = refl
+kind-opening (atResetPause first) o success a e = e
+kind-opening (atResetPause second) o success a e = e
+kind-opening (atResetPause (aloneReset q)) o success a e = refl
 
 module _ (p : Place) (v : Fields) where
   abbrev pub here : Session
@@ -164,27 +171,35 @@ module _ (p : Place) (v : Fields) where
 
   abbrev Moves : Moved → CallResult → Type 0
   Moves mv r =
-      (e : Event) (b : List ℕ) → TiedHere (admittedOf (stateAt p v) (firstFound here) mv e b) (eventOutcome (which p) (v .frames) e (length b) r)
+      (e : Event) (b : List ℕ) → TiedHere (admittedOf (stateAt p v) (v .found) mv e b) (eventOutcome (which p) (v .frames) e (length b) r)
 
   moves-none : Moves unfitting unfit
   unfolding admittedOf pick
   moves-none e b = tied-unchanged OutOfTurn b (runs p v refl refl)
 
-  moves-on : (mv : Moved) (o : Outcome) → fits mv ≡ true → ((b : List ℕ) → TiedHere (movedOf (stateAt p v) (firstFound here) mv b) o)
-      → (e : Event) (b : List ℕ) → TiedHere (admittedOf (stateAt p v) (firstFound here) mv e b) (admitted e (length b) o)
+  moves-on : (mv : Moved) (o : Outcome) → fits mv ≡ true → ((b : List ℕ) → TiedHere (movedOf (stateAt p v) (v .found) mv b) o)
+      → (e : Event) (b : List ℕ) → TiedHere (admittedOf (stateAt p v) (v .found) mv e b) (admitted e (length b) o)
   unfolding admittedOf isLong pick
   moves-on mv o h k e b =
       rw h
       (tied-pick (ltb (length b) 1024) (tied-unchanged ShortBuffer b (runs p v refl refl))
       (tied-pick (ltb 1024 (packetLength e)) (tied-unchanged OverLong b (runs p v refl refl)) (k b)))
 
-  tied-refused : (r : Refusal) (b : List ℕ) → TiedHere (refusesOf (stateAt p v) (firstFound here) r b) (endsOf (which p) (v .frames) (refused r))
-  tied-refused r b = tied-ends v (callAt p) _ _ (which p) (refused r) (Refused r) b _ (opened-after (which p) (v .opened) false (refused r) refl) refl
+  tied-refused : (r : Refusal) (b : List ℕ) → TiedHere (refusesOf (stateAt p v) (v .found) r b) (endsOf (which p) (v .frames) (refused r))
+  tied-refused r b = tied-ends v (callAt p) _ _ (which p) (refused r) (Refused r) b _ (kind-opening p (v .opened) false (refused r) refl) refl
 
-  tied-done : (bytes b : List ℕ) (a : List Byte) → bytes ≡ map value a → TiedHere (doneOf (stateAt p v) (firstFound here) bytes b) (endsOf (which p) (v .frames) (done a))
+  tied-done : (bytes b : List ℕ) (a : List Byte) → bytes ≡ map value a → TiedHere (doneOf (stateAt p v) (v .found) bytes b) (endsOf (which p) (v .frames) (done a))
   tied-done bytes b a e =
-      tied-ends v (callAt p) _ _ (which p) (done a) (Done (length bytes)) _ _ (opened-after (which p) (v .opened) true (done a) refl)
+      tied-ends v (callAt p) _ _ (which p) (done a) (Done (length bytes)) _ _ (kind-opening p (v .opened) true (done a) refl)
       (ap (λ l. answers (done l)) (take-append-seam bytes _ ∙ e))
+
+  tied-answer : (a : Answer ℕ) (d : Answer Byte) (b : List ℕ) → plainAnswer d ≡ a
+      → TiedHere (answersOf (stateAt p v) (v .found) a b) (endsOf (which p) (v .frames) d)
+  tied-answer a (done bytes) b e = subst (λ x. TiedHere (answersOf (stateAt p v) (v .found) x b) (endsOf (which p) (v .frames) (done bytes))) e (tied-done (map value bytes) b bytes refl)
+  tied-answer a nothing b e =
+      subst (λ x. TiedHere (answersOf (stateAt p v) (v .found) x b) (endsOf (which p) (v .frames) nothing)) e
+      (tied-ends v (callAt p) _ _ (which p) nothing Nothing b _ (kind-opening p (v .opened) false nothing refl) refl)
+  tied-answer a (refused r) b e = subst (λ x. TiedHere (answersOf (stateAt p v) (v .found) x b) (endsOf (which p) (v .frames) (refused r))) e (tied-refused r b)
 
   moves-refused : (r : Refusal) → Moves (refuses r) (ended (refused r))
   unfolding movedOf
@@ -193,14 +208,14 @@ module _ (p : Place) (v : Fields) where
   -- the exchange goes on or ends
   moves-exchange : (rest : Rest) → ((x : Exchange) → phaseIn p x (v .found) ≡ exchange (stepOf x) rest)
       → ((r : Reply) → Moves (endedMove (callAt p) (v .exchange) r) (afterReply rest r))
-      → (r : ExchangeResult) → Good (v .exchange .code) (v .exchange .clock) r → Moves (exchangeMove (callAt p) (v .exchange) r) (afterExchange rest r)
+      → (r : ExchangeResult) → (n : ℕ) → Good n (v .exchange .code) (v .exchange .clock) r → Moves (exchangeMove (callAt p) (v .exchange) r) (afterExchange rest r)
   unfolding exchangeMove movedOf
-  moves-exchange rest is k unfit g = moves-none
-  moves-exchange rest is k (pending o to) g =
+  moves-exchange rest is k unfit n g = moves-none
+  moves-exchange rest is k (pending o to) n g =
       moves-on (goesOn o (callAt p) (exchangeIn (v .exchange) to)) _ refl
       (λ b. rw (sym (is (exchangeIn (v .exchange) to) ∙ ap (λ s. exchange s rest) (g .0)))
       (tied-orders v (callAt p) _ _ p (exchangeIn (v .exchange) to) o b (g .1) refl (g .2 (v .frames))))
-  moves-exchange rest is k (ended r) g = k r
+  moves-exchange rest is k (ended r) n g = k r
 
 -- ---- each place
 
@@ -234,13 +249,14 @@ module _ {X Y : Type 0} (P : X → Y → Type 0) {u : X} {v : Y} (none : P u v) 
   two-pause h late = none
   two-pause h slept = h
 
--- the first three bytes of the found ones once f has been put there
-puts : (l f : List ℕ) → 3 ≤ length l
-    → (getD (withFirst l f) 0 0 ≡ getD f 0 0) × (getD (withFirst l f) 1 0 ≡ getD f 1 0) × (getD (withFirst l f) 2 0 ≡ getD f 2 0)
-puts [] f h = absurd (omega arith)
-puts (x ∷ []) f h = absurd (omega arith)
-puts (x ∷ y ∷ []) f h = absurd (omega arith)
-puts (x ∷ y ∷ z ∷ l) f h = (refl, refl, refl)
+-- the first three of a response of four bytes, once they have been put at the start of a list
+puts : (bs l : List ℕ) → 4 ≤ length bs → 3 ≤ length l
+    → (getD (put (take 3 bs) l) 0 0 ≡ getD bs 0 0) × (getD (put (take 3 bs) l) 1 0 ≡ getD bs 1 0) × (getD (put (take 3 bs) l) 2 0 ≡ getD bs 2 0)
+    × (3 ≤ length (put (take 3 bs) l))
+puts [] l h k = absurd (omega arith)
+puts (x ∷ []) l h k = absurd (omega arith)
+puts (x ∷ y ∷ []) l h k = absurd (omega arith)
+puts (x ∷ y ∷ z ∷ bs) l h k = (refl, refl, refl, omega arith)
 
 -- the opening's answer
 digit-same : (n : ℕ) → hexDigit n ≡ hexDigitOf n
@@ -266,9 +282,9 @@ opened-same a b c =
     ap (λ l. a ∷ b ∷ c ∷ 0x52 ∷ 0x43 ∷ 0x53 ∷ 0x39 ∷ 0x35 ∷ 0x36 ∷ 0x76 ∷ l)
     (ap₂ (λ x y. x ++ (0x2E ∷ y)) (hex-same b) (hex-same c) ∙ sym (map-append value (hexOf b) (own 0x2E ∷ hexOf c)))
 
--- the command of a place is ordered
+-- the command of the opening's stage is ordered
 abbrev commandOf : Place → Command
-commandOf p = planOf (kindOf (which p)) (callAt p .stage)
+commandOf p = openingPlan (callAt p .stage)
 
 abbrev frameAt : Place → Order
 frameAt p = write (commandFrame (commandOf p .code) (commandOf p .bytes))
@@ -279,7 +295,7 @@ entered v p = runsOf (which p) (counted (frameAt p) (v .frames)) (frameAt p) (ph
 module _ (p : Place) (v : Fields) where
   moves-order : (q : Place) (o : Order) → openedFor (which p) (v .opened) ≡ openedFor (which q) (v .opened) → counted o (v .frames) ≡ v .frames
       → (e : Event) (b : List ℕ)
-      → TiedHere p v (admittedOf (stateAt p v) (firstFound (here p v)) (goesOn o (callAt q) (v .exchange)) e b)
+      → TiedHere p v (admittedOf (stateAt p v) (v .found) (goesOn o (callAt q) (v .exchange)) e b)
       (admitted e (length b) (runsOf (which q) (counted o (v .frames)) o (phaseIn q (v .exchange) (v .found))))
   unfolding movedOf
   moves-order q o h k =
@@ -287,31 +303,39 @@ module _ (p : Place) (v : Fields) where
 
   -- the command of the next place
   moves-next : (q : Place) (mv : Moved) → fits mv ≡ true → openedFor (which p) (v .opened) ≡ openedFor (which q) (v .opened)
-      → ((b : List ℕ) → entersOf (stateAt p v) (firstFound (here p v)) (callAt q) b ≡ movedOf (stateAt p v) (firstFound (here p v)) mv b)
+      → ((b : List ℕ) → entersOf (stateAt p v) (v .found) (callAt q) b ≡ movedOf (stateAt p v) (v .found) mv b)
       → (e : Event) (b : List ℕ)
-      → TiedHere p v (admittedOf (stateAt p v) (firstFound (here p v)) mv e b) (admitted e (length b) (entered v q))
+      → TiedHere p v (admittedOf (stateAt p v) (v .found) mv e b) (admitted e (length b) (entered v q))
+  unfolding entersOf
   moves-next q mv h k is =
       let m = commandOf q in
       moves-on p v mv _ h
       (λ b. subst (λ a. TiedHere p v a (entered v q)) (is b)
-      (tied-enters v (callAt p) _ _ q (v .kept) _ b (m .code) (m .clock) (m .bytes) _ (v .keptFits) k refl
-      (ap (phaseIn q (exchangeAt 0 (m .code) (m .clock))) (put-back (here p v)))))
+      (tied-sends v (callAt p) _ _ q (v .kept) (v .found) b (m .code) (m .clock) (m .bytes) _ (v .keptFits) (v .long) k refl))
 
-version-moves : (v : Fields) (r : Reply) → Moves atVersion v (endedMove (callAt atVersion) (v .exchange) r) (afterReply (ofVersion (λ x y z. finish (done (versionBytes 0 x y z)))) r)
-unfolding endedMove isReset pick movedOf repliesOf asksFirmware
-version-moves v (response bs) = go (ltb (length bs) 4) refl
-  where
-    go : (t : Bool) → ltb (length bs) 4 ≡ t
-        → Moves atVersion v (replies bs) (enter (ifElse t (refuse ShortResponse) (finish (done (versionBytes 0 (getD bs 0 0) (getD bs 1 0) (getD bs 2 0))))))
-    go true e = moves-on atVersion v (replies bs) _ refl (λ b. rw e (tied-refused atVersion v ShortResponse b))
-    go false e =
-        let h = ltb-false (length bs) 4 e in
-        moves-on atVersion v (replies bs) _ refl (λ b. rw e (tied-done atVersion v (take 3 bs) b _ (sym (first-three bs (omega arith)))))
-version-moves v (failed r) = moves-refused atVersion v r
+-- the one command of a call was answered
+single-moves : (x : Single) (v : Fields) (bs : List ℕ) (s : Script) → s ≡ x .next bs
+    → Moves (atSingle x) v (replies bs) (enter s)
+unfolding movedOf repliesOf judgedOf pick
+single-moves x v bs s e =
+    let j = x .judged bs in
+    rw (e ∙ j .is)
+    (moves-on (atSingle x) v (replies bs) _ refl (λ b. rw (x .isRule .noOpening) (tied-answer (atSingle x) v (judgeOf (x .rule) bs) (j .answer) b (j .plain))))
+
+single-ends : (x : Single) (v : Fields) (r : Reply)
+    → Moves (atSingle x) v (endedMove (callAt (atSingle x)) (v .exchange) r) (afterReply (byReply (either (x .next) refuse)) r)
+unfolding endedMove isReset pick
+single-ends x v (response bs) = rw (x .isRule .noOpening, x .isRule .noReset) (single-moves x v bs (x .next bs) refl)
+single-ends x v (failed r) = rw (x .isRule .noOpening, x .isRule .noReset) (moves-refused (atSingle x) v r)
+
+reset-ends : (q : Request) (v : Fields) (r : Reply) → Moves (atReset q) v (endedMove (callAt (atReset q)) (v .exchange) r) (afterReply (ofReset finished) r)
+unfolding endedMove isReset pick
+reset-ends q v (response bs) = moves-order (atReset q) v (atResetAck (aloneReset q)) (write ack) refl (ack-free _)
+reset-ends q v (failed r) = moves-order (atReset q) v (atResetAck (aloneReset q)) (write ack) refl (ack-free _)
 
 reply-moves : (s : Stage) (v : Fields) (r : Reply)
     → Moves (atCommand s) v (endedMove (callAt (atCommand s)) (v .exchange) r) (afterReply (restAt s (getD (v .found) 0 0) (getD (v .found) 1 0) (getD (v .found) 2 0)) r)
-unfolding endedMove isReset pick movedOf repliesOf asksFirmware stepOf planOf openingPlan settingsPlan
+unfolding endedMove isReset pick movedOf repliesOf openingOf versionOf lastOf entersOf stepOf openingPlan settingsPlan
 reply-moves c0 v (response bs) = moves-order (atCommand c0) v (atResetAck first) (write ack) refl (ack-free _)
 reply-moves c0 v (failed r) = moves-order (atCommand c0) v (atResetAck first) (write ack) refl (ack-free _)
 reply-moves c1 v (response bs) = go (ltb (length bs) 4) refl
@@ -320,11 +344,10 @@ reply-moves c1 v (response bs) = go (ltb (length bs) 4) refl
         → Moves (atCommand c1) v (replies bs) (enter (ifElse t (refuse ShortResponse) (rfFieldOff (s3 (getD bs 0 0) (getD bs 1 0) (getD bs 2 0)))))
     go true e = moves-on (atCommand c1) v (replies bs) _ refl (λ b. rw e (tied-refused (atCommand c1) v ShortResponse b))
     go false e =
-        let p = puts (v .found) (take 3 bs) (v .long) in
+        let p = puts bs (v .found) (ltb-false (length bs) 4 e) (v .long) in
         moves-on (atCommand c1) v (replies bs) _ refl
-        (λ b. rw e (tied-enters v (callAt (atCommand c1)) _ _ (atCommand c2) 3 (take 3 bs) b 0x32 100 (0x01 ∷ 0x02 ∷ []) _ refl refl refl
-        (λ i. exchange (sending 0x32 100) (restAt c2 ((p .0 ∙ getD-take 3 bs 0 0 (omega arith)) i) ((p .1 ∙ getD-take 3 bs 1 0 (omega arith)) i)
-        ((p .2 ∙ getD-take 3 bs 2 0 (omega arith)) i)))))
+        (λ b. rw e (tied-sends v (callAt (atCommand c1)) _ _ (atCommand c2) 3 (put (take 3 bs) (v .found)) b 0x32 100 (0x01 ∷ 0x02 ∷ []) _ refl (p .3) refl
+        (λ i. exchange (sending 0x32 100) (restAt c2 (p .0 i) (p .1 i) (p .2 i)))))
 reply-moves c1 v (failed r) = moves-refused (atCommand c1) v r
 reply-moves c2 v (response bs) = moves-next (atCommand c2) v (atCommand c3) (replies bs) refl refl (λ b. refl)
 reply-moves c2 v (failed r) = moves-refused (atCommand c2) v r
@@ -349,14 +372,15 @@ reply-moves c9 v (response bs) = go (anyNonzero bs) refl
 reply-moves c9 v (failed r) = moves-refused (atCommand c9) v r
 
 place-moves : (p : Place) (v : Fields) (e : Event) → Moves p v (moveOf (callAt p) (v .exchange) e) (progress (phaseIn p (v .exchange) (v .found)) e)
-unfolding moveOf movedOf pick stepOf planOf openingPlan settingsPlan
+unfolding moveOf restedMove movedOf entersOf pick stepOf openingPlan settingsPlan
 place-moves atAck v e = two-write (Moves atAck v) (moves-none atAck v) (moves-order atAck v atReads (read 10) refl refl) (moves-refused atAck v Transport) e
 place-moves atReads v e =
     let go : Moves atReads v (enters (callAt (atCommand c0))) (enter deviceNew) =
     moves-next atReads v (atCommand c0) (enters (callAt (atCommand c0))) refl refl (λ b. refl) in
     two-read (Moves atReads v) (moves-none atReads v) (λ _. moves-order atReads v atReads (read 10) refl refl) go go e
-place-moves atVersion v e = moves-exchange atVersion v _ (λ x. refl) (version-moves v) (advance (stepOf (v .exchange)) e) (good (v .exchange) e)
-place-moves (atCommand s) v e = moves-exchange (atCommand s) v _ (λ x. refl) (reply-moves s v) (advance (stepOf (v .exchange)) e) (good (v .exchange) e)
+place-moves (atSingle x) v e = moves-exchange (atSingle x) v _ (λ y. refl) (single-ends x v) (advance (stepOf (v .exchange)) e) (packetLength e) (good (v .exchange) e)
+place-moves (atReset q) v e = moves-exchange (atReset q) v _ (λ y. refl) (reset-ends q v) (advance (stepOf (v .exchange)) e) (packetLength e) (good (v .exchange) e)
+place-moves (atCommand s) v e = moves-exchange (atCommand s) v _ (λ x. refl) (reply-moves s v) (advance (stepOf (v .exchange)) e) (packetLength e) (good (v .exchange) e)
 place-moves (atResetAck r) v e =
     two-write (Moves (atResetAck r) v) (moves-none (atResetAck r) v) (moves-order (atResetAck r) v (atResetPause r) (pause 10000) refl refl)
     (moves-refused (atResetAck r) v Transport) e
@@ -366,6 +390,9 @@ place-moves (atResetPause first) v e =
 place-moves (atResetPause second) v e =
     two-pause (Moves (atResetPause second) v) (moves-none (atResetPause second) v)
     (moves-next (atResetPause second) v (atCommand c9) (enters (callAt (atCommand c9))) refl refl (λ b. refl)) e
+place-moves (atResetPause (aloneReset q)) v e =
+    two-pause (Moves (atResetPause (aloneReset q)) v) (moves-none (atResetPause (aloneReset q)) v)
+    (moves-on (atResetPause (aloneReset q)) v finishes _ refl (λ b. tied-done (atResetPause (aloneReset q)) v [] b [] refl)) e
 
 -- ---- the entries
 
@@ -381,36 +408,46 @@ number-fits c7 = refl
 number-fits c8 = refl
 number-fits c9 = refl
 
-reset-fits : (r : Reset) → leb (resetNumber r) 9 ≡ true
-reset-fits first = refl
-reset-fits second = refl
-
 call-fits : (p : Place) → validCall (callAt p) ≡ true
 unfolding validCall
 call-fits atAck = refl
 call-fits atReads = refl
-call-fits atVersion = refl
 call-fits (atCommand s) = rw (number-fits s)
-call-fits (atResetAck r) = rw (reset-fits r)
-call-fits (atResetPause r) = rw (reset-fits r)
+call-fits (atSingle x) = rw (x .isRule .within)
+call-fits (atReset q) = refl
+call-fits (atResetAck first) = refl
+call-fits (atResetAck second) = refl
+call-fits (atResetAck (aloneReset q)) = refl
+call-fits (atResetPause first) = refl
+call-fits (atResetPause second) = refl
+call-fits (atResetPause (aloneReset q)) = refl
 
 in-range : (v : Fields) (c : Call) (open? : Bool) → validCall c ≡ true → isValid (stateWith v c open?) ≡ true
 unfolding isValid
 in-range v c open? h = rw (v .keptFits, v .phaseFits) h
 
-not-free : (c : CallOf) → eqb (kindOf c) 0 ≡ false
-not-free opening = refl
-not-free version = refl
+not-free : (p : Place) → eqb (kindAt p) 0 ≡ false
+not-free atAck = refl
+not-free atReads = refl
+not-free (atCommand s) = refl
+not-free (atSingle x) = x .isRule .running
+not-free (atReset q) = refl
+not-free (atResetAck first) = refl
+not-free (atResetAck second) = refl
+not-free (atResetAck (aloneReset q)) = refl
+not-free (atResetPause first) = refl
+not-free (atResetPause second) = refl
+not-free (atResetPause (aloneReset q)) = refl
 
 pub running-tied : (p : Place) (v : Fields) (i : Input)
-    → TiedHere p v (afterInput (stateAt p v) (firstFound (here p v)) i) (outcomeOf (meantAt p v .activity) (v .frames) (entryOf i))
-unfolding openedAt versionAfter eventAfter pick
-running-tied p v i = go i (in-range v (callAt p) (openedFor (which p) (v .opened)) (call-fits p)) (not-free (which p))
+    → TiedHere p v (afterInput (stateAt p v) (v .found) i) (outcomeOf (meantAt p v .activity) (v .frames) (entryOf i))
+unfolding openedAt launchAfter eventAfter pick
+running-tied p v i = go i (in-range v (callAt p) (openedFor (which p) (v .opened)) (call-fits p)) (not-free p)
   where
-    go : (i : Input) → isValid (stateAt p v) ≡ true → eqb (kindOf (which p)) 0 ≡ false
-        → TiedHere p v (afterInput (stateAt p v) (firstFound (here p v)) i) (outcomeOf (meantAt p v .activity) (v .frames) (entryOf i))
+    go : (i : Input) → isValid (stateAt p v) ≡ true → eqb (kindAt p) 0 ≡ false
+        → TiedHere p v (afterInput (stateAt p v) (v .found) i) (outcomeOf (meantAt p v .activity) (v .frames) (entryOf i))
     go (opens b) h k = rw (h, k) (tied-unchanged OutOfTurn b (runs p v refl refl))
-    go (asksVersion b) h k = rw (h, k) (tied-unchanged OutOfTurn b (runs p v refl refl))
+    go (asks q b) h k = rw (h, k) (tied-unchanged OutOfTurn b (runs p v refl refl))
     go (tells e b) h k = rw (h, k) (place-moves p v e e b)
 
 or-true : (t : Bool) → (t || true) ≡ true
@@ -423,9 +460,20 @@ unfolding pick
 tied-if true h k = h refl
 tied-if false h k = k refl
 
+-- a call of an open reader begins
+launch-tied : (v : Fields) (q : Request) (b : List ℕ) → v .opened ≡ true → (x : Start) (l : Launch) → Begins x l
+    → Tied (sessionWith v (freeState v)) (freeMeant v) (launchOn (freeState v) (v .found) l b) (started (request q) (v .frames) x)
+unfolding launchOn stepOf
+launch-tied v q b e x l (refusedAtOnce r) = tied-unchanged r b (free v refl refl)
+launch-tied v q b e x l (single rule code clock bytes f isRule judged) =
+    let y : Single = record { request = q; rule = rule; next = f; isRule = isRule; judged = judged } in
+    tied-sends v noCall (v .opened) (freeMeant v) (atSingle y) (v .kept) (v .found) b code clock bytes _ (v .keptFits) (v .long) e refl
+launch-tied v q b e x l alone =
+    tied-sends v noCall (v .opened) (freeMeant v) (atReset q) (v .kept) (v .found) b 0x18 100 (0x01 ∷ []) _ (v .keptFits) (v .long) e refl
+
 pub free-tied : (v : Fields) (i : Input)
-    → Tied (sessionWith v (freeState v)) (freeMeant v) (afterInput (freeState v) (firstFound (sessionWith v (freeState v))) i) (outcomeOf (idle (v .opened)) (v .frames) (entryOf i))
-unfolding openedAt versionAfter eventAfter validCall pick planOf stepOf
+    → Tied (sessionWith v (freeState v)) (freeMeant v) (afterInput (freeState v) (v .found) i) (outcomeOf (idle (v .opened)) (v .frames) (entryOf i))
+unfolding openedAt launchAfter eventAfter validCall pick stepOf
 free-tied v (opens b) =
     let w : Fields = record {
       opened = v .opened;
@@ -442,10 +490,9 @@ free-tied v (opens b) =
     let h = tied-orders w noCall (v .opened) (freeMeant v) atAck (v .exchange) (write ack) b (v .phaseFits) refl (ack-free 0) in
     rw (in-range v noCall (v .opened) refl, or-true (v .opened))
     (tied-pick (ltb (length b) 1024) (tied-unchanged ShortBuffer b (free v refl refl)) (record { means = h .means; told = h .told }))
-free-tied v (asksVersion b) =
+free-tied v (asks q b) =
     rw (in-range v noCall (v .opened) refl)
     (tied-if (v .opened)
-    (λ e. tied-pick (ltb (length b) 1024) (tied-unchanged ShortBuffer b (free v refl refl))
-    (tied-enters v noCall (v .opened) (freeMeant v) atVersion (v .kept) _ b 0x02 100 [] _ (v .keptFits) e refl refl))
+    (λ e. tied-pick (ltb (length b) 1024) (tied-unchanged ShortBuffer b (free v refl refl)) (launch-tied v q b e (requestStart q) (launchOf q) (begins q)))
     (λ _. tied-unchanged OutOfTurn b (free v refl refl)))
 free-tied v (tells e b) = rw (in-range v noCall (v .opened) refl) (tied-unchanged OutOfTurn b (free v refl refl))

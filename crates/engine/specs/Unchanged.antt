@@ -1,64 +1,61 @@
 -- Refusals 1 to 6 change neither session nor buffer, of any session.
 use mathlib.Core.Path.{_≡_, sym, ap, _∙_}
-use mathlib.Core.Bool.{Bool, true, false}
 use mathlib.Core.List.{List}
 use Prim.Native.Nat.{ℕ, _≤_}
 use native.Mathlib.Omega.{arith}
 use lib.Dec.{eqb, ltb}
-use lib.ListN.{length}
-use Rattle.errors.specs.Choice.{pick}
+use lib.ListN.{length, getD}
 use Rattle.errors.specs.Refusals.{numbered}
 use Rattle.errors.specs.declared.Refusal.{Refusal}
 use Rattle.errors.specs.declared.Refusal.the-variants.{OutOfTurn, ShortBuffer, OverLong}
-use Rattle.exchange.specs.Packets.{Reply, response, failed}
-use Rattle.exchange.specs.Exchange.{Order, write, read, drain, pause, Event, unfit, pending, ended, ExchangeResult, advance}
-use Rattle.exchange.specs.Steps.{stepOf}
+use Rattle.exchange.specs.Exchange.{Order, write, read, drain, pause, Event}
 use Rattle.exchange.specs.declared.Exchange.{Exchange}
-use Rattle.protocol.specs.Chipset.{anyNonzero}
-use Rattle.protocol.specs.Laws.{by-write, by-read, by-pause}
-use Rattle.engine.specs.Exchanges.{Late, Good, good}
-use Rattle.engine.specs.Inputs.{Input, opens, asksVersion, tells, stepWith, afterInput, stepped-is, put-back}
-use Rattle.engine.specs.Moves.{Moved, unfitting, orders, enters, replies, refuses, fits, isReset, asksVersion as asksFirmware, endedMove, exchangeMove, moveOf}
-use Rattle.engine.specs.Sessions.{After, after, unchanged, entersOf, ordersOf, repliesOf, movedOf, isValid, isFree, isLong, admittedOf, eventAfter, openAfter, versionAfter, firstFound, sessionAfter}
+use Rattle.protocol.specs.Scripts.{Answer, done, nothing, refused}
+use Rattle.protocol.specs.Chipset.{anyNonzero, statusByte, maskedStatus, sendIndex, receiveIndex}
+use Rattle.chipset.specs.Launches.{Launch, sends, launchOf}
+use Rattle.chipset.specs.Launches.{refuses as refusesAtOnce}
+use Rattle.chipset.specs.Verdicts.{withLength, withStatus, versionAnswer, writeAnswer, firstAnswer, listAnswer, exchangeAnswer, jumpAnswer, initiatorAnswer, targetAnswer, judgeOf}
+use Rattle.engine.specs.Exchanges.{by-pick, LateMove, late-move}
+use Rattle.engine.specs.Inputs.{Input, opens as opened, asks, tells, bufferOf, stepWith, afterInput, stepped-is}
+use Rattle.engine.specs.Moves.{packetLength, Moved, unfitting, orders, enters, finishes, replies, refuses, fits, moveOf}
+use Rattle.engine.specs.Sessions.{After, after, unchanged, ordersOf, entersOf, answersOf, openingOf, versionOf, lastOf, judgedOf, repliesOf, movedOf, isValid, isFree, isLong, admittedOf, eventAfter, openAfter, launchOn, launchAfter, sessionAfter}
 use Rattle.engine.specs.declared.call.Call.{Call}
-use Rattle.engine.specs.declared.session.State.{State}
+use Rattle.engine.specs.declared.state.State.{State}
+use Rattle.engine.specs.declared.state.Output.the-variants.{Write, Done, Refused}
 use Rattle.engine.specs.declared.session.Session.{Session}
-use Rattle.engine.specs.declared.session.Output.the-variants.{Write, Done, Refused}
 
-by-pick : {X : Type 0} (P : X → Type 0) (t : Bool) (x y : X) → P x → P y → P (pick t x y)
-unfolding pick
-by-pick P true x y h k = h
-by-pick P false x y h k = k
+-- ---- a rule refuses with none of the first six
 
--- ---- a running call refuses with none of the first six
+abbrev LateAnswer : Answer ℕ → Type 0
+LateAnswer (done bytes) = Unit {0}
+LateAnswer nothing = Unit {0}
+LateAnswer (refused r) = 7 ≤ numbered r .0
 
-abbrev LateMove : Moved → Type 0
-LateMove unfitting = Unit {0}
-LateMove (orders o c x) = Unit {0}
-LateMove (enters c) = Unit {0}
-LateMove (replies bytes) = Unit {0}
-LateMove (refuses r) = 7 ≤ numbered r .0
+by-length : (bs : List ℕ) (n : ℕ) (a : Answer ℕ) → LateAnswer a → LateAnswer (withLength bs n a)
+unfolding withLength
+by-length bs n a h = by-pick LateAnswer (ltb (length bs) n) _ _ (omega arith) h
 
-late-ended : (c : Call) (x : Exchange) (r : Reply) → Late r → LateMove (endedMove c x r)
-unfolding endedMove
-late-ended c x (response bytes) h = by-pick LateMove (isReset c) _ _ tt tt
-late-ended c x (failed r) h = by-pick LateMove (isReset c) _ _ tt h
+by-status : (bs : List ℕ) (a : Answer ℕ) → LateAnswer a → LateAnswer (withStatus bs a)
+unfolding withStatus
+by-status bs a h = by-pick LateAnswer (eqb (statusByte bs) 0) _ _ h (omega arith)
 
-late-exchange : (c : Call) (x : Exchange) (r : ExchangeResult) → Good (x .code) (x .clock) r → LateMove (exchangeMove c x r)
-unfolding exchangeMove
-late-exchange c x unfit h = tt
-late-exchange c x (pending o to) h = tt
-late-exchange c x (ended r) h = late-ended c x r h
-
-late-move : (c : Call) (x : Exchange) (e : Event) → LateMove (moveOf c x e)
-unfolding moveOf
-late-move c x e =
-    let P : Event → Moved → Type 0 = λ _ m. LateMove m in
-    by-pick LateMove (eqb (c .phase) 0) _ _ (late-exchange c x (advance (stepOf x) e) (good x e))
-    (by-pick LateMove (eqb (c .phase) 1) _ _ (by-write P unfitting (λ _. tt) _ _ tt (omega arith) e)
-    (by-pick LateMove (eqb (c .phase) 2) _ _ (by-pause P unfitting (λ _. tt) _ tt e)
-    (by-pick LateMove (eqb (c .phase) 3) _ _ (by-write P unfitting (λ _. tt) _ _ tt (omega arith) e)
-    (by-pick LateMove (eqb (c .phase) 4) _ _ (by-read P unfitting (λ _. tt) _ _ _ _ (λ _. tt) tt tt tt e) tt))))
+late-answer : (rule : ℕ) (bs : List ℕ) → LateAnswer (judgeOf rule bs)
+unfolding judgeOf versionAnswer writeAnswer firstAnswer listAnswer exchangeAnswer jumpAnswer initiatorAnswer targetAnswer
+late-answer rule bs =
+    let L : Answer ℕ → Type 0 = LateAnswer in
+    by-pick L (eqb rule 2) _ _ (by-length bs 4 _ tt)
+    (by-pick L (eqb rule 5) _ _ tt
+    (by-pick L (eqb rule 6) _ _ (by-pick L (anyNonzero bs) _ _ (omega arith) tt)
+    (by-pick L (eqb rule 7) _ _ (by-length bs 1 _ tt)
+    (by-pick L (eqb rule 8) _ _ (by-pick L (eqb (getD bs 0 0) 0) _ _ tt (by-length bs 2 _ tt))
+    (by-pick L (eqb rule 9) _ _ (by-pick L (eqb (length bs) 0) _ _ (omega arith) (by-pick L (eqb (maskedStatus bs) 0) _ _ tt (omega arith)))
+    (by-pick L (eqb rule 10) _ _ (by-status bs _ tt)
+    (by-pick L (eqb rule 11) _ _ (by-status bs _ (by-length bs 2 _ tt))
+    (by-pick L (eqb rule 12) _ _ (by-status bs _ tt)
+    (by-pick L (eqb rule 13) _ _ (by-pick L (eqb (statusByte bs) 0) _ _ tt tt)
+    (by-pick L (eqb rule 14) _ _
+    (by-length bs 2 _ (by-pick L (eqb (getD bs 0 0) 1) _ _
+    (by-pick L (ltb 2 (sendIndex bs)) _ _ (omega arith) (by-pick L (ltb 2 (receiveIndex bs)) _ _ (omega arith) tt)) tt)) tt))))))))))
 
 -- ---- what the entries leave
 
@@ -76,8 +73,8 @@ module _ (s : State) (f b : List ℕ) where
   writes : (t : State) (g c : List ℕ) (n : ℕ) → Keeps (after t g (Write n) c)
   writes t g c n q e h = let z : _≡_ {A = ℕ} 0 1 = cc in absurd (omega arith)
 
-  answers : (t : State) (g c : List ℕ) (n : ℕ) → Keeps (after t g (Done n) c)
-  answers t g c n q e h = let z : _≡_ {A = ℕ} 0 1 = cc in absurd (omega arith)
+  ends : (t : State) (g c : List ℕ) (n : ℕ) → Keeps (after t g (Done n) c)
+  ends t g c n q e h = let z : _≡_ {A = ℕ} 0 1 = cc in absurd (omega arith)
 
   order : (t : State) (g : List ℕ) (o : Order) (c : Call) (x : Exchange) → Keeps (ordersOf t g o c x b)
   order t g (write bytes) c x q e h = writes _ _ _ _ q e h
@@ -89,44 +86,52 @@ module _ (s : State) (f b : List ℕ) where
   unfolding entersOf
   entering t g c = writes _ _ _ _
 
+  -- an answer of a rule refuses with none of the first six
+  answers : (a : Answer ℕ) → LateAnswer a → Keeps (answersOf s f a b)
+  answers (done bytes) h = ends _ _ _ _
+  answers nothing h = λ q e k. let z : _≡_ {A = ℕ} 0 1 = cc in absurd (omega arith)
+  answers (refused r) h = late _ _ _ r h
+
+  opens : (bytes : List ℕ) → Keeps (openingOf s f bytes b)
+  unfolding openingOf versionOf lastOf
+  opens bytes =
+      by-pick Keeps (eqb (s .call .stage) 1) _ _
+      (by-pick Keeps (ltb (length bytes) 4) _ _ (late _ _ _ _ (omega arith)) (entering _ _ _))
+      (by-pick Keeps (eqb (s .call .stage) 9) _ _ (by-pick Keeps (anyNonzero bytes) _ _ (late _ _ _ _ (omega arith)) (ends _ _ _ _)) (entering _ _ _))
+
   reply : (bytes : List ℕ) → Keeps (repliesOf s f bytes b)
-  unfolding repliesOf
-  reply bytes =
-      by-pick Keeps (asksFirmware (s .call)) _ _
-      (by-pick Keeps (ltb (length bytes) 4) _ _ (late _ _ _ _ (omega arith))
-      (by-pick Keeps (eqb (s .call .kind) 1) _ _ (entering _ _ _) (answers _ _ _ _)))
-      (by-pick Keeps (eqb (s .call .stage) 9) _ _
-      (by-pick Keeps (anyNonzero bytes) _ _ (late _ _ _ _ (omega arith)) (answers _ _ _ _))
-      (entering _ _ _))
+  unfolding repliesOf judgedOf
+  reply bytes = by-pick Keeps (eqb (s .call .kind) 1) _ _ (opens bytes) (answers (judgeOf (s .call .kind) bytes) (late-answer (s .call .kind) bytes))
 
-  move : (m : Moved) → LateMove m → Keeps (movedOf s f m b)
+  move : (n : ℕ) (m : Moved) → LateMove n m → Keeps (movedOf s f m b)
   unfolding movedOf
-  move unfitting h = same OutOfTurn
-  move (orders o c x) h = order s f o c x
-  move (enters c) h = entering s f c
-  move (replies bytes) h = reply bytes
-  move (refuses r) h = late _ _ _ r h
+  move n unfitting h = same OutOfTurn
+  move n (orders o c x) h = order s f o c x
+  move n (enters c) h = entering s f c
+  move n finishes h = ends _ _ _ _
+  move n (replies bytes) h = reply bytes
+  move n (refuses r) h = late _ _ _ r h
 
-  admits : (m : Moved) (e : Event) → LateMove m → Keeps (admittedOf s f m e b)
+  admits : (m : Moved) (e : Event) → LateMove (packetLength e) m → Keeps (admittedOf s f m e b)
   unfolding admittedOf
   admits m e h =
       by-pick Keeps (fits m) _ _
-      (by-pick Keeps (ltb (length b) 1024) _ _ (same ShortBuffer) (by-pick Keeps (isLong e) _ _ (same OverLong) (move m h)))
+      (by-pick Keeps (ltb (length b) 1024) _ _ (same ShortBuffer) (by-pick Keeps (isLong e) _ _ (same OverLong) (move (packetLength e) m h)))
       (same OutOfTurn)
 
-abbrev pub bufferOf : Input → List ℕ
-bufferOf (opens b) = b
-bufferOf (asksVersion b) = b
-bufferOf (tells e b) = b
+  launches : (l : Launch) → Keeps (launchOn s f l b)
+  unfolding launchOn
+  launches (refusesAtOnce r) = same r
+  launches (sends rule m) = writes _ _ _ _
 
 keeps : (s : State) (f : List ℕ) (i : Input) → Keeps s f (bufferOf i) (afterInput s f i)
-unfolding openAfter versionAfter eventAfter
-keeps s f (opens b) =
+unfolding openAfter launchAfter eventAfter
+keeps s f (opened b) =
     by-pick (Keeps s f b) (isFree s) _ _ (by-pick (Keeps s f b) (ltb (length b) 1024) _ _ (same s f b ShortBuffer) (writes s f b _ _ _ _)) (same s f b OutOfTurn)
-keeps s f (asksVersion b) =
+keeps s f (asks q b) =
     by-pick (Keeps s f b) (isFree s) _ _
     (by-pick (Keeps s f b) (s .opened) _ _
-    (by-pick (Keeps s f b) (ltb (length b) 1024) _ _ (same s f b ShortBuffer) (entering s f b _ _ _)) (same s f b OutOfTurn))
+    (by-pick (Keeps s f b) (ltb (length b) 1024) _ _ (same s f b ShortBuffer) (launches s f b (launchOf q))) (same s f b OutOfTurn))
     (same s f b OutOfTurn)
 keeps s f (tells e b) =
     by-pick (Keeps s f b) (isValid s) _ _
@@ -137,6 +142,4 @@ keeps s f (tells e b) =
 pub refused-unchanged : (s : Session) (i : Input) (r : Refusal) → (stepWith s i) .output ≡ Refused r → numbered r .0 ≤ 6
     → stepWith s i ≡ record { session = s; output = Refused r; buffer = bufferOf i }
 refused-unchanged s i r e h =
-    stepped-is s i
-    ∙ ap (sessionAfter s) (keeps (s .state) (firstFound s) i r (ap (λ x. x .output) (sym (stepped-is s i)) ∙ e) h)
-    ∙ ap (λ l. record { session = record { command = s .command; found = l; state = s .state }; output = Refused r; buffer = bufferOf i }) (put-back s)
+    stepped-is s i ∙ ap (sessionAfter s) (keeps (s .state) (s .found) i r (ap (λ x. x .output) (sym (stepped-is s i)) ∙ e) h)

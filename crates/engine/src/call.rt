@@ -1,4 +1,5 @@
 // A running call, as a few numbers: what an event does to it, apart from buffer and session.
+use chipset::RESET_MODE;
 use errors::Refusal;
 use exchange::Advanced;
 use exchange::Event;
@@ -12,14 +13,14 @@ ghost use mathlib.Core.Path.{_≡_};
 ghost use Prim.Native.Nat.{ℕ, _<_};
 ghost use Rattle.exchange.specs.Exchange.{advance};
 ghost use Rattle.exchange.specs.Steps.{eventOf, orderOf, replyIn, stepOf};
-ghost use Rattle.engine.specs.Moves.{validCall, fits, asksVersion, at, following, isReset, moveIn, moveOf, endedMove, exchangeMove, orders, resetAckMove, resetPauseMove, openingAckMove, openingReadsMove};
+ghost use Rattle.engine.specs.Moves.{validCall, fits, at, following, isReset, moveIn, moveOf, endedMove, exchangeMove, orders, resetAckMove, restedMove, resetPauseMove, openingAckMove, openingReadsMove};
 
-// The calls.
+// What runs: no call, the opening, or a call of one command, by the number of the rule for its response.
 pub const NO_CALL: u8 = 0;
 
 pub const OPEN: u8 = 1;
 
-pub const VERSION: u8 = 2;
+pub const LAST: u8 = 14;
 
 // What a call waits for: its command's exchange, a reset's ACK or pause, the opening's ACK or reads.
 pub const EXCHANGE: u8 = 0;
@@ -32,7 +33,7 @@ pub const OPENING_ACK: u8 = 3;
 
 pub const OPENING_READS: u8 = 4;
 
-// Which call runs, which of its commands is on or comes next, and what is awaited.
+// What runs, which of its commands is on or comes next, and what is awaited.
 pub struct Call {
     pub kind: u8,
     pub stage: u8,
@@ -47,11 +48,13 @@ pub enum Order {
     Pause(u32),
 }
 
-// What an event does to a call: it does not fit, an order follows, a command comes next, a response is in, or a refusal.
+// What an event does to a call: it does not fit, an order follows, a command comes next, the call is done with no bytes, a response
+// is in, or a refusal.
 pub enum Move {
     Unfit,
     Orders(Order, Call, Exchange),
     Enters(Call),
+    Finishes,
     Replies(Part),
     Refuses(Refusal),
 }
@@ -61,7 +64,7 @@ impl Call {
     pub(crate) fn is_valid(self) -> bool
         ensures { λ r. ⌜ r ≡ validCall self ⌝ }
     {
-        if self.kind <= 2 {
+        if self.kind <= LAST {
             if self.stage <= 9 {
                 self.phase <= 4
             } else {
@@ -83,18 +86,7 @@ impl Call {
                 self.stage == 8
             }
         } else {
-            false
-        }
-    }
-
-    // The command is get_firmware_version.
-    pub(crate) fn asks_version(self) -> bool
-        ensures { λ r. ⌜ r ≡ asksVersion self ⌝ }
-    {
-        if self.kind == OPEN {
-            self.stage == 1
-        } else {
-            true
+            self.kind == RESET_MODE
         }
     }
 
@@ -166,12 +158,24 @@ impl Call {
         }
     }
 
+    // A reset is over: reset_mode is done, the opening goes on.
+    fn rested(self) -> Move
+        requires { ⌜ self .stage < 255 ⌝ }
+        ensures { λ r. ⌜ ((p : List ℕ) → moveIn p r ≡ restedMove self) ⌝ }
+    {
+        if self.kind == RESET_MODE {
+            Move::Finishes
+        } else {
+            Move::Enters(self.following())
+        }
+    }
+
     fn on_reset_pause(self, event: Event) -> Move
         requires { ⌜ self .stage < 255 ⌝ }
         ensures { λ r. ⌜ ((p : List ℕ) → moveIn p r ≡ resetPauseMove self (eventOf event p)) ⌝ }
     {
         match event {
-            Event::Slept => Move::Enters(self.following()),
+            Event::Slept => self.rested(),
             Event::Ok => Move::Unfit,
             Event::Bad => Move::Unfit,
             Event::Packet => Move::Unfit,
@@ -234,6 +238,7 @@ impl Move {
             Move::Unfit => false,
             Move::Orders(_, _, _) => true,
             Move::Enters(_) => true,
+            Move::Finishes => true,
             Move::Replies(_) => true,
             Move::Refuses(_) => true,
         }

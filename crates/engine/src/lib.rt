@@ -1,5 +1,5 @@
 // The RC-S956 reader engine: a call or an event goes in, an order, an answer or a refusal comes out.
 pub mod call;
-pub mod chipset;
 pub mod device;
 pub mod session;
+pub mod state;

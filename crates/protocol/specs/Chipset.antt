@@ -1,27 +1,36 @@
--- Commands of chipset.rs as scripts, each with the script that follows it.
-use mathlib.Core.Bool.{Bool, false, not, _||_}
-use mathlib.Core.List.{List, [], _∷_}
-use Prim.Native.Nat.{ℕ}
+-- The commands of chipset.rs as scripts, each with the script that follows it.
+use mathlib.Core.Bool.{Bool, true, false, not, cond, _||_}
+use mathlib.Core.List.{List, [], _∷_, _++_}
+use Prim.Native.Nat.{ℕ, _+_, _*_, _/_, _%_}
 use lib.Dec.{eqb, ltb}
 use lib.ListN.{length, getD}
-use Rattle.errors.specs.declared.Refusal.the-variants.{Status, ShortResponse}
+use Rattle.errors.specs.declared.Refusal.the-variants.{Status, ShortResponse, Rate}
+use Rattle.exchange.specs.Packets.{isEmpty}
 use Rattle.protocol.specs.Scripts.{Script, finish, refuse, ask, ifElse, done, Byte, card}
+
+-- ---- how a response is judged
+
+-- `errno`: the first byte, FF of an empty response
+abbrev pub statusByte : List ℕ → ℕ
+statusByte bytes = getD bytes 0 0xFF
+
+-- a status of 0, else 15
+abbrev pub withStatus : List ℕ → Script → Script
+withStatus bytes s = ifElse (eqb (statusByte bytes) 0) s (refuse (Status (statusByte bytes)))
+
+-- at least n bytes, else 16
+abbrev pub withLength : List ℕ → ℕ → Script → Script
+withLength bytes n s = ifElse (ltb (length bytes) n) (refuse ShortResponse) s
+
+-- ---- the commands
 
 -- get_firmware_version: IC, version, revision
 abbrev pub getFirmwareVersion : (ℕ → ℕ → ℕ → Script) → Script
-getFirmwareVersion f =
-    ask 0x02 100 [] (λ bytes. ifElse
-    (ltb (length bytes) 4)
-    (refuse ShortResponse)
-    (f (getD bytes 0 0) (getD bytes 1 0) (getD bytes 2 0)))
+getFirmwareVersion f = ask 0x02 100 [] (λ bytes. withLength bytes 4 (f (getD bytes 0 0) (getD bytes 1 0) (getD bytes 2 0)))
 
 -- the three bytes as card bytes, where that was command k of the call
 abbrev pub versionBytes : ℕ → ℕ → ℕ → ℕ → List Byte
 versionBytes k ic ver rev = card k 0 ic ∷ card k 1 ver ∷ card k 2 rev ∷ []
-
--- the call `version`
-abbrev pub firmwareVersion : Script
-firmwareVersion = getFirmwareVersion (λ ic ver rev. finish (done (versionBytes 0 ic ver rev)))
 
 -- set_parameters
 abbrev pub setParameters : ℕ → Script → Script
@@ -35,10 +44,94 @@ rfConfiguration item bytes s = ask 0x32 100 (item ∷ bytes) (λ _. s)
 abbrev pub rfFieldOff : Script → Script
 rfFieldOff s = rfConfiguration 0x01 (0x02 ∷ []) s
 
--- write_register: for each register its address, high byte first, and the value
+-- an address or a rate, high byte first
+abbrev pub word : ℕ → List ℕ
+word n = n / 256 ∷ n % 256 ∷ []
+
+-- read_register: the addresses' words; the number of values that come back is not checked
+abbrev pub readRegister : List ℕ → (List ℕ → Script) → Script
+readRegister addresses f = ask 0x06 250 addresses f
+
+-- read_single_register
+abbrev pub readSingleRegister : ℕ → (List ℕ → Script) → Script
+readSingleRegister address f = readRegister (word address) (λ bytes. withLength bytes 1 (f bytes))
+
+-- write_register: for each register the word of its address, and the value
 abbrev pub anyNonzero : List ℕ → Bool
 anyNonzero [] = false
 anyNonzero (b ∷ bs) = not (eqb b 0) || anyNonzero bs
 
 abbrev pub writeRegister : List ℕ → Script → Script
 writeRegister registers s = ask 0x08 250 registers (λ bytes. ifElse (anyNonzero bytes) (refuse (Status 0xFE)) s)
+
+-- write_single_register
+abbrev pub writeSingleRegister : ℕ → ℕ → Script → Script
+writeSingleRegister address value s = writeRegister (word address ++ (value ∷ [])) s
+
+-- in_list_passive_target: no target, or a response with one
+abbrev pub inListPassiveTarget : ℕ → ℕ → List ℕ → Script → (List ℕ → Script) → Script
+inListPassiveTarget maxTg bitrate initiator none f =
+    ask 0x4A 1000 (maxTg ∷ bitrate ∷ initiator) (λ bytes. ifElse (eqb (getD bytes 0 0) 0) none (withLength bytes 2 (f bytes)))
+
+-- in_data_exchange: the status is masked; its bit 6 is the more flag
+abbrev pub maskedStatus : List ℕ → ℕ
+maskedStatus bytes = getD bytes 0 0 % 64
+
+abbrev pub moreFlag : List ℕ → ℕ
+moreFlag bytes = getD bytes 0 0 / 64 % 2
+
+abbrev pub inDataExchange : List ℕ → ℕ → (List ℕ → Script) → Script
+inDataExchange bytes ms f =
+    ask 0x40 ms (0x01 ∷ bytes)
+    (λ bs. ifElse (isEmpty bs) (refuse (Status 0xFF)) (ifElse (eqb (maskedStatus bs) 0) (f bs) (refuse (Status (maskedStatus bs)))))
+
+-- in_communicate_thru
+abbrev pub inCommunicateThru : List ℕ → ℕ → (List ℕ → Script) → Script
+inCommunicateThru bytes ms f = ask 0x42 ms bytes (λ bs. withStatus bs (f bs))
+
+-- in_jump_for_dep: `active` is 1 or 0; a bit for each of the three that is not empty
+abbrev pub bit : List ℕ → ℕ
+bit bytes = cond (isEmpty bytes) 0 1
+
+abbrev pub jumpData : ℕ → ℕ → List ℕ → List ℕ → List ℕ → List ℕ
+jumpData active br passive nfcid3 gi = active ∷ br ∷ (bit passive + 2 * bit nfcid3 + 4 * bit gi) ∷ passive ++ nfcid3 ++ gi
+
+abbrev pub inJumpForDep : ℕ → ℕ → List ℕ → List ℕ → List ℕ → (List ℕ → Script) → Script
+inJumpForDep active br passive nfcid3 gi f = ask 0x56 3000 (jumpData active br passive nfcid3 gi) (λ bs. withStatus bs (withLength bs 2 (f bs)))
+
+-- tg_init_target
+abbrev pub initData : ℕ → List ℕ → List ℕ → List ℕ → List ℕ → List ℕ
+initData mode mifare felica nfcid3t gt = mode ∷ mifare ++ felica ++ nfcid3t ++ gt
+
+abbrev pub tgInitTarget : ℕ → List ℕ → List ℕ → List ℕ → List ℕ → ℕ → (List ℕ → Script) → Script
+tgInitTarget mode mifare felica nfcid3t gt ms f = ask 0x8C ms (initData mode mifare felica nfcid3t gt) f
+
+-- tg_set_general_bytes
+abbrev pub tgSetGeneralBytes : List ℕ → Script → Script
+tgSetGeneralBytes gb s = ask 0x92 100 gb (λ bs. withStatus bs s)
+
+-- tg_get_initiator_command: none on any other status, and on an empty response
+abbrev pub tgGetInitiatorCommand : ℕ → Script → (List ℕ → Script) → Script
+tgGetInitiatorCommand ms none f = ask 0x88 ms [] (λ bs. ifElse (eqb (statusByte bs) 0) (f bs) none)
+
+-- tg_response_to_initiator
+abbrev pub tgResponseToInitiator : List ℕ → Script → Script
+tgResponseToInitiator bytes s = ask 0x90 1000 bytes (λ bs. withStatus bs s)
+
+-- tg_get_target_status: a function of the two rates, 0 where the state is not 1. An index above 2 gives 19.
+abbrev pub rate : ℕ → ℕ
+rate index = cond (eqb index 0) 106 (cond (eqb index 1) 212 424)
+
+abbrev pub sendIndex : List ℕ → ℕ
+sendIndex bytes = getD bytes 1 0 / 16 % 8
+
+abbrev pub receiveIndex : List ℕ → ℕ
+receiveIndex bytes = getD bytes 1 0 % 8
+
+abbrev pub tgGetTargetStatus : (List ℕ → ℕ → ℕ → Script) → Script
+tgGetTargetStatus f =
+    ask 0x8A 100 []
+    (λ bs. withLength bs 2
+    (ifElse (eqb (getD bs 0 0) 1)
+    (ifElse (ltb 2 (sendIndex bs)) (refuse Rate) (ifElse (ltb 2 (receiveIndex bs)) (refuse Rate) (f bs (rate (sendIndex bs)) (rate (receiveIndex bs)))))
+    (f bs 0 0)))

@@ -68,6 +68,11 @@ Sound (starts s) n = Within s n × Correct s []
 
 -- ---- rules
 
+-- arguments that are refused at once or start the script
+pub sound-if : (t : Bool) (x y : Start) (n : ℕ) → Sound x n → Sound y n → Sound (cond t x y) n
+sound-if true x y n h k = h
+sound-if false x y n h k = k
+
 -- a test that computes
 pub holds : Unit {0}
 holds = tt
@@ -132,4 +137,4 @@ placed-hex rs b = go (ltb b 16)
     go true = own-byte no-bytes
     go false = own-byte (own-byte no-bytes)
 
-pub ruleset sound-rules = (holds, within-either, within-if, correct-either, correct-short, correct-if, no-bytes, own-byte, card-byte, reach, placed-part, placed-rest, placed-append, placed-hex)
+pub ruleset sound-rules = (holds, sound-if, within-either, within-if, correct-either, correct-short, correct-if, no-bytes, own-byte, card-byte, reach, placed-part, placed-rest, placed-append, placed-hex)

@@ -1,6 +1,7 @@
 -- `reply` meets its contract.
 use borrow.Author.Needs.{needs}
-use Rattle.bench_session.proofs.AnswerLaws.{text-part, fed-done, reply-text, reply-long, reply-end, long-done}
+use Rattle.bench.specs.LineLaws.{text-part}
+use Rattle.bench_session.proofs.AnswerLaws.{fed-done, reply-text, reply-long, reply-end, long-done}
 use Rattle.bench_session.proofs.reply.Statement.{statement}
 use Rattle.bench_session.proofs.reply.Tie as tie
 

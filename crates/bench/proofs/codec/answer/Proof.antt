@@ -1,14 +1,10 @@
 -- `codec::answer` meets its contract.
 use Rattle.framing.specs.Rules.{cases}
 use Rattle.bench.specs.Codec.{answerOf}
-use Rattle.bench.proofs.CodecLaws.{placed-true, placed-false}
+use Rattle.bench.specs.TextLaws.{placed-true, placed-false}
 use borrow.Author.Needs.{needs}
 use Rattle.bench.proofs.codec.answer.Statement.{statement}
 use Rattle.bench.proofs.codec.answer.Tie as tie
-use Rattle.bench.proofs.codec.answer.Reads as reads
-use Rattle.bench.proofs.codec.answer.Lts as lts
-use Rattle.bench.proofs.codec.by_words.Reads as by-words-reads
-use Rattle.bench.proofs.codec.unreadable.Reads as unreadable-reads
 
 unreadable-requires : tie.Need-unreadable-requires
 unreadable-requires c κs = search needs

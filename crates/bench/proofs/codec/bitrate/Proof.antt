@@ -1,15 +1,10 @@
 -- `codec::bitrate` meets its contract.
 use Rattle.framing.specs.Rules.{steps}
 use Rattle.bench.specs.Codec.{bitrateWord}
-use Rattle.bench.proofs.CodecLaws.{placed-true, placed-false}
+use Rattle.bench.specs.TextLaws.{placed-true, placed-false}
 use borrow.Author.Needs.{needs}
 use Rattle.bench.proofs.codec.bitrate.Statement.{statement}
 use Rattle.bench.proofs.codec.bitrate.Tie as tie
-use Rattle.bench.proofs.codec.bitrate.Reads as reads
-use Rattle.bench.proofs.codec.bitrate.Lts as lts
-use Rattle.bench.proofs.codec.send_part.Reads as send-part-reads
-use Rattle.bench.proofs.codec.unreadable.Reads as unreadable-reads
-use Rattle.bench.proofs.words.is.Reads as is-reads
 
 unreadable-requires : tie.Need-unreadable-requires
 unreadable-requires c κs = search needs

@@ -3,11 +3,6 @@ use Rattle.bench.proofs.CodecLaws.{built-refused, built-fits, built-par
 use borrow.Author.Needs.{needs}
 use Rattle.bench.proofs.codec.build.Statement.{statement}
 use Rattle.bench.proofs.codec.build.Tie as tie
-use Rattle.bench.proofs.codec.build.Reads as reads
-use Rattle.bench.proofs.codec.build.Lts as lts
-use Rattle.bench.proofs.hex.put.Reads as hex-put-reads
-use Rattle.bench.proofs.text.put.Reads as text-put-reads
-use Rattle.framing.proofs.build.Reads as build-reads
 
 build-requires : tie.Need-build-requires
 build-requires c κs = search needs

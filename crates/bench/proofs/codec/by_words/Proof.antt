@@ -3,13 +3,6 @@ use Rattle.bench.proofs.CodecLaws.{two-are, three-are, others-are, word
 use borrow.Author.Needs.{needs}
 use Rattle.bench.proofs.codec.by_words.Statement.{statement}
 use Rattle.bench.proofs.codec.by_words.Tie as tie
-use Rattle.bench.proofs.codec.by_words.Reads as reads
-use Rattle.bench.proofs.codec.by_words.Lts as lts
-use Rattle.bench.proofs.codec.three_words.Reads as three-words-reads
-use Rattle.bench.proofs.codec.two_words.Reads as two-words-reads
-use Rattle.bench.proofs.codec.unreadable.Reads as unreadable-reads
-use Rattle.bench.proofs.words.count.Reads as count-reads
-use Rattle.bench.proofs.words.word.Reads as word-reads
 
 count-requires : tie.Need-count-requires
 count-requires c κs = search needs

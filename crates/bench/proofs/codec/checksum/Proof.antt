@@ -3,10 +3,6 @@ use Rattle.bench.proofs.CodecLaws.{one-room, checksum-done}
 use borrow.Author.Needs.{needs}
 use Rattle.bench.proofs.codec.checksum.Statement.{statement}
 use Rattle.bench.proofs.codec.checksum.Tie as tie
-use Rattle.bench.proofs.codec.checksum.Reads as reads
-use Rattle.bench.proofs.codec.checksum.Lts as lts
-use Rattle.bench.proofs.hex.put.Reads as put-reads
-use Rattle.framing.proofs.checksum.Reads as checksum-reads
 
 checksum-requires : tie.Need-checksum-requires
 checksum-requires c κs = search needs

@@ -3,11 +3,6 @@ use Rattle.bench.proofs.CodecLaws.{append-refused, append-fits, append-
 use borrow.Author.Needs.{needs}
 use Rattle.bench.proofs.codec.crc_a_append.Statement.{statement}
 use Rattle.bench.proofs.codec.crc_a_append.Tie as tie
-use Rattle.bench.proofs.codec.crc_a_append.Reads as reads
-use Rattle.bench.proofs.codec.crc_a_append.Lts as lts
-use Rattle.bench.proofs.codec.unreadable.Reads as unreadable-reads
-use Rattle.bench.proofs.hex.put.Reads as put-reads
-use Rattle.crc.proofs.add_crc_a.Reads as add-crc-a-reads
 
 add-crc-a-requires : tie.Need-add-crc-a-requires
 add-crc-a-requires c κs = search needs

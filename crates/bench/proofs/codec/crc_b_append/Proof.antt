@@ -3,11 +3,6 @@ use Rattle.bench.proofs.CodecLaws.{append-refused, append-fits, append-
 use borrow.Author.Needs.{needs}
 use Rattle.bench.proofs.codec.crc_b_append.Statement.{statement}
 use Rattle.bench.proofs.codec.crc_b_append.Tie as tie
-use Rattle.bench.proofs.codec.crc_b_append.Reads as reads
-use Rattle.bench.proofs.codec.crc_b_append.Lts as lts
-use Rattle.bench.proofs.codec.unreadable.Reads as unreadable-reads
-use Rattle.bench.proofs.hex.put.Reads as put-reads
-use Rattle.crc.proofs.add_crc_b.Reads as add-crc-b-reads
 
 add-crc-b-requires : tie.Need-add-crc-b-requires
 add-crc-b-requires c κs = search needs

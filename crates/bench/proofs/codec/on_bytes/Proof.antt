@@ -1,20 +1,11 @@
 -- `codec::on_bytes` meets its contract.
 use Rattle.framing.specs.Rules.{told}
 use Rattle.bench.specs.Codec.{onBytes}
-use Rattle.bench.proofs.CodecLaws.{placed-true, placed-false, placed-yes}
+use Rattle.bench.specs.TextLaws.{placed-true, placed-false}
+use Rattle.bench.proofs.CodecLaws.{placed-yes}
 use borrow.Author.Needs.{needs}
 use Rattle.bench.proofs.codec.on_bytes.Statement.{statement}
 use Rattle.bench.proofs.codec.on_bytes.Tie as tie
-use Rattle.bench.proofs.codec.on_bytes.Reads as reads
-use Rattle.bench.proofs.codec.on_bytes.Lts as lts
-use Rattle.bench.proofs.codec.checksum.Reads as checksum-reads
-use Rattle.bench.proofs.codec.crc_a_append.Reads as crc-a-append-reads
-use Rattle.bench.proofs.codec.crc_b_append.Reads as crc-b-append-reads
-use Rattle.bench.proofs.codec.unreadable.Reads as unreadable-reads
-use Rattle.bench.proofs.codec.yes_or_no.Reads as yes-or-no-reads
-use Rattle.bench.proofs.words.is.Reads as is-reads
-use Rattle.crc.proofs.check_crc_a.Reads as check-crc-a-reads
-use Rattle.crc.proofs.check_crc_b.Reads as check-crc-b-reads
 
 slice-aggregate-is : tie.Need-slice-aggregate-is
 slice-aggregate-is c = search needs

@@ -1,16 +1,10 @@
 -- `codec::on_format` meets its contract.
 use Rattle.framing.specs.Rules.{told}
 use Rattle.bench.specs.Codec.{onFormat}
-use Rattle.bench.proofs.CodecLaws.{placed-true, placed-false}
+use Rattle.bench.specs.TextLaws.{placed-true, placed-false}
 use borrow.Author.Needs.{needs}
 use Rattle.bench.proofs.codec.on_format.Statement.{statement}
 use Rattle.bench.proofs.codec.on_format.Tie as tie
-use Rattle.bench.proofs.codec.on_format.Reads as reads
-use Rattle.bench.proofs.codec.on_format.Lts as lts
-use Rattle.bench.proofs.codec.build.Reads as build-reads
-use Rattle.bench.proofs.codec.parse.Reads as parse-reads
-use Rattle.bench.proofs.codec.unreadable.Reads as unreadable-reads
-use Rattle.bench.proofs.words.is.Reads as is-reads
 
 slice-aggregate-is : tie.Need-slice-aggregate-is
 slice-aggregate-is c = search needs

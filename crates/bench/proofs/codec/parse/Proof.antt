@@ -4,13 +4,6 @@ use Rattle.bench.proofs.CodecLaws.{found-done, payload-fits, found-data
 use borrow.Author.Needs.{needs}
 use Rattle.bench.proofs.codec.parse.Statement.{statement}
 use Rattle.bench.proofs.codec.parse.Tie as tie
-use Rattle.bench.proofs.codec.parse.Reads as reads
-use Rattle.bench.proofs.codec.parse.Lts as lts
-use Rattle.bench.proofs.codec.put_data.Reads as put-data-reads
-use Rattle.bench.proofs.codec.put_kind.Reads as put-kind-reads
-use Rattle.bench.proofs.text.put.Reads as put-reads
-use Rattle.framing.proofs.parse.Reads as parse-reads
-use Rattle.framing.proofs.payload.Reads as payload-reads
 
 parse-requires : tie.Need-parse-requires
 parse-requires c κs = search needs

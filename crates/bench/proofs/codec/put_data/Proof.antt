@@ -3,11 +3,6 @@ use Rattle.bench.proofs.CodecLaws.{space-room, payload-room, data-done}
 use borrow.Author.Needs.{needs}
 use Rattle.bench.proofs.codec.put_data.Statement.{statement}
 use Rattle.bench.proofs.codec.put_data.Tie as tie
-use Rattle.bench.proofs.codec.put_data.Reads as reads
-use Rattle.bench.proofs.codec.put_data.Lts as lts
-use Rattle.bench.proofs.codec.put_kind.Reads as put-kind-reads
-use Rattle.bench.proofs.hex.put.Reads as hex-put-reads
-use Rattle.bench.proofs.text.put.Reads as text-put-reads
 
 slice-aggregate-put-kind : tie.Need-slice-aggregate-put-kind
 slice-aggregate-put-kind c = search needs

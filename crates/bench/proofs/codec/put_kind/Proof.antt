@@ -3,10 +3,6 @@ use Rattle.bench.proofs.CodecLaws.{kind-room, kind-done}
 use borrow.Author.Needs.{needs}
 use Rattle.bench.proofs.codec.put_kind.Statement.{statement}
 use Rattle.bench.proofs.codec.put_kind.Tie as tie
-use Rattle.bench.proofs.codec.put_kind.Reads as reads
-use Rattle.bench.proofs.codec.put_kind.Lts as lts
-use Rattle.bench.proofs.text.put.Reads as put-reads
-use Rattle.bench.proofs.text.put_decimal.Reads as put-decimal-reads
 
 put-requires : tie.Need-put-requires
 put-requires c κs = search needs

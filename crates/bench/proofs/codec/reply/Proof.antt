@@ -1,27 +1,23 @@
 -- `codec::reply` meets its contract.
-use Rattle.bench.proofs.AnswerLaws.{text-part, text-fits, feed-place, feed-done, answer-fits, answer-below, unreadable-below, reply-text, reply-long, reply-end}
+use Rattle.bench.specs.LineLaws.{text-part}
+use Rattle.bench.proofs.AnswerLaws.{feed-place, feed-done, answer-fits, answer-below, unreadable-below, reply-text, reply-long, reply-end}
 use native.Mathlib.Omega.{arith}
 use lib.ListN.{take}
 use borrow.Author.Needs.{needs}
 use Rattle.bench.proofs.codec.reply.Statement.{statement}
 use Rattle.bench.proofs.codec.reply.Tie as tie
-use Rattle.bench.proofs.codec.reply.Reads as reads
-use Rattle.bench.proofs.codec.reply.Lts as lts
-use Rattle.bench.proofs.codec.answer.Reads as answer-reads
-use Rattle.bench.proofs.codec.put_feed.Reads as put-feed-reads
-use Rattle.bench.proofs.codec.unreadable.Reads as unreadable-reads
 
 enum-known-told : tie.Need-enum-known-told
 enum-known-told c = search needs
 
 slice-aggregate-answer : tie.Need-slice-aggregate-answer
-slice-aggregate-answer c = search (text-part, needs)
+slice-aggregate-answer c = text-part _ _ _ (c .before .before .told .given .1) (c .before .before .before .before .before .pre .0)
 
 answer-requires : tie.Need-answer-requires
 answer-requires c κs = search needs
 
 put-feed-requires : tie.Need-put-feed-requires
-put-feed-requires c κs = search (feed-place, answer-fits, needs)
+put-feed-requires c κs = feed-place _ _ _ _ (c .before .answer .ensures) (answer-fits _)
 
 enum-told : tie.Need-enum-told
 enum-told c = search needs
@@ -46,7 +42,7 @@ returns-2 c =
     reply-long _ _ _ _ (c .before .before .before .before .enum-told .given .1) (feed-done _ _ _ _ before _ (unreadable-below (c .before .before .before .before .before .before .before .args .out .now) (search needs)) (c .put-feed2 .ensures))
 
 returns-3 : tie.Need-returns-3
-returns-3 c = search (reply-end, needs)
+returns-3 c = reply-end _ _ _ (c .enum-told2 .given .1)
 
 pub reply-spec : {M : Type 1} → statement M
 reply-spec =

@@ -6,13 +6,6 @@ use Rattle.bench.proofs.AnswerLaws.{reply-inside, reply-part, reply-kee
 use borrow.Author.Needs.{needs}
 use Rattle.bench.proofs.codec.run.Statement.{statement}
 use Rattle.bench.proofs.codec.run.Tie as tie
-use Rattle.bench.proofs.codec.run.Reads as reads
-use Rattle.bench.proofs.codec.run.Lts as lts
-use Rattle.bench.proofs.codec.reply.Reads as reply-reads
-use Rattle.bench.proofs.lines.Held.nothing.Reads as nothing-reads
-use Rattle.bench.proofs.lines.next.Reads as next-reads
-use Rattle.io.proofs.large_buffer.Reads as large-buffer-reads
-use Rattle.io.proofs.write_all.Reads as write-all-reads
 
 abbrev Inv-loop : tie.InvT-loop
 Inv-loop buffer₀ line₀ out₀ held₀ turns₀ buffer line out held turns = (length buffer ≡ 65536) × (length line ≡ 262144) × (length out ≡ 262176)

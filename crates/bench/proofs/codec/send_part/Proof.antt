@@ -1,12 +1,8 @@
 -- `codec::send_part` meets its contract.
-use Rattle.bench.proofs.CodecLaws.{not-sent, sent-fits, sent-part, sent-room, sent-done}
+use Rattle.bench.proofs.CodecLaws.{not-sent, sent-part, sent-room, sent-done}
 use borrow.Author.Needs.{needs}
 use Rattle.bench.proofs.codec.send_part.Statement.{statement}
 use Rattle.bench.proofs.codec.send_part.Tie as tie
-use Rattle.bench.proofs.codec.send_part.Reads as reads
-use Rattle.bench.proofs.codec.send_part.Lts as lts
-use Rattle.bench.proofs.text.put.Reads as put-reads
-use Rattle.targets.proofs.parse.Reads as parse-reads
 
 parse-requires : tie.Need-parse-requires
 parse-requires c κs = search needs

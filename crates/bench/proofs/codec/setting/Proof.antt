@@ -4,9 +4,6 @@ use Rattle.bench.specs.Codec.{settingNamed}
 use borrow.Author.Needs.{needs}
 use Rattle.bench.proofs.codec.setting.Statement.{statement}
 use Rattle.bench.proofs.codec.setting.Tie as tie
-use Rattle.bench.proofs.codec.setting.Reads as reads
-use Rattle.bench.proofs.codec.setting.Lts as lts
-use Rattle.framing.proofs.settings.numbered.Reads as numbered-reads
 
 returns : tie.Need-returns
 unfolding settingNamed

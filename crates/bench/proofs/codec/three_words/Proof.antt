@@ -3,12 +3,6 @@ use Rattle.bench.proofs.CodecLaws.{no-setting, some-setting, read-refus
 use borrow.Author.Needs.{needs}
 use Rattle.bench.proofs.codec.three_words.Statement.{statement}
 use Rattle.bench.proofs.codec.three_words.Tie as tie
-use Rattle.bench.proofs.codec.three_words.Reads as reads
-use Rattle.bench.proofs.codec.three_words.Lts as lts
-use Rattle.bench.proofs.codec.on_format.Reads as on-format-reads
-use Rattle.bench.proofs.codec.setting.Reads as setting-reads
-use Rattle.bench.proofs.codec.unreadable.Reads as unreadable-reads
-use Rattle.bench.proofs.hex.read.Reads as read-reads
 
 setting-requires : tie.Need-setting-requires
 setting-requires c κs = search needs

@@ -1,17 +1,11 @@
 -- `codec::two_words` meets its contract.
 use Rattle.framing.specs.Rules.{told}
 use Rattle.bench.specs.Codec.{twoWords}
-use Rattle.bench.proofs.CodecLaws.{placed-true, placed-false, read-refused, read-bytes, read-fits, read-part, read-short}
+use Rattle.bench.specs.TextLaws.{placed-true, placed-false}
+use Rattle.bench.proofs.CodecLaws.{read-refused, read-bytes, read-fits, read-part, read-short}
 use borrow.Author.Needs.{needs}
 use Rattle.bench.proofs.codec.two_words.Statement.{statement}
 use Rattle.bench.proofs.codec.two_words.Tie as tie
-use Rattle.bench.proofs.codec.two_words.Reads as reads
-use Rattle.bench.proofs.codec.two_words.Lts as lts
-use Rattle.bench.proofs.codec.bitrate.Reads as bitrate-reads
-use Rattle.bench.proofs.codec.on_bytes.Reads as on-bytes-reads
-use Rattle.bench.proofs.codec.unreadable.Reads as unreadable-reads
-use Rattle.bench.proofs.hex.read.Reads as read-reads
-use Rattle.bench.proofs.words.is.Reads as is-reads
 
 slice-aggregate-is : tie.Need-slice-aggregate-is
 slice-aggregate-is c = search needs

@@ -3,9 +3,6 @@ use Rattle.bench.proofs.CodecLaws.{told-yes, told-no}
 use borrow.Author.Needs.{needs}
 use Rattle.bench.proofs.codec.yes_or_no.Statement.{statement}
 use Rattle.bench.proofs.codec.yes_or_no.Tie as tie
-use Rattle.bench.proofs.codec.yes_or_no.Reads as reads
-use Rattle.bench.proofs.codec.yes_or_no.Lts as lts
-use Rattle.bench.proofs.text.put.Reads as put-reads
 
 slice-aggregate-put : tie.Need-slice-aggregate-put
 slice-aggregate-put c = search needs

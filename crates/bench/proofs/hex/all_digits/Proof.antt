@@ -1,9 +1,9 @@
 -- `hex::all_digits` meets its contract. The invariant: the answer is that of the digits from place i on.
-use Prim.Native.Nat.{_+_, _-_, _≤_}
+use Prim.Native.Nat.{_-_, _≤_}
 use mathlib.Core.Path.{_≡_}
 use lib.ListN.{length, drop}
 use Rattle.bench.specs.Hex.{allDigits}
-use Rattle.bench.proofs.HexLaws.{digits-more, digits-stop, digits-end}
+use Rattle.bench.specs.HexLaws.{digits-more, digits-stop, digits-end}
 use borrow.Author.Needs.{needs}
 use Rattle.bench.proofs.hex.all_digits.Statement.{statement}
 use Rattle.bench.proofs.hex.all_digits.Tie as tie

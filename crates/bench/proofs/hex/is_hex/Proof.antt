@@ -4,10 +4,6 @@ use Rattle.bench.specs.Hex.{isHex}
 use borrow.Author.Needs.{needs}
 use Rattle.bench.proofs.hex.is_hex.Statement.{statement}
 use Rattle.bench.proofs.hex.is_hex.Tie as tie
-use Rattle.bench.proofs.hex.is_hex.Reads as reads
-use Rattle.bench.proofs.hex.is_hex.Lts as lts
-use Rattle.bench.proofs.hex.all_digits.Reads as all-digits-reads
-use Rattle.bench.proofs.words.is.Reads as is-reads
 
 slice-aggregate-is : tie.Need-slice-aggregate-is
 slice-aggregate-is c = search needs

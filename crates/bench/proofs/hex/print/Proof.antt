@@ -1,13 +1,9 @@
 -- `hex::print` meets its contract.
 use Rattle.bench.specs.Texts.{outcome}
-use Rattle.bench.proofs.TextLaws.{put-short, put-done}
+use Rattle.bench.specs.TextLaws.{put-short, put-done}
 use borrow.Author.Needs.{needs}
 use Rattle.bench.proofs.hex.print.Statement.{statement}
 use Rattle.bench.proofs.hex.print.Tie as tie
-use Rattle.bench.proofs.hex.print.Reads as reads
-use Rattle.bench.proofs.hex.print.Lts as lts
-use Rattle.bench.proofs.hex.put.Reads as put-reads
-use Rattle.bench.proofs.hex.text_length.Reads as text-length-reads
 
 text-length-requires : tie.Need-text-length-requires
 text-length-requires c κs = search needs

@@ -1,13 +1,9 @@
 -- `hex::put` meets its contract.
-use Rattle.bench.proofs.HexLaws.{dash-room, put-dash, digits-room, put-some}
+use Rattle.bench.specs.HexLaws.{dash-room, put-dash, digits-room, put-some}
 use native.Mathlib.Omega.{arith}
 use borrow.Author.Needs.{needs}
 use Rattle.bench.proofs.hex.put.Statement.{statement}
 use Rattle.bench.proofs.hex.put.Tie as tie
-use Rattle.bench.proofs.hex.put.Reads as reads
-use Rattle.bench.proofs.hex.put.Lts as lts
-use Rattle.bench.proofs.hex.put_digits.Reads as put-digits-reads
-use Rattle.bench.proofs.text.put.Reads as put-reads
 
 slice-aggregate-put : tie.Need-slice-aggregate-put
 slice-aggregate-put c = search needs

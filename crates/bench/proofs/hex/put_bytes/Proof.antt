@@ -1,18 +1,15 @@
 -- `hex::put_bytes` meets its contract. The invariant: the bytes of the first i pairs stand in the buffer.
-use Prim.Native.Nat.{_+_, _-_, _*_, _/_, _≤_}
+use Prim.Native.Nat.{_-_, _/_, _≤_}
 use mathlib.Core.Path.{_≡_}
 use native.Mathlib.Omega.{arith}
 use lib.ListN.{length}
 use lib.Seq.{paste}
 use Rattle.bench.specs.Hex.{pairsOf}
-use Rattle.bench.proofs.TextLaws.{paste-none}
-use Rattle.bench.proofs.HexLaws.{pairs-turn, pairs-done, high-value, low-value}
+use Rattle.bench.specs.TextLaws.{paste-none}
+use Rattle.bench.specs.HexLaws.{pairs-turn, pairs-done, high-value, low-value}
 use borrow.Author.Needs.{needs}
 use Rattle.bench.proofs.hex.put_bytes.Statement.{statement}
 use Rattle.bench.proofs.hex.put_bytes.Tie as tie
-use Rattle.bench.proofs.hex.put_bytes.Reads as reads
-use Rattle.bench.proofs.hex.put_bytes.Lts as lts
-use Rattle.bench.proofs.hex.value.Reads as value-reads
 
 abbrev Inv-loop : tie.InvT-loop
 Inv-loop word out₀ n i₀ out i = (n ≡ length word / 2) × (i ≤ n) × (length out ≡ length out₀) × (out ≡ paste out₀ 0 (pairsOf word) i)

@@ -1,18 +1,15 @@
 -- `hex::put_digits` meets its contract. The invariant: the digits of the first i bytes stand in the buffer.
-use Prim.Native.Nat.{_+_, _-_, _*_, _≤_}
+use Prim.Native.Nat.{_-_, _*_, _≤_}
 use mathlib.Core.Path.{_≡_}
 use native.Mathlib.Omega.{arith}
 use lib.ListN.{length, length-set}
 use lib.Seq.{paste}
 use Rattle.bench.specs.Hex.{digitsOf}
-use Rattle.bench.proofs.TextLaws.{paste-none}
-use Rattle.bench.proofs.HexLaws.{digits-turn, digits-done}
+use Rattle.bench.specs.TextLaws.{paste-none}
+use Rattle.bench.specs.HexLaws.{digits-turn, digits-done}
 use borrow.Author.Needs.{needs}
 use Rattle.bench.proofs.hex.put_digits.Statement.{statement}
 use Rattle.bench.proofs.hex.put_digits.Tie as tie
-use Rattle.bench.proofs.hex.put_digits.Reads as reads
-use Rattle.bench.proofs.hex.put_digits.Lts as lts
-use Rattle.bench.proofs.hex.digit.Reads as digit-reads
 
 abbrev Inv-loop : tie.InvT-loop
 Inv-loop bytes out₀ at i₀ out i = (i ≤ length bytes) × (length out ≡ length out₀) × (out ≡ paste out₀ at (digitsOf bytes) (2 * i))

@@ -1,13 +1,9 @@
 -- `hex::read` meets its contract.
 use Rattle.bench.specs.Texts.{outcome}
-use Rattle.bench.proofs.HexLaws.{read-bad, read-short, read-done, may-read}
+use Rattle.bench.specs.HexLaws.{read-bad, read-short, read-done, may-read}
 use borrow.Author.Needs.{needs}
 use Rattle.bench.proofs.hex.read.Statement.{statement}
 use Rattle.bench.proofs.hex.read.Tie as tie
-use Rattle.bench.proofs.hex.read.Reads as reads
-use Rattle.bench.proofs.hex.read.Lts as lts
-use Rattle.bench.proofs.hex.is_hex.Reads as is-hex-reads
-use Rattle.bench.proofs.hex.put_bytes.Reads as put-bytes-reads
 
 is-hex-requires : tie.Need-is-hex-requires
 is-hex-requires c κs = search needs

@@ -1,7 +1,7 @@
 -- `hex::text_length` meets its contract.
-use mathlib.Core.Path.{_≡_, sym, ap, _∙_}
+use mathlib.Core.Path.{sym, ap, _∙_}
 use lib.ListN.{length}
-use Rattle.bench.proofs.HexLaws.{hex-none, hex-some, length-digits}
+use Rattle.bench.specs.HexLaws.{hex-none, hex-some, length-digits}
 use borrow.Author.Needs.{needs}
 use Rattle.bench.proofs.hex.text_length.Statement.{statement}
 use Rattle.bench.proofs.hex.text_length.Tie as tie

@@ -1,7 +1,7 @@
 -- `hex::value` meets its contract.
 use Rattle.framing.specs.Rules.{cases}
 use Rattle.bench.specs.Hex.{valueOf}
-use Rattle.bench.proofs.HexLaws.{value-below, value-between}
+use Rattle.bench.specs.HexLaws.{value-below, value-between}
 use borrow.Author.Needs.{needs}
 use Rattle.bench.proofs.hex.value.Statement.{statement}
 use Rattle.bench.proofs.hex.value.Tie as tie

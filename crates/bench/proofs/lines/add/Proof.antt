@@ -1,13 +1,10 @@
 -- `lines::add` meets its contract.
 use Rattle.framing.specs.Rules.{cases}
 use Rattle.bench.specs.Lines.{addOf}
-use Rattle.bench.proofs.LineLaws.{add-copied}
+use Rattle.bench.specs.LineLaws.{add-copied}
 use borrow.Author.Needs.{needs}
 use Rattle.bench.proofs.lines.add.Statement.{statement}
 use Rattle.bench.proofs.lines.add.Tie as tie
-use Rattle.bench.proofs.lines.add.Reads as reads
-use Rattle.bench.proofs.lines.add.Lts as lts
-use Rattle.bytes.proofs.copy.Reads as copy-reads
 
 returns : tie.Need-returns
 unfolding addOf

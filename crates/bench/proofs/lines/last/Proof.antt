@@ -1,12 +1,8 @@
 -- `lines::last` meets its contract.
-use Rattle.bench.proofs.LineLaws.{last-none, last-some}
+use Rattle.bench.specs.LineLaws.{last-none, last-some}
 use borrow.Author.Needs.{needs}
 use Rattle.bench.proofs.lines.last.Statement.{statement}
 use Rattle.bench.proofs.lines.last.Tie as tie
-use Rattle.bench.proofs.lines.last.Reads as reads
-use Rattle.bench.proofs.lines.last.Lts as lts
-use Rattle.bench.proofs.lines.Held.nothing.Reads as nothing-reads
-use Rattle.bench.proofs.lines.told.Reads as told-reads
 
 nothing-requires : tie.Need-nothing-requires
 nothing-requires c κs = search needs

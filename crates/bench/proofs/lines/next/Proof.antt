@@ -2,18 +2,10 @@
 use Prim.Native.Nat.{_≤_}
 use mathlib.Core.Path.{_≡_}
 use lib.ListN.{length}
-use Rattle.bench.proofs.LineLaws.{told-within, last-within, held-order, held-inside}
+use Rattle.bench.specs.LineLaws.{told-within, last-within, held-order, held-inside}
 use borrow.Author.Needs.{needs}
 use Rattle.bench.proofs.lines.next.Statement.{statement}
 use Rattle.bench.proofs.lines.next.Tie as tie
-use Rattle.bench.proofs.lines.next.Reads as reads
-use Rattle.bench.proofs.lines.next.Lts as lts
-use Rattle.bench.proofs.lines.add.Reads as add-reads
-use Rattle.bench.proofs.lines.fill.Reads as fill-reads
-use Rattle.bench.proofs.lines.last.Reads as last-reads
-use Rattle.bench.proofs.lines.told.Reads as told-reads
-use Rattle.bench.proofs.lines.within.Reads as within-reads
-use Rattle.bytes.proofs.scan.find.Reads as find-reads
 
 abbrev Inv-loop : tie.InvT-loop
 Inv-loop buffer₀ line₀ from₀ to₀ len₀ turns₀ buffer line from to len turns =

@@ -4,8 +4,6 @@ use Rattle.bench.specs.Lines.{toldOf}
 use borrow.Author.Needs.{needs}
 use Rattle.bench.proofs.lines.told.Statement.{statement}
 use Rattle.bench.proofs.lines.told.Tie as tie
-use Rattle.bench.proofs.lines.told.Reads as reads
-use Rattle.bench.proofs.lines.told.Lts as lts
 
 returns : tie.Need-returns
 unfolding toldOf

@@ -4,9 +4,6 @@ use Rattle.bench.specs.Lines.{heldOf}
 use borrow.Author.Needs.{needs}
 use Rattle.bench.proofs.lines.within.Statement.{statement}
 use Rattle.bench.proofs.lines.within.Tie as tie
-use Rattle.bench.proofs.lines.within.Reads as reads
-use Rattle.bench.proofs.lines.within.Lts as lts
-use Rattle.bench.proofs.lines.Held.nothing.Reads as nothing-reads
 
 nothing-requires : tie.Need-nothing-requires
 nothing-requires c κs = search needs

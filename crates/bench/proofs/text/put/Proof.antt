@@ -1,5 +1,5 @@
 -- `text::put` meets its contract.
-use Rattle.bench.proofs.TextLaws.{put-copied}
+use Rattle.bench.specs.TextLaws.{put-copied}
 use borrow.Author.Needs.{needs}
 use Rattle.bench.proofs.text.put.Statement.{statement}
 use Rattle.bench.proofs.text.put.Tie as tie

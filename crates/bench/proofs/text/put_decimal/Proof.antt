@@ -2,15 +2,11 @@
 use mathlib.Core.Path.{ap, _∙_}
 use lib.ListN.{length}
 use native.Mathlib.Omega.{arith}
-use Rattle.bench.proofs.TextLaws.{put-same}
-use Rattle.bench.proofs.DecimalLaws.{decimal-digits, decimal-short}
+use Rattle.bench.specs.TextLaws.{put-same}
+use Rattle.bench.specs.DecimalLaws.{decimal-digits, decimal-short}
 use borrow.Author.Needs.{needs}
 use Rattle.bench.proofs.text.put_decimal.Statement.{statement}
 use Rattle.bench.proofs.text.put_decimal.Tie as tie
-use Rattle.bench.proofs.text.put_decimal.Reads as reads
-use Rattle.bench.proofs.text.put_decimal.Lts as lts
-use Rattle.bench.proofs.text.put.Reads as put-reads
-use Rattle.io.proofs.decimal.Reads as decimal-reads
 
 decimal-requires : tie.Need-decimal-requires
 decimal-requires c κs = search needs

@@ -4,7 +4,7 @@ use mathlib.Core.Path.{_≡_}
 use mathlib.Core.Logic.{⊎-elim}
 use lib.ListN.{length, drop}
 use Rattle.bench.specs.Words.{wordsOf}
-use Rattle.bench.proofs.WordLaws.{count-space, count-other, count-end}
+use Rattle.bench.specs.WordLaws.{count-space, count-other, count-end}
 use borrow.Author.Needs.{needs}
 use Rattle.bench.proofs.words.count.Statement.{statement}
 use Rattle.bench.proofs.words.count.Tie as tie

@@ -4,7 +4,7 @@ use mathlib.Core.Path.{_≡_}
 use mathlib.Core.List.{[], _++_}
 use lib.ListN.{length, getD, take, drop}
 use Rattle.bench.specs.Words.{wordsOf}
-use Rattle.bench.proofs.WordLaws.{end-begin, end-space, end-other, end-end}
+use Rattle.bench.specs.WordLaws.{end-begin, end-space, end-other, end-end}
 use borrow.Author.Needs.{needs}
 use Rattle.bench.proofs.words.end.Statement.{statement}
 use Rattle.bench.proofs.words.end.Tie as tie

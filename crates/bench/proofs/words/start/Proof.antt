@@ -1,11 +1,11 @@
 -- `words::start` meets its contract. The invariant: the word that is looked for is the `left`-th from place i on.
-use Prim.Native.Nat.{_+_, _-_, _≤_}
+use Prim.Native.Nat.{_-_, _≤_}
 use mathlib.Core.Path.{_≡_}
 use mathlib.Core.List.{[]}
 use mathlib.Core.Logic.{⊎-elim}
 use lib.ListN.{length, getD, drop}
 use Rattle.bench.specs.Words.{wordsOf}
-use Rattle.bench.proofs.WordLaws.{start-here, start-space, start-other, start-end}
+use Rattle.bench.specs.WordLaws.{start-here, start-space, start-other, start-end}
 use borrow.Author.Needs.{needs}
 use Rattle.bench.proofs.words.start.Statement.{statement}
 use Rattle.bench.proofs.words.start.Tie as tie

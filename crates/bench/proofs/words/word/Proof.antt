@@ -3,10 +3,6 @@ use mathlib.Core.Path.{_∙_}
 use borrow.Author.Needs.{needs}
 use Rattle.bench.proofs.words.word.Statement.{statement}
 use Rattle.bench.proofs.words.word.Tie as tie
-use Rattle.bench.proofs.words.word.Reads as reads
-use Rattle.bench.proofs.words.word.Lts as lts
-use Rattle.bench.proofs.words.end.Reads as end-reads
-use Rattle.bench.proofs.words.start.Reads as start-reads
 
 start-requires : tie.Need-start-requires
 start-requires c κs = search needs

@@ -2,7 +2,7 @@
 use borrow.Author.Needs.{needs}
 use Rattle.framing.specs.Rules.{steps}
 use Rattle.bench_session.specs.Outputs.{doneText}
-use Rattle.bench_session.proofs.OutputLaws.{placed-true, placed-false}
+use Rattle.bench.specs.TextLaws.{placed-true, placed-false}
 use Rattle.bench_session.proofs.output.put_done.Statement.{statement}
 use Rattle.bench_session.proofs.output.put_done.Tie as tie
 

@@ -1,6 +1,6 @@
 -- `text::put` meets its contract.
 use borrow.Author.Needs.{needs}
-use Rattle.bench_session.proofs.TextLaws.{put-copied}
+use Rattle.bench.specs.TextLaws.{put-copied}
 use Rattle.bench_session.proofs.text.put.Statement.{statement}
 use Rattle.bench_session.proofs.text.put.Tie as tie
 

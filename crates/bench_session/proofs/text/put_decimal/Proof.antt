@@ -3,8 +3,8 @@ use mathlib.Core.Path.{ap, _∙_}
 use native.Mathlib.Omega.{arith}
 use lib.ListN.{length}
 use borrow.Author.Needs.{needs}
-use Rattle.bench_session.proofs.TextLaws.{put-same}
-use Rattle.bench_session.proofs.DecimalLaws.{decimal-digits, decimal-short}
+use Rattle.bench.specs.TextLaws.{put-same}
+use Rattle.bench.specs.DecimalLaws.{decimal-digits, decimal-short}
 use Rattle.bench_session.proofs.text.put_decimal.Statement.{statement}
 use Rattle.bench_session.proofs.text.put_decimal.Tie as tie
 

@@ -1,6 +1,7 @@
 -- `text::put_hex` meets its contract.
 use borrow.Author.Needs.{needs}
-use Rattle.bench_session.proofs.TextLaws.{put-same, print-refused, print-text, print-fits, print-part, print-room}
+use Rattle.bench.specs.TextLaws.{put-same}
+use Rattle.bench_session.proofs.PrintLaws.{print-refused, print-text, print-fits, print-part, print-room}
 use Rattle.bench_session.proofs.text.put_hex.Statement.{statement}
 use Rattle.bench_session.proofs.text.put_hex.Tie as tie
 

@@ -1,4 +1,5 @@
 -- `engine::call::Call::moved` meets its contract.
+use Rattle.engine.specs.Moves.{moves-pause}
 use Rattle.engine.specs.Moves.{moves-exchange, moves-reads}
 use Rattle.engine.specs.Moves.{moveOf}
 use Rattle.errors.specs.Choice.{pick}
@@ -37,8 +38,7 @@ unfolding moveOf pick
 returns-2 c = rw (c .before .match .keys2) (c .on-reset-ack .ensures _)
 
 returns-3 : tie.Need-returns-3
-unfolding moveOf pick
-returns-3 c = rw (c .before .match .keys3) (c .on-reset-pause .ensures _)
+returns-3 c = moves-pause _ _ _ _ (c .before .match .keys3) (c .on-reset-pause .ensures _)
 
 returns-4 : tie.Need-returns-4
 unfolding moveOf pick

@@ -4,13 +4,13 @@ use Rattle.engine.proofs.call.Call.on_reset_pause.Statement.{statement}
 use Rattle.engine.proofs.call.Call.on_reset_pause.Tie as tie
 use Rattle.engine.proofs.call.Call.on_reset_pause.Reads as reads
 use Rattle.engine.proofs.call.Call.on_reset_pause.Lts as lts
-use Rattle.engine.proofs.call.Call.following.Reads as following-reads
+use Rattle.engine.proofs.call.Call.rested.Reads as rested-reads
 
 enum-told : tie.Need-enum-told
 enum-told c = search needs
 
-following-requires : tie.Need-following-requires
-following-requires c κs = search needs
+rested-requires : tie.Need-rested-requires
+rested-requires c κs = search needs
 
 enum-told-2 : tie.Need-enum-told-2
 enum-told-2 c = search needs
@@ -31,7 +31,7 @@ enum-told-7 : tie.Need-enum-told-7
 enum-told-7 c = search needs
 
 returns : tie.Need-returns
-returns c = λ p. rw (c .before .enum-told .given .1, c .following .ensures)
+returns c = λ p. rw (c .before .enum-told .given .1) (c .rested .ensures p)
 
 returns-2 : tie.Need-returns-2
 returns-2 c = λ p. rw (c .enum-told2 .given .1)
@@ -56,7 +56,7 @@ on-reset-pause-spec =
     tie.close
     (tie.spec
     enum-told
-    following-requires
+    rested-requires
     enum-told-2
     enum-told-3
     enum-told-4

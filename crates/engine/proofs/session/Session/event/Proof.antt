@@ -1,46 +1,27 @@
--- `engine::session::Session::event` meets its contract.
-use mathlib.Core.Path.{ap, _∙_}
-use Rattle.engine.specs.Sessions.{effected, sessionAfter}
-use Rattle.engine.specs.Laws.{kept-step}
 use borrow.Author.Needs.{needs}
+use mathlib.Core.Path.{_≡_, ap}
+use native.Mathlib.Omega.{arith}
+use lib.ListN.{length}
+use Rattle.engine.specs.Sessions.{sessionAfter}
 use Rattle.engine.proofs.session.Session.event.Statement.{statement}
 use Rattle.engine.proofs.session.Session.event.Tie as tie
 use Rattle.engine.proofs.session.Session.event.Reads as reads
 use Rattle.engine.proofs.session.Session.event.Lts as lts
-use Rattle.engine.proofs.session.Session.kept.Reads as kept-reads
-use Rattle.engine.proofs.session.State.event.Reads as event-reads
+use Rattle.engine.proofs.state.State.event.Reads as event-reads
 
-element-copy-out-t12 : tie.Need-element-copy-out-t12
-element-copy-out-t12 c = search needs
-
-element-copy-out-t15 : tie.Need-element-copy-out-t15
-element-copy-out-t15 c = search needs
-
-element-copy-out-t18 : tie.Need-element-copy-out-t18
-element-copy-out-t18 c = search needs
+slice-aggregate-event : tie.Need-slice-aggregate-event
+slice-aggregate-event c = search needs
 
 event-requires : tie.Need-event-requires
-event-requires c κs = search needs
-
-kept-requires : tie.Need-kept-requires
-kept-requires c κs = search needs
+event-requires c κs =
+    let n : length (c .before .before .before .before .before .before .args .self .found) ≡ 1024 = search needs in
+    omega arith
 
 same-length : tie.Need-same-length
 same-length c = search needs
 
 returns : tie.Need-returns
-returns c =
-    let s = c .before .before .before .before .before .before .before .before .before .before .before .args .t1 in
-    kept-step s _ (effected (c .before .before .before .event .result) _) (c .kept .ensures) ∙ ap (sessionAfter s) (c .before .before .before .event .ensures)
+returns c = ap (sessionAfter (c .before .before .before .before .before .before .before .before .before .before .before .args .self)) (c .before .before .before .before .event .ensures)
 
 pub event-spec : {M : Type 1} → statement M
-event-spec =
-    tie.close
-    (tie.spec
-    element-copy-out-t12
-    element-copy-out-t15
-    element-copy-out-t18
-    event-requires
-    kept-requires
-    same-length
-    returns)
+event-spec = tie.close (tie.spec slice-aggregate-event event-requires same-length returns)

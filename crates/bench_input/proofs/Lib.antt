@@ -1,0 +1,4 @@
+mod ArgumentLaws
+mod ReadLaws
+mod WordsLaws
+mod PartLaws

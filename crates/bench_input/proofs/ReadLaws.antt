@@ -1,0 +1,141 @@
+-- Laws of reading a word: as HEX into a buffer, as a number of pairs, and as decimal digits.
+use mathlib.Core.Path.{_≡_, sym, ap, _∙_}
+use mathlib.Core.Bool.{false}
+use mathlib.Core.List.{List, [], _∷_, _++_, append-assoc, append-nil}
+use Prim.Native.Nat.{ℕ, _+_, _-_, _*_, _/_, _≤_, _<_}
+use native.Mathlib.Numerals.{add-one}
+use native.Mathlib.Omega.{arith}
+use borrow.Author.Tests.{lt-ltb, le-ltb, le-leb, lt-leb}
+use borrow.Rule.Slice.PartMut.{putMid, postOf, take-put}
+use lib.Dec.{ltb}
+use lib.ListN.{length, getD, take, drop, length-take, length-drop, drop-of-length-le}
+use lib.Seq.{slice, take-at, drop-at, take-append-add, drop-cons, length-take-le}
+use Rattle.errors.specs.Choice.{pick}
+use Rattle.errors.specs.declared.Refusal.{Refusal}
+use Rattle.framing.specs.Lists.{both, both-false-r}
+use Rattle.bench.specs.Hex.{pairsOf, readOf}
+use Rattle.bench.specs.HexLaws.{length-pairs, was-read, read-count, read-into, not-read}
+use Rattle.bench.specs.Texts.{outcome, over, left}
+use Rattle.bench.specs.declared.Put.{Put}
+use Rattle.bench.specs.declared.Put.the-variants.{Bytes, Refused}
+use Rattle.bench_input.specs.Arguments.{Said, unreadable, hexArg, digitOf, allDecimal, numberFrom, msLimit, isMs, msArg}
+use Rattle.bench_input.specs.Readings.{Behind}
+
+-- a buffer that the word's m bytes fill
+module _ (w u p part : List ℕ) (q : Put) (m : ℕ) (is : w ≡ u) (size : length w ≡ 2 * m) (filled : length p ≡ m) (read : left (outcome q) part ≡ readOf w p) where
+  told : left (outcome q) part ≡ readOf u p
+  told = read ∙ ap (λ z. readOf z p) is
+
+  pairs-room : length u / 2 ≤ length p
+  pairs-room = omega (arith, ap length is)
+
+  pub pairs-read : (n : ℕ) → q ≡ Bytes n → (f : List ℕ → Said) → f part ≡ hexArg u f
+  unfolding hexArg pick over
+  pairs-read n given f =
+      let k : length p ≤ 0 + length (pairsOf u) = omega (arith, ap length is, length-pairs u) in
+      let e : part ≡ pairsOf u = read-into u p part q pairs-room told n given ∙ rw (drop-of-length-le p {i = 0 + length (pairsOf u)} k, append-nil) in
+      rw (was-read u p part q pairs-room told n given) (ap f e)
+
+  pub pairs-unread : (e : Refusal) → q ≡ Refused e → (f : List ℕ → Said) → unreadable ≡ hexArg u f
+  unfolding hexArg pick
+  pairs-unread e given f = rw (not-read u p part q pairs-room told e given)
+
+-- a list behind another
+placed-here : (a p x : List ℕ) (i n : ℕ) → length a ≡ i → n ≡ length p → slice i (i + n) (a ++ (p ++ x)) ≡ p
+placed-here a p x i n h k =
+    ap (λ j. drop i (take (j + n) (a ++ (p ++ x)))) (sym h)
+    ∙ ap (drop i) (take-append-add a (p ++ x) n)
+    ∙ drop-at a (take n (p ++ x)) i h
+    ∙ take-at p x n (sym k)
+
+-- a word that was read from place `at` on, through the part of the buffer b from there
+module _ (w u b part : List ℕ) (at : ℕ) (q : Put) (is : w ≡ u) (room : at + length u / 2 ≤ length b) (read : left (outcome q) part ≡ readOf w (take (length b - at) (drop at b))) where
+  told′ : left (outcome q) part ≡ readOf u (take (length b - at) (drop at b))
+  told′ = read ∙ ap (λ z. readOf z (take (length b - at) (drop at b))) is
+
+  behind-room : length u / 2 ≤ length (take (length b - at) (drop at b))
+  behind-room = simp (length-take, length-drop) (omega arith)
+
+  before-kept : take at (putMid at (length b - at) b part) ≡ take at b
+  before-kept = take-put at (length b - at) b part (omega arith)
+
+  module _ (n : ℕ) (given : q ≡ Bytes n) where
+    count-is : n ≡ length u / 2
+    count-is = read-count u (take (length b - at) (drop at b)) part q behind-room told′ n given ∙ length-pairs u
+
+    pub hex-read : (f : List ℕ → Said) → f (slice at (at + n) (putMid at (length b - at) b part)) ≡ hexArg u f
+    unfolding hexArg pick over
+    hex-read f =
+        let p : List ℕ = take (length b - at) (drop at b) in
+        let d : List ℕ = drop (0 + length (pairsOf u)) p in
+        let z : List ℕ = postOf at (length b - at) b in
+        let e : part ++ z ≡ pairsOf u ++ (d ++ z) = ap (λ y. y ++ z) (read-into u p part q behind-room told′ n given) ∙ append-assoc (pairsOf u) d z in
+        let l : length (take at b) ≡ at = length-take-le at b (omega arith) in
+        rw (was-read u p part q behind-room told′ n given)
+        (ap f (ap (λ y. slice at (at + n) (take at b ++ y)) e ∙ placed-here (take at b) (pairsOf u) (d ++ z) at n l (count-is ∙ sym (length-pairs u))))
+
+    pub hex-behind : Behind at (at + n) (length u) b (putMid at (length b - at) b part)
+    hex-behind = record { from = omega arith; short = omega (arith, count-is); kept = before-kept }
+
+    pub hex-within : at + n ≤ length b
+    hex-within = omega (arith, count-is)
+
+  module _ (e : Refusal) (given : q ≡ Refused e) where
+    pub hex-unread : (f : List ℕ → Said) → unreadable ≡ hexArg u f
+    unfolding hexArg pick
+    hex-unread f = rw (not-read u (take (length b - at) (drop at b)) part q behind-room told′ e given)
+
+    pub hex-stays : Behind at at (length u) b (putMid at (length b - at) b part)
+    hex-stays = record { from = omega arith; short = omega arith; kept = before-kept }
+
+-- decimal digits, place by place
+grows : (n : ℕ) (w : List ℕ) → n ≤ numberFrom n w
+unfolding numberFrom
+grows n [] = omega arith
+grows n (d ∷ w) = omega (arith, grows (n * 10 + digitOf d) w)
+
+no-digits : (w : List ℕ) → allDecimal w ≡ false → isMs w ≡ false
+unfolding isMs
+no-digits w h = both-false-r (ltb 0 (length w)) _ (rw h)
+
+too-large : (w : List ℕ) → msLimit < numberFrom 0 w → isMs w ≡ false
+unfolding isMs
+too-large w h = both-false-r (ltb 0 (length w)) _ (both-false-r (allDecimal w) _ (lt-leb (numberFrom 0 w) msLimit h))
+
+module _ (w : List ℕ) (n i v : ℕ) (inside : i < length w) (value : v ≡ digitOf (getD w i 0)) where
+  number-step : numberFrom n (drop i w) ≡ numberFrom (n * 10 + v) (drop (i + 1) w)
+  unfolding numberFrom
+  number-step = rw (drop-cons w i 0 inside, value, add-one)
+
+  digits-step : allDecimal (drop i w) ≡ both (ltb v 10) (allDecimal (drop (i + 1) w))
+  unfolding allDecimal
+  digits-step = rw (drop-cons w i 0 inside, value, add-one)
+
+  pub ms-number : numberFrom 0 w ≡ numberFrom n (drop i w) → numberFrom 0 w ≡ numberFrom (n * 10 + v) (drop (i + 1) w)
+  ms-number e = e ∙ number-step
+
+  pub ms-digits : allDecimal w ≡ allDecimal (drop i w) → v ≤ 9 → allDecimal w ≡ allDecimal (drop (i + 1) w)
+  ms-digits e h = e ∙ digits-step ∙ rw (lt-ltb v 10 (omega arith))
+
+  pub ms-bad : allDecimal w ≡ allDecimal (drop i w) → 9 < v → isMs w ≡ false
+  ms-bad e h = no-digits w (e ∙ digits-step ∙ rw (le-ltb v 10 (omega arith)))
+
+  pub ms-over : numberFrom 0 w ≡ numberFrom n (drop i w) → msLimit < n * 10 + v → isMs w ≡ false
+  ms-over e h = too-large w (omega (arith, ms-number e, grows (n * 10 + v) (drop (i + 1) w)))
+
+-- what is said with a number that was read, or was not
+module _ (w u : List ℕ) (is : w ≡ u) (f : ℕ → Said) where
+  pub ms-unread : isMs w ≡ false → unreadable ≡ msArg u f
+  unfolding msArg pick
+  ms-unread h = rw (← is, h)
+
+  pub ms-empty : length w ≡ 0 → unreadable ≡ msArg u f
+  unfolding isMs
+  ms-empty h = ms-unread (rw (le-ltb 0 (length w) (omega arith)))
+
+  pub ms-read : (n i : ℕ) → 0 < length w → length w ≤ i → numberFrom 0 w ≡ numberFrom n (drop i w) → allDecimal w ≡ allDecimal (drop i w) → n ≤ msLimit → f n ≡ msArg u f
+  unfolding msArg isMs numberFrom allDecimal pick
+  ms-read n i some done e d h =
+      let z : drop i w ≡ [] = drop-of-length-le w {i = i} done in
+      let number : numberFrom 0 w ≡ n = e ∙ ap (numberFrom n) z in
+      rw (← is, lt-ltb 0 (length w) some, d ∙ ap allDecimal z, number, le-leb n msLimit h)

@@ -1,0 +1,97 @@
+-- The code's values in the terms of the definitions. The bytes of the arguments stand one behind the other in the buffer b.
+use mathlib.Core.Path.{_≡_}
+use mathlib.Core.List.{List}
+use Prim.Native.Nat.{ℕ, _+_, _≤_}
+use lib.ListN.{length, take}
+use lib.Seq.{slice}
+use Rattle.exchange.specs.Steps.{eventOf}
+use Rattle.protocol.specs.Calls as to
+use Rattle.bench.specs.declared.Put.{Put}
+use Rattle.bench.specs.declared.Put.the-variants.{Bytes, Refused}
+use Rattle.bench_input.specs.Arguments.{Said, calls, happens, unreadable, word}
+use Rattle.bench_input.specs.declared.Command.{Command}
+use Rattle.bench_input.specs.declared.Command.the-variants.{Version, ResetMode, SetParameters, RfConfiguration, RfFieldOff, ReadRegister, WriteRegister, ReadSingleRegister, WriteSingleRegister}
+use Rattle.bench_input.specs.declared.Initiator.{Initiator}
+use Rattle.bench_input.specs.declared.Initiator.the-variants.{InListPassiveTarget, InDataExchange, InCommunicateThru, InJumpForDep}
+use Rattle.bench_input.specs.declared.Target.{Target}
+use Rattle.bench_input.specs.declared.Target.the-variants.{TgInitTarget, TgSetGeneralBytes, TgGetInitiatorCommand, TgResponseToInitiator, TgGetTargetStatus}
+use Rattle.bench_input.specs.declared.Input.{Input}
+use Rattle.bench_input.specs.declared.Input.the-variants.{Open, Chip, In, Tg, Happened, Unreadable}
+use Rattle.bench_input.specs.declared.arguments.Byte.{Byte}
+use Rattle.bench_input.specs.declared.arguments.Byte.the-variants.{Value as ByteValue, Unreadable as NoByte}
+use Rattle.bench_input.specs.declared.arguments.Word.{Word}
+use Rattle.bench_input.specs.declared.arguments.Word.the-variants.{Value as WordValue, Unreadable as NoWord}
+use Rattle.bench_input.specs.declared.arguments.Ms.{Ms}
+use Rattle.bench_input.specs.declared.arguments.Ms.the-variants.{Value as MsValue, Unreadable as NoMs}
+use Rattle.bench_input.specs.declared.arguments.Ends.{Ends}
+use Rattle.bench_input.specs.declared.arguments.Ends.the-variants.{At, Unreadable as NoEnds}
+
+-- a call's bytes are those from the end of the argument before to its own end
+abbrev pub commandIn : List ℕ → Command → to.Request
+commandIn b Version = to.version
+commandIn b ResetMode = to.resetMode
+commandIn b (SetParameters flags) = to.setParameters flags
+commandIn b (RfConfiguration item n) = to.rfConfiguration item (slice 0 n b)
+commandIn b RfFieldOff = to.rfFieldOff
+commandIn b (ReadRegister n) = to.readRegister (slice 0 n b)
+commandIn b (WriteRegister n) = to.writeRegister (slice 0 n b)
+commandIn b (ReadSingleRegister address) = to.readSingleRegister address
+commandIn b (WriteSingleRegister address value) = to.writeSingleRegister address value
+
+abbrev pub initiatorIn : List ℕ → Initiator → to.Request
+initiatorIn b (InListPassiveTarget maxTg bitrate n) = to.inListPassiveTarget maxTg bitrate (slice 0 n b)
+initiatorIn b (InDataExchange n ms) = to.inDataExchange (slice 0 n b) ms
+initiatorIn b (InCommunicateThru n ms) = to.inCommunicateThru (slice 0 n b) ms
+initiatorIn b (InJumpForDep active br i j k) = to.inJumpForDep active br (slice 0 i b) (slice i j b) (slice j k b)
+
+abbrev pub targetIn : List ℕ → Target → to.Request
+targetIn b (TgInitTarget mode i j k n ms) = to.tgInitTarget mode (slice 0 i b) (slice i j b) (slice j k b) (slice k n b) ms
+targetIn b (TgSetGeneralBytes n) = to.tgSetGeneralBytes (slice 0 n b)
+targetIn b (TgGetInitiatorCommand ms) = to.tgGetInitiatorCommand ms
+targetIn b (TgResponseToInitiator n) = to.tgResponseToInitiator (slice 0 n b)
+targetIn b TgGetTargetStatus = to.tgGetTargetStatus
+
+abbrev pub inputIn : List ℕ → Input → Said
+inputIn b Open = calls to.opening
+inputIn b (Chip c) = calls (to.request (commandIn b c))
+inputIn b (In c) = calls (to.request (initiatorIn b c))
+inputIn b (Tg c) = calls (to.request (targetIn b c))
+inputIn b (Happened e n) = happens (eventOf e (slice 0 n b))
+inputIn b Unreadable = unreadable
+
+-- what is said with an argument that was read
+abbrev pub byteIn : Byte → (ℕ → Said) → Said
+byteIn (ByteValue n) f = f n
+byteIn NoByte f = unreadable
+
+abbrev pub wordIn : Word → (ℕ → Said) → Said
+wordIn (WordValue n) f = f n
+wordIn NoWord f = unreadable
+
+abbrev pub msIn : Ms → (ℕ → Said) → Said
+msIn (MsValue n) f = f n
+msIn NoMs f = unreadable
+
+abbrev pub hexIn : ℕ → Put → List ℕ → (List ℕ → Said) → Said
+hexIn at (Bytes n) b f = f (slice at n b)
+hexIn at (Refused e) b f = unreadable
+
+abbrev pub endsIn : Ends → List ℕ → (List ℕ → List ℕ → List ℕ → Said) → Said
+endsIn (At i j k) b f = f (slice 0 i b) (slice i j b) (slice j k b)
+endsIn NoEnds b f = unreadable
+
+-- the place behind an argument that starts at a place
+abbrev pub endOf : ℕ → Put → ℕ
+endOf at (Bytes n) = n
+endOf at (Refused e) = at
+
+-- a word of some size was read from a place to an end: what stands before it in the buffer b is in o too
+pub record Behind (at end size : ℕ) (b o : List ℕ) : Type 0 where
+  pub from : at ≤ end
+  pub short : end + end ≤ at + at + size
+  pub kept : take at o ≡ take at b
+
+-- three arguments end one behind the other, within the words of the line l
+abbrev pub Ordered : Ends → List ℕ → Type 0
+Ordered (At i j k) l = (i ≤ j) × (j ≤ k) × (k + k ≤ length (word l 3) + length (word l 4) + length (word l 5))
+Ordered NoEnds l = Unit {0}

@@ -1,0 +1,19 @@
+-- `chipset::command::get_firmware_version` meets its contract.
+use Rattle.chipset.specs.Launches.{launchOf}
+use Rattle.chipset.specs.Laws.{started}
+use borrow.Author.Needs.{needs}
+use Rattle.chipset.proofs.command.get_firmware_version.Statement.{statement}
+use Rattle.chipset.proofs.command.get_firmware_version.Tie as tie
+
+slice-aggregate-short : tie.Need-slice-aggregate-short
+slice-aggregate-short c = search needs
+
+short-requires : tie.Need-short-requires
+short-requires c κs = search needs
+
+returns : tie.Need-returns
+unfolding launchOf
+returns c = started _ _ (c .short .ensures)
+
+pub get-firmware-version-spec : {M : Type 1} → statement M
+get-firmware-version-spec = tie.close (tie.spec slice-aggregate-short short-requires returns)

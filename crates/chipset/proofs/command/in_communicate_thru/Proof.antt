@@ -1,0 +1,19 @@
+-- `chipset::command::in_communicate_thru` meets its contract.
+use Rattle.chipset.specs.Launches.{launchOf}
+use Rattle.chipset.specs.Laws.{started}
+use borrow.Author.Needs.{needs}
+use Rattle.chipset.proofs.command.in_communicate_thru.Statement.{statement}
+use Rattle.chipset.proofs.command.in_communicate_thru.Tie as tie
+
+slice-aggregate-limited : tie.Need-slice-aggregate-limited
+slice-aggregate-limited c = search needs
+
+limited-requires : tie.Need-limited-requires
+limited-requires c κs = search needs
+
+returns : tie.Need-returns
+unfolding launchOf
+returns c = started _ _ (c .limited .ensures)
+
+pub in-communicate-thru-spec : {M : Type 1} → statement M
+in-communicate-thru-spec = tie.close (tie.spec slice-aggregate-limited limited-requires returns)

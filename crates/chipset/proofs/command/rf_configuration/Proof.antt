@@ -1,0 +1,19 @@
+-- `chipset::command::rf_configuration` meets its contract.
+use Rattle.chipset.specs.Launches.{launchOf}
+use Rattle.chipset.specs.Laws.{started}
+use borrow.Author.Needs.{needs}
+use Rattle.chipset.proofs.command.rf_configuration.Statement.{statement}
+use Rattle.chipset.proofs.command.rf_configuration.Tie as tie
+
+slice-aggregate-limited : tie.Need-slice-aggregate-limited
+slice-aggregate-limited c = search needs
+
+limited-requires : tie.Need-limited-requires
+limited-requires c κs = search needs
+
+returns : tie.Need-returns
+unfolding launchOf
+returns c = started _ _ (c .limited .ensures)
+
+pub rf-configuration-spec : {M : Type 1} → statement M
+rf-configuration-spec = tie.close (tie.spec slice-aggregate-limited limited-requires returns)

@@ -1,0 +1,20 @@
+-- `chipset::command::tg_response_to_initiator` meets its contract.
+use Rattle.chipset.specs.Launches.{launchOf}
+use Rattle.chipset.specs.Laws.{started}
+use borrow.Author.Needs.{needs}
+use Rattle.chipset.proofs.command.tg_response_to_initiator.Statement.{statement}
+use Rattle.chipset.proofs.command.tg_response_to_initiator.Tie as tie
+
+slice-aggregate-limited : tie.Need-slice-aggregate-limited
+slice-aggregate-limited c = search needs
+
+limited-requires : tie.Need-limited-requires
+limited-requires c κs = search needs
+
+returns : tie.Need-returns
+unfolding launchOf
+returns c = started _ _ (c .limited .ensures)
+
+pub tg-response-to-initiator-spec : {M : Type 1} → statement M
+tg-response-to-initiator-spec =
+    tie.close (tie.spec slice-aggregate-limited limited-requires returns)

@@ -1,0 +1,24 @@
+-- `chipset::response::status` meets its contract.
+use native.Mathlib.Omega.{arith}
+use Rattle.chipset.specs.Verdicts.{withStatus}
+use Rattle.chipset.specs.Laws.{verdicts, comes-true}
+use borrow.Author.Needs.{needs}
+use Rattle.chipset.proofs.response.status.Statement.{statement}
+use Rattle.chipset.proofs.response.status.Tie as tie
+
+first-or-requires : tie.Need-first-or-requires
+first-or-requires c κs = search needs
+
+part-requires : tie.Need-part-requires
+part-requires c κs = search needs
+
+returns : tie.Need-returns
+unfolding withStatus
+returns c = comes-true _ _ _ _ _ (search (verdicts, needs)) (c .part .ensures _ (omega arith))
+
+returns-2 : tie.Need-returns-2
+unfolding withStatus
+returns-2 c = search (verdicts, needs) depth 8
+
+pub status-spec : {M : Type 1} → statement M
+status-spec = tie.close (tie.spec first-or-requires part-requires returns returns-2)

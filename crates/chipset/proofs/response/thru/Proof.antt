@@ -1,0 +1,23 @@
+-- `chipset::response::thru` meets its contract.
+use Rattle.chipset.specs.Verdicts.{withStatus}
+use Rattle.chipset.specs.Laws.{verdicts, has-first}
+use borrow.Author.Needs.{needs}
+use Rattle.chipset.proofs.response.thru.Statement.{statement}
+use Rattle.chipset.proofs.response.thru.Tie as tie
+
+first-or-requires : tie.Need-first-or-requires
+first-or-requires c κs = search needs
+
+from-requires : tie.Need-from-requires
+from-requires c κs = search (has-first, needs)
+
+returns : tie.Need-returns
+unfolding withStatus
+returns c = search (verdicts, needs) depth 8
+
+returns-2 : tie.Need-returns-2
+unfolding withStatus
+returns-2 c = search (verdicts, needs) depth 8
+
+pub thru-spec : {M : Type 1} → statement M
+thru-spec = tie.close (tie.spec first-or-requires from-requires returns returns-2)

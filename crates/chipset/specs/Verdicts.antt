@@ -1,0 +1,62 @@
+-- What a response comes to, by its rule, as response.rt judges it. Rule 3, a reset's, judges no response.
+use mathlib.Core.List.{List, [], _∷_, _++_}
+use Prim.Native.Nat.{ℕ}
+use lib.Dec.{eqb, ltb}
+use lib.ListN.{length, take, drop, getD}
+use Rattle.errors.specs.Choice.{pick}
+use Rattle.errors.specs.declared.Refusal.the-variants.{Status, ShortResponse, Rate}
+use Rattle.protocol.specs.Scripts.{Answer, done, nothing, refused}
+use Rattle.protocol.specs.Chipset.{anyNonzero, statusByte, maskedStatus, moreFlag, sendIndex, receiveIndex, rate, word}
+
+-- at least n bytes, else 16; a status of 0, else 15
+unfoldable pub withLength : List ℕ → ℕ → Answer ℕ → Answer ℕ
+withLength bs n a = pick (ltb (length bs) n) (refused ShortResponse) a
+
+unfoldable pub withStatus : List ℕ → Answer ℕ → Answer ℕ
+withStatus bs a = pick (eqb (statusByte bs) 0) a (refused (Status (statusByte bs)))
+
+-- the rules: 2, 6 to 11, 13 and 14
+unfoldable pub versionAnswer : List ℕ → Answer ℕ
+versionAnswer bs = withLength bs 4 (done (take 3 bs))
+
+unfoldable pub writeAnswer : List ℕ → Answer ℕ
+writeAnswer bs = pick (anyNonzero bs) (refused (Status 0xFE)) (done [])
+
+unfoldable pub firstAnswer : List ℕ → Answer ℕ
+firstAnswer bs = withLength bs 1 (done (take 1 bs))
+
+unfoldable pub listAnswer : List ℕ → Answer ℕ
+listAnswer bs = pick (eqb (getD bs 0 0) 0) nothing (withLength bs 2 (done (drop 2 bs)))
+
+unfoldable pub exchangeAnswer : List ℕ → Answer ℕ
+exchangeAnswer bs =
+    pick (eqb (length bs) 0) (refused (Status 0xFF))
+    (pick (eqb (maskedStatus bs) 0) (done (drop 1 bs ++ (moreFlag bs ∷ []))) (refused (Status (maskedStatus bs))))
+
+unfoldable pub jumpAnswer : List ℕ → Answer ℕ
+jumpAnswer bs = withStatus bs (withLength bs 2 (done (drop 2 bs)))
+
+unfoldable pub initiatorAnswer : List ℕ → Answer ℕ
+initiatorAnswer bs = pick (eqb (statusByte bs) 0) (done (drop 1 bs)) nothing
+
+unfoldable pub targetAnswer : List ℕ → Answer ℕ
+targetAnswer bs =
+    withLength bs 2
+    (pick (eqb (getD bs 0 0) 1)
+    (pick (ltb 2 (sendIndex bs)) (refused Rate)
+    (pick (ltb 2 (receiveIndex bs)) (refused Rate) (done (getD bs 0 0 ∷ (word (rate (sendIndex bs)) ++ word (rate (receiveIndex bs)))))))
+    (done (getD bs 0 0 ∷ 0 ∷ 0 ∷ 0 ∷ 0 ∷ [])))
+
+unfoldable pub judgeOf : ℕ → List ℕ → Answer ℕ
+judgeOf rule bs =
+    pick (eqb rule 2) (versionAnswer bs)
+    (pick (eqb rule 5) (done bs)
+    (pick (eqb rule 6) (writeAnswer bs)
+    (pick (eqb rule 7) (firstAnswer bs)
+    (pick (eqb rule 8) (listAnswer bs)
+    (pick (eqb rule 9) (exchangeAnswer bs)
+    (pick (eqb rule 10) (withStatus bs (done (drop 1 bs)))
+    (pick (eqb rule 11) (jumpAnswer bs)
+    (pick (eqb rule 12) (withStatus bs (done []))
+    (pick (eqb rule 13) (initiatorAnswer bs)
+    (pick (eqb rule 14) (targetAnswer bs) (done [])))))))))))

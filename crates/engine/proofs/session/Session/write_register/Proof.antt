@@ -1,0 +1,26 @@
+-- `engine::session::Session::write_register` meets its contract.
+use borrow.Author.Needs.{needs}
+use mathlib.Core.Path.{ap, _∙_}
+use Rattle.engine.specs.Sessions.{launchStep}
+use Rattle.engine.proofs.session.Session.write_register.Statement.{statement}
+use Rattle.engine.proofs.session.Session.write_register.Tie as tie
+use Rattle.engine.proofs.session.Session.write_register.Reads as reads
+use Rattle.engine.proofs.session.Session.write_register.Lts as lts
+use Rattle.chipset.proofs.command.write_register.Reads as write-register-reads
+use Rattle.engine.proofs.session.Session.call.Reads as call-reads
+
+write-register-requires : tie.Need-write-register-requires
+write-register-requires c κs = search needs
+
+call-requires : tie.Need-call-requires
+call-requires c κs = search needs
+
+same-length : tie.Need-same-length
+same-length c = search needs
+
+returns : tie.Need-returns
+returns c = c .before .before .call .ensures ∙ ap (λ l. launchStep (c .before .before .before .before .before .before .before .args .self) l (c .before .before .before .before .before .before .before .args .buffer .now)) (c .before .before .before .before .write-register .ensures .0)
+
+pub write-register-spec : {M : Type 1} → statement M
+write-register-spec =
+    tie.close (tie.spec write-register-requires call-requires same-length returns)

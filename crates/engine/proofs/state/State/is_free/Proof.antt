@@ -1,0 +1,20 @@
+-- `engine::state::State::is_free` meets its contract.
+use Rattle.framing.specs.Rules.{steps}
+use borrow.Author.Needs.{needs}
+use Rattle.engine.proofs.state.State.is_free.Statement.{statement}
+use Rattle.engine.proofs.state.State.is_free.Tie as tie
+use Rattle.engine.proofs.state.State.is_free.Reads as reads
+use Rattle.engine.proofs.state.State.is_free.Lts as lts
+use Rattle.engine.proofs.state.State.is_valid.Reads as is-valid-reads
+
+is-valid-requires : tie.Need-is-valid-requires
+is-valid-requires c κs = search needs
+
+returns : tie.Need-returns
+returns c = search (steps, needs) depth 10
+
+returns-2 : tie.Need-returns-2
+returns-2 c = search (steps, needs) depth 10
+
+pub is-free-spec : {M : Type 1} → statement M
+is-free-spec = tie.close (tie.spec is-valid-requires returns returns-2)

@@ -1,0 +1,59 @@
+use borrow.Author.Needs.{needs}
+use mathlib.Core.Path.{_≡_, sym, _∙_}
+use borrow.Author.Tests.{lt-ltb, le-ltb}
+use Rattle.framing.specs.Rules.{at-true, at-false}
+use Rattle.engine.specs.Sessions.{openAfter}
+use Rattle.engine.proofs.state.State.open.Statement.{statement}
+use Rattle.engine.proofs.state.State.open.Tie as tie
+use Rattle.engine.proofs.state.State.open.Reads as reads
+use Rattle.engine.proofs.state.State.open.Lts as lts
+use Rattle.engine.proofs.state.State.is_free.Reads as is-free-reads
+use Rattle.engine.proofs.state.State.ordered.Reads as ordered-reads
+use Rattle.engine.proofs.state.State.refused.Reads as refused-reads
+use Rattle.engine.proofs.state.State.uncounted.Reads as uncounted-reads
+
+is-free-requires : tie.Need-is-free-requires
+is-free-requires c κs = search needs
+
+refused-requires : tie.Need-refused-requires
+refused-requires c κs = search needs
+
+returns : tie.Need-returns
+unfolding openAfter
+returns c = λ f. at-true _ _ _ _ (sym (c .before .before .before .is-free .ensures) ∙ c .before .before .if1 .taken) (at-true _ _ _ _ (lt-ltb _ _ (c .before .if2 .taken)) (c .refused .ensures _ _))
+
+uncounted-requires : tie.Need-uncounted-requires
+uncounted-requires c κs = search needs
+
+ordered-requires : tie.Need-ordered-requires
+ordered-requires c κs = search needs
+
+refused-requires-2 : tie.Need-refused-requires-2
+refused-requires-2 c κs = search needs
+
+same-length : tie.Need-same-length
+same-length c = search needs
+
+returns-2 : tie.Need-returns-2
+unfolding openAfter
+returns-2 c = λ f.
+    at-true _ _ _ _ (sym (c .before .before .before .before .before .before .before .before .is-free .ensures) ∙ c .before .before .before .before .before .before .before .if1 .taken)
+    (at-false _ _ _ _ (le-ltb _ _ (c .before .before .before .before .before .before .if2 .left)) (rw (c .before .before .before .before .uncounted .ensures) at (c .before .before .ordered .ensures f)))
+
+returns-3 : tie.Need-returns-3
+unfolding openAfter
+returns-3 c = λ f. at-false _ _ _ _ (sym (c .before .before .is-free .ensures) ∙ c .before .if1 .left) (c .refused2 .ensures _ _)
+
+pub open-spec : {M : Type 1} → statement M
+open-spec =
+    tie.close
+    (tie.spec
+    is-free-requires
+    refused-requires
+    returns
+    uncounted-requires
+    ordered-requires
+    refused-requires-2
+    same-length
+    returns-2
+    returns-3)

@@ -1,0 +1,69 @@
+use borrow.Author.Needs.{needs}
+use mathlib.Core.Path.{_≡_, sym, ap, _∙_}
+use native.Mathlib.Omega.{arith}
+use lib.ListN.{length, take, length-take}
+use lib.Seq.{length-take-le}
+use borrow.Author.Tests.{lt-ltb, le-ltb}
+use Rattle.framing.specs.Rules.{at-true, at-false}
+use Rattle.engine.specs.Laws.{copied-start}
+use Rattle.engine.specs.Sessions.{entersOf, versionOf, withFound}
+use Rattle.engine.proofs.state.State.versioned.Statement.{statement}
+use Rattle.engine.proofs.state.State.versioned.Tie as tie
+use Rattle.engine.proofs.state.State.versioned.Reads as reads
+use Rattle.engine.proofs.state.State.versioned.Lts as lts
+use Rattle.bytes.proofs.copy.Reads as copy-reads
+use Rattle.engine.proofs.call.Call.following.Reads as following-reads
+use Rattle.engine.proofs.state.State.ended.Reads as ended-reads
+use Rattle.engine.proofs.state.State.entered.Reads as entered-reads
+use Rattle.engine.proofs.state.State.with_found.Reads as with-found-reads
+
+ended-requires : tie.Need-ended-requires
+ended-requires c κs = search needs
+
+slice-aggregate-copy : tie.Need-slice-aggregate-copy
+slice-aggregate-copy c = sym (length-take-le 3 (c .before .before .before .before .before .before .args .response .now) (omega arith))
+
+copy-requires : tie.Need-copy-requires
+copy-requires c κs = simp length-take (omega arith)
+
+with-found-requires : tie.Need-with-found-requires
+with-found-requires c κs = search needs
+
+following-requires : tie.Need-following-requires
+following-requires c κs = search needs
+
+entered-requires : tie.Need-entered-requires
+entered-requires c κs = search needs
+
+returns : tie.Need-returns
+unfolding versionOf
+returns c = at-true _ _ _ _ (lt-ltb _ _ (c .before .if1 .taken)) (c .ended .ensures _ _)
+
+same-length : tie.Need-same-length
+same-length c = search needs
+
+same-length-2 : tie.Need-same-length-2
+same-length-2 c = search needs
+
+returns-2 : tie.Need-returns-2
+unfolding versionOf
+returns-2 c =
+    let a = c .before .before .before .before .before .before .before .before .before .before .before .before .before .before .before .before .args in
+    let put-there = copied-start (take 3 (a .response .now)) (a .found .now) _ (c .before .before .before .before .before .before .before .before .copy .ensures .1) in
+    at-false _ _ _ _ (le-ltb _ _ (c .before .before .before .before .before .before .before .before .before .before .before .before .if1 .left))
+    (c .before .before .entered .ensures _ ∙ (λ i. entersOf (c .before .before .before .before .before .with-found .ensures i) (put-there i) (c .before .before .before .before .following .ensures i) (a .buffer .now)))
+
+pub versioned-spec : {M : Type 1} → statement M
+versioned-spec =
+    tie.close
+    (tie.spec
+    ended-requires
+    slice-aggregate-copy
+    copy-requires
+    with-found-requires
+    following-requires
+    entered-requires
+    returns
+    same-length
+    same-length-2
+    returns-2)

@@ -1,0 +1,188 @@
+-- Each call of one command: the command of its script is the one that is sent, and its response is judged as the script has it.
+use mathlib.Core.Path.{_≡_, refl, sym, ap, ap₂, _∙_}
+use mathlib.Core.Bool.{Bool, true, false, cond}
+use mathlib.Core.List.{List, [], _∷_, _++_, map, map-append}
+use Prim.Native.Nat.{ℕ, zero, suc, _+_, _-_, _/_, _%_, _≤_, _<_}
+use native.Mathlib.Decide.{decLe}
+use native.Mathlib.Numerals.{add-one}
+use native.Mathlib.Omega.{arith}
+use borrow.Author.Tests.{ltb-false, ne-eqb}
+use lib.Dec.{eqb, leb, ltb}
+use lib.ListN.{length, take, drop, getD, length-drop, drop-of-length-le}
+use lib.Seq.{drop-cons, take-all}
+use Rattle.errors.specs.Choice.{pick}
+use Rattle.errors.specs.declared.Refusal.{Refusal}
+use Rattle.errors.specs.declared.Refusal.the-variants.{OverLong, BadArgument, ShortResponse, Status, Rate}
+use Rattle.exchange.specs.Packets.{isEmpty}
+use Rattle.protocol.specs.Scripts.{Byte, own, card, value, Answer, done, nothing, refused, Script, finish, command, reset, either, refuse, ifElse, part, rest, byteAt}
+use Rattle.protocol.specs.Chipset.{anyNonzero, statusByte, withStatus as statusThen, withLength as lengthThen, maskedStatus, moreFlag, sendIndex, receiveIndex, rate, word, versionBytes, jumpData, initData}
+use Rattle.protocol.specs.Calls.{Request, version, resetMode, setParameters, rfConfiguration, rfFieldOff, readRegister, writeRegister, readSingleRegister, writeSingleRegister, inListPassiveTarget, inDataExchange, inCommunicateThru, inJumpForDep, tgInitTarget, tgSetGeneralBytes, tgGetInitiatorCommand, tgResponseToInitiator, tgGetTargetStatus}
+use Rattle.protocol.specs.Calls.{Start, starts, requestStart, finished, answer, rateBytes}
+use Rattle.protocol.specs.Calls.{registers, initFits, activeByte}
+use Rattle.protocol.specs.Calls.{refuses as refusesStart, limited as limitedStart, asserted as assertedStart}
+use Rattle.protocol.specs.Follows.{plainAnswer}
+use Rattle.chipset.specs.Launches.{Launch, refuses, sends, cmd, limited, asserted, launchOf}
+use Rattle.chipset.specs.Verdicts.{withLength, withStatus, versionAnswer, writeAnswer, firstAnswer, listAnswer, exchangeAnswer, jumpAnswer, initiatorAnswer, targetAnswer, judgeOf}
+use Rattle.engine.specs.Laws.{first-three}
+
+-- the script ends with an answer, which is this one but for the places of its bytes
+pub record Judged (s : Script) (a : Answer ℕ) : Type 0 where
+  pub answer : Answer Byte
+  pub is : s ≡ finish answer
+  pub plain : plainAnswer answer ≡ a
+
+ends : (a : Answer Byte) {b : Answer ℕ} → plainAnswer a ≡ b → Judged (finish a) b
+ends a h = record { answer = a; is = refl; plain = h }
+
+judged-if : (t : Bool) {x y : Script} {a b : Answer ℕ} → (t ≡ true → Judged x a) → (t ≡ false → Judged y b) → Judged (ifElse t x y) (pick t a b)
+unfolding pick
+judged-if true h k = h refl
+judged-if false h k = k refl
+
+refusing : (r : Refusal) → Judged (refuse r) (refused r)
+refusing r = ends (refused r) refl
+
+by-length : (bs : List ℕ) (n : ℕ) {s : Script} {a : Answer ℕ} → (n ≤ length bs → Judged s a) → Judged (lengthThen bs n s) (withLength bs n a)
+unfolding withLength
+by-length bs n h = judged-if (ltb (length bs) n) (λ _. refusing ShortResponse) (λ e. h (ltb-false (length bs) n e))
+
+by-status : (bs : List ℕ) {s : Script} {a : Answer ℕ} → Judged s a → Judged (statusThen bs s) (withStatus bs a)
+unfolding withStatus
+by-status bs h = judged-if (eqb (statusByte bs) 0) (λ _. h) (λ _. refusing (Status (statusByte bs)))
+
+-- ---- bytes of a response
+
+part-values : (k : ℕ) (bs : List ℕ) (p n : ℕ) → p + n ≤ length bs → map value (part k bs p n) ≡ take n (drop p bs)
+unfolding part
+part-values k bs p zero h = refl
+part-values k bs p (suc n) h =
+    ap (λ l. getD bs p 0 ∷ l) (part-values k bs (suc p) n (omega arith)) ∙ sym (ap (take (suc n)) (drop-cons bs p 0 (omega arith)))
+
+pub rest-values : (k : ℕ) (bs : List ℕ) (p : ℕ) → map value (rest k bs p) ≡ drop p bs
+unfolding rest part
+rest-values k bs p = go (decLe p (length bs))
+  where
+    go : Dec (p ≤ length bs) → map value (part k bs p (length bs - p)) ≡ drop p bs
+    go (yes h) = part-values k bs p (length bs - p) (omega arith) ∙ take-all (length bs - p) (drop p bs) (omega (arith, length-drop p bs))
+    go (no h) = let z : length bs - p ≡ 0 = omega arith in rw z (sym (drop-of-length-le bs {i = p} (omega arith)))
+
+answers : (p : ℕ) (bs : List ℕ) → Judged (answer p bs) (done (drop p bs))
+answers p bs = ends (done (rest 0 bs p)) (ap done (rest-values 0 bs p))
+
+empty : Judged finished (done [])
+empty = ends (done []) refl
+
+-- ---- the rules
+
+judged-version : (bs : List ℕ) → Judged (lengthThen bs 4 (finish (done (versionBytes 0 (getD bs 0 0) (getD bs 1 0) (getD bs 2 0))))) (versionAnswer bs)
+unfolding versionAnswer
+judged-version bs = by-length bs 4 (λ h. ends _ (ap done (first-three bs (omega arith))))
+
+judged-write : (bs : List ℕ) → Judged (ifElse (anyNonzero bs) (refuse (Status 0xFE)) finished) (writeAnswer bs)
+unfolding writeAnswer
+judged-write bs = judged-if (anyNonzero bs) (λ _. refusing (Status 0xFE)) (λ _. empty)
+
+judged-first : (bs : List ℕ) → Judged (lengthThen bs 1 (finish (done (byteAt 0 bs 0 ∷ [])))) (firstAnswer bs)
+unfolding firstAnswer
+judged-first bs = by-length bs 1 (λ h. ends _ (ap done (sym (ap (take 1) (drop-cons bs 0 0 (omega arith))))))
+
+judged-list : (bs : List ℕ) → Judged (ifElse (eqb (getD bs 0 0) 0) (finish nothing) (lengthThen bs 2 (answer 2 bs))) (listAnswer bs)
+unfolding listAnswer
+judged-list bs = judged-if (eqb (getD bs 0 0) 0) (λ _. ends nothing refl) (λ _. by-length bs 2 (λ _. answers 2 bs))
+
+empty-length : (bs : List ℕ) → isEmpty bs ≡ eqb (length bs) 0
+empty-length [] = refl
+empty-length (b ∷ bs) = sym (ne-eqb (suc (length bs)) 0 (λ e. omega (arith, e)))
+
+judged-exchange : (bs : List ℕ)
+    → Judged (ifElse (isEmpty bs) (refuse (Status 0xFF)) (ifElse (eqb (maskedStatus bs) 0) (finish (done (rest 0 bs 1 ++ (own (moreFlag bs) ∷ [])))) (refuse (Status (maskedStatus bs)))))
+    (exchangeAnswer bs)
+unfolding exchangeAnswer
+judged-exchange bs =
+    rw (sym (empty-length bs))
+    (judged-if (isEmpty bs) (λ _. refusing (Status 0xFF))
+    (λ _. judged-if (eqb (maskedStatus bs) 0)
+    (λ _. ends _ (ap done (map-append value (rest 0 bs 1) (own (moreFlag bs) ∷ []) ∙ ap (λ l. l ++ (moreFlag bs ∷ [])) (rest-values 0 bs 1))))
+    (λ _. refusing (Status (maskedStatus bs)))))
+
+judged-jump : (bs : List ℕ) → Judged (statusThen bs (lengthThen bs 2 (answer 2 bs))) (jumpAnswer bs)
+unfolding jumpAnswer
+judged-jump bs = by-status bs (by-length bs 2 (λ _. answers 2 bs))
+
+judged-initiator : (bs : List ℕ) → Judged (ifElse (eqb (statusByte bs) 0) (answer 1 bs) (finish nothing)) (initiatorAnswer bs)
+unfolding initiatorAnswer
+judged-initiator bs = judged-if (eqb (statusByte bs) 0) (λ _. answers 1 bs) (λ _. ends nothing refl)
+
+abbrev targetScript : List ℕ → ℕ → ℕ → Script
+targetScript bs send receive = finish (done (byteAt 0 bs 0 ∷ (rateBytes send ++ rateBytes receive)))
+
+judged-target : (bs : List ℕ)
+    → Judged (lengthThen bs 2
+    (ifElse (eqb (getD bs 0 0) 1)
+    (ifElse (ltb 2 (sendIndex bs)) (refuse Rate) (ifElse (ltb 2 (receiveIndex bs)) (refuse Rate) (targetScript bs (rate (sendIndex bs)) (rate (receiveIndex bs)))))
+    (targetScript bs 0 0)))
+    (targetAnswer bs)
+unfolding targetAnswer
+judged-target bs =
+    by-length bs 2
+    (λ _. judged-if (eqb (getD bs 0 0) 1)
+    (λ _. judged-if (ltb 2 (sendIndex bs)) (λ _. refusing Rate) (λ _. judged-if (ltb 2 (receiveIndex bs)) (λ _. refusing Rate) (λ _. ends _ refl)))
+    (λ _. ends _ refl))
+
+-- ---- the calls
+
+-- a rule of a call of one command
+pub record Rule (rule : ℕ) : Type 0 where
+  pub running : eqb rule 0 ≡ false
+  pub noOpening : eqb rule 1 ≡ false
+  pub noReset : eqb rule 3 ≡ false
+  pub within : leb rule 14 ≡ true
+
+a-rule : {rule : ℕ} → eqb rule 0 ≡ false → eqb rule 1 ≡ false → eqb rule 3 ≡ false → leb rule 14 ≡ true → Rule rule
+a-rule p q r s = record { running = p; noOpening = q; noReset = r; within = s }
+
+-- both refuse, or the script's command is the one sent
+pub data Begins : Start → Launch → Type 0 where
+  refusedAtOnce : (r : Refusal) → Begins (refusesStart r) (refuses r)
+  single : (rule code clock : ℕ) (bytes : List ℕ) (f : List ℕ → Script) → Rule rule → ((bs : List ℕ) → Judged (f bs) (judgeOf rule bs))
+      → Begins (starts (command code clock bytes (either f refuse))) (sends rule (cmd code clock bytes))
+  alone : Begins (starts (reset finished)) (sends 3 (cmd 0x18 100 (0x01 ∷ [])))
+
+single-limited : (rule code clock : ℕ) (bytes : List ℕ) (f : List ℕ → Script) → Rule rule → ((bs : List ℕ) → Judged (f bs) (judgeOf rule bs))
+    → Begins (limitedStart bytes (command code clock bytes (either f refuse))) (limited rule (cmd code clock bytes))
+unfolding limited pick
+single-limited rule code clock bytes f h k = go (ltb 512 (length bytes))
+  where
+    go : (t : Bool)
+        → Begins (cond t (refusesStart OverLong) (starts (command code clock bytes (either f refuse)))) (pick t (refuses OverLong) (sends rule (cmd code clock bytes)))
+    go true = refusedAtOnce OverLong
+    go false = single rule code clock bytes f h k
+
+begins-asserted : (t : Bool) {x : Start} {l : Launch} → Begins x l → Begins (assertedStart t x) (asserted t l)
+unfolding asserted pick
+begins-asserted true h = h
+begins-asserted false h = refusedAtOnce BadArgument
+
+-- one line for each call
+pub begins : (q : Request) → Begins (requestStart q) (launchOf q)
+unfolding launchOf judgeOf pick
+begins version = single 2 0x02 100 [] _ (a-rule refl refl refl refl) judged-version
+begins resetMode = alone
+begins (setParameters flags) = single 4 0x12 100 _ _ (a-rule refl refl refl refl) (λ _. empty)
+begins (rfConfiguration item bytes) = single-limited 4 0x32 100 (item ∷ bytes) _ (a-rule refl refl refl refl) (λ _. empty)
+begins rfFieldOff = single 4 0x32 100 _ _ (a-rule refl refl refl refl) (λ _. empty)
+begins (readRegister addresses) = begins-asserted (registers 2 addresses) (single 5 0x06 250 addresses _ (a-rule refl refl refl refl) (answers 0))
+begins (writeRegister values) = begins-asserted (registers 3 values) (single 6 0x08 250 values _ (a-rule refl refl refl refl) judged-write)
+begins (readSingleRegister address) = single 7 0x06 250 _ _ (a-rule refl refl refl refl) judged-first
+begins (writeSingleRegister address value) = single 6 0x08 250 _ _ (a-rule refl refl refl refl) judged-write
+begins (inListPassiveTarget maxTg bitrate bytes) = single-limited 8 0x4A 1000 (maxTg ∷ bitrate ∷ bytes) _ (a-rule refl refl refl refl) judged-list
+begins (inDataExchange bytes ms) = single-limited 9 0x40 ms (0x01 ∷ bytes) _ (a-rule refl refl refl refl) judged-exchange
+begins (inCommunicateThru bytes ms) = single-limited 10 0x42 ms bytes _ (a-rule refl refl refl refl) (λ bs. by-status bs (answers 1 bs))
+begins (inJumpForDep active br passive nfcid3 gi) = single-limited 11 0x56 3000 (jumpData (activeByte active) br passive nfcid3 gi) _ (a-rule refl refl refl refl) judged-jump
+begins (tgInitTarget mode mifare felica nfcid3t gt ms) =
+    begins-asserted (initFits mode mifare felica nfcid3t)
+    (single-limited 5 0x8C ms (initData mode mifare felica nfcid3t gt) _ (a-rule refl refl refl refl) (answers 0))
+begins (tgSetGeneralBytes gb) = single-limited 12 0x92 100 gb _ (a-rule refl refl refl refl) (λ bs. by-status bs empty)
+begins (tgGetInitiatorCommand ms) = single 13 0x88 ms _ _ (a-rule refl refl refl refl) judged-initiator
+begins (tgResponseToInitiator bytes) = single-limited 12 0x90 1000 bytes _ (a-rule refl refl refl refl) (λ bs. by-status bs empty)
+begins tgGetTargetStatus = single 14 0x8A 100 _ _ (a-rule refl refl refl refl) judged-target

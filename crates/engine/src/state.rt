@@ -1,0 +1,517 @@
+// A session's numbers, and what a call or an event does to them and to the buffer.
+use super::call::Call;
+use super::call::EXCHANGE;
+use super::call::Move;
+use super::call::NO_CALL;
+use super::call::OPEN;
+use super::call::OPENING_ACK;
+use super::call::Order;
+use super::device;
+use super::device::Identity;
+use chipset::command::Launch;
+use chipset::response;
+use chipset::response::Answer;
+use chipset::response::Verdict;
+use errors::Refusal;
+use exchange::Event;
+use exchange::Exchange;
+use exchange::Part;
+use framing::ACK_BYTES;
+use framing::Built;
+use framing::FrameType;
+use framing::frame::build_command;
+ghost use mathlib.Core.Bool.{Bool, true, false};
+ghost use mathlib.Core.List.{List, _++_};
+ghost use mathlib.Core.Path.{_≡_};
+ghost use Prim.Native.Nat.{ℕ, _+_, _≤_, _<_};
+ghost use lib.Dec.{eqb};
+ghost use lib.ListN.{length, take, drop};
+ghost use Rattle.framing.specs.Lists.{both};
+ghost use Rattle.exchange.specs.Packets.{commandFrame};
+ghost use Rattle.exchange.specs.Steps.{eventOf};
+ghost use Rattle.protocol.specs.Scripts.{done};
+ghost use Rattle.chipset.specs.Launches.{cmd};
+ghost use Rattle.chipset.specs.Answers.{verdictIn, Fits};
+ghost use Rattle.chipset.specs.Starts.{launchWith, fits};
+ghost use Rattle.engine.specs.Moves.{orderOf, moveIn, packetLength, replyLength};
+ghost use Rattle.engine.specs.Names.{openedBytes};
+ghost use Rattle.engine.specs.Sessions.{isValid, isFree, running, idle, uncounted, unchanged, counted, withFound, put, effected, ordersOf, sendsOf, entersOf, endsOf, answersOf, versionOf, judgedOf, lastOf, openingOf, repliesOf, movedOf, isLong, admittedOf, eventAfter, openAfter, launchOn, launchAfter};
+
+// What a session holds beside its arrays: how much of each is in use, the exchange, the call, whether the reader is open, and the
+// command frames ordered since the last opening began.
+pub struct State {
+    pub command: usize,
+    pub found: usize,
+    pub exchange: Exchange,
+    pub call: Call,
+    pub opened: bool,
+    pub frames: u32,
+}
+
+// An order or an answer. The bytes of a write order and of an answer stand at the buffer's start, so many of them.
+pub enum Output {
+    Write(usize),
+    Read(u32),
+    Drain,
+    Pause(u32),
+    Done(usize),
+    Nothing,
+    Refused(Refusal),
+}
+
+// The new numbers, and what is given out.
+pub struct Effect {
+    pub state: State,
+    pub output: Output,
+}
+
+// One command frame more, up to the ceiling.
+fn one_more(frames: u32) -> u32
+    ensures { λ r. ⌜ r ≡ counted frames ⌝ }
+{
+    if frames < 4294967295 {
+        frames + 1
+    } else {
+        frames
+    }
+}
+
+// Writes the frame of a command at the buffer's start, and answers its length.
+fn framed(code: u8, bytes: &[u8], buffer: &mut [u8]) -> usize
+    requires { ⌜ (length (now bytes) ≤ 512) × (1024 ≤ length (now buffer)) ⌝ }
+    ensures { λ r. ⌜ r ≡ length (commandFrame code (now (bytes .entry))) ⌝ }
+    ensures { λ _. ⌜ now (buffer .exit) ≡ put (commandFrame code (now (bytes .entry))) (now (buffer .entry)) ⌝ }
+{
+    let Built::Frame(len) = build_command(code, bytes, buffer) else {
+        return 0;
+    };
+    len
+}
+
+// A packet over the limit.
+fn is_long(event: Event, packet: &[u8]) -> bool
+    ensures { λ r. ⌜ r ≡ isLong (eventOf event (now (packet .entry))) ⌝ }
+{
+    match event {
+        Event::Packet => 1024 < packet.len(),
+        Event::Ok => false,
+        Event::Bad => false,
+        Event::Time => false,
+        Event::Fail => false,
+        Event::Late => false,
+        Event::Slept => false,
+    }
+}
+
+// The part of a packet.
+fn part_of(packet: &[u8], part: Part) -> &[u8]
+    ensures { λ r. ⌜ now r ≡ take (part .len) (drop (part .start) (now (packet .entry))) ⌝ }
+{
+    let start = part.start;
+    let len = part.len;
+    framing::payload(
+        packet,
+        FrameType::Data {
+            start,
+            len,
+            frame: 0,
+        },
+    )
+}
+
+// Puts two lists of bytes at the buffer's start, one behind the other, and answers their length.
+fn put_both(part: &[u8], tail: &[u8], buffer: &mut [u8]) -> usize
+    requires { ⌜ length (now part) + length (now tail) ≤ length (now buffer) ⌝ }
+    ensures { λ r. ⌜ r ≡ length (now (part .entry) ++ now (tail .entry)) ⌝ }
+    ensures { λ _. ⌜ now (buffer .exit) ≡ put (now (part .entry) ++ now (tail .entry)) (now (buffer .entry)) ⌝ }
+{
+    let n = part.len();
+    bytes::copy(part, buffer);
+    bytes::copy(tail, &mut buffer[n..]);
+    n + tail.len()
+}
+
+impl State {
+    // Every field is in its range.
+    fn is_valid(self) -> bool
+        ensures { λ r. ⌜ r ≡ isValid self ⌝ }
+    {
+        let exchange = self.exchange;
+        let call = self.call;
+        if self.command > 512 {
+            return false;
+        }
+        if self.found > 1024 {
+            return false;
+        }
+        if exchange.phase > 6 {
+            return false;
+        }
+        call.is_valid()
+    }
+
+    fn running(self, call: Call, exchange: Exchange) -> State
+        ensures { λ r. ⌜ r ≡ running self call exchange ⌝ }
+    {
+        State {
+            command: self.command,
+            found: self.found,
+            exchange,
+            call,
+            opened: self.opened,
+            frames: self.frames,
+        }
+    }
+
+    // No call runs any more.
+    fn idle(self, opened: bool) -> State
+        ensures { λ r. ⌜ r ≡ idle self opened ⌝ }
+    {
+        let exchange = self.exchange;
+        let call = Call {
+            kind: NO_CALL,
+            stage: 0,
+            phase: EXCHANGE,
+        };
+        State {
+            command: self.command,
+            found: self.found,
+            exchange,
+            call,
+            opened,
+            frames: self.frames,
+        }
+    }
+
+    fn with_found(self, found: usize) -> State
+        ensures { λ r. ⌜ r ≡ withFound self found ⌝ }
+    {
+        let exchange = self.exchange;
+        let call = self.call;
+        State {
+            command: self.command,
+            found,
+            exchange,
+            call,
+            opened: self.opened,
+            frames: self.frames,
+        }
+    }
+
+    // An opening begins: nothing is found and no frame is counted yet.
+    fn uncounted(self) -> State
+        ensures { λ r. ⌜ r ≡ uncounted self ⌝ }
+    {
+        let exchange = self.exchange;
+        let call = self.call;
+        State {
+            command: self.command,
+            found: 0,
+            exchange,
+            call,
+            opened: self.opened,
+            frames: 0,
+        }
+    }
+
+    // An order that writes no command.
+    fn ordered(self, order: Order, call: Call, exchange: Exchange, buffer: &mut [u8]) -> Effect
+        requires { ⌜ 1024 ≤ length (now buffer) ⌝ }
+        ensures { λ r. ⌜ ((f : List ℕ) → effected r f (now (buffer .exit)) ≡ ordersOf self f (orderOf order) call exchange (now (buffer .entry))) ⌝ }
+    {
+        let state = self.running(call, exchange);
+        match order {
+            Order::Ack => {
+                bytes::copy(&ACK_BYTES, buffer);
+                let output = Output::Write(6);
+                Effect { state, output }
+            }
+            Order::Read(ms) => {
+                let output = Output::Read(ms);
+                Effect { state, output }
+            }
+            Order::Drain => {
+                let output = Output::Drain;
+                Effect { state, output }
+            }
+            Order::Pause(us) => {
+                let output = Output::Pause(us);
+                Effect { state, output }
+            }
+        }
+    }
+
+    // A command is ordered.
+    fn sent(self, call: Call, code: u8, clock: u32, bytes: &[u8], buffer: &mut [u8]) -> Effect
+        requires { ⌜ (length (now bytes) ≤ 512) × (1024 ≤ length (now buffer)) ⌝ }
+        ensures { λ r. ⌜ ((f : List ℕ) → effected r f (now (buffer .exit)) ≡ sendsOf self f call (cmd code clock (now (bytes .entry))) (now (buffer .entry))) ⌝ }
+    {
+        let len = framed(code, bytes, buffer);
+        let exchange = Exchange::start(code, clock);
+        let state = State {
+            command: self.command,
+            found: self.found,
+            exchange,
+            call,
+            opened: self.opened,
+            frames: one_more(self.frames),
+        };
+        let output = Output::Write(len);
+        Effect { state, output }
+    }
+
+    // The command of the opening's stage is ordered.
+    fn entered(self, call: Call, buffer: &mut [u8]) -> Effect
+        requires { ⌜ 1024 ≤ length (now buffer) ⌝ }
+        ensures { λ r. ⌜ ((f : List ℕ) → effected r f (now (buffer .exit)) ≡ entersOf self f call (now (buffer .entry))) ⌝ }
+    {
+        let plan = device::opening(call.stage);
+        let bytes = plan.2;
+        let n = plan.3;
+        self.sent(call, plan.0, plan.1, &bytes[..n], buffer)
+    }
+
+    // The call ends: an opening leaves the reader open if it succeeded, any other call leaves it as it was.
+    fn ended(self, success: bool, output: Output) -> Effect
+        ensures { λ r. ⌜ ((f b : List ℕ) → effected r f b ≡ endsOf self success f output b) ⌝ }
+    {
+        let call = self.call;
+        if call.kind == OPEN {
+            let state = self.idle(success);
+            Effect { state, output }
+        } else {
+            let state = self.idle(self.opened);
+            Effect { state, output }
+        }
+    }
+
+    // The call ends with an answer: a part of the response, and the tail behind it.
+    fn answered(self, response: &[u8], answer: Answer, buffer: &mut [u8]) -> Effect
+        requires { ⌜ (length (now response) ≤ 1024) × (1024 ≤ length (now buffer)) × Fits (now response) (Verdict.Done answer) ⌝ }
+        ensures { λ r. ⌜ ((f : List ℕ) → effected r f (now (buffer .exit)) ≡ answersOf self f (verdictIn (now (response .entry)) (Verdict.Done answer)) (now (buffer .entry))) ⌝ }
+    {
+        let start = answer.start;
+        let len = answer.len;
+        let count = answer.count;
+        let tail = answer.tail;
+        let behind = [tail.0, tail.1, tail.2, tail.3];
+        let part = part_of(response, Part { start, len });
+        let n = put_both(part, &behind[..count], buffer);
+        self.ended(true, Output::Done(n))
+    }
+
+    // The response to the one command of a call is in.
+    fn judged(self, response: &[u8], buffer: &mut [u8]) -> Effect
+        requires { ⌜ (length (now response) ≤ 1024) × (1024 ≤ length (now buffer)) ⌝ }
+        ensures { λ r. ⌜ ((f : List ℕ) → effected r f (now (buffer .exit)) ≡ judgedOf self f (now (response .entry)) (now (buffer .entry))) ⌝ }
+    {
+        let call = self.call;
+        match response::judged(call.kind, response) {
+            Verdict::Done(answer) => self.answered(response, answer, buffer),
+            Verdict::Nothing => self.ended(false, Output::Nothing),
+            Verdict::Refused(refusal) => self.ended(false, Output::Refused(refusal)),
+        }
+    }
+
+    // get_firmware_version was answered: the opening keeps three bytes and goes on.
+    fn versioned(self, response: &[u8], found: &mut [u8], buffer: &mut [u8]) -> Effect
+        requires { ⌜ (3 ≤ length (now found)) × (1024 ≤ length (now buffer)) × (self .call .stage < 255) ⌝ }
+        ensures { λ r. ⌜ effected r (now (found .exit)) (now (buffer .exit)) ≡ versionOf self (now (found .entry)) (now (response .entry)) (now (buffer .entry)) ⌝ }
+    {
+        if response.len() < 4 {
+            self.ended(false, Output::Refused(Refusal::ShortResponse))
+        } else {
+            let call = self.call;
+            bytes::copy(&response[..3], found);
+            self.with_found(3).entered(call.following(), buffer)
+        }
+    }
+
+    // The opening's last command was answered.
+    fn configured(self, response: &[u8], identity: Identity, buffer: &mut [u8]) -> Effect
+        requires { ⌜ (1024 ≤ length (now buffer)) × (identity .len ≤ 15) ⌝ }
+        ensures { λ r. ⌜ ((f : List ℕ) → effected r f (now (buffer .exit)) ≡ lastOf self f (now (response .entry)) (take (identity .len) (identity .bytes)) (now (buffer .entry))) ⌝ }
+    {
+        if response::any_nonzero(response) {
+            self.ended(false, Output::Refused(Refusal::Status(0xFE)))
+        } else {
+            let bytes = identity.bytes;
+            let n = identity.len;
+            let len = bytes::copy(&bytes[..n], buffer);
+            self.ended(true, Output::Done(len))
+        }
+    }
+
+    // The response to a command of the opening is in.
+    fn opening(self, response: &[u8], found: &mut [u8], buffer: &mut [u8]) -> Effect
+        requires { ⌜ (3 ≤ length (now found)) × (1024 ≤ length (now buffer)) × (self .call .stage < 255) ⌝ }
+        ensures { λ r. ⌜ effected r (now (found .exit)) (now (buffer .exit)) ≡ openingOf self (now (found .entry)) (now (response .entry)) (now (buffer .entry)) ⌝ }
+    {
+        let call = self.call;
+        if call.stage == 1 {
+            return self.versioned(response, found, buffer);
+        }
+        if call.stage == 9 {
+            let identity = device::opened(found[0], found[1], found[2]);
+            self.configured(response, identity, buffer)
+        } else {
+            self.entered(call.following(), buffer)
+        }
+    }
+
+    // The response to the call's command is in.
+    fn replied(self, response: &[u8], found: &mut [u8], buffer: &mut [u8]) -> Effect
+        requires { ⌜ (length (now response) ≤ 1024) × (3 ≤ length (now found)) × (1024 ≤ length (now buffer)) × (self .call .stage < 255) ⌝ }
+        ensures { λ r. ⌜ effected r (now (found .exit)) (now (buffer .exit)) ≡ repliesOf self (now (found .entry)) (now (response .entry)) (now (buffer .entry)) ⌝ }
+    {
+        let call = self.call;
+        if call.kind == OPEN {
+            self.opening(response, found, buffer)
+        } else {
+            self.judged(response, buffer)
+        }
+    }
+
+    // Refused, and nothing changes.
+    fn refused(self, refusal: Refusal) -> Effect
+        ensures { λ r. ⌜ ((f b : List ℕ) → effected r f b ≡ unchanged self f refusal b) ⌝ }
+    {
+        let output = Output::Refused(refusal);
+        Effect {
+            state: self,
+            output,
+        }
+    }
+
+    fn moved(self, moved: Move, packet: &[u8], found: &mut [u8], buffer: &mut [u8]) -> Effect
+        requires { ⌜ (replyLength (moveIn (now packet) moved) ≤ 1024) × (3 ≤ length (now found)) × (1024 ≤ length (now buffer)) × (self .call .stage < 255) ⌝ }
+        ensures { λ r. ⌜ effected r (now (found .exit)) (now (buffer .exit)) ≡ movedOf self (now (found .entry)) (moveIn (now (packet .entry)) moved) (now (buffer .entry)) ⌝ }
+    {
+        match moved {
+            Move::Unfit => self.refused(Refusal::OutOfTurn),
+            Move::Orders(order, call, exchange) => self.ordered(order, call, exchange, buffer),
+            Move::Enters(call) => self.entered(call, buffer),
+            Move::Finishes => self.ended(true, Output::Done(0)),
+            Move::Replies(part) => self.replied(part_of(packet, part), found, buffer),
+            Move::Refuses(refusal) => self.ended(false, Output::Refused(refusal)),
+        }
+    }
+
+    // An event that fits the order: short buffer and over-long packet are refused, then it is taken.
+    fn admitted(
+        self,
+        moved: Move,
+        event: Event,
+        packet: &[u8],
+        found: &mut [u8],
+        buffer: &mut [u8],
+    ) -> Effect
+        requires { ⌜ (replyLength (moveIn (now packet) moved) ≤ packetLength (eventOf event (now packet))) × (3 ≤ length (now found)) × (self .call .stage < 255) ⌝ }
+        ensures { λ r. ⌜ effected r (now (found .exit)) (now (buffer .exit)) ≡ admittedOf self (now (found .entry)) (moveIn (now (packet .entry)) moved) (eventOf event (now (packet .entry))) (now (buffer .entry)) ⌝ }
+    {
+        if moved.fits() {
+            if buffer.len() < 1024 {
+                return self.refused(Refusal::ShortBuffer);
+            }
+            if is_long(event, packet) {
+                return self.refused(Refusal::OverLong);
+            }
+            self.moved(moved, packet, found, buffer)
+        } else {
+            self.refused(Refusal::OutOfTurn)
+        }
+    }
+
+    // What the host returns for an order.
+    pub(crate) fn event(
+        self,
+        event: Event,
+        packet: &[u8],
+        found: &mut [u8],
+        buffer: &mut [u8],
+    ) -> Effect
+        requires { ⌜ 3 ≤ length (now found) ⌝ }
+        ensures { λ r. ⌜ effected r (now (found .exit)) (now (buffer .exit)) ≡ eventAfter self (now (found .entry)) (eventOf event (now (packet .entry))) (now (buffer .entry)) ⌝ }
+    {
+        let call = self.call;
+        let exchange = self.exchange;
+        if self.is_valid() {
+            if call.kind == NO_CALL {
+                return self.refused(Refusal::OutOfTurn);
+            }
+            let moved = call.moved(exchange, event, packet);
+            self.admitted(moved, event, packet, found, buffer)
+        } else {
+            self.refused(Refusal::OutOfTurn)
+        }
+    }
+
+    // A call may begin: no other runs.
+    fn is_free(self) -> bool
+        ensures { λ r. ⌜ r ≡ isFree self ⌝ }
+    {
+        let call = self.call;
+        if self.is_valid() {
+            call.kind == NO_CALL
+        } else {
+            false
+        }
+    }
+
+    pub(crate) fn open(self, buffer: &mut [u8]) -> Effect
+        ensures { λ r. ⌜ ((f : List ℕ) → effected r f (now (buffer .exit)) ≡ openAfter self f (now (buffer .entry))) ⌝ }
+    {
+        if self.is_free() {
+            if buffer.len() < 1024 {
+                return self.refused(Refusal::ShortBuffer);
+            }
+            let exchange = self.exchange;
+            let call = Call {
+                kind: OPEN,
+                stage: 0,
+                phase: OPENING_ACK,
+            };
+            self.uncounted().ordered(Order::Ack, call, exchange, buffer)
+        } else {
+            self.refused(Refusal::OutOfTurn)
+        }
+    }
+
+    // A call of one command, with the command's data.
+    pub(crate) fn launched(self, launch: Launch, bytes: &[u8], buffer: &mut [u8]) -> Effect
+        requires { ⌜ fits launch × (length (now bytes) ≡ 512) ⌝ }
+        ensures { λ r. ⌜ ((f : List ℕ) → effected r f (now (buffer .exit)) ≡ launchAfter self f (launchWith (now (bytes .entry)) launch) (now (buffer .entry))) ⌝ }
+    {
+        if self.is_free() {
+            if self.opened {
+                if buffer.len() < 1024 {
+                    return self.refused(Refusal::ShortBuffer);
+                }
+                self.sent_by(launch, bytes, buffer)
+            } else {
+                self.refused(Refusal::OutOfTurn)
+            }
+        } else {
+            self.refused(Refusal::OutOfTurn)
+        }
+    }
+
+    // Its arguments are refused, or its command is ordered.
+    fn sent_by(self, launch: Launch, bytes: &[u8], buffer: &mut [u8]) -> Effect
+        requires { ⌜ fits launch × (length (now bytes) ≡ 512) × (1024 ≤ length (now buffer)) ⌝ }
+        ensures { λ r. ⌜ ((f : List ℕ) → effected r f (now (buffer .exit)) ≡ launchOn self f (launchWith (now (bytes .entry)) launch) (now (buffer .entry))) ⌝ }
+    {
+        match launch {
+            Launch::Sends(command) => {
+                let call = Call {
+                    kind: command.rule,
+                    stage: 0,
+                    phase: EXCHANGE,
+                };
+                let n = command.len;
+                self.sent(call, command.code, command.clock, &bytes[..n], buffer)
+            }
+            Launch::Refused(refusal) => self.refused(refusal),
+        }
+    }
+}
