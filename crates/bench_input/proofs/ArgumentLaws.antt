@@ -1,6 +1,8 @@
 -- What is said with an argument, by what was read of its word.
 use mathlib.Core.Path.{_≡_, refl, sym, ap, ap₂, subst, _∙_}
+use mathlib.Core.Bool.{Bool}
 use mathlib.Core.List.{List}
+use mathlib.Core.Option.{Option}
 use Prim.Native.Nat.{ℕ, _≤_}
 use native.Mathlib.Nat.{le-trans}
 use lib.ListN.{take, drop}
@@ -8,14 +10,21 @@ use lib.Seq.{slice, take-take}
 use Rattle.errors.specs.declared.Refusal.{Refusal}
 use Rattle.bench.specs.declared.Put.{Put}
 use Rattle.bench.specs.declared.Put.the-variants.{Bytes, Refused}
-use Rattle.bench_input.specs.Arguments.{Said, unreadable, byteArg, wordArg, msArg, hexArg}
-use Rattle.bench_input.specs.Readings.{byteIn, wordIn, msIn, hexIn, endsIn, endOf, Behind}
+use Rattle.bench_input.specs.Arguments.{Said, unreadable, byteArg, wordArg, msArg, hexArg, textArg, presentArg, waitArg}
+use Rattle.bench_input.specs.Readings.{byteIn, wordIn, msIn, waitOf, presentIn, waitIn, hexIn, twoIn, endsIn, endOf, Behind}
 use Rattle.bench_input.specs.declared.arguments.Byte.{Byte}
 use Rattle.bench_input.specs.declared.arguments.Byte.the-variants.{Value as ByteValue, Unreadable as NoByte}
 use Rattle.bench_input.specs.declared.arguments.Word.{Word}
 use Rattle.bench_input.specs.declared.arguments.Word.the-variants.{Value as WordValue, Unreadable as NoWord}
 use Rattle.bench_input.specs.declared.arguments.Ms.{Ms}
 use Rattle.bench_input.specs.declared.arguments.Ms.the-variants.{Value as MsValue, Unreadable as NoMs}
+use Rattle.bench_input.specs.declared.Wait.{Wait}
+use Rattle.bench_input.specs.declared.arguments.Presence.{Presence}
+use Rattle.bench_input.specs.declared.arguments.Presence.the-variants.{Value as PresenceValue, Unreadable as NoPresence}
+use Rattle.bench_input.specs.declared.arguments.WaitWord.{WaitWord}
+use Rattle.bench_input.specs.declared.arguments.WaitWord.the-variants.{Value as WaitValue, Unreadable as NoWait}
+use Rattle.bench_input.specs.declared.arguments.Two.{Two}
+use Rattle.bench_input.specs.declared.arguments.Two.the-variants.{At as AtTwo, Unreadable as NoTwo}
 use Rattle.bench_input.specs.declared.arguments.Ends.{Ends}
 use Rattle.bench_input.specs.declared.arguments.Ends.the-variants.{At, Unreadable as NoEnds}
 
@@ -40,15 +49,33 @@ module _ (w : List ℕ) (r : Ms) (told : (f : ℕ → Said) → msIn r f ≡ msA
   pub ms-none : r ≡ NoMs → unreadable ≡ msArg w f
   ms-none e = ap (λ q. msIn q f) (sym e) ∙ told f
 
-module _ (w o : List ℕ) (at : ℕ) (r : Put) (told : (f : List ℕ → Said) → hexIn at r o f ≡ hexArg w f) (f : List ℕ → Said) where
-  pub hex-value : (n : ℕ) (x : Said) → r ≡ Bytes n → x ≡ f (slice at n o) → x ≡ hexArg w f
+module _ (w : List ℕ) (r : Presence) (told : (f : Bool → Said) → presentIn r f ≡ presentArg w f) (f : Bool → Said) where
+  pub presence-value : (t : Bool) (x : Said) → r ≡ PresenceValue t → x ≡ f t → x ≡ presentArg w f
+  presence-value t x e h = h ∙ ap (λ q. presentIn q f) (sym e) ∙ told f
+
+  pub presence-none : r ≡ NoPresence → unreadable ≡ presentArg w f
+  presence-none e = ap (λ q. presentIn q f) (sym e) ∙ told f
+
+module _ (w : List ℕ) (r : WaitWord) (told : (f : Option ℕ → Said) → waitIn r f ≡ waitArg w f) (f : Option ℕ → Said) where
+  pub wait-value : (v : Wait) (x : Said) → r ≡ WaitValue v → x ≡ f (waitOf v) → x ≡ waitArg w f
+  wait-value v x e h = h ∙ ap (λ q. waitIn q f) (sym e) ∙ told f
+
+  pub wait-none : r ≡ NoWait → unreadable ≡ waitArg w f
+  wait-none e = ap (λ q. waitIn q f) (sym e) ∙ told f
+
+-- a reader of bytes: HEX or BITRATE
+module _ (arg : (List ℕ → Said) → Said) (o : List ℕ) (at : ℕ) (r : Put) (told : (f : List ℕ → Said) → hexIn at r o f ≡ arg f) (f : List ℕ → Said) where
+  pub hex-value : (n : ℕ) (x : Said) → r ≡ Bytes n → x ≡ f (slice at n o) → x ≡ arg f
   hex-value n x e h = h ∙ ap (λ q. hexIn at q o f) (sym e) ∙ told f
 
-  pub hex-none : (e : Refusal) → r ≡ Refused e → unreadable ≡ hexArg w f
+  pub hex-none : (e : Refusal) → r ≡ Refused e → unreadable ≡ arg f
   hex-none e g = ap (λ q. hexIn at q o f) (sym g) ∙ told f
 
 pub behind-at : (at n size : ℕ) (r : Put) (b o : List ℕ) → Behind at (endOf at r) size b o → r ≡ Bytes n → Behind at n size b o
 behind-at at n size r b o h e = subst (λ (q : Put). Behind at (endOf at q) size b o) e h
+
+pub end-at : (at n most : ℕ) (r : Put) → endOf at r ≤ most → r ≡ Bytes n → n ≤ most
+end-at at n most r h e = subst (λ (q : Put). endOf at q ≤ most) e h
 
 take-less : (i j : ℕ) (o b : List ℕ) → i ≤ j → take j o ≡ take j b → take i o ≡ take i b
 take-less i j o b h e = sym (take-take i j o h) ∙ ap (take i) e ∙ take-take i j b h
@@ -63,8 +90,8 @@ module _ (u v w o₁ o₂ o₃ : List ℕ) (i j k : ℕ) (r q s : Put) where
       let b : List ℕ = slice i j o₂ in
       let c : List ℕ = slice j k o₃ in
       ap₂ (λ x y. f x y c) (ap (drop 0) (take-less i j o₃ o₂ h k₃ ∙ k₂)) (ap (drop i) k₃)
-      ∙ hex-value u o₁ 0 r t₁ (λ a. hexArg v (λ b. hexArg w (λ c. f a b c))) i (f a b c) e₁
-      (hex-value v o₂ i q t₂ (λ b. hexArg w (λ c. f a b c)) j (f a b c) e₂ (hex-value w o₃ j s t₃ (λ c. f a b c) k (f a b c) e₃ refl))
+      ∙ hex-value (hexArg u) o₁ 0 r t₁ (λ a. hexArg v (λ b. hexArg w (λ c. f a b c))) i (f a b c) e₁
+      (hex-value (hexArg v) o₂ i q t₂ (λ b. hexArg w (λ c. f a b c)) j (f a b c) e₂ (hex-value (hexArg w) o₃ j s t₃ (λ c. f a b c) k (f a b c) e₃ refl))
 
 -- what is said with three words that were read
 module _ (u v w o : List ℕ) (r : Ends) (told : (f : List ℕ → List ℕ → List ℕ → Said) → endsIn r o f ≡ hexArg u (λ a. hexArg v (λ b. hexArg w (λ c. f a b c)))) where
@@ -86,4 +113,27 @@ module _ (u v w o : List ℕ) (r : Ends) (told : (f : List ℕ → List ℕ → 
       let s₃ : slice j k o₄ ≡ slice j k o = ap (drop j) kept in
       let m : f (slice 0 i o₄) (slice i j o₄) (slice j k o₄) d ≡ f (slice 0 i o) (slice i j o) (slice j k o) d = cc in
       m ∙ ends-value (λ a b c. hexArg z (λ d. f a b c d)) i j k (f (slice 0 i o) (slice i j o) (slice j k o) d) e
-      (hex-value z o₄ k q t (λ x. f (slice 0 i o) (slice i j o) (slice j k o) x) n (f (slice 0 i o) (slice i j o) (slice j k o) d) p refl)
+      (hex-value (hexArg z) o₄ k q t (λ x. f (slice 0 i o) (slice i j o) (slice j k o) x) n (f (slice 0 i o) (slice i j o) (slice j k o) d) p refl)
+
+-- a BITRATE, and another argument read behind it
+module _ (u : List ℕ) (arg : (List ℕ → Said) → Said) where
+  pub two-read : (o₁ o₂ : List ℕ) (i j : ℕ) (r q : Put) → ((f : List ℕ → Said) → hexIn 0 r o₁ f ≡ textArg u f) → ((f : List ℕ → Said) → hexIn i q o₂ f ≡ arg f)
+      → r ≡ Bytes i → q ≡ Bytes j → take i o₂ ≡ take i o₁
+      → (f : List ℕ → List ℕ → Said) → f (slice 0 i o₂) (slice i j o₂) ≡ textArg u (λ a. arg (λ b. f a b))
+  two-read o₁ o₂ i j r q t₁ t₂ e₁ e₂ kept f =
+      let a : List ℕ = slice 0 i o₁ in
+      let b : List ℕ = slice i j o₂ in
+      ap (λ x. f x b) (ap (drop 0) kept)
+      ∙ hex-value (textArg u) o₁ 0 r t₁ (λ a. arg (λ b. f a b)) i (f a b) e₁ (hex-value arg o₂ i q t₂ (λ b. f a b) j (f a b) e₂ refl)
+
+  -- what is said with the two; o₃ keeps their bytes
+  module _ (o : List ℕ) (r : Two) (told : (f : List ℕ → List ℕ → Said) → twoIn r o f ≡ textArg u (λ a. arg (λ b. f a b))) (f : List ℕ → List ℕ → Said) where
+    pub two-value : (i j : ℕ) (x : Said) → r ≡ AtTwo i j → x ≡ f (slice 0 i o) (slice i j o) → x ≡ textArg u (λ a. arg (λ b. f a b))
+    two-value i j x e h = h ∙ ap (λ q. twoIn q o f) (sym e) ∙ told f
+
+    pub two-none : r ≡ NoTwo → unreadable ≡ textArg u (λ a. arg (λ b. f a b))
+    two-none e = ap (λ q. twoIn q o f) (sym e) ∙ told f
+
+    pub two-kept : (o₃ : List ℕ) (i j : ℕ) (x : Said) → r ≡ AtTwo i j → i ≤ j → take j o₃ ≡ take j o → x ≡ f (slice 0 i o₃) (slice i j o₃)
+        → x ≡ textArg u (λ a. arg (λ b. f a b))
+    two-kept o₃ i j x e h kept g = two-value i j x e (g ∙ ap₂ f (ap (drop 0) (take-less i j o₃ o h kept)) (ap (drop i) kept))

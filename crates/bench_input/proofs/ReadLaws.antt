@@ -1,24 +1,24 @@
--- Laws of reading a word: as HEX into a buffer, as a number of pairs, and as decimal digits.
-use mathlib.Core.Path.{_≡_, sym, ap, _∙_}
-use mathlib.Core.Bool.{false}
+-- Laws of reading a word: as HEX or BITRATE into a buffer, as a number of pairs, and as decimal digits.
+use mathlib.Core.Path.{_≡_, refl, sym, ap, _∙_}
+use mathlib.Core.Bool.{true, false}
 use mathlib.Core.List.{List, [], _∷_, _++_, append-assoc, append-nil}
 use Prim.Native.Nat.{ℕ, _+_, _-_, _*_, _/_, _≤_, _<_}
 use native.Mathlib.Numerals.{add-one}
 use native.Mathlib.Omega.{arith}
-use borrow.Author.Tests.{lt-ltb, le-ltb, le-leb, lt-leb}
+use borrow.Author.Tests.{eq-eqb, ne-eqb, lt-ltb, le-ltb, le-leb, lt-leb}
 use borrow.Rule.Slice.PartMut.{putMid, postOf, take-put}
 use lib.Dec.{ltb}
 use lib.ListN.{length, getD, take, drop, length-take, length-drop, drop-of-length-le}
-use lib.Seq.{slice, take-at, drop-at, take-append-add, drop-cons, length-take-le}
+use lib.Seq.{slice, take-at, drop-at, take-append-add, drop-cons, length-take-le, take-length}
 use Rattle.errors.specs.Choice.{pick}
 use Rattle.errors.specs.declared.Refusal.{Refusal}
-use Rattle.framing.specs.Lists.{both, both-false-r}
-use Rattle.bench.specs.Hex.{pairsOf, readOf}
+use Rattle.framing.specs.Lists.{both, both-false-r, same}
+use Rattle.bench.specs.Hex.{dash, pairsOf, readOf}
 use Rattle.bench.specs.HexLaws.{length-pairs, was-read, read-count, read-into, not-read}
 use Rattle.bench.specs.Texts.{outcome, over, left}
 use Rattle.bench.specs.declared.Put.{Put}
 use Rattle.bench.specs.declared.Put.the-variants.{Bytes, Refused}
-use Rattle.bench_input.specs.Arguments.{Said, unreadable, hexArg, digitOf, allDecimal, numberFrom, msLimit, isMs, msArg}
+use Rattle.bench_input.specs.Arguments.{Said, unreadable, hexArg, textArg, digitOf, allDecimal, numberFrom, msLimit, isMs, msArg}
 use Rattle.bench_input.specs.Readings.{Behind}
 
 -- a buffer that the word's m bytes fill
@@ -139,3 +139,28 @@ module _ (w u : List ℕ) (is : w ≡ u) (f : ℕ → Said) where
       let z : drop i w ≡ [] = drop-of-length-le w {i = i} done in
       let number : numberFrom 0 w ≡ n = e ∙ ap (numberFrom n) z in
       rw (← is, lt-ltb 0 (length w) some, d ∙ ap allDecimal z, number, le-leb n msLimit h)
+
+-- a BITRATE that was copied to the start of the buffer b, or was not
+module _ (w u : List ℕ) (is : w ≡ u) (f : List ℕ → Said) where
+  pub text-empty : length w ≡ 0 → unreadable ≡ textArg u f
+  unfolding textArg pick
+  text-empty h = rw (← is, eq-eqb (length w) 0 h)
+
+  pub text-dash : (length w ≡ 0 → ⊥) → same dash w ≡ true → f [] ≡ textArg u f
+  unfolding textArg pick
+  text-dash some h = rw (← is, ne-eqb (length w) 0 some, h)
+
+  pub text-read : (b o : List ℕ) → (length w ≡ 0 → ⊥) → same dash w ≡ false → o ≡ take (length w) w ++ drop (length w) b → f (slice 0 (length w) o) ≡ textArg u f
+  unfolding textArg pick
+  text-read b o some h e =
+      let here : slice 0 (length w) o ≡ w = ap (take (length w)) (e ∙ ap (λ z. z ++ drop (length w) b) (take-length w)) ∙ take-at w (drop (length w) b) (length w) refl in
+      rw (← is, ne-eqb (length w) 0 some, h) (ap f here)
+
+-- an absent argument has no bytes
+pub none-read : (at : ℕ) (b : List ℕ) (f : List ℕ → Said) → f (slice at at b) ≡ f []
+none-read at b f =
+    let short : length (take at b) ≤ at = simp (length-take) (omega arith) in
+    ap f (drop-of-length-le (take at b) {i = at} short)
+
+pub none-stays : (at size : ℕ) (b : List ℕ) → Behind at at size b b
+none-stays at size b = record { from = omega arith; short = omega arith; kept = refl }

@@ -1,5 +1,5 @@
 -- The words of a line are no longer together than the line, so that there is room for the bytes of each.
-use mathlib.Core.Path.{_≡_}
+use mathlib.Core.Path.{_≡_, ap}
 use mathlib.Core.Bool.{Bool, true, false}
 use mathlib.Core.List.{List, [], _∷_}
 use Prim.Native.Nat.{ℕ, zero, suc, _+_, _/_, _≤_}
@@ -41,6 +41,11 @@ four-short l =
     let ws : List (List ℕ) = wordsOf l in
     omega (arith, total-words l, total-at ws 0, total-at ws 1, total-at ws 2, total-at ws 3, total-at ws 4, total-at ws 5, total-at ws 6)
 
+two-short : (l : List ℕ) → length (word l 1) + length (word l 2) + length (word l 5) ≤ length l
+two-short l =
+    let ws : List (List ℕ) = wordsOf l in
+    omega (arith, total-words l, total-at ws 0, total-at ws 1, total-at ws 2, total-at ws 3, total-at ws 4, total-at ws 5)
+
 -- room for a word's bytes behind those of the words before
 module _ (l b : List ℕ) (short : length l ≤ lineLimit) (room : length b ≡ bytesRoom) where
   pub word-room : (k : ℕ) → 0 + length (word l k) / 2 ≤ length b
@@ -57,3 +62,12 @@ module _ (l b : List ℕ) (short : length l ≤ lineLimit) (room : length b ≡ 
 
   pub count-room : (k n : ℕ) → n + n ≤ 0 + 0 + length (word l k) → n ≤ length b
   count-room k n h = omega (arith, word-short l k)
+
+  pub text-room : (w : List ℕ) → w ≡ word l 1 → length w ≤ length b
+  text-room w e = omega (arith, ap length e, word-short l 1)
+
+  pub second-room : (i : ℕ) → i ≤ length (word l 1) → i + length (word l 2) / 2 ≤ length b
+  second-room i h = omega (arith, two-short l)
+
+  pub third-room : (j : ℕ) → j ≤ length (word l 1) + length (word l 2) → j + length (word l 5) / 2 ≤ length b
+  third-room j h = omega (arith, two-short l)

@@ -1,14 +1,16 @@
 -- What a line says, and the arguments of a call. A reader of an argument hands the word's value on, or the line cannot be read.
-use mathlib.Core.Bool.{Bool, true}
+use mathlib.Core.Bool.{Bool, true, false}
 use mathlib.Core.List.{List, [], _∷_}
+use mathlib.Core.Option.{Option, none, some}
 use Prim.Native.Nat.{ℕ, _+_, _-_, _*_}
 use lib.Dec.{eqb, ltb, leb}
 use lib.ListN.{length, getD}
 use Rattle.errors.specs.Choice.{pick}
-use Rattle.framing.specs.Lists.{both}
+use Rattle.framing.specs.Lists.{both, same}
+use Rattle.targets.specs.Bitrates.{ascii}
 use Rattle.exchange.specs.Exchange.{Event}
 use Rattle.protocol.specs.Calls.{Call}
-use Rattle.bench.specs.Hex.{inRange, isHex, pairsOf}
+use Rattle.bench.specs.Hex.{dash, inRange, isHex, pairsOf}
 use Rattle.bench.specs.Words.{wordsOf}
 
 -- a call, an event with its packet's bytes, or a line that cannot be read
@@ -17,12 +19,12 @@ pub data Said : Type 0 where
   happens : Event → Said
   unreadable : Said
 
--- the longest line, without its line feed, and room for its bytes
+-- the longest line, without its line feed, and room for its bytes: a BITRATE has as many as its word
 abbrev pub lineLimit : ℕ
 lineLimit = 8192
 
 abbrev pub bytesRoom : ℕ
-bytesRoom = 4096
+bytesRoom = 8192
 
 -- the k-th word of a line: its name is word 0
 abbrev pub word : List ℕ → ℕ → List ℕ
@@ -66,3 +68,26 @@ isMs w = both (ltb 0 (length w)) (both (allDecimal w) (leb (numberFrom 0 w) msLi
 
 unfoldable pub msArg : List ℕ → (ℕ → Said) → Said
 msArg w f = pick (isMs w) (f (numberFrom 0 w)) unreadable
+
+-- BITRATE: the word itself, or `-` for the empty text
+unfoldable pub textArg : List ℕ → (List ℕ → Said) → Said
+textArg w f = pick (eqb (length w) 0) unreadable (pick (same dash w) (f []) (f w))
+
+-- an argument that may be absent: `none`
+unfoldable pub isNone : List ℕ → Bool
+isNone w = same (ascii "none") w
+
+-- HEX that counts as no bytes where it is absent
+unfoldable pub hexOrNone : List ℕ → (List ℕ → Said) → Said
+hexOrNone w f = pick (isNone w) (f []) (hexArg w f)
+
+-- whether a HEX is present
+unfoldable pub presentArg : List ℕ → (Bool → Said) → Said
+presentArg w f = pick (isNone w) (f false) (pick (isHex w) (f true) unreadable)
+
+-- MS of at most 65535 that may be absent
+abbrev pub waitLimit : ℕ
+waitLimit = 65535
+
+unfoldable pub waitArg : List ℕ → (Option ℕ → Said) → Said
+waitArg w f = pick (isNone w) (f none) (msArg w (λ ms. pick (ltb waitLimit ms) unreadable (f (some ms))))

@@ -7,12 +7,15 @@ use Rattle.errors.specs.Choice.{pick}
 use Rattle.framing.specs.Lists.{same}
 use Rattle.targets.specs.Bitrates.{ascii}
 use Rattle.exchange.specs.Exchange.{ok, bad, pkt, time, fail, late, slept}
-use Rattle.protocol.specs.Calls.{Request, opening, request, version, resetMode, setParameters, rfConfiguration, rfFieldOff, readRegister, writeRegister, readSingleRegister, writeSingleRegister, inListPassiveTarget, inDataExchange, inCommunicateThru, inJumpForDep, tgInitTarget, tgSetGeneralBytes, tgGetInitiatorCommand, tgResponseToInitiator, tgGetTargetStatus}
+use Rattle.protocol.specs.Calls.{Request, DeviceCall, opening, reader, request, device, version, resetMode, setParameters, rfConfiguration, rfFieldOff, readRegister, writeRegister, readSingleRegister, writeSingleRegister, inListPassiveTarget, inDataExchange, inCommunicateThru, inJumpForDep, tgInitTarget, tgSetGeneralBytes, tgGetInitiatorCommand, tgResponseToInitiator, tgGetTargetStatus, detectTypeA, detectTypeB, detectTypeF, detectDep, transceive}
 use Rattle.bench.specs.Words.{wordsOf}
-use Rattle.bench_input.specs.Arguments.{Said, calls, happens, unreadable, lineLimit, word, hexArg, byteArg, wordArg, flagArg, msArg}
+use Rattle.bench_input.specs.Arguments.{Said, calls, happens, unreadable, lineLimit, word, hexArg, byteArg, wordArg, flagArg, msArg, textArg, hexOrNone, presentArg, waitArg}
 
 abbrev pub asks : Request → Said
-asks r = calls (request r)
+asks r = calls (reader (request r))
+
+abbrev pub detects : DeviceCall → Said
+detects d = calls (reader (device d))
 
 -- the events, of which `pkt` alone has the empty packet
 unfoldable pub waitLine : List ℕ → Said
@@ -86,10 +89,28 @@ timedNamed l ms p =
 unfoldable pub timedLine : List ℕ → Said
 timedLine l = msArg (word l 1) (λ ms. hexArg (word l 2) (λ p. timedNamed l ms p))
 
+-- `detect_type_a BITRATE HEX`
+unfoldable pub detectTypeALine : List ℕ → Said
+detectTypeALine l = textArg (word l 1) (λ bitrate. hexArg (word l 2) (λ uid. detects (detectTypeA bitrate uid)))
+
+-- `detect_type_b BITRATE HEX`
+unfoldable pub detectTypeBLine : List ℕ → Said
+detectTypeBLine l = textArg (word l 1) (λ bitrate. hexArg (word l 2) (λ sensbReq. detects (detectTypeB bitrate sensbReq)))
+
+-- `detect_dep BITRATE HEX`, where HEX may be `none`
+unfoldable pub detectDepLine : List ℕ → Said
+detectDepLine l = textArg (word l 1) (λ bitrate. hexOrNone (word l 2) (λ atrReq. detects (detectDep bitrate atrReq)))
+
+unfoldable pub detectLine : List ℕ → Said
+detectLine l =
+    pick (same (ascii "detect_type_a") (word l 0)) (detectTypeALine l)
+    (pick (same (ascii "detect_type_b") (word l 0)) (detectTypeBLine l)
+    (pick (same (ascii "detect_dep") (word l 0)) (detectDepLine l) (timedLine l)))
+
 unfoldable pub threeWords : List ℕ → Said
 threeWords l =
     pick (same (ascii "rf_configuration") (word l 0)) (rfConfigurationLine l)
-    (pick (same (ascii "write_single_register") (word l 0)) (writeSingleRegisterLine l) (timedLine l))
+    (pick (same (ascii "write_single_register") (word l 0)) (writeSingleRegisterLine l) (detectLine l))
 
 -- `in_list_passive_target BYTE BYTE HEX`
 unfoldable pub inListPassiveTargetLine : List ℕ → Said
@@ -99,6 +120,15 @@ inListPassiveTargetLine l =
 unfoldable pub fourWords : List ℕ → Said
 fourWords l = pick (same (ascii "in_list_passive_target") (word l 0)) (inListPassiveTargetLine l) unreadable
 
+-- `detect_type_f BITRATE WORD BYTE BYTE`
+unfoldable pub detectTypeFLine : List ℕ → Said
+detectTypeFLine l =
+    textArg (word l 1) (λ bitrate. wordArg (word l 2) (λ systemCode. byteArg (word l 3) (λ requestCode. byteArg (word l 4) (λ timeSlots.
+    detects (detectTypeF bitrate systemCode requestCode timeSlots)))))
+
+unfoldable pub fiveWords : List ℕ → Said
+fiveWords l = pick (same (ascii "detect_type_f") (word l 0)) (detectTypeFLine l) unreadable
+
 -- `in_jump_for_dep BYTE BYTE HEX HEX HEX`
 unfoldable pub inJumpForDepLine : List ℕ → Said
 inJumpForDepLine l =
@@ -106,8 +136,16 @@ inJumpForDepLine l =
     hexArg (word l 3) (λ passive. hexArg (word l 4) (λ nfcid3. hexArg (word l 5) (λ gi.
     asks (inJumpForDep active br passive nfcid3 gi))))))
 
+-- `transceive BITRATE HEX HEX MS HEX`, where the first two HEX and MS may be `none`
+unfoldable pub transceiveLine : List ℕ → Said
+transceiveLine l =
+    textArg (word l 1) (λ bitrate. hexOrNone (word l 2) (λ selRes. presentArg (word l 3) (λ ridRes. waitArg (word l 4) (λ ms. hexArg (word l 5) (λ p.
+    detects (transceive bitrate selRes ridRes p ms))))))
+
 unfoldable pub sixWords : List ℕ → Said
-sixWords l = pick (same (ascii "in_jump_for_dep") (word l 0)) (inJumpForDepLine l) unreadable
+sixWords l =
+    pick (same (ascii "in_jump_for_dep") (word l 0)) (inJumpForDepLine l)
+    (pick (same (ascii "transceive") (word l 0)) (transceiveLine l) unreadable)
 
 -- `tg_init_target MS BYTE HEX HEX HEX HEX`
 unfoldable pub tgInitTargetLine : List ℕ → Said
@@ -126,8 +164,9 @@ byWords n l =
     (pick (eqb n 2) (twoWords l)
     (pick (eqb n 3) (threeWords l)
     (pick (eqb n 4) (fourWords l)
+    (pick (eqb n 5) (fiveWords l)
     (pick (eqb n 6) (sixWords l)
-    (pick (eqb n 7) (sevenWords l) unreadable)))))
+    (pick (eqb n 7) (sevenWords l) unreadable))))))
 
 unfoldable pub inputOf : List ℕ → Said
 inputOf l = pick (ltb lineLimit (length l)) unreadable (byWords (length (wordsOf l)) l)

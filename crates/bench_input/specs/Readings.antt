@@ -1,6 +1,8 @@
 -- The code's values in the terms of the definitions. The bytes of the arguments stand one behind the other in the buffer b.
 use mathlib.Core.Path.{_≡_}
+use mathlib.Core.Bool.{Bool}
 use mathlib.Core.List.{List}
+use mathlib.Core.Option.{Option, none, some}
 use Prim.Native.Nat.{ℕ, _+_, _≤_}
 use lib.ListN.{length, take}
 use lib.Seq.{slice}
@@ -15,14 +17,24 @@ use Rattle.bench_input.specs.declared.Initiator.{Initiator}
 use Rattle.bench_input.specs.declared.Initiator.the-variants.{InListPassiveTarget, InDataExchange, InCommunicateThru, InJumpForDep}
 use Rattle.bench_input.specs.declared.Target.{Target}
 use Rattle.bench_input.specs.declared.Target.the-variants.{TgInitTarget, TgSetGeneralBytes, TgGetInitiatorCommand, TgResponseToInitiator, TgGetTargetStatus}
+use Rattle.bench_input.specs.declared.Wait.{Wait}
+use Rattle.bench_input.specs.declared.Wait.the-variants.{Standard, Ms as WaitMs}
+use Rattle.bench_input.specs.declared.Device.{Device}
+use Rattle.bench_input.specs.declared.Device.the-variants.{DetectTypeA, DetectTypeB, DetectTypeF, DetectDep, Transceive}
 use Rattle.bench_input.specs.declared.Input.{Input}
-use Rattle.bench_input.specs.declared.Input.the-variants.{Open, Chip, In, Tg, Happened, Unreadable}
+use Rattle.bench_input.specs.declared.Input.the-variants.{Open, Chip, In, Tg, Dev, Happened, Unreadable}
 use Rattle.bench_input.specs.declared.arguments.Byte.{Byte}
 use Rattle.bench_input.specs.declared.arguments.Byte.the-variants.{Value as ByteValue, Unreadable as NoByte}
 use Rattle.bench_input.specs.declared.arguments.Word.{Word}
 use Rattle.bench_input.specs.declared.arguments.Word.the-variants.{Value as WordValue, Unreadable as NoWord}
 use Rattle.bench_input.specs.declared.arguments.Ms.{Ms}
 use Rattle.bench_input.specs.declared.arguments.Ms.the-variants.{Value as MsValue, Unreadable as NoMs}
+use Rattle.bench_input.specs.declared.arguments.Presence.{Presence}
+use Rattle.bench_input.specs.declared.arguments.Presence.the-variants.{Value as PresenceValue, Unreadable as NoPresence}
+use Rattle.bench_input.specs.declared.arguments.WaitWord.{WaitWord}
+use Rattle.bench_input.specs.declared.arguments.WaitWord.the-variants.{Value as WaitValue, Unreadable as NoWait}
+use Rattle.bench_input.specs.declared.arguments.Two.{Two}
+use Rattle.bench_input.specs.declared.arguments.Two.the-variants.{At as AtTwo, Unreadable as NoTwo}
 use Rattle.bench_input.specs.declared.arguments.Ends.{Ends}
 use Rattle.bench_input.specs.declared.arguments.Ends.the-variants.{At, Unreadable as NoEnds}
 
@@ -51,11 +63,24 @@ targetIn b (TgGetInitiatorCommand ms) = to.tgGetInitiatorCommand ms
 targetIn b (TgResponseToInitiator n) = to.tgResponseToInitiator (slice 0 n b)
 targetIn b TgGetTargetStatus = to.tgGetTargetStatus
 
+-- a time-out that the line gives, if any
+abbrev pub waitOf : Wait → Option ℕ
+waitOf Standard = none
+waitOf (WaitMs ms) = some ms
+
+abbrev pub deviceIn : List ℕ → Device → to.DeviceCall
+deviceIn b (DetectTypeA i j) = to.detectTypeA (slice 0 i b) (slice i j b)
+deviceIn b (DetectTypeB i j) = to.detectTypeB (slice 0 i b) (slice i j b)
+deviceIn b (DetectTypeF i systemCode requestCode timeSlots) = to.detectTypeF (slice 0 i b) systemCode requestCode timeSlots
+deviceIn b (DetectDep i j) = to.detectDep (slice 0 i b) (slice i j b)
+deviceIn b (Transceive i j ridRes k wait) = to.transceive (slice 0 i b) (slice i j b) ridRes (slice j k b) (waitOf wait)
+
 abbrev pub inputIn : List ℕ → Input → Said
 inputIn b Open = calls to.opening
-inputIn b (Chip c) = calls (to.request (commandIn b c))
-inputIn b (In c) = calls (to.request (initiatorIn b c))
-inputIn b (Tg c) = calls (to.request (targetIn b c))
+inputIn b (Chip c) = calls (to.reader (to.request (commandIn b c)))
+inputIn b (In c) = calls (to.reader (to.request (initiatorIn b c)))
+inputIn b (Tg c) = calls (to.reader (to.request (targetIn b c)))
+inputIn b (Dev c) = calls (to.reader (to.device (deviceIn b c)))
 inputIn b (Happened e n) = happens (eventOf e (slice 0 n b))
 inputIn b Unreadable = unreadable
 
@@ -72,9 +97,21 @@ abbrev pub msIn : Ms → (ℕ → Said) → Said
 msIn (MsValue n) f = f n
 msIn NoMs f = unreadable
 
+abbrev pub presentIn : Presence → (Bool → Said) → Said
+presentIn (PresenceValue t) f = f t
+presentIn NoPresence f = unreadable
+
+abbrev pub waitIn : WaitWord → (Option ℕ → Said) → Said
+waitIn (WaitValue wait) f = f (waitOf wait)
+waitIn NoWait f = unreadable
+
 abbrev pub hexIn : ℕ → Put → List ℕ → (List ℕ → Said) → Said
 hexIn at (Bytes n) b f = f (slice at n b)
 hexIn at (Refused e) b f = unreadable
+
+abbrev pub twoIn : Two → List ℕ → (List ℕ → List ℕ → Said) → Said
+twoIn (AtTwo i j) b f = f (slice 0 i b) (slice i j b)
+twoIn NoTwo b f = unreadable
 
 abbrev pub endsIn : Ends → List ℕ → (List ℕ → List ℕ → List ℕ → Said) → Said
 endsIn (At i j k) b f = f (slice 0 i b) (slice i j b) (slice j k b)
@@ -95,3 +132,8 @@ pub record Behind (at end size : ℕ) (b o : List ℕ) : Type 0 where
 abbrev pub Ordered : Ends → List ℕ → Type 0
 Ordered (At i j k) l = (i ≤ j) × (j ≤ k) × (k + k ≤ length (word l 3) + length (word l 4) + length (word l 5))
 Ordered NoEnds l = Unit {0}
+
+-- a BITRATE and the argument behind it, within words 1 and 2
+abbrev pub OrderedTwo : Two → List ℕ → Type 0
+OrderedTwo (AtTwo i j) l = (i ≤ j) × (j ≤ length (word l 1) + length (word l 2))
+OrderedTwo NoTwo l = Unit {0}

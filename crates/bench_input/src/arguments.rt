@@ -1,15 +1,18 @@
 // The arguments of a line: its k-th word, the name being word 0, as a number or as bytes.
+use super::Wait;
 use bench::Put;
 use bench::hex;
 use bench::words;
 use errors::Refusal;
 ghost use mathlib.Core.Path.{_≡_};
+ghost use mathlib.Core.Bool.{Bool};
 ghost use mathlib.Core.List.{List};
+ghost use mathlib.Core.Option.{Option};
 ghost use Prim.Native.Nat.{ℕ, _+_, _*_, _/_, _≤_};
 ghost use lib.ListN.{length};
 ghost use Rattle.framing.specs.Lists.{same};
-ghost use Rattle.bench_input.specs.Arguments.{Said, word, byteArg, wordArg, msArg, hexArg, digitOf, lineLimit, bytesRoom};
-ghost use Rattle.bench_input.specs.Readings.{byteIn, wordIn, msIn, hexIn, endsIn, Behind, endOf, Ordered};
+ghost use Rattle.bench_input.specs.Arguments.{Said, word, byteArg, wordArg, msArg, hexArg, textArg, isNone, hexOrNone, presentArg, waitArg, digitOf, lineLimit, bytesRoom};
+ghost use Rattle.bench_input.specs.Readings.{byteIn, wordIn, msIn, hexIn, presentIn, waitIn, twoIn, endsIn, Behind, endOf, OrderedTwo, Ordered};
 
 // What a word says as BYTE, as WORD and as MS.
 pub enum Byte {
@@ -27,6 +30,23 @@ pub enum Ms {
     Unreadable,
 }
 
+// Whether an argument is present, and the time-out that a word gives.
+pub enum Presence {
+    Value(bool),
+    Unreadable,
+}
+
+pub enum WaitWord {
+    Value(Wait),
+    Unreadable,
+}
+
+// The places where a BITRATE and the argument behind it end.
+pub enum Two {
+    At(usize, usize),
+    Unreadable,
+}
+
 // The places where three HEX end.
 pub enum Ends {
     At(usize, usize, usize),
@@ -34,6 +54,8 @@ pub enum Ends {
 }
 
 const MS_LIMIT: u64 = 4294967295;
+
+const WAIT_LIMIT: u32 = 65535;
 
 // Whether the line's first word is this text.
 pub(crate) fn named(line: &[u8], name: &[u8]) -> bool
@@ -140,4 +162,98 @@ pub(crate) fn read_three(line: &[u8], bytes: &mut [u8]) -> Ends
         return Ends::Unreadable;
     };
     Ends::At(first, second, third)
+}
+
+// BITRATE, word 1: puts its bytes at the buffer's start, and gives the place behind them.
+pub(crate) fn read_text(line: &[u8], bytes: &mut [u8]) -> Put
+    requires { ⌜ (length (now line) ≤ lineLimit) × (length (now bytes) ≡ bytesRoom) ⌝ }
+    ensures { λ r. ⌜ ((f : List ℕ → Said) → hexIn 0 r (now (bytes .exit)) f ≡ textArg (word (now (line .entry)) 1) f) ⌝ }
+    ensures { λ r. ⌜ endOf 0 r ≤ length (word (now (line .entry)) 1) ⌝ }
+{
+    let word = words::word(line, 1);
+    if word.len() == 0 {
+        return Put::Refused(Refusal::BadArgument);
+    }
+    if words::is(word, b"-") {
+        return Put::Bytes(0);
+    }
+    bytes::copy(word, bytes);
+    Put::Bytes(word.len())
+}
+
+// Whether the argument is absent.
+fn is_none(line: &[u8], k: usize) -> bool
+    ensures { λ r. ⌜ r ≡ isNone (word (now (line .entry)) k) ⌝ }
+{
+    words::is(words::word(line, k), b"none")
+}
+
+// HEX, or `none` for no bytes, from a place on.
+fn read_hex_or_none(line: &[u8], k: usize, bytes: &mut [u8], at: usize) -> Put
+    requires { ⌜ at + length (word (now line) k) / 2 ≤ length (now bytes) ⌝ }
+    ensures { λ r. ⌜ ((f : List ℕ → Said) → hexIn at r (now (bytes .exit)) f ≡ hexOrNone (word (now (line .entry)) k) f) ⌝ }
+    ensures { λ r. ⌜ Behind at (endOf at r) (length (word (now (line .entry)) k)) (now (bytes .entry)) (now (bytes .exit)) ⌝ }
+{
+    if is_none(line, k) {
+        return Put::Bytes(at);
+    }
+    read_hex(line, k, bytes, at)
+}
+
+// Words 1 and 2 as BITRATE and HEX.
+pub(crate) fn read_two(line: &[u8], bytes: &mut [u8]) -> Two
+    requires { ⌜ (length (now line) ≤ lineLimit) × (length (now bytes) ≡ bytesRoom) ⌝ }
+    ensures { λ r. ⌜ ((f : List ℕ → List ℕ → Said) → twoIn r (now (bytes .exit)) f ≡ textArg (word (now (line .entry)) 1) (λ a. hexArg (word (now (line .entry)) 2) (λ b. f a b))) ⌝ }
+{
+    let Put::Bytes(first) = read_text(line, bytes) else {
+        return Two::Unreadable;
+    };
+    let Put::Bytes(second) = read_hex(line, 2, bytes, first) else {
+        return Two::Unreadable;
+    };
+    Two::At(first, second)
+}
+
+// Words 1 and 2 as BITRATE and HEX or `none`.
+pub(crate) fn read_two_or_none(line: &[u8], bytes: &mut [u8]) -> Two
+    requires { ⌜ (length (now line) ≤ lineLimit) × (length (now bytes) ≡ bytesRoom) ⌝ }
+    ensures { λ r. ⌜ ((f : List ℕ → List ℕ → Said) → twoIn r (now (bytes .exit)) f ≡ textArg (word (now (line .entry)) 1) (λ a. hexOrNone (word (now (line .entry)) 2) (λ b. f a b))) ⌝ }
+    ensures { λ r. ⌜ OrderedTwo r (now (line .entry)) ⌝ }
+{
+    let Put::Bytes(first) = read_text(line, bytes) else {
+        return Two::Unreadable;
+    };
+    let Put::Bytes(second) = read_hex_or_none(line, 2, bytes, first) else {
+        return Two::Unreadable;
+    };
+    Two::At(first, second)
+}
+
+// Whether a HEX is present.
+pub(crate) fn read_presence(line: &[u8], k: usize) -> Presence
+    ensures { λ r. ⌜ ((f : Bool → Said) → presentIn r f ≡ presentArg (word (now (line .entry)) k) f) ⌝ }
+{
+    if is_none(line, k) {
+        return Presence::Value(false);
+    }
+    if hex::is_hex(words::word(line, k)) {
+        return Presence::Value(true);
+    }
+    Presence::Unreadable
+}
+
+// MS of at most 65535, or `none`.
+pub(crate) fn read_wait(line: &[u8], k: usize) -> WaitWord
+    ensures { λ r. ⌜ ((f : Option ℕ → Said) → waitIn r f ≡ waitArg (word (now (line .entry)) k) f) ⌝ }
+{
+    if is_none(line, k) {
+        return WaitWord::Value(Wait::Standard);
+    }
+    let Ms::Value(ms) = read_ms(line, k) else {
+        return WaitWord::Unreadable;
+    };
+    if WAIT_LIMIT < ms {
+        return WaitWord::Unreadable;
+    }
+    WaitWord::Value(Wait::Ms(ms as u16))
 }

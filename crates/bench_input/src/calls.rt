@@ -1,5 +1,6 @@
 // What a line says, by the number of its words and its name.
 use super::Command;
+use super::Device;
 use super::Initiator;
 use super::Input;
 use super::Target;
@@ -7,6 +8,9 @@ use super::arguments;
 use super::arguments::Byte;
 use super::arguments::Ends;
 use super::arguments::Ms;
+use super::arguments::Presence;
+use super::arguments::Two;
+use super::arguments::WaitWord;
 use super::arguments::Word;
 use arguments::named;
 use bench::Put;
@@ -17,7 +21,7 @@ ghost use Prim.Native.Nat.{ℕ, _≤_};
 ghost use lib.ListN.{length};
 ghost use lib.Seq.{slice};
 ghost use Rattle.bench_input.specs.Arguments.{lineLimit, bytesRoom};
-ghost use Rattle.bench_input.specs.Inputs.{waitLine, eventLine, oneWord, setParametersLine, readSingleRegisterLine, tgGetInitiatorCommandLine, hexNamed, hexLine, twoWords, rfConfigurationLine, writeSingleRegisterLine, timedNamed, timedLine, threeWords, inListPassiveTargetLine, fourWords, inJumpForDepLine, sixWords, tgInitTargetLine, sevenWords};
+ghost use Rattle.bench_input.specs.Inputs.{waitLine, eventLine, oneWord, setParametersLine, readSingleRegisterLine, tgGetInitiatorCommandLine, hexNamed, hexLine, twoWords, rfConfigurationLine, writeSingleRegisterLine, timedNamed, timedLine, detectTypeALine, detectTypeBLine, detectDepLine, detectLine, threeWords, inListPassiveTargetLine, fourWords, detectTypeFLine, fiveWords, inJumpForDepLine, transceiveLine, sixWords, tgInitTargetLine, sevenWords};
 ghost use Rattle.bench_input.specs.Readings.{inputIn};
 
 // An order that was to wait: nothing came, or the time is over.
@@ -209,6 +213,52 @@ fn timed(line: &[u8], bytes: &mut [u8]) -> Input
     timed_named(line, ms, n)
 }
 
+fn detect_type_a(line: &[u8], bytes: &mut [u8]) -> Input
+    requires { ⌜ (length (now line) ≤ lineLimit) × (length (now bytes) ≡ bytesRoom) ⌝ }
+    ensures { λ r. ⌜ inputIn (now (bytes .exit)) r ≡ detectTypeALine (now (line .entry)) ⌝ }
+{
+    let Two::At(bitrate, uid) = arguments::read_two(line, bytes) else {
+        return Input::Unreadable;
+    };
+    Input::Dev(Device::DetectTypeA(bitrate, uid))
+}
+
+fn detect_type_b(line: &[u8], bytes: &mut [u8]) -> Input
+    requires { ⌜ (length (now line) ≤ lineLimit) × (length (now bytes) ≡ bytesRoom) ⌝ }
+    ensures { λ r. ⌜ inputIn (now (bytes .exit)) r ≡ detectTypeBLine (now (line .entry)) ⌝ }
+{
+    let Two::At(bitrate, sensb_req) = arguments::read_two(line, bytes) else {
+        return Input::Unreadable;
+    };
+    Input::Dev(Device::DetectTypeB(bitrate, sensb_req))
+}
+
+fn detect_dep(line: &[u8], bytes: &mut [u8]) -> Input
+    requires { ⌜ (length (now line) ≤ lineLimit) × (length (now bytes) ≡ bytesRoom) ⌝ }
+    ensures { λ r. ⌜ inputIn (now (bytes .exit)) r ≡ detectDepLine (now (line .entry)) ⌝ }
+{
+    let Two::At(bitrate, atr_req) = arguments::read_two_or_none(line, bytes) else {
+        return Input::Unreadable;
+    };
+    Input::Dev(Device::DetectDep(bitrate, atr_req))
+}
+
+fn detect(line: &[u8], bytes: &mut [u8]) -> Input
+    requires { ⌜ (length (now line) ≤ lineLimit) × (length (now bytes) ≡ bytesRoom) ⌝ }
+    ensures { λ r. ⌜ inputIn (now (bytes .exit)) r ≡ detectLine (now (line .entry)) ⌝ }
+{
+    if named(line, b"detect_type_a") {
+        return detect_type_a(line, bytes);
+    }
+    if named(line, b"detect_type_b") {
+        return detect_type_b(line, bytes);
+    }
+    if named(line, b"detect_dep") {
+        return detect_dep(line, bytes);
+    }
+    timed(line, bytes)
+}
+
 pub(crate) fn three_words(line: &[u8], bytes: &mut [u8]) -> Input
     requires { ⌜ (length (now line) ≤ lineLimit) × (length (now bytes) ≡ bytesRoom) ⌝ }
     ensures { λ r. ⌜ inputIn (now (bytes .exit)) r ≡ threeWords (now (line .entry)) ⌝ }
@@ -219,7 +269,7 @@ pub(crate) fn three_words(line: &[u8], bytes: &mut [u8]) -> Input
     if named(line, b"write_single_register") {
         return write_single_register(line);
     }
-    timed(line, bytes)
+    detect(line, bytes)
 }
 
 fn in_list_passive_target(line: &[u8], bytes: &mut [u8]) -> Input
@@ -248,6 +298,35 @@ pub(crate) fn four_words(line: &[u8], bytes: &mut [u8]) -> Input
     Input::Unreadable
 }
 
+fn detect_type_f(line: &[u8], bytes: &mut [u8]) -> Input
+    requires { ⌜ (length (now line) ≤ lineLimit) × (length (now bytes) ≡ bytesRoom) ⌝ }
+    ensures { λ r. ⌜ inputIn (now (bytes .exit)) r ≡ detectTypeFLine (now (line .entry)) ⌝ }
+{
+    let Put::Bytes(bitrate) = arguments::read_text(line, bytes) else {
+        return Input::Unreadable;
+    };
+    let Word::Value(system_code) = arguments::read_word(line, 2) else {
+        return Input::Unreadable;
+    };
+    let Byte::Value(request_code) = arguments::read_byte(line, 3) else {
+        return Input::Unreadable;
+    };
+    let Byte::Value(time_slots) = arguments::read_byte(line, 4) else {
+        return Input::Unreadable;
+    };
+    Input::Dev(Device::DetectTypeF(bitrate, system_code, request_code, time_slots))
+}
+
+pub(crate) fn five_words(line: &[u8], bytes: &mut [u8]) -> Input
+    requires { ⌜ (length (now line) ≤ lineLimit) × (length (now bytes) ≡ bytesRoom) ⌝ }
+    ensures { λ r. ⌜ inputIn (now (bytes .exit)) r ≡ fiveWords (now (line .entry)) ⌝ }
+{
+    if named(line, b"detect_type_f") {
+        return detect_type_f(line, bytes);
+    }
+    Input::Unreadable
+}
+
 fn in_jump_for_dep(line: &[u8], bytes: &mut [u8]) -> Input
     requires { ⌜ (length (now line) ≤ lineLimit) × (length (now bytes) ≡ bytesRoom) ⌝ }
     ensures { λ r. ⌜ inputIn (now (bytes .exit)) r ≡ inJumpForDepLine (now (line .entry)) ⌝ }
@@ -267,12 +346,34 @@ fn in_jump_for_dep(line: &[u8], bytes: &mut [u8]) -> Input
     Input::In(Initiator::InJumpForDep(active == 1, br, passive, nfcid3, gi))
 }
 
+fn transceive(line: &[u8], bytes: &mut [u8]) -> Input
+    requires { ⌜ (length (now line) ≤ lineLimit) × (length (now bytes) ≡ bytesRoom) ⌝ }
+    ensures { λ r. ⌜ inputIn (now (bytes .exit)) r ≡ transceiveLine (now (line .entry)) ⌝ }
+{
+    let Two::At(bitrate, sel_res) = arguments::read_two_or_none(line, bytes) else {
+        return Input::Unreadable;
+    };
+    let Presence::Value(rid_res) = arguments::read_presence(line, 3) else {
+        return Input::Unreadable;
+    };
+    let WaitWord::Value(wait) = arguments::read_wait(line, 4) else {
+        return Input::Unreadable;
+    };
+    let Put::Bytes(n) = arguments::read_hex(line, 5, bytes, sel_res) else {
+        return Input::Unreadable;
+    };
+    Input::Dev(Device::Transceive(bitrate, sel_res, rid_res, n, wait))
+}
+
 pub(crate) fn six_words(line: &[u8], bytes: &mut [u8]) -> Input
     requires { ⌜ (length (now line) ≤ lineLimit) × (length (now bytes) ≡ bytesRoom) ⌝ }
     ensures { λ r. ⌜ inputIn (now (bytes .exit)) r ≡ sixWords (now (line .entry)) ⌝ }
 {
     if named(line, b"in_jump_for_dep") {
         return in_jump_for_dep(line, bytes);
+    }
+    if named(line, b"transceive") {
+        return transceive(line, bytes);
     }
     Input::Unreadable
 }

@@ -1,5 +1,5 @@
-// A line of the program `session`, read: a call or an event. The bytes of its HEX arguments stand one behind the other at
-// the start of a lent buffer, and a call tells the places where they end.
+// A line of the program `session`, read: a call or an event. The bytes of its BITRATE and HEX arguments stand one behind the
+// other at the start of a lent buffer, and a call tells the places where they end.
 mod arguments;
 mod calls;
 
@@ -11,10 +11,10 @@ ghost use lib.Seq.{slice};
 ghost use Rattle.bench_input.specs.Inputs.{inputOf};
 ghost use Rattle.bench_input.specs.Readings.{inputIn};
 
-// The longest line, without its line feed, and room for its bytes.
+// The longest line, without its line feed, and room for its bytes: a BITRATE has as many as its word.
 pub const LINE: usize = 8192;
 
-pub const BYTES: usize = 4096;
+pub const BYTES: usize = 8192;
 
 // The calls of the chip itself, with their arguments in the order of the Rust's.
 pub enum Command {
@@ -46,12 +46,29 @@ pub enum Target {
     TgGetTargetStatus,
 }
 
+// How long a tag may take: as ever, or so many milliseconds.
+pub enum Wait {
+    Standard,
+    Ms(u16),
+}
+
+// The calls of the device, the bitrate's end first. An absent argument counts as one of no bytes; of RID_RES a call tells only
+// whether it is present.
+pub enum Device {
+    DetectTypeA(usize, usize),
+    DetectTypeB(usize, usize),
+    DetectTypeF(usize, u16, u8, u8),
+    DetectDep(usize, usize),
+    Transceive(usize, usize, bool, usize, Wait),
+}
+
 // What a line says: a call, an event with the number of its packet's bytes, or nothing that can be read.
 pub enum Input {
     Open,
     Chip(Command),
     In(Initiator),
     Tg(Target),
+    Dev(Device),
     Happened(Event, usize),
     Unreadable,
 }
@@ -97,6 +114,9 @@ pub fn read(line: &[u8], bytes: &mut [u8; BYTES]) -> Input
     }
     if n == 4 {
         return calls::four_words(line, bytes);
+    }
+    if n == 5 {
+        return calls::five_words(line, bytes);
     }
     if n == 6 {
         return calls::six_words(line, bytes);

@@ -14,13 +14,13 @@ use Rattle.errors.specs.declared.Numbered.{Numbered}
 use Rattle.errors.specs.declared.Refusal.{Refusal}
 use Rattle.targets.specs.Bitrates.{ascii}
 use Rattle.engine.specs.declared.state.Output.{Output}
-use Rattle.engine.specs.declared.state.Output.the-variants.{Write, Read, Drain, Pause, Done, Nothing, Refused}
+use Rattle.engine.specs.declared.state.Output.the-variants.{Write, Read, Drain, Pause, Done, Type1, Nothing, Refused}
 use Rattle.bench.specs.DecimalLaws.{decimal-short}
 use Rattle.bench.specs.Hex.{hexOf}
 use Rattle.bench.specs.HexLaws.{hex-short}
 use Rattle.bench.specs.TextLaws.{next-place, put-behind}
 use Rattle.bench.specs.Texts.{Placed, placed, placedAt, decimalOf}
-use Rattle.bench_session.specs.Outputs.{outRoom, textLimit, doneText, refusedText, textOf}
+use Rattle.bench_session.specs.Outputs.{outRoom, textLimit, doneText, type1Text, refusedText, textOf}
 
 -- the first n bytes
 pub first-part : (n : ℕ) (p : List ℕ) → n < length p → n ≡ length (take n p)
@@ -45,6 +45,18 @@ module _ (t b o : List ℕ) (r : ℕ) (before : placed r o ≡ placedAt 0 t b) (
 
   pub number-behind : (n : ℕ) (x : Placed) → length t ≤ 8 → x ≡ placedAt r (decimalOf n) o → x ≡ placedAt 0 (t ++ decimalOf n) b
   number-behind n x h e = put-behind t b o r before (decimalOf n) x e (omega (arith, decimal-short n))
+
+-- `type1` behind a Type 1 answer's bytes
+module _ (p b o : List ℕ) (r : ℕ) (before : placed r o ≡ placedAt 0 (ascii "done " ++ hexOf p) b) (room : outRoom ≤ length b) (short : length p ≤ 1024) where
+  done-short : length (ascii "done " ++ hexOf p) ≤ 2054
+  done-short = rw (length-append (ascii "done ") (hexOf p)) (omega (arith, hex-short p))
+
+  pub type1-room : length o ≡ length b → r + 6 ≤ length o
+  type1-room l = omega (arith, done-short, next-place (ascii "done " ++ hexOf p) b o r before)
+
+  pub type1-done : (x : Placed) → x ≡ placedAt r (ascii " type1") o → x ≡ placedAt 0 (type1Text p) b
+  unfolding type1Text
+  type1-done x e = put-behind (ascii "done " ++ hexOf p) b o r before (ascii " type1") x e (omega (arith, done-short))
 
 -- a status behind a refusal's number n
 module _ (n r : ℕ) (b o : List ℕ) (before : placed r o ≡ placedAt 0 (ascii "refused " ++ decimalOf n) b) (room : outRoom ≤ length b) where
@@ -102,12 +114,14 @@ refused-fits n =
     (number-fits (ascii "refused ") (n .0) (omega arith))
 
 pub text-fits : (o : Output) (b : List ℕ) → length b ≤ 1024 → length (textOf o b) ≤ textLimit
-unfolding textOf doneText
+unfolding textOf doneText type1Text
 text-fits (Write n) b h = bytes-fit (ascii "write ") (take n b) (omega arith) (omega (arith, length-take n b))
 text-fits (Read ms) b h = number-fits (ascii "read ") ms (omega arith)
 text-fits Drain b h = omega arith
 text-fits (Pause us) b h = number-fits (ascii "pause ") us (omega arith)
 text-fits (Done n) b h = pick-fits (eqb (length (take n b)) 0) _ _ (omega arith) (bytes-fit (ascii "done ") (take n b) (omega arith) (omega (arith, length-take n b)))
+text-fits (Type1 n) b h =
+    rw (length-append (ascii "done " ++ hexOf (take n b)) (ascii " type1"), length-append (ascii "done ") (hexOf (take n b))) (omega (arith, hex-short (take n b), length-take n b))
 text-fits Nothing b h = omega arith
 text-fits (Refused e) b h = refused-fits (numbered e)
 
@@ -141,6 +155,10 @@ module _ (f : Output) (b out : List ℕ) (x : Placed) where
   unfolding textOf
   text-done n p h q e = rw h (rw q at e)
 
+  pub text-type1 : (n : ℕ) (p : List ℕ) → f ≡ Type1 n → p ≡ take n b → x ≡ placedAt 0 (type1Text p) out → x ≡ placedAt 0 (textOf f b) out
+  unfolding textOf
+  text-type1 n p h q e = rw h (rw q at e)
+
   pub text-none : f ≡ Nothing → x ≡ placedAt 0 (ascii "none") out → x ≡ placedAt 0 (textOf f b) out
   unfolding textOf
   text-none h e = rw h e
@@ -149,4 +167,4 @@ module _ (f : Output) (b out : List ℕ) (x : Placed) where
   unfolding textOf
   text-refused e h d = rw h d
 
-pub ruleset texts = (text-write, text-read, text-drain, text-pause, text-done, text-none, text-refused)
+pub ruleset texts = (text-write, text-read, text-drain, text-pause, text-done, text-type1, text-none, text-refused)

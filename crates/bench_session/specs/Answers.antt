@@ -3,8 +3,8 @@ use mathlib.Core.List.{List}
 use Prim.Native.Nat.{ℕ, _+_}
 use lib.ListN.{length, take, set}
 use Rattle.errors.specs.declared.Refusal.the-variants.{BadArgument}
-use Rattle.protocol.specs.Calls.{opening, request}
-use Rattle.engine.specs.Sessions.{Stepped, openStep, requestStep, eventStep}
+use Rattle.protocol.specs.Calls.{opening, reader, request, device}
+use Rattle.engine.specs.Sessions.{Stepped, openStep, requestStep, deviceStep, eventStep}
 use Rattle.engine.specs.declared.state.Output.the-variants.{Refused}
 use Rattle.engine.specs.declared.session.Session.{Session}
 use Rattle.bench.specs.Texts.{over}
@@ -21,7 +21,8 @@ kept s b = record { session = s; output = Refused BadArgument; buffer = b }
 -- what the engine does with what a line says
 unfoldable pub stepOf : Session → Said → List ℕ → Stepped
 stepOf s (calls opening) b = openStep s b
-stepOf s (calls (request r)) b = requestStep s r b
+stepOf s (calls (reader (request r))) b = requestStep s r b
+stepOf s (calls (reader (device d))) b = deviceStep s d b
 stepOf s (happens e) b = eventStep s e b
 stepOf s unreadable b = kept s b
 

@@ -8,21 +8,25 @@ use Rattle.errors.specs.Refusals.{numbered}
 use Rattle.errors.specs.declared.Numbered.{Numbered}
 use Rattle.targets.specs.Bitrates.{ascii}
 use Rattle.engine.specs.declared.state.Output.{Output}
-use Rattle.engine.specs.declared.state.Output.the-variants.{Write, Read, Drain, Pause, Done, Nothing, Refused}
+use Rattle.engine.specs.declared.state.Output.the-variants.{Write, Read, Drain, Pause, Done, Type1, Nothing, Refused}
 use Rattle.bench.specs.Texts.{decimalOf}
 use Rattle.bench.specs.Hex.{hexOf}
 
--- the longest text: a write order of 1,024 bytes
+-- the longest text: a Type 1 answer of 1,024 bytes
 abbrev pub textLimit : ℕ
-textLimit = 2055
+textLimit = 2061
 
 -- room for any text and a line feed
 abbrev pub outRoom : ℕ
-outRoom = 2064
+outRoom = 2072
 
 -- an answer's bytes; `done` alone where it has none
 unfoldable pub doneText : List ℕ → List ℕ
 doneText p = pick (eqb (length p) 0) (ascii "done") (ascii "done " ++ hexOf p)
+
+-- the bytes of a Type 1 answer, which has always some
+unfoldable pub type1Text : List ℕ → List ℕ
+type1Text p = ascii "done " ++ hexOf p ++ ascii " type1"
 
 -- a refusal's number, and of 15 the status
 unfoldable pub refusedText : Numbered → List ℕ
@@ -35,5 +39,6 @@ textOf (Read ms) b = ascii "read " ++ decimalOf ms
 textOf Drain b = ascii "drain"
 textOf (Pause us) b = ascii "pause " ++ decimalOf us
 textOf (Done n) b = doneText (take n b)
+textOf (Type1 n) b = type1Text (take n b)
 textOf Nothing b = ascii "none"
 textOf (Refused e) b = refusedText (numbered e)

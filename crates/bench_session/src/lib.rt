@@ -7,11 +7,14 @@ use bench::lines::Held;
 use bench::lines::Line;
 use bench_input::BYTES;
 use bench_input::Command;
+use bench_input::Device;
 use bench_input::Initiator;
 use bench_input::Input;
 use bench_input::LINE;
 use bench_input::Target;
+use bench_input::Wait;
 use bench_input::part;
+use discovery::search::Timeout;
 use engine::session::Session;
 use engine::session::Step;
 use engine::state::Output;
@@ -19,16 +22,17 @@ use errors::Refusal;
 ghost use mathlib.Core.Path.{_≡_};
 ghost use Prim.Native.Nat.{_+_, _≤_};
 ghost use lib.ListN.{length, set};
-ghost use Rattle.engine.specs.Sessions.{stepped, requestStep};
+ghost use Rattle.discovery.specs.Starts.{timeoutOf};
+ghost use Rattle.engine.specs.Sessions.{stepped, requestStep, deviceStep};
 ghost use Rattle.bench.specs.Lines.{lengthOf};
-ghost use Rattle.bench_input.specs.Readings.{commandIn, initiatorIn, targetIn, inputIn};
+ghost use Rattle.bench_input.specs.Readings.{commandIn, initiatorIn, targetIn, waitOf, deviceIn, inputIn};
 ghost use Rattle.bench_session.specs.Outputs.{outRoom, textLimit};
 ghost use Rattle.bench_session.specs.Answers.{stepOf, after, answerOf, replyOf};
 
 // Room for the engine's bytes, and for any answer and a line feed.
 pub const BUFFER: usize = 1024;
 
-pub const OUT: usize = 2064;
+pub const OUT: usize = 2072;
 
 // The session after a line, and the length of the text printed for it.
 pub struct Answered {
@@ -109,6 +113,46 @@ fn tg_call(session: Session, call: Target, bytes: &[u8], buffer: &mut [u8]) -> S
     }
 }
 
+// The engine's name of a time-out.
+fn timeout(wait: Wait) -> Timeout
+    ensures { λ r. ⌜ timeoutOf r ≡ waitOf wait ⌝ }
+{
+    match wait {
+        Wait::Standard => Timeout::Standard,
+        Wait::Ms(ms) => Timeout::Ms(ms),
+    }
+}
+
+// What it does with a call of the device.
+fn dev_call(session: Session, call: Device, bytes: &[u8], buffer: &mut [u8]) -> Step
+    ensures { λ r. ⌜ stepped r (now (buffer .exit)) ≡ deviceStep session (deviceIn (now (bytes .entry)) call) (now (buffer .entry)) ⌝ }
+{
+    match call {
+        Device::DetectTypeA(i, j) => {
+            let bitrate = part(bytes, 0, i);
+            session.detect_type_a(bitrate, part(bytes, i, j), buffer)
+        }
+        Device::DetectTypeB(i, j) => {
+            let bitrate = part(bytes, 0, i);
+            session.detect_type_b(bitrate, part(bytes, i, j), buffer)
+        }
+        Device::DetectTypeF(i, system_code, request_code, time_slots) => {
+            let bitrate = part(bytes, 0, i);
+            session.detect_type_f(bitrate, system_code, request_code, time_slots, buffer)
+        }
+        Device::DetectDep(i, j) => {
+            let bitrate = part(bytes, 0, i);
+            session.detect_dep(bitrate, part(bytes, i, j), buffer)
+        }
+        Device::Transceive(i, j, rid_res, k, wait) => {
+            let bitrate = part(bytes, 0, i);
+            let sel_res = part(bytes, i, j);
+            let given = timeout(wait);
+            session.transceive(bitrate, sel_res, rid_res, part(bytes, j, k), given, buffer)
+        }
+    }
+}
+
 // What the engine does with what was read.
 fn step(session: Session, input: Input, bytes: &[u8; BYTES], buffer: &mut [u8]) -> Step
     ensures { λ r. ⌜ stepped r (now (buffer .exit)) ≡ stepOf session (inputIn (now (bytes .entry)) input) (now (buffer .entry)) ⌝ }
@@ -118,6 +162,7 @@ fn step(session: Session, input: Input, bytes: &[u8; BYTES], buffer: &mut [u8]) 
         Input::Chip(call) => chip(session, call, bytes, buffer),
         Input::In(call) => in_call(session, call, bytes, buffer),
         Input::Tg(call) => tg_call(session, call, bytes, buffer),
+        Input::Dev(call) => dev_call(session, call, bytes, buffer),
         Input::Happened(event, n) => session.event(event, part(bytes, 0, n), buffer),
         Input::Unreadable => unreadable(session),
     }

@@ -11,7 +11,7 @@ ghost use lib.ListN.{length, take};
 ghost use Rattle.errors.specs.Refusals.{numbered as numberedOf};
 ghost use Rattle.bench.specs.Texts.{placed, placedAt, decimalOf};
 ghost use Rattle.bench.specs.Hex.{hexOf};
-ghost use Rattle.bench_session.specs.Outputs.{outRoom, textLimit, doneText, refusedText, textOf};
+ghost use Rattle.bench_session.specs.Outputs.{outRoom, textLimit, doneText, type1Text, refusedText, textOf};
 
 // The first n bytes; all of them where there are fewer.
 fn first(n: usize, bytes: &[u8]) -> &[u8]
@@ -47,6 +47,15 @@ fn put_done(bytes: &[u8], out: &mut [u8]) -> usize
     put_bytes(b"done ", bytes, out)
 }
 
+// A Type 1 answer's bytes, of which there are always some.
+fn put_type1(bytes: &[u8], out: &mut [u8]) -> usize
+    requires { ⌜ (length (now bytes) ≤ 1024) × (outRoom ≤ length (now out)) ⌝ }
+    ensures { λ r. ⌜ placed r (now (out .exit)) ≡ placedAt 0 (type1Text (now (bytes .entry))) (now (out .entry)) ⌝ }
+{
+    let at = put_bytes(b"done ", bytes, out);
+    text::put(b" type1", out, at)
+}
+
 // A refusal's number, and the status of 15.
 fn put_refused(refusal: Refusal, out: &mut [u8]) -> usize
     requires { ⌜ outRoom ≤ length (now out) ⌝ }
@@ -72,6 +81,7 @@ fn put_output(output: Output, bytes: &[u8], out: &mut [u8; OUT]) -> usize
         Output::Drain => text::put(b"drain", out, 0),
         Output::Pause(us) => put_number(b"pause ", us as u64, out),
         Output::Done(n) => put_done(first(n, bytes), out),
+        Output::Type1(n) => put_type1(first(n, bytes), out),
         Output::Nothing => text::put(b"none", out, 0),
         Output::Refused(refusal) => put_refused(refusal, out),
     }

@@ -6,7 +6,7 @@ use lib.Dec.{eqb}
 use lib.ListN.{length, take, drop}
 use Rattle.errors.specs.Choice.{pick}
 use Rattle.protocol.specs.Scripts.{Answer, done, nothing, refused}
-use Rattle.chipset.specs.Verdicts.{withStatus, jumpAnswer, initiatorAnswer, targetAnswer}
+use Rattle.chipset.specs.Verdicts.{withStatus, jumpAnswer, initiatorAnswer, targetAnswer, type2Answer, type1Answer}
 use Rattle.chipset.specs.declared.response.Tail.{Tail}
 use Rattle.chipset.specs.declared.response.Verdict.{Verdict}
 use Rattle.chipset.specs.declared.response.Verdict.the-variants.{Done, Nothing, Refused}
@@ -38,4 +38,6 @@ laterJudge rule bs =
     (pick (eqb rule 11) (jumpAnswer bs)
     (pick (eqb rule 12) (withStatus bs (done []))
     (pick (eqb rule 13) (initiatorAnswer bs)
-    (pick (eqb rule 14) (targetAnswer bs) (done [])))))
+    (pick (eqb rule 14) (targetAnswer bs)
+    (pick (eqb rule 15) (type2Answer bs)
+    (pick (eqb rule 16) (type1Answer bs) (done [])))))))

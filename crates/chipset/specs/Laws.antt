@@ -10,6 +10,7 @@ use borrow.Rule.Slice.PartMut.{putMid}
 use lib.Dec.{eqb, ltb}
 use lib.ListN.{length, take, drop, getD, length-append, length-drop, drop-of-length-le}
 use lib.Seq.{drop-cons, take-all, take-at}
+use Rattle.crc.specs.Crc.{typeA as crcA, checks}
 use Rattle.errors.specs.Choice.{pick}
 use Rattle.errors.specs.declared.Refusal.{Refusal}
 use Rattle.errors.specs.declared.Refusal.the-variants.{Status, OverLong, BadArgument}
@@ -112,6 +113,12 @@ module _ (bs : List ℕ) where
       → Comes bs r (done (getD bs 0 0 ∷ (word m′ ++ word n′)))
   comes-rates r m n m′ n′ e f h = rw (← e, ← f) h
 
+-- the check of a reply, which stands behind the status byte
+pub check-told : (bs : List ℕ) (r t : Bool) → r ≡ checks crcA (take (length bs - 1) (drop 1 bs)) → r ≡ t → checks crcA (drop 1 bs) ≡ t
+check-told bs r t e f =
+    let l : length (drop 1 bs) ≤ length bs - 1 = rw (length-drop 1 bs) (omega arith) in
+    ap (checks crcA) (sym (take-all (length bs - 1) (drop 1 bs) l)) ∙ sym e ∙ f
+
 pub ruleset verdicts = (comes-true, comes-false, comes-nothing, comes-refused, comes-status, is-eqb, not-eqb, eq-eqb, ne-eqb, lt-ltb, le-ltb)
 
 -- ---- the data of a command, put together of its parts
@@ -163,13 +170,13 @@ module _ (b l : List ℕ) (n rule code clock : ℕ) (whole : length b ≡ 512) (
           let k : n ≡ length l = data′ .told (omega arith) .0 in
           absurd (omega arith)
 
-  pub limit-kept : n ≤ 512 → (2 ≤ rule) × (rule ≤ 14)
+  pub limit-kept : n ≤ 512
       → Starts (record { launch = launch.Sends (record { rule = rule; code = code; clock = clock; len = n }); bytes = b }) (limited rule (cmd code clock l))
   unfolding limited pick
-  limit-kept h r =
+  limit-kept h =
       let m = data′ .within (omega arith) in
       let k : length l ≤ 512 = omega arith in
-      rw (le-ltb 512 (length l) k) record { is = ap (λ x. sends rule (cmd code clock x)) (data′ .told m .1); fits = (h, r .0, r .1) }
+      rw (le-ltb 512 (length l) k) record { is = ap (λ x. sends rule (cmd code clock x)) (data′ .told m .1); fits = h }
 
 pub started : (r : Launched) (l : launches.Launch) → Starts r l → (launchIn r ≡ l) × LaunchFits r
 started r l s = (s .is, s .fits)

@@ -17,9 +17,9 @@ launchWith bytes (Refused r) = refuses r
 abbrev pub launchIn : Launched → launches.Launch
 launchIn r = launchWith (r .bytes) (r .launch)
 
--- the data is within the bytes, and the rule is one of those
+-- the data is within the bytes
 abbrev pub fits : Launch → Type 0
-fits (Sends c) = (c .len ≤ 512) × (2 ≤ c .rule) × (c .rule ≤ 14)
+fits (Sends c) = c .len ≤ 512
 fits (Refused r) = Unit
 
 abbrev pub LaunchFits : Launched → Type 0

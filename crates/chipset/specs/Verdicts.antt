@@ -1,10 +1,11 @@
 -- What a response comes to, by its rule, as response.rt judges it. Rule 3, a reset's, judges no response.
 use mathlib.Core.List.{List, [], _∷_, _++_}
-use Prim.Native.Nat.{ℕ}
+use Prim.Native.Nat.{ℕ, _-_}
 use lib.Dec.{eqb, ltb}
 use lib.ListN.{length, take, drop, getD}
 use Rattle.errors.specs.Choice.{pick}
-use Rattle.errors.specs.declared.Refusal.the-variants.{Status, ShortResponse, Rate}
+use Rattle.errors.specs.declared.Refusal.the-variants.{Status, ShortResponse, CrcA, Rate}
+use Rattle.crc.specs.Crc.{typeA as crcA, checks}
 use Rattle.protocol.specs.Scripts.{Answer, done, nothing, refused}
 use Rattle.protocol.specs.Chipset.{anyNonzero, statusByte, maskedStatus, moreFlag, sendIndex, receiveIndex, rate, word}
 
@@ -15,7 +16,7 @@ withLength bs n a = pick (ltb (length bs) n) (refused ShortResponse) a
 unfoldable pub withStatus : List ℕ → Answer ℕ → Answer ℕ
 withStatus bs a = pick (eqb (statusByte bs) 0) a (refused (Status (statusByte bs)))
 
--- the rules: 2, 6 to 11, 13 and 14
+-- rules 2, 6 to 9, 11, 13 and 14
 unfoldable pub versionAnswer : List ℕ → Answer ℕ
 versionAnswer bs = withLength bs 4 (done (take 3 bs))
 
@@ -47,6 +48,16 @@ targetAnswer bs =
     (pick (ltb 2 (receiveIndex bs)) (refused Rate) (done (getD bs 0 0 ∷ (word (rate (sendIndex bs)) ++ word (rate (receiveIndex bs)))))))
     (done (getD bs 0 0 ∷ 0 ∷ 0 ∷ 0 ∷ 0 ∷ [])))
 
+-- rules 15 and 16: transceive of Type 2, whose reply over 2 bytes must pass CRC_A and loses two bytes, and of Type 1
+unfoldable pub type2Answer : List ℕ → Answer ℕ
+type2Answer bs =
+    withStatus bs
+    (pick (ltb 3 (length bs)) (pick (checks crcA (drop 1 bs)) (done (take (length bs - 3) (drop 1 bs))) (refused CrcA)) (done (drop 1 bs)))
+
+unfoldable pub type1Answer : List ℕ → Answer ℕ
+type1Answer bs =
+    pick (eqb (length bs) 0) (refused (Status 0xFF)) (pick (eqb (maskedStatus bs) 0) (done (drop 1 bs)) (refused (Status (maskedStatus bs))))
+
 unfoldable pub judgeOf : ℕ → List ℕ → Answer ℕ
 judgeOf rule bs =
     pick (eqb rule 2) (versionAnswer bs)
@@ -59,4 +70,6 @@ judgeOf rule bs =
     (pick (eqb rule 11) (jumpAnswer bs)
     (pick (eqb rule 12) (withStatus bs (done []))
     (pick (eqb rule 13) (initiatorAnswer bs)
-    (pick (eqb rule 14) (targetAnswer bs) (done [])))))))))))
+    (pick (eqb rule 14) (targetAnswer bs)
+    (pick (eqb rule 15) (type2Answer bs)
+    (pick (eqb rule 16) (type1Answer bs) (done [])))))))))))))

@@ -62,7 +62,6 @@ fn added(part: &[u8], bytes: &mut [u8], len: usize) -> usize
 
 // A command whose data has `len` bytes, if that is within the limit.
 fn within_limit(rule: u8, code: u8, clock: u32, bytes: [u8; 512], len: usize) -> Launched
-    requires { ⌜ (2 ≤ rule) × (rule ≤ 14) ⌝ }
     ensures { λ r. ⌜ ((l : List ℕ) → Holds bytes len l → Starts r (limited rule (commandOf code clock l))) ⌝ }
 {
     if 512 < len {
@@ -81,8 +80,7 @@ fn within_limit(rule: u8, code: u8, clock: u32, bytes: [u8; 512], len: usize) ->
 }
 
 // A command whose data is `head` and the caller's bytes behind it.
-fn limited(rule: u8, code: u8, clock: u32, head: &[u8], rest: &[u8]) -> Launched
-    requires { ⌜ (2 ≤ rule) × (rule ≤ 14) ⌝ }
+pub fn limited(rule: u8, code: u8, clock: u32, head: &[u8], rest: &[u8]) -> Launched
     ensures { λ r. ⌜ Starts r (limited rule (commandOf code clock (now (head .entry) ++ now (rest .entry)))) ⌝ }
 {
     let mut bytes = [0u8; 512];
@@ -93,7 +91,7 @@ fn limited(rule: u8, code: u8, clock: u32, head: &[u8], rest: &[u8]) -> Launched
 
 // A command whose data is within the limit.
 fn short(rule: u8, code: u8, clock: u32, head: &[u8]) -> Launched
-    requires { ⌜ (2 ≤ rule) × (rule ≤ 14) × (length (now head) ≤ 512) ⌝ }
+    requires { ⌜ length (now head) ≤ 512 ⌝ }
     ensures { λ r. ⌜ Starts r (sends rule (commandOf code clock (now (head .entry)))) ⌝ }
 {
     let mut bytes = [0u8; 512];

@@ -29,3 +29,8 @@ pub const STATUS: u8 = 12;
 pub const INITIATOR_COMMAND: u8 = 13;
 
 pub const TARGET_STATUS: u8 = 14;
+
+// transceive's, of a Type 2 and of a Type 1 target.
+pub const TYPE_2: u8 = 15;
+
+pub const TYPE_1: u8 = 16;

@@ -9,6 +9,8 @@ use super::REGISTERS_WRITTEN;
 use super::STATUS;
 use super::TARGET_STATUS;
 use super::THRU;
+use super::TYPE_1;
+use super::TYPE_2;
 use super::VERSION;
 use errors::Refusal;
 ghost use mathlib.Core.List.{List, [], _∷_, _++_};
@@ -17,7 +19,7 @@ ghost use Prim.Native.Nat.{ℕ, _+_, _≤_};
 ghost use lib.ListN.{length, take, drop, getD};
 ghost use Rattle.protocol.specs.Chipset.{anyNonzero, rate as rateOf, word};
 ghost use Rattle.protocol.specs.Scripts.{done};
-ghost use Rattle.chipset.specs.Verdicts.{judgeOf, withStatus, versionAnswer, writeAnswer, firstAnswer, listAnswer, exchangeAnswer, jumpAnswer, initiatorAnswer, targetAnswer};
+ghost use Rattle.chipset.specs.Verdicts.{judgeOf, withStatus, versionAnswer, writeAnswer, firstAnswer, listAnswer, exchangeAnswer, jumpAnswer, initiatorAnswer, targetAnswer, type2Answer, type1Answer};
 ghost use Rattle.chipset.specs.Answers.{verdictIn, Fits, Comes, laterJudge};
 
 // Bytes of the engine's own. An enum cannot hold an array.
@@ -250,6 +252,41 @@ fn target(response: &[u8]) -> Verdict
     }
 }
 
+// transceive of Type 2: a reply over 2 bytes must pass CRC_A and loses two bytes.
+fn type2(response: &[u8]) -> Verdict
+    ensures { λ r. ⌜ Comes (now (response .entry)) r (type2Answer (now (response .entry))) ⌝ }
+{
+    let status = first_or(response, 0xFF);
+    if status == 0 {
+        if 3 < response.len() {
+            if crc::check_crc_a(&response[1..]) {
+                part(1, response.len() - 3)
+            } else {
+                Verdict::Refused(Refusal::CrcA)
+            }
+        } else {
+            from(response, 1)
+        }
+    } else {
+        Verdict::Refused(Refusal::Status(status))
+    }
+}
+
+// transceive of Type 1: the more flag is left out.
+fn type1(response: &[u8]) -> Verdict
+    ensures { λ r. ⌜ Comes (now (response .entry)) r (type1Answer (now (response .entry))) ⌝ }
+{
+    if response.len() == 0 {
+        return Verdict::Refused(Refusal::Status(0xFF));
+    }
+    let status = response[0] % 64;
+    if status == 0 {
+        from(response, 1)
+    } else {
+        Verdict::Refused(Refusal::Status(status))
+    }
+}
+
 // What a response comes to.
 pub fn judged(rule: u8, response: &[u8]) -> Verdict
     ensures { λ r. ⌜ verdictIn (now (response .entry)) r ≡ judgeOf rule (now (response .entry)) ⌝ }
@@ -276,6 +313,8 @@ fn judged_by_status(rule: u8, response: &[u8]) -> Verdict
         STATUS => status(response),
         INITIATOR_COMMAND => initiator(response),
         TARGET_STATUS => target(response),
+        TYPE_2 => type2(response),
+        TYPE_1 => type1(response),
         _ => part(0, 0),
     }
 }

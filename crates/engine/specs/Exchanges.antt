@@ -22,12 +22,12 @@ use Rattle.protocol.specs.Laws.{split, by-write, by-read, by-pause, ack-is-ack}
 use Rattle.engine.specs.Moves.{phaseOf, packetLength, replyLength, Moved, unfitting, orders, enters, finishes, replies, refuses, isReset, endedMove, exchangeMove, restedMove, moveOf}
 use Rattle.engine.specs.declared.call.Call.{Call}
 
--- a response is no longer than the packet, of n bytes; a refusal is none of the first six
+-- a response has at least two bytes less than the packet, which has n; a refusal is none of the first six
 abbrev pub Late : ℕ → Reply → Type 0
-Late n (response bytes) = length bytes ≤ n
+Late n (response bytes) = length bytes + 2 ≤ n
 Late n (failed r) = 7 ≤ numbered r .0
 
-late-code : (n code : ℕ) (bytes : List ℕ) → length bytes ≤ n → Late n (codeReply code bytes)
+late-code : (n code : ℕ) (bytes : List ℕ) → length bytes + 1 ≤ n → Late n (codeReply code bytes)
 late-code n code [] h = omega arith
 late-code n code (b ∷ bytes) h = split (Late n) (eqb b ((code + 1) % 256)) _ _ (λ _. omega arith) (λ _. omega arith)
 
@@ -106,7 +106,7 @@ LateMove n unfitting = Unit {0}
 LateMove n (orders o c x) = Unit {0}
 LateMove n (enters c) = Unit {0}
 LateMove n finishes = Unit {0}
-LateMove n (replies bytes) = length bytes ≤ n
+LateMove n (replies bytes) = length bytes + 2 ≤ n
 LateMove n (refuses r) = 7 ≤ numbered r .0
 
 late-ended : (n : ℕ) (c : Call) (x : Exchange) (r : Reply) → Late n r → LateMove n (endedMove c x r)
@@ -129,7 +129,8 @@ late-move c x e =
     (by-pick L (eqb (c .phase) 1) _ _ (by-write P unfitting (λ _. tt) _ _ tt (omega arith) e)
     (by-pick L (eqb (c .phase) 2) _ _ (by-pause P unfitting (λ _. tt) _ (by-pick (LateMove 0) (eqb (c .kind) 3) _ _ tt tt) e)
     (by-pick L (eqb (c .phase) 3) _ _ (by-write P unfitting (λ _. tt) _ _ tt (omega arith) e)
-    (by-pick L (eqb (c .phase) 4) _ _ (by-read P unfitting (λ _. tt) _ _ _ _ (λ _. tt) tt tt tt e) tt))))
+    (by-pick L (eqb (c .phase) 4) _ _ (by-read P unfitting (λ _. tt) _ _ _ _ (λ _. tt) tt tt tt e)
+    (by-pick L (eqb (c .phase) 5) _ _ (by-pause P unfitting (λ _. tt) _ tt e) tt)))))
 
 late-length : (n : ℕ) (m : Moved) → LateMove n m → replyLength m ≤ n
 late-length n unfitting h = omega arith
@@ -139,6 +140,6 @@ late-length n finishes h = omega arith
 late-length n (replies bytes) h = h
 late-length n (refuses r) h = omega arith
 
--- a response is no longer than the packet
+-- a response is shorter than the packet
 pub reply-short : (c : Call) (x : Exchange) (e : Event) → replyLength (moveOf c x e) ≤ packetLength e
 reply-short c x e = late-length (packetLength e) (moveOf c x e) (late-move c x e)

@@ -8,7 +8,7 @@ use lib.ListN.{replicate, length-replicate}
 use Rattle.exchange.specs.Steps.{exchangeAt}
 use Rattle.protocol.specs.Session.{outcomeOf, Session as Meant, fresh, step}
 use Rattle.protocol.specs.Follows.{plain, Machine, Obeys, obeys}
-use Rattle.engine.specs.Sessions.{freshSession}
+use Rattle.engine.specs.Sessions.{heldIn, freshSession}
 use Rattle.engine.specs.declared.session.Session.{Session}
 use Rattle.engine.specs.Inputs.{Input, entryOf, afterInput, stepped-is, act}
 use Rattle.engine.specs.Places.{Fields, Means, free, runs}
@@ -17,16 +17,16 @@ use Rattle.engine.specs.Tie.{Tied, running-tied, free-tied}
 abbrev pub Follows : Input → Session → Meant → Type 0
 Follows i s m = Means ((act s i) .0) ((step m (entryOf i)) .0) × ((act s i) .1 ≡ plain ((step m (entryOf i)) .1))
 
-by-input : (i : Input) (s : Session) (m : Meant) → Tied s m (afterInput (s .state) (s .found) i) (outcomeOf (m .activity) (m .count) (entryOf i)) → Follows i s m
+by-input : (i : Input) (s : Session) (m : Meant) → Tied s m (afterInput (s .state) (heldIn s) i) (outcomeOf (m .activity) (m .count) (entryOf i)) → Follows i s m
 by-input i s m h = rw (stepped-is s i) (h .means, h .told)
 
 pub follow : (s : Session) (m : Meant) (i : Input) → Means s m → Follows i s m
 follow s m i (free v p q) = rw (p, q) (by-input i _ _ (free-tied v i))
-follow s m i (runs p v q r) = rw (q, r) (by-input i _ _ (running-tied p v i))
+follow s m i (runs p v a q r) = rw (q, r) (by-input i _ _ (running-tied p v a i))
 
 pub same-count : (s : Session) (m : Meant) → Means s m → s .state .frames ≡ m .count
 same-count s m (free v p q) = rw (p, q)
-same-count s m (runs p v q r) = rw (q, r)
+same-count s m (runs p v a q r) = rw (q, r)
 
 pub fresh-means : Means freshSession fresh
 fresh-means =
@@ -34,10 +34,12 @@ fresh-means =
       opened = false;
       command = replicate 512 0;
       found = replicate 1024 0;
+      pending = 0;
       kept = 0;
       exchange = exchangeAt 0 0 0;
       frames = 0;
       long = omega (arith, length-replicate {A = ℕ} 1024 0);
+      pendingFits = refl;
       keptFits = refl;
       phaseFits = refl;
       few = omega arith;

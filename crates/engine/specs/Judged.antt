@@ -6,13 +6,14 @@ use Prim.Native.Nat.{ℕ, zero, suc, _+_, _-_, _/_, _%_, _≤_, _<_}
 use native.Mathlib.Decide.{decLe}
 use native.Mathlib.Numerals.{add-one}
 use native.Mathlib.Omega.{arith}
-use borrow.Author.Tests.{ltb-false, ne-eqb}
+use borrow.Author.Tests.{ltb-true, ltb-false, ne-eqb}
 use lib.Dec.{eqb, leb, ltb}
 use lib.ListN.{length, take, drop, getD, length-drop, drop-of-length-le}
 use lib.Seq.{drop-cons, take-all}
 use Rattle.errors.specs.Choice.{pick}
 use Rattle.errors.specs.declared.Refusal.{Refusal}
-use Rattle.errors.specs.declared.Refusal.the-variants.{OverLong, BadArgument, ShortResponse, Status, Rate}
+use Rattle.errors.specs.declared.Refusal.the-variants.{OverLong, BadArgument, ShortResponse, Status, CrcA, Rate}
+use Rattle.crc.specs.Crc.{typeA as crcA, checks}
 use Rattle.exchange.specs.Packets.{isEmpty}
 use Rattle.protocol.specs.Scripts.{Byte, own, card, value, Answer, done, nothing, refused, Script, finish, command, reset, either, refuse, ifElse, part, rest, byteAt}
 use Rattle.protocol.specs.Chipset.{anyNonzero, statusByte, withStatus as statusThen, withLength as lengthThen, maskedStatus, moreFlag, sendIndex, receiveIndex, rate, word, versionBytes, jumpData, initData}
@@ -22,7 +23,7 @@ use Rattle.protocol.specs.Calls.{registers, initFits, activeByte}
 use Rattle.protocol.specs.Calls.{refuses as refusesStart, limited as limitedStart, asserted as assertedStart}
 use Rattle.protocol.specs.Follows.{plainAnswer}
 use Rattle.chipset.specs.Launches.{Launch, refuses, sends, cmd, limited, asserted, launchOf}
-use Rattle.chipset.specs.Verdicts.{withLength, withStatus, versionAnswer, writeAnswer, firstAnswer, listAnswer, exchangeAnswer, jumpAnswer, initiatorAnswer, targetAnswer, judgeOf}
+use Rattle.chipset.specs.Verdicts.{withLength, withStatus, versionAnswer, writeAnswer, firstAnswer, listAnswer, exchangeAnswer, jumpAnswer, initiatorAnswer, targetAnswer, type2Answer, type1Answer, judgeOf}
 use Rattle.engine.specs.Laws.{first-three}
 
 -- the script ends with an answer, which is this one but for the places of its bytes
@@ -94,6 +95,9 @@ empty-length : (bs : List ℕ) → isEmpty bs ≡ eqb (length bs) 0
 empty-length [] = refl
 empty-length (b ∷ bs) = sym (ne-eqb (suc (length bs)) 0 (λ e. omega (arith, e)))
 
+pub judged-thru : (bs : List ℕ) → Judged (statusThen bs (answer 1 bs)) (withStatus bs (done (drop 1 bs)))
+judged-thru bs = by-status bs (answers 1 bs)
+
 judged-exchange : (bs : List ℕ)
     → Judged (ifElse (isEmpty bs) (refuse (Status 0xFF)) (ifElse (eqb (maskedStatus bs) 0) (finish (done (rest 0 bs 1 ++ (own (moreFlag bs) ∷ [])))) (refuse (Status (maskedStatus bs)))))
     (exchangeAnswer bs)
@@ -104,6 +108,24 @@ judged-exchange bs =
     (λ _. judged-if (eqb (maskedStatus bs) 0)
     (λ _. ends _ (ap done (map-append value (rest 0 bs 1) (own (moreFlag bs) ∷ []) ∙ ap (λ l. l ++ (moreFlag bs ∷ [])) (rest-values 0 bs 1))))
     (λ _. refusing (Status (maskedStatus bs)))))
+
+-- transceive of Type 2 and of Type 1
+pub judged-type2 : (bs : List ℕ)
+    → Judged (statusThen bs (ifElse (ltb 3 (length bs)) (ifElse (checks crcA (drop 1 bs)) (finish (done (part 0 bs 1 (length bs - 3)))) (refuse CrcA)) (answer 1 bs)))
+    (type2Answer bs)
+unfolding type2Answer
+judged-type2 bs =
+    by-status bs (judged-if (ltb 3 (length bs))
+    (λ h. judged-if (checks crcA (drop 1 bs))
+    (λ _. ends _ (ap done (part-values 0 bs 1 (length bs - 3) (omega (arith, ltb-true 3 (length bs) h))))) (λ _. refusing CrcA))
+    (λ _. answers 1 bs))
+
+pub judged-type1 : (bs : List ℕ)
+    → Judged (ifElse (isEmpty bs) (refuse (Status 0xFF)) (ifElse (eqb (maskedStatus bs) 0) (answer 1 bs) (refuse (Status (maskedStatus bs))))) (type1Answer bs)
+unfolding type1Answer
+judged-type1 bs =
+    rw (sym (empty-length bs))
+    (judged-if (isEmpty bs) (λ _. refusing (Status 0xFF)) (λ _. judged-if (eqb (maskedStatus bs) 0) (λ _. answers 1 bs) (λ _. refusing (Status (maskedStatus bs)))))
 
 judged-jump : (bs : List ℕ) → Judged (statusThen bs (lengthThen bs 2 (answer 2 bs))) (jumpAnswer bs)
 unfolding jumpAnswer
@@ -136,9 +158,9 @@ pub record Rule (rule : ℕ) : Type 0 where
   pub running : eqb rule 0 ≡ false
   pub noOpening : eqb rule 1 ≡ false
   pub noReset : eqb rule 3 ≡ false
-  pub within : leb rule 14 ≡ true
+  pub within : ltb rule 17 ≡ true
 
-a-rule : {rule : ℕ} → eqb rule 0 ≡ false → eqb rule 1 ≡ false → eqb rule 3 ≡ false → leb rule 14 ≡ true → Rule rule
+pub a-rule : {rule : ℕ} → eqb rule 0 ≡ false → eqb rule 1 ≡ false → eqb rule 3 ≡ false → ltb rule 17 ≡ true → Rule rule
 a-rule p q r s = record { running = p; noOpening = q; noReset = r; within = s }
 
 -- both refuse, or the script's command is the one sent
@@ -148,7 +170,7 @@ pub data Begins : Start → Launch → Type 0 where
       → Begins (starts (command code clock bytes (either f refuse))) (sends rule (cmd code clock bytes))
   alone : Begins (starts (reset finished)) (sends 3 (cmd 0x18 100 (0x01 ∷ [])))
 
-single-limited : (rule code clock : ℕ) (bytes : List ℕ) (f : List ℕ → Script) → Rule rule → ((bs : List ℕ) → Judged (f bs) (judgeOf rule bs))
+pub single-limited : (rule code clock : ℕ) (bytes : List ℕ) (f : List ℕ → Script) → Rule rule → ((bs : List ℕ) → Judged (f bs) (judgeOf rule bs))
     → Begins (limitedStart bytes (command code clock bytes (either f refuse))) (limited rule (cmd code clock bytes))
 unfolding limited pick
 single-limited rule code clock bytes f h k = go (ltb 512 (length bytes))
@@ -177,7 +199,7 @@ begins (readSingleRegister address) = single 7 0x06 250 _ _ (a-rule refl refl re
 begins (writeSingleRegister address value) = single 6 0x08 250 _ _ (a-rule refl refl refl refl) judged-write
 begins (inListPassiveTarget maxTg bitrate bytes) = single-limited 8 0x4A 1000 (maxTg ∷ bitrate ∷ bytes) _ (a-rule refl refl refl refl) judged-list
 begins (inDataExchange bytes ms) = single-limited 9 0x40 ms (0x01 ∷ bytes) _ (a-rule refl refl refl refl) judged-exchange
-begins (inCommunicateThru bytes ms) = single-limited 10 0x42 ms bytes _ (a-rule refl refl refl refl) (λ bs. by-status bs (answers 1 bs))
+begins (inCommunicateThru bytes ms) = single-limited 10 0x42 ms bytes _ (a-rule refl refl refl refl) judged-thru
 begins (inJumpForDep active br passive nfcid3 gi) = single-limited 11 0x56 3000 (jumpData (activeByte active) br passive nfcid3 gi) _ (a-rule refl refl refl refl) judged-jump
 begins (tgInitTarget mode mifare felica nfcid3t gt ms) =
     begins-asserted (initFits mode mifare felica nfcid3t)

@@ -4,6 +4,7 @@ use mathlib.Core.Bool.{Bool, true, false, false≢true}
 use mathlib.Core.List.{List, [], _∷_, _++_, append-assoc}
 use Prim.Native.Nat.{ℕ, suc, _+_, _-_, _≤_, _<_, min}
 use native.Mathlib.Numerals.{add-one}
+use native.Mathlib.Decide.{decLe}
 use native.Mathlib.Omega.{arith}
 use borrow.Rule.Slice.PartMut.{putMid}
 use borrow.Author.Tests.{eq-eqb, ne-eqb, lt-ltb, le-ltb, leb-true}
@@ -25,12 +26,15 @@ use Rattle.exchange.specs.Packets.{commandFrame}
 use Rattle.exchange.specs.Steps.{exchangeAt}
 use Rattle.exchange.specs.declared.Exchange.{Exchange}
 use Rattle.chipset.specs.Launches.{Command}
-use Rattle.engine.specs.Sessions.{isValid, put, After, after, idle, counted, endsOf, doneOf, sendsOf}
+use Rattle.protocol.specs.Scripts.{type1}
+use Rattle.discovery.specs.Decided.{ArrangedFits}
+use Rattle.discovery.specs.declared.decision.Arranged.{Arranged}
+use Rattle.engine.specs.Sessions.{isValid, Held, put, After, after, idle, counted, endsOf, doneOf, answersOf, sendsOf}
 use Rattle.engine.specs.Moves.{validCall}
 use Rattle.engine.specs.declared.call.Call.{Call}
 use Rattle.engine.specs.declared.state.State.{State}
 use Rattle.engine.specs.declared.state.Output.{Output}
-use Rattle.engine.specs.declared.state.Output.the-variants.{Write, Done}
+use Rattle.engine.specs.declared.state.Output.the-variants.{Write, Done, Type1}
 
 -- ---- a command's frame fits a buffer of 1,024 bytes
 
@@ -69,7 +73,7 @@ module _ (code : ℕ) (bytes b b₁ : List ℕ) (h : length bytes ≤ 512) (room
 
 -- ---- a call that ends: the reader's state behind it
 
-module _ (s st : State) (f b : List ℕ) (o : Output) (success : Bool) where
+module _ (s st : State) (f : Held) (b : List ℕ) (o : Output) (success : Bool) where
   pub ended-opening : s .call .kind ≡ 1 → st ≡ idle s success → after st f o b ≡ endsOf s success f o b
   unfolding pick
   ended-opening h e = rw (e, eq-eqb (s .call .kind) 1 h)
@@ -80,7 +84,7 @@ module _ (s st : State) (f b : List ℕ) (o : Output) (success : Bool) where
 
 -- ---- a command that was ordered
 
-pub sent-is : (s : State) (f : List ℕ) (c : Call) (b b₁ : List ℕ) (m : Command) (x : Exchange) (k n : ℕ)
+pub sent-is : (s : State) (f : Held) (c : Call) (b b₁ : List ℕ) (m : Command) (x : Exchange) (k n : ℕ)
     → x ≡ exchangeAt 0 (m .code) (m .clock) → k ≡ counted (s .frames) → n ≡ length (commandFrame (m .code) (m .bytes))
     → b₁ ≡ put (commandFrame (m .code) (m .bytes)) b
     → after (record { command = s .command; found = s .found; exchange = x; call = c; opened = s .opened; frames = k }) f (Write n) b₁ ≡ sendsOf s f c m b
@@ -107,8 +111,8 @@ both-r false b h = absurd (false≢true h)
 pub valid-stage : (s : State) → isValid s ≡ true → s .call .stage < 255
 unfolding isValid validCall
 valid-stage s h =
-    let c = both-r (leb (s .exchange .phase) 6) _ (both-r (leb (s .found) 1024) _ (both-r (leb (s .command) 512) _ h)) in
-    let k = leb-true (s .call .stage) 9 (both-l (leb (s .call .stage) 9) _ (both-r (leb (s .call .kind) 14) _ c)) in
+    let c = both-r (leb (s .exchange .phase) 6) _ (both-r (leb (s .found) 1022) _ (both-r (leb (s .command) 512) _ h)) in
+    let k = leb-true (s .call .stage) 9 (both-l (leb (s .call .stage) 9) _ (both-r (leb (s .call .kind) 20) _ c)) in
     omega arith
 
 -- two lists, the second copied behind the first
@@ -131,5 +135,28 @@ pub copied-start : (bytes b b₁ : List ℕ) → b₁ ≡ take (length bytes) by
 copied-start bytes b b₁ e = e ∙ ap (λ l. l ++ drop (length bytes) b) (take-length bytes)
 
 -- a call that is done with bytes at the buffer's start
-pub done-copied : (s : State) (f bytes b b₁ : List ℕ) (n : ℕ) (a : After) → n ≡ length bytes → b₁ ≡ put bytes b → a ≡ endsOf s true f (Done n) b₁ → a ≡ doneOf s f bytes b
+pub done-copied : (s : State) (f : Held) (bytes b b₁ : List ℕ) (n : ℕ) (a : After) → n ≡ length bytes → b₁ ≡ put bytes b → a ≡ endsOf s true f (Done n) b₁ → a ≡ doneOf s f bytes b
 done-copied s f bytes b b₁ n a p q e = e ∙ (λ i. endsOf s true f (Done (p i)) (q i))
+
+-- the answer of a discovery fits a buffer of 1,024 bytes
+pub arranged-room : (f b : List ℕ) (a : Arranged) → ArrangedFits f b a → length f ≤ 1022 → length b ≤ 1022 → a .count + (length (pick (a .kept) f b) - a .start) ≤ 1024
+unfolding pick
+arranged-room f b a h p q = go (a .kept) refl (h .1)
+  where
+    go : (t : Bool) → a .kept ≡ t → a .start ≤ length (pick t f b) → a .count + (length (pick t f b) - a .start) ≤ 1024
+    go true e k = elim (decLe 2 (length f)) [ yes r ↦ omega (arith, h .3 r) | no r ↦ omega (arith, h .0) ]
+    go false e k = omega (arith, h .2 e)
+
+-- the same of a Type 1 tag
+pub type1-copied : (s : State) (f : Held) (bytes b b₁ : List ℕ) (n : ℕ) (a : After) → n ≡ length bytes → b₁ ≡ put bytes b → a ≡ endsOf s true f (Type1 n) b₁
+    → a ≡ answersOf s f (type1 bytes) b
+type1-copied s f bytes b b₁ n a p q e = e ∙ (λ i. endsOf s true f (Type1 (p i)) (q i))
+
+-- a session in range has its lengths in range
+pub valid-command : (s : State) → isValid s ≡ true → s .command ≤ 512
+unfolding isValid
+valid-command s h = leb-true (s .command) 512 (both-l (leb (s .command) 512) _ h)
+
+pub valid-found : (s : State) → isValid s ≡ true → s .found ≤ 1022
+unfolding isValid
+valid-found s h = leb-true (s .found) 1022 (both-l (leb (s .found) 1022) _ (both-r (leb (s .command) 512) _ h))

@@ -1,11 +1,12 @@
 pub mod Plans
 pub mod Names
 pub mod Moves
+pub mod Exchanges
 pub mod Sessions
 pub mod Laws
 pub mod Inputs
-pub mod Exchanges
 pub mod Judged
+pub mod Searched
 pub mod Places
 pub mod Tie
 pub mod Follows

@@ -9,7 +9,7 @@ use lib.ListN.{length, take, drop}
 use Rattle.errors.specs.Choice.{pick}
 use Rattle.errors.specs.Refusals.{numbered}
 use Rattle.errors.specs.declared.Refusal.{Refusal}
-use Rattle.errors.specs.declared.Refusal.the-variants.{Transport}
+use Rattle.errors.specs.declared.Refusal.the-variants.{OutOfTurn, Transport}
 use Rattle.framing.specs.Frames.{ack}
 use Rattle.framing.specs.Lists.{both}
 use Rattle.framing.specs.Rules.{at-true, at-false}
@@ -22,6 +22,7 @@ use Rattle.exchange.specs.Steps.{orderOf as nextOrder}
 use Rattle.exchange.specs.declared.Advanced.{Advanced}
 use Rattle.exchange.specs.declared.Next.{Next}
 use Rattle.exchange.specs.declared.Reply.{Reply as CodeReply}
+use Rattle.exchange.specs.declared.Reply.the-variants.{Response, Failed}
 use Rattle.exchange.specs.declared.Exchange.{Exchange}
 use Rattle.engine.specs.declared.call.Call.{Call}
 use Rattle.engine.specs.declared.call.Order.{Order}
@@ -29,9 +30,12 @@ use Rattle.engine.specs.declared.call.Order.the-variants.{Ack, Read, Dra
 use Rattle.engine.specs.declared.call.Move.{Move}
 use Rattle.engine.specs.declared.call.Move.the-variants.{Unfit, Orders, Enters, Finishes, Replies, Refuses}
 
--- a call at another phase, and at its next command
+-- a call at another phase, at the command of a stage, and at its next command
 abbrev pub at : Call → ℕ → Call
 at c phase = record { kind = c .kind; stage = c .stage; phase = phase }
+
+abbrev pub toStage : Call → ℕ → Call
+toStage c n = record { kind = c .kind; stage = n; phase = 0 }
 
 abbrev pub following : Call → Call
 following c = record { kind = c .kind; stage = c .stage + 1; phase = 0 }
@@ -76,6 +80,11 @@ moveIn packet Finishes = finishes
 moveIn packet (Replies part) = replies (take (part .len) (drop (part .start) packet))
 moveIn packet (Refuses r) = refuses r
 
+-- the refusal of a reply; of a response, which has none, 1
+abbrev pub refusalOf : CodeReply → Refusal
+refusalOf (Response part) = OutOfTurn
+refusalOf (Failed r) = r
+
 -- behind a command's exchange: a reset's is followed by ACK whatever the reply
 unfoldable pub endedMove : Call → Exchange → Reply → Moved
 endedMove c x (response bytes) = pick (isReset c) (orders (write ack) (at c 1) x) (replies bytes)
@@ -102,13 +111,17 @@ openingAckMove c x e = onWrite unfitting (orders (read 10) (at c 4) x) (refuses 
 abbrev pub openingReadsMove : Call → Exchange → Event → Moved
 openingReadsMove c x e = onRead unfitting (λ p. orders (read 10) c x) (enters (at c 0)) (enters (at c 0)) unfitting e
 
+abbrev pub fieldPauseMove : Call → Event → Moved
+fieldPauseMove c e = onPause unfitting (enters (following c)) e
+
 unfoldable pub moveOf : Call → Exchange → Event → Moved
 moveOf c x e =
     pick (eqb (c .phase) 0) (exchangeMove c x (advance (stepOf x) e))
     (pick (eqb (c .phase) 1) (resetAckMove c x e)
     (pick (eqb (c .phase) 2) (resetPauseMove c e)
     (pick (eqb (c .phase) 3) (openingAckMove c x e)
-    (pick (eqb (c .phase) 4) (openingReadsMove c x e) unfitting))))
+    (pick (eqb (c .phase) 4) (openingReadsMove c x e)
+    (pick (eqb (c .phase) 5) (fieldPauseMove c e) unfitting)))))
 
 abbrev pub fits : Moved → Bool
 fits unfitting = false
@@ -118,7 +131,7 @@ fits finishes = true
 fits (replies bytes) = true
 fits (refuses r) = true
 
--- how many bytes of a packet come with an event, and how many a response has
+-- how many bytes of a packet come with an event, and how many at least a response's packet has
 abbrev pub packetLength : Event → ℕ
 packetLength e = onRead 0 length 0 0 0 e
 
@@ -127,12 +140,12 @@ replyLength unfitting = 0
 replyLength (orders o c x) = 0
 replyLength (enters c) = 0
 replyLength finishes = 0
-replyLength (replies bytes) = length bytes
+replyLength (replies bytes) = length bytes + 2
 replyLength (refuses r) = 0
 
 -- every field of a call is in its range
 unfoldable pub validCall : Call → Bool
-validCall c = both (leb (c .kind) 14) (both (leb (c .stage) 9) (leb (c .phase) 4))
+validCall c = both (leb (c .kind) 20) (both (leb (c .stage) 9) (leb (c .phase) 5))
 
 -- ---- laws
 
@@ -192,3 +205,9 @@ module _ (c : Call) (x : Exchange) (e : Event) (m : Moved) where
   moves-reads h p =
       at-false m _ _ _ (other 4 h 0 refl) (at-false m _ _ _ (other 4 h 1 refl) (at-false m _ _ _ (other 4 h 2 refl) (at-false m _ _ _ (other 4 h 3 refl)
       (at-true m _ _ _ (eq-eqb (c .phase) 4 h) p))))
+
+  pub moves-field : c .phase ≡ 5 → m ≡ fieldPauseMove c e → m ≡ moveOf c x e
+  unfolding moveOf
+  moves-field h p =
+      at-false m _ _ _ (other 5 h 0 refl) (at-false m _ _ _ (other 5 h 1 refl) (at-false m _ _ _ (other 5 h 2 refl) (at-false m _ _ _ (other 5 h 3 refl)
+      (at-false m _ _ _ (other 5 h 4 refl) (at-true m _ _ _ (eq-eqb (c .phase) 5 h) p)))))

@@ -2,21 +2,25 @@
 use mathlib.Core.Path.{_≡_}
 use mathlib.Core.Bool.{Bool, true}
 use mathlib.Core.List.{List, [], _∷_, _++_}
-use Prim.Native.Nat.{ℕ, _≤_}
+use Prim.Native.Nat.{ℕ, _+_, _≤_}
 use lib.Dec.{leb, ltb}
-use lib.ListN.{length, getD}
+use lib.ListN.{length, take, getD}
 use Rattle.errors.specs.declared.Refusal.the-variants.{ShortResponse, Status}
+use Rattle.exchange.specs.Packets.{Reply}
 use Rattle.exchange.specs.Steps.{stepOf}
 use Rattle.exchange.specs.declared.Exchange.{Exchange}
-use Rattle.protocol.specs.Scripts.{Script, finish, reset, either, refuse, ifElse, done}
+use Rattle.protocol.specs.Scripts.{Script, finish, command, reset, either, refuse, ifElse, done}
 use Rattle.protocol.specs.Chipset.{versionBytes, getFirmwareVersion, rfFieldOff, rfConfiguration, setParameters, writeRegister, anyNonzero}
 use Rattle.protocol.specs.Device.{chipsetName, deviceNew}
-use Rattle.protocol.specs.Calls.{Request, Call as CallOf, opening, request, finished}
-use Rattle.protocol.specs.Session.{Rest, byReply, ofReset, Phase, exchange, resetAck, resetPause, openingAck, openingReads}
+use Rattle.protocol.specs.Calls.{ReaderCall, Call as CallOf, opening, reader, finished}
+use Rattle.protocol.specs.Session.{Rest, byReply, ofReset, Phase, exchange, resetAck, resetPause, openingAck, openingReads, fieldPausing}
 use Rattle.protocol.specs.Session.{idle, busy, Session as Meant}
+use Rattle.chipset.specs.Launches.{cmd}
 use Rattle.chipset.specs.Verdicts.{judgeOf}
+use Rattle.discovery.specs.Decisions.{commandOf}
 use Rattle.engine.specs.Judged.{Judged, Rule}
-use Rattle.engine.specs.Sessions.{noCall}
+use Rattle.engine.specs.Searched.{Stands, Discovery}
+use Rattle.engine.specs.Sessions.{Held, held, noCall}
 use Rattle.engine.specs.declared.call.Call.{Call}
 use Rattle.engine.specs.declared.state.State.{State}
 use Rattle.engine.specs.declared.session.Session.{Session}
@@ -29,21 +33,46 @@ pub data Stage : Type 0 where
 
 pub data Reset : Type 0 where
   first second : Reset
-  alone : Request → Reset
+  alone : ReaderCall → Reset
 
 -- the one command of a call: the rule for its response, and the script behind it
 pub record Single : Type 0 where
-  pub request : Request
+  pub who : ReaderCall
   pub rule : ℕ
   pub next : List ℕ → Script
   pub isRule : Rule rule
   pub judged : (bs : List ℕ) → Judged (next bs) (judgeOf rule bs)
 
+-- a command of a discovery, with the pending command and the found bytes, and the script behind it
+pub record Staged : Type 0 where
+  pub who : ReaderCall
+  pub kind : ℕ
+  pub stage : ℕ
+  pub pending : List ℕ
+  pub found : List ℕ
+  pub next : Reply → Script
+  pub isKind : Discovery kind
+  pub stageFits : leb stage 9 ≡ true
+  pub stands : Stands kind stage pending found next
+
+-- the field pause before the command of the next stage
+pub record Paused : Type 0 where
+  pub before : Staged
+  pub code : ℕ
+  pub clock : ℕ
+  pub bytes : List ℕ
+  pub after : Reply → Script
+  pub nextFits : leb (before .stage + 1) 9 ≡ true
+  pub plan : commandOf (before .kind) (before .stage + 1) (before .pending) ≡ cmd code clock bytes
+  pub standsAfter : Stands (before .kind) (before .stage + 1) (before .pending) (before .found) after
+
 pub data Place : Type 0 where
   atAck atReads : Place
   atCommand : Stage → Place
   atSingle : Single → Place
-  atReset : Request → Place  -- the command of reset_mode
+  atStage : Staged → Place
+  atPause : Paused → Place
+  atReset : ReaderCall → Place  -- the command of reset_mode
   atResetAck atResetPause : Reset → Place
 
 abbrev pub number : Stage → ℕ
@@ -71,14 +100,16 @@ resetKind (alone q) = 3
 abbrev pub resetCall : Reset → CallOf
 resetCall first = opening
 resetCall second = opening
-resetCall (alone q) = request q
+resetCall (alone q) = reader q
 
 abbrev pub which : Place → CallOf
 which atAck = opening
 which atReads = opening
 which (atCommand s) = opening
-which (atSingle x) = request (x .request)
-which (atReset q) = request q
+which (atSingle x) = reader (x .who)
+which (atStage x) = reader (x .who)
+which (atPause x) = reader (x .before .who)
+which (atReset q) = reader q
 which (atResetAck r) = resetCall r
 which (atResetPause r) = resetCall r
 
@@ -87,6 +118,8 @@ kindAt atAck = 1
 kindAt atReads = 1
 kindAt (atCommand s) = 1
 kindAt (atSingle x) = x .rule
+kindAt (atStage x) = x .kind
+kindAt (atPause x) = x .before .kind
 kindAt (atReset q) = 3
 kindAt (atResetAck r) = resetKind r
 kindAt (atResetPause r) = resetKind r
@@ -96,6 +129,8 @@ stageOf atAck = 0
 stageOf atReads = 0
 stageOf (atCommand s) = number s
 stageOf (atSingle x) = 0
+stageOf (atStage x) = x .stage
+stageOf (atPause x) = x .before .stage
 stageOf (atReset q) = 0
 stageOf (atResetAck r) = resetNumber r
 stageOf (atResetPause r) = resetNumber r
@@ -105,6 +140,8 @@ phaseNumber atAck = 3
 phaseNumber atReads = 4
 phaseNumber (atCommand s) = 0
 phaseNumber (atSingle x) = 0
+phaseNumber (atStage x) = 0
+phaseNumber (atPause x) = 5
 phaseNumber (atReset q) = 0
 phaseNumber (atResetAck r) = 1
 phaseNumber (atResetPause r) = 2
@@ -115,7 +152,7 @@ callAt p = record { kind = kindAt p; stage = stageOf p; phase = phaseNumber p }
 -- any call but the opening runs in an open reader alone
 abbrev pub openedFor : CallOf → Bool → Bool
 openedFor opening o = o
-openedFor (request q) o = true
+openedFor (reader q) o = true
 
 -- ---- the scripts left, by the version bytes
 
@@ -175,6 +212,8 @@ phaseAt atAck x a b c = openingAck deviceNew
 phaseAt atReads x a b c = openingReads deviceNew
 phaseAt (atCommand s) x a b c = exchange (stepOf x) (restAt s a b c)
 phaseAt (atSingle y) x a b c = exchange (stepOf x) (byReply (either (y .next) refuse))
+phaseAt (atStage y) x a b c = exchange (stepOf x) (byReply (y .next))
+phaseAt (atPause y) x a b c = fieldPausing (command (y .code) (y .clock) (y .bytes) (y .after))
 phaseAt (atReset q) x a b c = exchange (stepOf x) (ofReset finished)
 phaseAt (atResetAck r) x a b c = resetAck (scriptAt r a b c)
 phaseAt (atResetPause r) x a b c = resetPause (scriptAt r a b c)
@@ -185,19 +224,39 @@ pub record Fields : Type 0 where
   pub opened : Bool
   pub command : List ℕ
   pub found : List ℕ
+  pub pending : ℕ
   pub kept : ℕ
   pub exchange : Exchange
   pub frames : ℕ
   pub long : 3 ≤ length found
-  pub keptFits : leb kept 1024 ≡ true
+  pub pendingFits : leb pending 512 ≡ true
+  pub keptFits : leb kept 1022 ≡ true
   pub phaseFits : leb (exchange .phase) 6 ≡ true
   pub few : frames ≤ 4294967295
 
 abbrev pub stateWith : Fields → Call → Bool → State
-stateWith v c o = record { command = 0; found = v .kept; exchange = v .exchange; call = c; opened = o; frames = v .frames }
+stateWith v c o = record { command = v .pending; found = v .kept; exchange = v .exchange; call = c; opened = o; frames = v .frames }
 
 abbrev pub sessionWith : Fields → State → Session
 sessionWith v s = record { command = v .command; found = v .found; state = s }
+
+abbrev pub heldAt : Fields → Held
+heldAt v = held (v .command) (v .found)
+
+-- the pending command and the found bytes are those of the place
+abbrev pub AgreesWith : Place → List ℕ → List ℕ → Type 0
+AgreesWith atAck c f = Unit {0}
+AgreesWith atReads c f = Unit {0}
+AgreesWith (atCommand s) c f = Unit {0}
+AgreesWith (atSingle x) c f = Unit {0}
+AgreesWith (atStage x) c f = (c ≡ x .pending) × (f ≡ x .found)
+AgreesWith (atPause x) c f = (c ≡ x .before .pending) × (f ≡ x .before .found)
+AgreesWith (atReset q) c f = Unit {0}
+AgreesWith (atResetAck r) c f = Unit {0}
+AgreesWith (atResetPause r) c f = Unit {0}
+
+abbrev pub Agrees : Place → Fields → Type 0
+Agrees p v = AgreesWith p (take (v .pending) (v .command)) (take (v .kept) (v .found))
 
 -- no call runs
 abbrev pub freeState : Fields → State
@@ -218,4 +277,4 @@ meantAt p v = record { activity = busy (which p) (phaseIn p (v .exchange) (v .fo
 
 pub data Means (s : Session) (m : Meant) : Type 0 where
   free : (v : Fields) → s ≡ sessionWith v (freeState v) → m ≡ freeMeant v → Means s m
-  runs : (p : Place) (v : Fields) → s ≡ sessionWith v (stateAt p v) → m ≡ meantAt p v → Means s m
+  runs : (p : Place) (v : Fields) → Agrees p v → s ≡ sessionWith v (stateAt p v) → m ≡ meantAt p v → Means s m

@@ -13,16 +13,16 @@ ghost use mathlib.Core.Path.{_≡_};
 ghost use Prim.Native.Nat.{ℕ, _<_};
 ghost use Rattle.exchange.specs.Exchange.{advance};
 ghost use Rattle.exchange.specs.Steps.{eventOf, orderOf, replyIn, stepOf};
-ghost use Rattle.engine.specs.Moves.{validCall, fits, at, following, isReset, moveIn, moveOf, endedMove, exchangeMove, orders, resetAckMove, restedMove, resetPauseMove, openingAckMove, openingReadsMove};
+ghost use Rattle.engine.specs.Moves.{validCall, fits, at, toStage, following, isReset, moveIn, moveOf, endedMove, exchangeMove, orders, resetAckMove, restedMove, resetPauseMove, openingAckMove, openingReadsMove, fieldPauseMove, refusalOf};
 
-// What runs: no call, the opening, or a call of one command, by the number of the rule for its response.
+// What runs: no call, the opening, a call of one command by the number of the rule for its response, or a discovery.
 pub const NO_CALL: u8 = 0;
 
 pub const OPEN: u8 = 1;
 
-pub const LAST: u8 = 14;
+pub const LAST: u8 = 20;
 
-// What a call waits for: its command's exchange, a reset's ACK or pause, the opening's ACK or reads.
+// What a call waits for: its command's exchange, a reset's ACK or pause, the opening's ACK or reads, the field pause.
 pub const EXCHANGE: u8 = 0;
 
 pub const RESET_ACK: u8 = 1;
@@ -32,6 +32,8 @@ pub const RESET_PAUSE: u8 = 2;
 pub const OPENING_ACK: u8 = 3;
 
 pub const OPENING_READS: u8 = 4;
+
+pub const FIELD_PAUSE: u8 = 5;
 
 // What runs, which of its commands is on or comes next, and what is awaited.
 pub struct Call {
@@ -59,6 +61,16 @@ pub enum Move {
     Refuses(Refusal),
 }
 
+// The refusal of a reply; of a response, which has none, refusal 1.
+fn refusal_of(reply: Reply) -> Refusal
+    ensures { λ r. ⌜ r ≡ refusalOf reply ⌝ }
+{
+    match reply {
+        Reply::Response(_) => Refusal::OutOfTurn,
+        Reply::Failed(refusal) => refusal,
+    }
+}
+
 impl Call {
     // Every field is in its range.
     pub(crate) fn is_valid(self) -> bool
@@ -66,7 +78,7 @@ impl Call {
     {
         if self.kind <= LAST {
             if self.stage <= 9 {
-                self.phase <= 4
+                self.phase <= 5
             } else {
                 false
             }
@@ -90,13 +102,24 @@ impl Call {
         }
     }
 
-    fn at(self, phase: u8) -> Call
+    pub(crate) fn at(self, phase: u8) -> Call
         ensures { λ r. ⌜ r ≡ at self phase ⌝ }
     {
         Call {
             kind: self.kind,
             stage: self.stage,
             phase,
+        }
+    }
+
+    // At the command of a stage.
+    pub(crate) fn to_stage(self, stage: u8) -> Call
+        ensures { λ r. ⌜ r ≡ toStage self stage ⌝ }
+    {
+        Call {
+            kind: self.kind,
+            stage,
+            phase: EXCHANGE,
         }
     }
 
@@ -128,10 +151,10 @@ impl Call {
         if self.is_reset() {
             return Move::Orders(Order::Ack, self.at(RESET_ACK), exchange);
         }
-        match reply {
-            Reply::Response(part) => Move::Replies(part),
-            Reply::Failed(refusal) => Move::Refuses(refusal),
-        }
+        let Reply::Response(part) = reply else {
+            return Move::Refuses(refusal_of(reply));
+        };
+        Move::Replies(part)
     }
 
     fn on_exchange(self, exchange: Exchange, event: Event, packet: &[u8]) -> Move
@@ -213,6 +236,21 @@ impl Call {
         }
     }
 
+    fn on_field_pause(self, event: Event) -> Move
+        requires { ⌜ self .stage < 255 ⌝ }
+        ensures { λ r. ⌜ ((p : List ℕ) → moveIn p r ≡ fieldPauseMove self (eventOf event p)) ⌝ }
+    {
+        match event {
+            Event::Slept => Move::Enters(self.following()),
+            Event::Ok => Move::Unfit,
+            Event::Bad => Move::Unfit,
+            Event::Packet => Move::Unfit,
+            Event::Time => Move::Unfit,
+            Event::Fail => Move::Unfit,
+            Event::Late => Move::Unfit,
+        }
+    }
+
     // What an event does to the call.
     pub(crate) fn moved(self, exchange: Exchange, event: Event, packet: &[u8]) -> Move
         requires { ⌜ self .stage < 255 ⌝ }
@@ -225,6 +263,7 @@ impl Call {
             RESET_PAUSE => self.on_reset_pause(event),
             OPENING_ACK => self.on_opening_ack(exchange, event),
             OPENING_READS => self.on_opening_reads(exchange, event),
+            FIELD_PAUSE => self.on_field_pause(event),
             _ => Move::Unfit,
         }
     }

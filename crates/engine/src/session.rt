@@ -7,13 +7,21 @@ use super::state::Output;
 use super::state::State;
 use chipset::command;
 use chipset::command::Launched;
+use discovery::search;
+use discovery::search::Search;
+use discovery::search::Timeout;
 use exchange::Event;
 use exchange::Exchange;
+ghost use mathlib.Core.List.{[]};
 ghost use mathlib.Core.Path.{_≡_};
 ghost use Rattle.exchange.specs.Steps.{eventOf};
 ghost use Rattle.protocol.specs.Calls.{version, resetMode, setParameters, rfConfiguration, rfFieldOff, readRegister, writeRegister, readSingleRegister, writeSingleRegister, inListPassiveTarget, inDataExchange, inCommunicateThru, inJumpForDep, tgInitTarget, tgSetGeneralBytes, tgGetInitiatorCommand, tgResponseToInitiator, tgGetTargetStatus};
+ghost use Rattle.protocol.specs.Calls.{detectTypeA, detectTypeB, detectTypeF, detectDep, transceive};
+ghost use Prim.Native.Nat.{_≤_};
+ghost use lib.ListN.{length};
 ghost use Rattle.chipset.specs.Starts.{launchIn, LaunchFits};
-ghost use Rattle.engine.specs.Sessions.{stepped, freshSession, eventStep, openStep, launchStep, requestStep};
+ghost use Rattle.discovery.specs.Starts.{searchIn, SearchFits, timeoutOf};
+ghost use Rattle.engine.specs.Sessions.{stepped, freshSession, eventStep, openStep, launchStep, requestStep, searchStep, deviceStep};
 
 pub struct Session {
     pub command: [u8; 512],
@@ -72,10 +80,12 @@ impl Session {
         ensures { λ r. ⌜ stepped r (now (buffer .exit)) ≡ eventStep self (eventOf event (now (packet .entry))) (now (buffer .entry)) ⌝ }
     {
         let state = self.state;
+        let mut command = self.command;
         let mut found = self.found;
-        let effect = state.event(event, packet, &mut found, buffer);
+        let effect = state.event(event, packet, &mut command, &mut found, buffer);
         let output = effect.output;
         let after = effect.state;
+        self.command = command;
         self.found = found;
         self.state = after;
         Step {
@@ -84,22 +94,32 @@ impl Session {
         }
     }
 
-    // A call of one command.
-    fn call(mut self, launched: Launched, buffer: &mut [u8]) -> Step
-        requires { ⌜ LaunchFits launched ⌝ }
-        ensures { λ r. ⌜ stepped r (now (buffer .exit)) ≡ launchStep self (launchIn launched) (now (buffer .entry)) ⌝ }
+    // A call with its first command, and the command to send later.
+    fn launch(mut self, launched: Launched, pending: &[u8], buffer: &mut [u8]) -> Step
+        requires { ⌜ LaunchFits launched × (length (now pending) ≤ 512) ⌝ }
+        ensures { λ r. ⌜ stepped r (now (buffer .exit)) ≡ launchStep self (launchIn launched) (now (pending .entry)) (now (buffer .entry)) ⌝ }
     {
         let state = self.state;
         let launch = launched.launch;
         let bytes = launched.bytes;
-        let effect = state.launched(launch, &bytes, buffer);
+        let mut command = self.command;
+        let effect = state.launched(launch, &bytes, pending, &mut command, buffer);
         let output = effect.output;
         let after = effect.state;
+        self.command = command;
         self.state = after;
         Step {
             session: self,
             output,
         }
+    }
+
+    // A call of one command.
+    fn call(self, launched: Launched, buffer: &mut [u8]) -> Step
+        requires { ⌜ LaunchFits launched ⌝ }
+        ensures { λ r. ⌜ stepped r (now (buffer .exit)) ≡ launchStep self (launchIn launched) [] (now (buffer .entry)) ⌝ }
+    {
+        self.launch(launched, &[], buffer)
     }
 
     // `get_firmware_version`.
@@ -244,5 +264,71 @@ impl Session {
         ensures { λ r. ⌜ stepped r (now (buffer .exit)) ≡ requestStep self (tgGetTargetStatus) (now (buffer .entry)) ⌝ }
     {
         self.call(command::tg_get_target_status(), buffer)
+    }
+
+    // A call of discovery.rs, or transceive.
+    fn search(self, search: Search, buffer: &mut [u8]) -> Step
+        requires { ⌜ SearchFits search ⌝ }
+        ensures { λ r. ⌜ stepped r (now (buffer .exit)) ≡ searchStep self (searchIn search) (now (buffer .entry)) ⌝ }
+    {
+        let launched = search.launched;
+        let pending = search.pending;
+        let n = search.count;
+        self.launch(launched, &pending[..n], buffer)
+    }
+
+    // The UID may be empty.
+    pub fn detect_type_a(self, bitrate: &[u8], uid: &[u8], buffer: &mut [u8]) -> Step
+        ensures { λ r. ⌜ stepped r (now (buffer .exit)) ≡ deviceStep self (detectTypeA (now (bitrate .entry)) (now (uid .entry))) (now (buffer .entry)) ⌝ }
+    {
+        self.search(search::detect_type_a(bitrate, uid), buffer)
+    }
+
+    // SENSB_REQ may be empty; its first byte is the AFI.
+    pub fn detect_type_b(self, bitrate: &[u8], sensb_req: &[u8], buffer: &mut [u8]) -> Step
+        ensures { λ r. ⌜ stepped r (now (buffer .exit)) ≡ deviceStep self (detectTypeB (now (bitrate .entry)) (now («sensb_req» .entry))) (now (buffer .entry)) ⌝ }
+    {
+        self.search(search::detect_type_b(bitrate, sensb_req), buffer)
+    }
+
+    pub fn detect_type_f(
+        self,
+        bitrate: &[u8],
+        system_code: u16,
+        request_code: u8,
+        time_slots: u8,
+        buffer: &mut [u8],
+    ) -> Step
+        ensures { λ r. ⌜ stepped r (now (buffer .exit)) ≡ deviceStep self (detectTypeF (now (bitrate .entry)) «system_code» «request_code» «time_slots») (now (buffer .entry)) ⌝ }
+    {
+        self.search(
+            search::detect_type_f(bitrate, system_code, request_code, time_slots),
+            buffer,
+        )
+    }
+
+    // ATR_REQ; an empty one is missing.
+    pub fn detect_dep(self, bitrate: &[u8], atr_req: &[u8], buffer: &mut [u8]) -> Step
+        ensures { λ r. ⌜ stepped r (now (buffer .exit)) ≡ deviceStep self (detectDep (now (bitrate .entry)) (now («atr_req» .entry))) (now (buffer .entry)) ⌝ }
+    {
+        self.search(search::detect_dep(bitrate, atr_req), buffer)
+    }
+
+    // SEL_RES, empty where it is absent, and whether RID_RES is there.
+    pub fn transceive(
+        self,
+        bitrate: &[u8],
+        sel_res: &[u8],
+        rid_res: bool,
+        bytes: &[u8],
+        timeout: Timeout,
+        buffer: &mut [u8],
+    ) -> Step
+        ensures { λ r. ⌜ stepped r (now (buffer .exit)) ≡ deviceStep self (transceive (now (bitrate .entry)) (now («sel_res» .entry)) «rid_res» (now (bytes .entry)) (timeoutOf timeout)) (now (buffer .entry)) ⌝ }
+    {
+        self.search(
+            search::transceive(bitrate, sel_res, rid_res, bytes, timeout),
+            buffer,
+        )
     }
 }

@@ -1,6 +1,7 @@
 // A session's numbers, and what a call or an event does to them and to the buffer.
 use super::call::Call;
 use super::call::EXCHANGE;
+use super::call::FIELD_PAUSE;
 use super::call::Move;
 use super::call::NO_CALL;
 use super::call::OPEN;
@@ -12,6 +13,10 @@ use chipset::command::Launch;
 use chipset::response;
 use chipset::response::Answer;
 use chipset::response::Verdict;
+use discovery::TYPE_A;
+use discovery::decision;
+use discovery::decision::Arranged;
+use discovery::decision::Decision;
 use errors::Refusal;
 use exchange::Event;
 use exchange::Exchange;
@@ -23,7 +28,7 @@ use framing::frame::build_command;
 ghost use mathlib.Core.Bool.{Bool, true, false};
 ghost use mathlib.Core.List.{List, _++_};
 ghost use mathlib.Core.Path.{_≡_};
-ghost use Prim.Native.Nat.{ℕ, _+_, _≤_, _<_};
+ghost use Prim.Native.Nat.{ℕ, _+_, _-_, _≤_, _<_};
 ghost use lib.Dec.{eqb};
 ghost use lib.ListN.{length, take, drop};
 ghost use Rattle.framing.specs.Lists.{both};
@@ -33,9 +38,11 @@ ghost use Rattle.protocol.specs.Scripts.{done};
 ghost use Rattle.chipset.specs.Launches.{cmd};
 ghost use Rattle.chipset.specs.Answers.{verdictIn, Fits};
 ghost use Rattle.chipset.specs.Starts.{launchWith, fits};
+ghost use Rattle.discovery.specs.Decisions.{keeps, sets, commandOf};
+ghost use Rattle.discovery.specs.Decided.{headBytes, arranged as arrangedOf, ArrangedFits, decisionIn, DecisionFits};
 ghost use Rattle.engine.specs.Moves.{orderOf, moveIn, packetLength, replyLength};
 ghost use Rattle.engine.specs.Names.{openedBytes};
-ghost use Rattle.engine.specs.Sessions.{isValid, isFree, running, idle, uncounted, unchanged, counted, withFound, put, effected, ordersOf, sendsOf, entersOf, endsOf, answersOf, versionOf, judgedOf, lastOf, openingOf, repliesOf, movedOf, isLong, admittedOf, eventAfter, openAfter, launchOn, launchAfter};
+ghost use Rattle.engine.specs.Sessions.{isValid, isFree, Held, held, pendingOf, running, idle, uncounted, unchanged, counted, withFound, withCommand, put, effected, ordersOf, sendsOf, entersOf, endsOf, arrangedFrom, answersOf, versionOf, judgedOf, lastOf, openingOf, followsOf, repliesOf, failsOf, movedOf, isLong, admittedOf, eventAfter, openAfter, launchOn, launchAfter};
 
 // What a session holds beside its arrays: how much of each is in use, the exchange, the call, whether the reader is open, and the
 // command frames ordered since the last opening began.
@@ -55,6 +62,7 @@ pub enum Output {
     Drain,
     Pause(u32),
     Done(usize),
+    Type1(usize),
     Nothing,
     Refused(Refusal),
 }
@@ -141,7 +149,7 @@ impl State {
         if self.command > 512 {
             return false;
         }
-        if self.found > 1024 {
+        if self.found > 1022 {
             return false;
         }
         if exchange.phase > 6 {
@@ -198,6 +206,21 @@ impl State {
         }
     }
 
+    fn with_command(self, command: usize) -> State
+        ensures { λ r. ⌜ r ≡ withCommand self command ⌝ }
+    {
+        let exchange = self.exchange;
+        let call = self.call;
+        State {
+            command,
+            found: self.found,
+            exchange,
+            call,
+            opened: self.opened,
+            frames: self.frames,
+        }
+    }
+
     // An opening begins: nothing is found and no frame is counted yet.
     fn uncounted(self) -> State
         ensures { λ r. ⌜ r ≡ uncounted self ⌝ }
@@ -217,7 +240,7 @@ impl State {
     // An order that writes no command.
     fn ordered(self, order: Order, call: Call, exchange: Exchange, buffer: &mut [u8]) -> Effect
         requires { ⌜ 1024 ≤ length (now buffer) ⌝ }
-        ensures { λ r. ⌜ ((f : List ℕ) → effected r f (now (buffer .exit)) ≡ ordersOf self f (orderOf order) call exchange (now (buffer .entry))) ⌝ }
+        ensures { λ r. ⌜ ((f : Held) → effected r f (now (buffer .exit)) ≡ ordersOf self f (orderOf order) call exchange (now (buffer .entry))) ⌝ }
     {
         let state = self.running(call, exchange);
         match order {
@@ -244,7 +267,7 @@ impl State {
     // A command is ordered.
     fn sent(self, call: Call, code: u8, clock: u32, bytes: &[u8], buffer: &mut [u8]) -> Effect
         requires { ⌜ (length (now bytes) ≤ 512) × (1024 ≤ length (now buffer)) ⌝ }
-        ensures { λ r. ⌜ ((f : List ℕ) → effected r f (now (buffer .exit)) ≡ sendsOf self f call (cmd code clock (now (bytes .entry))) (now (buffer .entry))) ⌝ }
+        ensures { λ r. ⌜ ((f : Held) → effected r f (now (buffer .exit)) ≡ sendsOf self f call (cmd code clock (now (bytes .entry))) (now (buffer .entry))) ⌝ }
     {
         let len = framed(code, bytes, buffer);
         let exchange = Exchange::start(code, clock);
@@ -260,20 +283,40 @@ impl State {
         Effect { state, output }
     }
 
-    // The command of the opening's stage is ordered.
-    fn entered(self, call: Call, buffer: &mut [u8]) -> Effect
-        requires { ⌜ 1024 ≤ length (now buffer) ⌝ }
-        ensures { λ r. ⌜ ((f : List ℕ) → effected r f (now (buffer .exit)) ≡ entersOf self f call (now (buffer .entry))) ⌝ }
+    // The command of a discovery's stage is ordered, which may be the pending one.
+    fn searched(self, call: Call, command: &[u8], buffer: &mut [u8]) -> Effect
+        requires { ⌜ (self .command ≤ 512) × (length (now command) ≡ 512) × (1024 ≤ length (now buffer)) ⌝ }
+        ensures { λ r. ⌜ ((f : List ℕ) → effected r (held (now (command .entry)) f) (now (buffer .exit)) ≡ sendsOf self (held (now (command .entry)) f) call (commandOf (call .kind) (call .stage) (pendingOf self (held (now (command .entry)) f))) (now (buffer .entry))) ⌝ }
     {
-        let plan = device::opening(call.stage);
-        let bytes = plan.2;
-        let n = plan.3;
-        self.sent(call, plan.0, plan.1, &bytes[..n], buffer)
+        let plan = decision::command(call.kind, call.stage);
+        if plan.2 {
+            let n = self.command;
+            self.sent(call, plan.0, plan.1, &command[..n], buffer)
+        } else {
+            let bytes = plan.3;
+            let n = plan.4;
+            self.sent(call, plan.0, plan.1, &bytes[..n], buffer)
+        }
+    }
+
+    // The command of a call's stage is ordered.
+    fn entered(self, call: Call, command: &[u8], buffer: &mut [u8]) -> Effect
+        requires { ⌜ (self .command ≤ 512) × (length (now command) ≡ 512) × (1024 ≤ length (now buffer)) ⌝ }
+        ensures { λ r. ⌜ ((f : List ℕ) → effected r (held (now (command .entry)) f) (now (buffer .exit)) ≡ entersOf self (held (now (command .entry)) f) call (now (buffer .entry))) ⌝ }
+    {
+        if call.kind == OPEN {
+            let plan = device::opening(call.stage);
+            let bytes = plan.2;
+            let n = plan.3;
+            self.sent(call, plan.0, plan.1, &bytes[..n], buffer)
+        } else {
+            self.searched(call, command, buffer)
+        }
     }
 
     // The call ends: an opening leaves the reader open if it succeeded, any other call leaves it as it was.
     fn ended(self, success: bool, output: Output) -> Effect
-        ensures { λ r. ⌜ ((f b : List ℕ) → effected r f b ≡ endsOf self success f output b) ⌝ }
+        ensures { λ r. ⌜ ((f : Held) (b : List ℕ) → effected r f b ≡ endsOf self success f output b) ⌝ }
     {
         let call = self.call;
         if call.kind == OPEN {
@@ -287,8 +330,8 @@ impl State {
 
     // The call ends with an answer: a part of the response, and the tail behind it.
     fn answered(self, response: &[u8], answer: Answer, buffer: &mut [u8]) -> Effect
-        requires { ⌜ (length (now response) ≤ 1024) × (1024 ≤ length (now buffer)) × Fits (now response) (Verdict.Done answer) ⌝ }
-        ensures { λ r. ⌜ ((f : List ℕ) → effected r f (now (buffer .exit)) ≡ answersOf self f (verdictIn (now (response .entry)) (Verdict.Done answer)) (now (buffer .entry))) ⌝ }
+        requires { ⌜ (length (now response) ≤ 1022) × (1024 ≤ length (now buffer)) × Fits (now response) (Verdict.Done answer) ⌝ }
+        ensures { λ r. ⌜ ((f : Held) → effected r f (now (buffer .exit)) ≡ answersOf self f (verdictIn (now (response .entry)) (Verdict.Done answer)) (now (buffer .entry))) ⌝ }
     {
         let start = answer.start;
         let len = answer.len;
@@ -302,8 +345,8 @@ impl State {
 
     // The response to the one command of a call is in.
     fn judged(self, response: &[u8], buffer: &mut [u8]) -> Effect
-        requires { ⌜ (length (now response) ≤ 1024) × (1024 ≤ length (now buffer)) ⌝ }
-        ensures { λ r. ⌜ ((f : List ℕ) → effected r f (now (buffer .exit)) ≡ judgedOf self f (now (response .entry)) (now (buffer .entry))) ⌝ }
+        requires { ⌜ (length (now response) ≤ 1022) × (1024 ≤ length (now buffer)) ⌝ }
+        ensures { λ r. ⌜ ((f : Held) → effected r f (now (buffer .exit)) ≡ judgedOf self f (now (response .entry)) (now (buffer .entry))) ⌝ }
     {
         let call = self.call;
         match response::judged(call.kind, response) {
@@ -314,23 +357,30 @@ impl State {
     }
 
     // get_firmware_version was answered: the opening keeps three bytes and goes on.
-    fn versioned(self, response: &[u8], found: &mut [u8], buffer: &mut [u8]) -> Effect
-        requires { ⌜ (3 ≤ length (now found)) × (1024 ≤ length (now buffer)) × (self .call .stage < 255) ⌝ }
-        ensures { λ r. ⌜ effected r (now (found .exit)) (now (buffer .exit)) ≡ versionOf self (now (found .entry)) (now (response .entry)) (now (buffer .entry)) ⌝ }
+    fn versioned(
+        self,
+        response: &[u8],
+        command: &[u8],
+        found: &mut [u8],
+        buffer: &mut [u8],
+    ) -> Effect
+        requires { ⌜ (length (now response) ≤ 1022) × (self .command ≤ 512) × (length (now command) ≡ 512) × (length (now found) ≡ 1024) × (1024 ≤ length (now buffer)) × (self .call .stage < 255) ⌝ }
+        ensures { λ r. ⌜ effected r (held (now (command .entry)) (now (found .exit))) (now (buffer .exit)) ≡ versionOf self (held (now (command .entry)) (now (found .entry))) (now (response .entry)) (now (buffer .entry)) ⌝ }
     {
         if response.len() < 4 {
             self.ended(false, Output::Refused(Refusal::ShortResponse))
         } else {
             let call = self.call;
             bytes::copy(&response[..3], found);
-            self.with_found(3).entered(call.following(), buffer)
+            self.with_found(3)
+                .entered(call.following(), command, buffer)
         }
     }
 
     // The opening's last command was answered.
     fn configured(self, response: &[u8], identity: Identity, buffer: &mut [u8]) -> Effect
         requires { ⌜ (1024 ≤ length (now buffer)) × (identity .len ≤ 15) ⌝ }
-        ensures { λ r. ⌜ ((f : List ℕ) → effected r f (now (buffer .exit)) ≡ lastOf self f (now (response .entry)) (take (identity .len) (identity .bytes)) (now (buffer .entry))) ⌝ }
+        ensures { λ r. ⌜ ((f : Held) → effected r f (now (buffer .exit)) ≡ lastOf self f (now (response .entry)) (take (identity .len) (identity .bytes)) (now (buffer .entry))) ⌝ }
     {
         if response::any_nonzero(response) {
             self.ended(false, Output::Refused(Refusal::Status(0xFE)))
@@ -343,38 +393,164 @@ impl State {
     }
 
     // The response to a command of the opening is in.
-    fn opening(self, response: &[u8], found: &mut [u8], buffer: &mut [u8]) -> Effect
-        requires { ⌜ (3 ≤ length (now found)) × (1024 ≤ length (now buffer)) × (self .call .stage < 255) ⌝ }
-        ensures { λ r. ⌜ effected r (now (found .exit)) (now (buffer .exit)) ≡ openingOf self (now (found .entry)) (now (response .entry)) (now (buffer .entry)) ⌝ }
+    fn opening(self, response: &[u8], command: &[u8], found: &mut [u8], buffer: &mut [u8]) -> Effect
+        requires { ⌜ (length (now response) ≤ 1022) × (self .command ≤ 512) × (length (now command) ≡ 512) × (length (now found) ≡ 1024) × (1024 ≤ length (now buffer)) × (self .call .stage < 255) ⌝ }
+        ensures { λ r. ⌜ effected r (held (now (command .entry)) (now (found .exit))) (now (buffer .exit)) ≡ openingOf self (held (now (command .entry)) (now (found .entry))) (now (response .entry)) (now (buffer .entry)) ⌝ }
     {
         let call = self.call;
         if call.stage == 1 {
-            return self.versioned(response, found, buffer);
+            return self.versioned(response, command, found, buffer);
         }
         if call.stage == 9 {
             let identity = device::opened(found[0], found[1], found[2]);
             self.configured(response, identity, buffer)
         } else {
-            self.entered(call.following(), buffer)
+            self.entered(call.following(), command, buffer)
+        }
+    }
+
+    // A discovery ends with an answer: some bytes, and behind them the rest of its source, the response or the found bytes.
+    fn arranged(self, arranged: Arranged, source: &[u8], buffer: &mut [u8]) -> Effect
+        requires { ⌜ (arranged .count ≤ 3) × (arranged .start ≤ length (now source)) × (arranged .count + (length (now source) - arranged .start) ≤ length (now buffer)) ⌝ }
+        ensures { λ r. ⌜ ((f : Held) → effected r f (now (buffer .exit)) ≡ answersOf self f (arrangedFrom (arranged .type1) (take (arranged .count) (headBytes (arranged .head)) ++ drop (arranged .start) (now (source .entry)))) (now (buffer .entry))) ⌝ }
+    {
+        let start = arranged.start;
+        let count = arranged.count;
+        let h = arranged.head;
+        let head = [h.0, h.1, h.2];
+        let n = put_both(&head[..count], &source[start..], buffer);
+        if arranged.type1 {
+            self.ended(true, Output::Type1(n))
+        } else {
+            self.ended(true, Output::Done(n))
+        }
+    }
+
+    fn found_card(
+        self,
+        arranged: Arranged,
+        response: &[u8],
+        found: &[u8],
+        buffer: &mut [u8],
+    ) -> Effect
+        requires { ⌜ (length (now response) ≤ 1022) × (self .found ≤ 1022) × (length (now found) ≡ 1024) × (1024 ≤ length (now buffer)) × ArrangedFits (take (self .found) (now found)) (now response) arranged ⌝ }
+        ensures { λ r. ⌜ ((c : List ℕ) → effected r (held c (now (found .entry))) (now (buffer .exit)) ≡ answersOf self (held c (now (found .entry))) (arrangedOf (take (self .found) (now (found .entry))) (now (response .entry)) arranged) (now (buffer .entry))) ⌝ }
+    {
+        if arranged.kept {
+            let n = self.found;
+            self.arranged(arranged, &found[..n], buffer)
+        } else {
+            self.arranged(arranged, response, buffer)
+        }
+    }
+
+    // The response is kept, and the command of a stage follows.
+    fn kept(
+        self,
+        stage: u8,
+        response: &[u8],
+        command: &[u8],
+        found: &mut [u8],
+        buffer: &mut [u8],
+    ) -> Effect
+        requires { ⌜ (length (now response) ≤ 1022) × (self .command ≤ 512) × (length (now command) ≡ 512) × (length (now found) ≡ 1024) × (1024 ≤ length (now buffer)) ⌝ }
+        ensures { λ r. ⌜ effected r (held (now (command .entry)) (now (found .exit))) (now (buffer .exit)) ≡ followsOf self (held (now (command .entry)) (now (found .entry))) (now (response .entry)) (keeps stage) (now (buffer .entry)) ⌝ }
+    {
+        let call = self.call;
+        let n = bytes::copy(response, found);
+        self.with_found(n)
+            .entered(call.to_stage(stage), command, buffer)
+    }
+
+    // The pending command becomes the RX mode's register and value, and follows.
+    fn set(self, stage: u8, value: u8, command: &mut [u8], buffer: &mut [u8]) -> Effect
+        requires { ⌜ (length (now command) ≡ 512) × (1024 ≤ length (now buffer)) ⌝ }
+        ensures { λ r. ⌜ ((f : List ℕ) (bs : List ℕ) → effected r (held (now (command .exit)) f) (now (buffer .exit)) ≡ followsOf self (held (now (command .entry)) f) bs (sets stage value) (now (buffer .entry))) ⌝ }
+    {
+        let call = self.call;
+        let register = [0x63, 0x03, value];
+        bytes::copy(&register, command);
+        self.with_command(3)
+            .entered(call.to_stage(stage), command, buffer)
+    }
+
+    // What a discovery decided.
+    fn followed(
+        self,
+        decision: Decision,
+        response: &[u8],
+        command: &mut [u8],
+        found: &mut [u8],
+        buffer: &mut [u8],
+    ) -> Effect
+        requires { ⌜ (length (now response) ≤ 1022) × (self .found ≤ 1022) × (self .command ≤ 512) × (length (now command) ≡ 512) × (length (now found) ≡ 1024) × (1024 ≤ length (now buffer)) × DecisionFits (take (self .found) (now found)) (now response) decision ⌝ }
+        ensures { λ r. ⌜ effected r (held (now (command .exit)) (now (found .exit))) (now (buffer .exit)) ≡ followsOf self (held (now (command .entry)) (now (found .entry))) (now (response .entry)) (decisionIn (take (self .found) (now (found .entry))) (now (response .entry)) decision) (now (buffer .entry)) ⌝ }
+    {
+        let call = self.call;
+        let exchange = self.exchange;
+        match decision {
+            Decision::Goes(stage) => self.entered(call.to_stage(stage), command, buffer),
+            Decision::Keeps(stage) => self.kept(stage, response, command, found, buffer),
+            Decision::Sets(stage, value) => self.set(stage, value, command, buffer),
+            Decision::Pauses => self.ordered(
+                Order::Pause(20400),
+                call.at(FIELD_PAUSE),
+                exchange,
+                buffer,
+            ),
+            Decision::Done(arranged) => self.found_card(arranged, response, found, buffer),
+            Decision::Nothing => self.ended(false, Output::Nothing),
+            Decision::Refused(refusal) => self.ended(false, Output::Refused(refusal)),
         }
     }
 
     // The response to the call's command is in.
-    fn replied(self, response: &[u8], found: &mut [u8], buffer: &mut [u8]) -> Effect
-        requires { ⌜ (length (now response) ≤ 1024) × (3 ≤ length (now found)) × (1024 ≤ length (now buffer)) × (self .call .stage < 255) ⌝ }
-        ensures { λ r. ⌜ effected r (now (found .exit)) (now (buffer .exit)) ≡ repliesOf self (now (found .entry)) (now (response .entry)) (now (buffer .entry)) ⌝ }
+    fn replied(
+        self,
+        response: &[u8],
+        command: &mut [u8],
+        found: &mut [u8],
+        buffer: &mut [u8],
+    ) -> Effect
+        requires { ⌜ (length (now response) ≤ 1022) × (self .found ≤ 1022) × (self .command ≤ 512) × (length (now command) ≡ 512) × (length (now found) ≡ 1024) × (1024 ≤ length (now buffer)) × (self .call .stage < 255) ⌝ }
+        ensures { λ r. ⌜ effected r (held (now (command .exit)) (now (found .exit))) (now (buffer .exit)) ≡ repliesOf self (held (now (command .entry)) (now (found .entry))) (now (response .entry)) (now (buffer .entry)) ⌝ }
     {
         let call = self.call;
         if call.kind == OPEN {
-            self.opening(response, found, buffer)
-        } else {
+            return self.opening(response, command, found, buffer);
+        }
+        if call.kind < TYPE_A {
             self.judged(response, buffer)
+        } else {
+            let n = self.found;
+            let decision = decision::decided(call.kind, call.stage, &found[..n], response);
+            self.followed(decision, response, command, found, buffer)
+        }
+    }
+
+    // The call's command failed.
+    fn failed(
+        self,
+        refusal: Refusal,
+        command: &mut [u8],
+        found: &mut [u8],
+        buffer: &mut [u8],
+    ) -> Effect
+        requires { ⌜ (self .found ≤ 1022) × (self .command ≤ 512) × (length (now command) ≡ 512) × (length (now found) ≡ 1024) × (1024 ≤ length (now buffer)) ⌝ }
+        ensures { λ r. ⌜ effected r (held (now (command .exit)) (now (found .exit))) (now (buffer .exit)) ≡ failsOf self (held (now (command .entry)) (now (found .entry))) refusal (now (buffer .entry)) ⌝ }
+    {
+        let call = self.call;
+        if call.kind < TYPE_A {
+            self.ended(false, Output::Refused(refusal))
+        } else {
+            let decision = decision::failed(call.kind, call.stage, refusal);
+            self.followed(decision, &[], command, found, buffer)
         }
     }
 
     // Refused, and nothing changes.
     fn refused(self, refusal: Refusal) -> Effect
-        ensures { λ r. ⌜ ((f b : List ℕ) → effected r f b ≡ unchanged self f refusal b) ⌝ }
+        ensures { λ r. ⌜ ((f : Held) (b : List ℕ) → effected r f b ≡ unchanged self f refusal b) ⌝ }
     {
         let output = Output::Refused(refusal);
         Effect {
@@ -383,17 +559,24 @@ impl State {
         }
     }
 
-    fn moved(self, moved: Move, packet: &[u8], found: &mut [u8], buffer: &mut [u8]) -> Effect
-        requires { ⌜ (replyLength (moveIn (now packet) moved) ≤ 1024) × (3 ≤ length (now found)) × (1024 ≤ length (now buffer)) × (self .call .stage < 255) ⌝ }
-        ensures { λ r. ⌜ effected r (now (found .exit)) (now (buffer .exit)) ≡ movedOf self (now (found .entry)) (moveIn (now (packet .entry)) moved) (now (buffer .entry)) ⌝ }
+    fn moved(
+        self,
+        moved: Move,
+        packet: &[u8],
+        command: &mut [u8],
+        found: &mut [u8],
+        buffer: &mut [u8],
+    ) -> Effect
+        requires { ⌜ (replyLength (moveIn (now packet) moved) ≤ 1024) × (self .found ≤ 1022) × (self .command ≤ 512) × (length (now command) ≡ 512) × (length (now found) ≡ 1024) × (1024 ≤ length (now buffer)) × (self .call .stage < 255) ⌝ }
+        ensures { λ r. ⌜ effected r (held (now (command .exit)) (now (found .exit))) (now (buffer .exit)) ≡ movedOf self (held (now (command .entry)) (now (found .entry))) (moveIn (now (packet .entry)) moved) (now (buffer .entry)) ⌝ }
     {
         match moved {
             Move::Unfit => self.refused(Refusal::OutOfTurn),
             Move::Orders(order, call, exchange) => self.ordered(order, call, exchange, buffer),
-            Move::Enters(call) => self.entered(call, buffer),
+            Move::Enters(call) => self.entered(call, command, buffer),
             Move::Finishes => self.ended(true, Output::Done(0)),
-            Move::Replies(part) => self.replied(part_of(packet, part), found, buffer),
-            Move::Refuses(refusal) => self.ended(false, Output::Refused(refusal)),
+            Move::Replies(part) => self.replied(part_of(packet, part), command, found, buffer),
+            Move::Refuses(refusal) => self.failed(refusal, command, found, buffer),
         }
     }
 
@@ -403,11 +586,12 @@ impl State {
         moved: Move,
         event: Event,
         packet: &[u8],
+        command: &mut [u8],
         found: &mut [u8],
         buffer: &mut [u8],
     ) -> Effect
-        requires { ⌜ (replyLength (moveIn (now packet) moved) ≤ packetLength (eventOf event (now packet))) × (3 ≤ length (now found)) × (self .call .stage < 255) ⌝ }
-        ensures { λ r. ⌜ effected r (now (found .exit)) (now (buffer .exit)) ≡ admittedOf self (now (found .entry)) (moveIn (now (packet .entry)) moved) (eventOf event (now (packet .entry))) (now (buffer .entry)) ⌝ }
+        requires { ⌜ (replyLength (moveIn (now packet) moved) ≤ packetLength (eventOf event (now packet))) × (self .found ≤ 1022) × (self .command ≤ 512) × (length (now command) ≡ 512) × (length (now found) ≡ 1024) × (self .call .stage < 255) ⌝ }
+        ensures { λ r. ⌜ effected r (held (now (command .exit)) (now (found .exit))) (now (buffer .exit)) ≡ admittedOf self (held (now (command .entry)) (now (found .entry))) (moveIn (now (packet .entry)) moved) (eventOf event (now (packet .entry))) (now (buffer .entry)) ⌝ }
     {
         if moved.fits() {
             if buffer.len() < 1024 {
@@ -416,7 +600,7 @@ impl State {
             if is_long(event, packet) {
                 return self.refused(Refusal::OverLong);
             }
-            self.moved(moved, packet, found, buffer)
+            self.moved(moved, packet, command, found, buffer)
         } else {
             self.refused(Refusal::OutOfTurn)
         }
@@ -427,11 +611,12 @@ impl State {
         self,
         event: Event,
         packet: &[u8],
+        command: &mut [u8],
         found: &mut [u8],
         buffer: &mut [u8],
     ) -> Effect
-        requires { ⌜ 3 ≤ length (now found) ⌝ }
-        ensures { λ r. ⌜ effected r (now (found .exit)) (now (buffer .exit)) ≡ eventAfter self (now (found .entry)) (eventOf event (now (packet .entry))) (now (buffer .entry)) ⌝ }
+        requires { ⌜ (length (now command) ≡ 512) × (length (now found) ≡ 1024) ⌝ }
+        ensures { λ r. ⌜ effected r (held (now (command .exit)) (now (found .exit))) (now (buffer .exit)) ≡ eventAfter self (held (now (command .entry)) (now (found .entry))) (eventOf event (now (packet .entry))) (now (buffer .entry)) ⌝ }
     {
         let call = self.call;
         let exchange = self.exchange;
@@ -440,7 +625,7 @@ impl State {
                 return self.refused(Refusal::OutOfTurn);
             }
             let moved = call.moved(exchange, event, packet);
-            self.admitted(moved, event, packet, found, buffer)
+            self.admitted(moved, event, packet, command, found, buffer)
         } else {
             self.refused(Refusal::OutOfTurn)
         }
@@ -459,7 +644,7 @@ impl State {
     }
 
     pub(crate) fn open(self, buffer: &mut [u8]) -> Effect
-        ensures { λ r. ⌜ ((f : List ℕ) → effected r f (now (buffer .exit)) ≡ openAfter self f (now (buffer .entry))) ⌝ }
+        ensures { λ r. ⌜ ((f : Held) → effected r f (now (buffer .exit)) ≡ openAfter self f (now (buffer .entry))) ⌝ }
     {
         if self.is_free() {
             if buffer.len() < 1024 {
@@ -477,17 +662,24 @@ impl State {
         }
     }
 
-    // A call of one command, with the command's data.
-    pub(crate) fn launched(self, launch: Launch, bytes: &[u8], buffer: &mut [u8]) -> Effect
-        requires { ⌜ fits launch × (length (now bytes) ≡ 512) ⌝ }
-        ensures { λ r. ⌜ ((f : List ℕ) → effected r f (now (buffer .exit)) ≡ launchAfter self f (launchWith (now (bytes .entry)) launch) (now (buffer .entry))) ⌝ }
+    // A call with its first command's data, and the command to send later.
+    pub(crate) fn launched(
+        self,
+        launch: Launch,
+        bytes: &[u8],
+        pending: &[u8],
+        command: &mut [u8],
+        buffer: &mut [u8],
+    ) -> Effect
+        requires { ⌜ fits launch × (length (now bytes) ≡ 512) × (length (now pending) ≤ length (now command)) ⌝ }
+        ensures { λ r. ⌜ ((f : List ℕ) → effected r (held (now (command .exit)) f) (now (buffer .exit)) ≡ launchAfter self (held (now (command .entry)) f) (launchWith (now (bytes .entry)) launch) (now (pending .entry)) (now (buffer .entry))) ⌝ }
     {
         if self.is_free() {
             if self.opened {
                 if buffer.len() < 1024 {
                     return self.refused(Refusal::ShortBuffer);
                 }
-                self.sent_by(launch, bytes, buffer)
+                self.sent_by(launch, bytes, pending, command, buffer)
             } else {
                 self.refused(Refusal::OutOfTurn)
             }
@@ -496,20 +688,29 @@ impl State {
         }
     }
 
-    // Its arguments are refused, or its command is ordered.
-    fn sent_by(self, launch: Launch, bytes: &[u8], buffer: &mut [u8]) -> Effect
-        requires { ⌜ fits launch × (length (now bytes) ≡ 512) × (1024 ≤ length (now buffer)) ⌝ }
-        ensures { λ r. ⌜ ((f : List ℕ) → effected r f (now (buffer .exit)) ≡ launchOn self f (launchWith (now (bytes .entry)) launch) (now (buffer .entry))) ⌝ }
+    // Its arguments are refused, or its first command is ordered.
+    fn sent_by(
+        self,
+        launch: Launch,
+        bytes: &[u8],
+        pending: &[u8],
+        command: &mut [u8],
+        buffer: &mut [u8],
+    ) -> Effect
+        requires { ⌜ fits launch × (length (now bytes) ≡ 512) × (length (now pending) ≤ length (now command)) × (1024 ≤ length (now buffer)) ⌝ }
+        ensures { λ r. ⌜ ((f : List ℕ) → effected r (held (now (command .exit)) f) (now (buffer .exit)) ≡ launchOn self (held (now (command .entry)) f) (launchWith (now (bytes .entry)) launch) (now (pending .entry)) (now (buffer .entry))) ⌝ }
     {
         match launch {
-            Launch::Sends(command) => {
+            Launch::Sends(first) => {
                 let call = Call {
-                    kind: command.rule,
+                    kind: first.rule,
                     stage: 0,
                     phase: EXCHANGE,
                 };
-                let n = command.len;
-                self.sent(call, command.code, command.clock, &bytes[..n], buffer)
+                let n = first.len;
+                let count = bytes::copy(pending, command);
+                self.with_command(count)
+                    .sent(call, first.code, first.clock, &bytes[..n], buffer)
             }
             Launch::Refused(refusal) => self.refused(refusal),
         }

@@ -1,18 +1,24 @@
--- The calls. A new one adds its constructor, its line in `requestStart`, its script, and its line in CallsSound.
-use mathlib.Core.Bool.{Bool, true, false, cond}
+-- The calls. A new one adds its constructor, its line in `requestStart` or `deviceStart`, its script, and its line in CallsSound.
+use mathlib.Core.Bool.{Bool, true, false, cond, _&&_, _||_}
 use mathlib.Core.List.{List, [], _∷_, _++_}
+use mathlib.Core.Option.{Option, none, some}
 use Prim.Native.Nat.{ℕ, _+_, _/_, _%_}
 use lib.Dec.{eqb, leb, ltb}
-use lib.ListN.{length}
+use lib.ListN.{length, getD}
 use Rattle.errors.specs.declared.Refusal.{Refusal}
-use Rattle.errors.specs.declared.Refusal.the-variants.{OverLong, BadArgument}
+use Rattle.errors.specs.declared.Refusal.the-variants.{OverLong, BadArgument, NotSendable, Bitrate as BadBitrate}
 use Rattle.framing.specs.Lists.{both}
-use Rattle.protocol.specs.Scripts.{Script, finish, reset, done, nothing, Byte, own, byteAt, rest}
+use Rattle.targets.specs.Bitrates.{Choice, chosen, noCode, choiceOf}
+use Rattle.targets.specs.declared.Bitrate.{Bitrate}
+use Rattle.targets.specs.declared.Bitrate.the-variants.{B106A, B212F, B424F, B106B, B212B, B424B, B848B, Other}
+use Rattle.protocol.specs.Scripts.{Script, finish, reset, ifElse, done, nothing, Byte, own, byteAt, rest}
 use Rattle.protocol.specs.Chipset.{versionBytes, moreFlag, jumpData, initData}
 use Rattle.protocol.specs.Chipset as chipset
 use Rattle.protocol.specs.Device.{deviceNew}
+use Rattle.protocol.specs.Discovery.{cascaded, isType2, sensfReq}
+use Rattle.protocol.specs.Discovery as discovery
 
--- A call of an open reader with its arguments, in the order of the Rust's. Registers are the bytes of their words, as they are sent.
+-- A command of chipset.rs with its arguments, in the order of the Rust's. Registers are the bytes of their words, as they are sent.
 pub data Request : Type 0 where
   version : Request
   resetMode : Request
@@ -33,10 +39,24 @@ pub data Request : Type 0 where
   tgResponseToInitiator : List ℕ → Request
   tgGetTargetStatus : Request
 
+-- A call of discovery.rs, or `transceive`, with its arguments. A target is its bitrate's text, its SEL_RES and whether it has a RID_RES.
+-- No bytes stand for an absent UID, SENSB_REQ, ATR_REQ or SEL_RES, which count as these do.
+pub data DeviceCall : Type 0 where
+  detectTypeA : List ℕ → List ℕ → DeviceCall  -- bitrate, UID
+  detectTypeB : List ℕ → List ℕ → DeviceCall  -- bitrate, SENSB_REQ
+  detectTypeF : List ℕ → ℕ → ℕ → ℕ → DeviceCall  -- bitrate, system code, request code, time slots
+  detectDep : List ℕ → List ℕ → DeviceCall  -- bitrate, ATR_REQ
+  transceive : List ℕ → List ℕ → Bool → List ℕ → Option ℕ → DeviceCall  -- bitrate, SEL_RES, RID_RES, bytes, ms
+
+-- a call of an open reader
+pub data ReaderCall : Type 0 where
+  request : Request → ReaderCall
+  device : DeviceCall → ReaderCall
+
 -- any call; `opening` is the bench program's `open`, which is a word of this language
 pub data Call : Type 0 where
   opening : Call
-  request : Request → Call
+  reader : ReaderCall → Call
 
 -- what becomes of a call's arguments: a refusal at once (4, 5, 6, 3 in this order), or a script
 pub data Start : Type 0 where
@@ -77,6 +97,94 @@ answer p bytes = finish (done (rest 0 bytes p))
 abbrev pub rateBytes : ℕ → List Byte
 rateBytes n = own (n / 256) ∷ own (n % 256) ∷ []
 
+-- ---- bitrates: malformed, or not supported by the call, gives 5
+
+abbrev pub onCode : Option ℕ → (ℕ → Start) → Start
+onCode none f = refuses BadBitrate
+onCode (some code) f = f code
+
+abbrev pub withBitrate : Choice → (Bitrate → Start) → Start
+withBitrate (chosen b) f = f b
+withBitrate (noCode e) f = refuses BadBitrate
+
+-- the code by which a call names the bitrate to the chip; 5 where it takes none
+abbrev pub codeFor : (Bitrate → Option ℕ) → List ℕ → (ℕ → Start) → Start
+codeFor takes text f = withBitrate (choiceOf text) (λ b. onCode (takes b) f)
+
+abbrev pub typeACode : Bitrate → Option ℕ
+typeACode B106A = some 0
+typeACode B212F = some 1
+typeACode B424F = some 2
+typeACode B106B = some 3
+typeACode B212B = none
+typeACode B424B = none
+typeACode B848B = none
+typeACode Other = none
+
+-- the codes 6, 7 and 8 of the others are not supported
+abbrev pub typeBCode : Bitrate → Option ℕ
+typeBCode B106A = none
+typeBCode B212F = none
+typeBCode B424F = none
+typeBCode B106B = some 3
+typeBCode B212B = none
+typeBCode B424B = none
+typeBCode B848B = none
+typeBCode Other = none
+
+abbrev pub typeFCode : Bitrate → Option ℕ
+typeFCode B106A = none
+typeFCode B212F = some 1
+typeFCode B424F = some 2
+typeFCode B106B = none
+typeFCode B212B = none
+typeFCode B424B = none
+typeFCode B848B = none
+typeFCode Other = none
+
+abbrev pub depCode : Bitrate → Option ℕ
+depCode B106A = some 0
+depCode B212F = some 1
+depCode B424F = some 2
+depCode B106B = none
+depCode B212B = none
+depCode B424B = none
+depCode B848B = none
+depCode Other = none
+
+abbrev pub is106A : Bitrate → Bool
+is106A B106A = true
+is106A B212F = false
+is106A B424F = false
+is106A B106B = false
+is106A B212B = false
+is106A B424B = false
+is106A B848B = false
+is106A Other = false
+
+-- ---- DEP and transceive
+
+-- the first byte of SEL_RES
+abbrev pub type2SelRes : List ℕ → Bool
+type2SelRes [] = false
+type2SelRes (b ∷ bs) = isType2 b
+
+-- Type 1 sends what starts with one of five bytes, else 6
+abbrev pub isSendable : List ℕ → Bool
+isSendable [] = false
+isSendable (b ∷ bs) = eqb b 0x00 || eqb b 0x01 || eqb b 0x1A || eqb b 0x53 || eqb b 0x72
+
+abbrev pub clockOf : Option ℕ → ℕ
+clockOf none = 1000 + 100
+clockOf (some ms) = ms + 100
+
+-- RID_RES present means Type 1 at any bitrate
+abbrev pub transceiveStart : Bitrate → List ℕ → Bool → List ℕ → ℕ → Start
+transceiveStart rate selRes ridRes bytes ms =
+    cond ridRes
+    (cond (isSendable bytes) (limited (0x01 ∷ bytes) (discovery.transceiveType1 bytes ms)) (refuses NotSendable))
+    (limited bytes (ifElse (is106A rate && type2SelRes selRes) (discovery.transceiveType2 bytes ms) (discovery.transceiveThru bytes ms)))
+
 abbrev pub requestStart : Request → Start
 requestStart version = starts (chipset.getFirmwareVersion (λ ic ver rev. finish (done (versionBytes 0 ic ver rev))))
 requestStart resetMode = starts (reset finished)
@@ -103,16 +211,29 @@ requestStart (tgResponseToInitiator bytes) = limited bytes (chipset.tgResponseTo
 requestStart tgGetTargetStatus =
     starts (chipset.tgGetTargetStatus (λ bs send receive. finish (done (byteAt 0 bs 0 ∷ (rateBytes send ++ rateBytes receive)))))
 
+abbrev pub deviceStart : DeviceCall → Start
+deviceStart (detectTypeA text uid) = codeFor typeACode text (λ code. limited (1 ∷ code ∷ cascaded uid) (discovery.detectTypeA code uid))
+deviceStart (detectTypeB text sensbReq) = codeFor typeBCode text (λ code. starts (discovery.detectTypeB code (getD sensbReq 0 0)))
+deviceStart (detectTypeF text systemCode requestCode timeSlots) =
+    codeFor typeFCode text (λ code. starts (discovery.detectTypeF code (sensfReq systemCode requestCode timeSlots)))
+deviceStart (detectDep text atrReq) =
+    asserted (both (leb 16 (length atrReq)) (leb (length atrReq) 64)) (codeFor depCode text (λ code. starts (discovery.detectDep code atrReq)))
+deviceStart (transceive text selRes ridRes bytes ms) = withBitrate (choiceOf text) (λ rate. transceiveStart rate selRes ridRes bytes (clockOf ms))
+
+abbrev pub readerStart : ReaderCall → Start
+readerStart (request r) = requestStart r
+readerStart (device d) = deviceStart d
+
 abbrev pub startOf : Call → Start
 startOf opening = starts deviceNew
-startOf (request r) = requestStart r
+startOf (reader c) = readerStart c
 
 -- the opening, whose script follows `Chipset::new`
 abbrev pub isOpening : Call → Bool
 isOpening opening = true
-isOpening (request r) = false
+isOpening (reader c) = false
 
 -- the most command frames that the call orders
 abbrev pub limit : Call → ℕ
 limit opening = 10
-limit (request r) = 4
+limit (reader c) = 4

@@ -1,7 +1,11 @@
 -- Every call's script is sound: a line for each call.
+use mathlib.Core.List.{List, []}
+use Prim.Native.Nat.{ℕ}
+use Rattle.protocol.specs.Discovery as discovery
 use Rattle.protocol.specs.Calls.{Request, version, resetMode, setParameters, rfConfiguration, rfFieldOff, readRegister, writeRegister, readSingleRegister, writeSingleRegister, inListPassiveTarget, inDataExchange, inCommunicateThru, inJumpForDep, tgInitTarget, tgSetGeneralBytes, tgGetInitiatorCommand, tgResponseToInitiator, tgGetTargetStatus}
-use Rattle.protocol.specs.Calls.{Call, opening, request, requestStart, startOf, limit}
-use Rattle.protocol.specs.Sound.{Sound, sound-rules}
+use Rattle.protocol.specs.Calls.{DeviceCall, detectTypeA, detectTypeB, detectTypeF, detectDep, transceive}
+use Rattle.protocol.specs.Calls.{Call, opening, reader, request, device, requestStart, deviceStart, startOf, limit}
+use Rattle.protocol.specs.Sound.{Within, Correct, Sound, sound-rules}
 
 request-sound : (r : Request) → Sound (requestStart r) 4
 request-sound version = search sound-rules depth 60
@@ -23,6 +27,17 @@ request-sound (tgGetInitiatorCommand ms) = search sound-rules depth 60
 request-sound (tgResponseToInitiator bytes) = search sound-rules depth 60
 request-sound tgGetTargetStatus = search sound-rules depth 60
 
+typeA-sound : (code : ℕ) (uid : List ℕ) → Within (discovery.detectTypeA code uid) 4 × Correct (discovery.detectTypeA code uid) []
+typeA-sound code uid = (search sound-rules depth 60, search sound-rules depth 60 fits 4000)
+
+device-sound : (d : DeviceCall) → Sound (deviceStart d) 4
+device-sound (detectTypeA text uid) = search (typeA-sound, sound-rules) depth 60
+device-sound (detectTypeB text sensbReq) = search sound-rules depth 60
+device-sound (detectTypeF text systemCode requestCode timeSlots) = search sound-rules depth 60
+device-sound (detectDep text atrReq) = search sound-rules depth 60
+device-sound (transceive text selRes ridRes bytes ms) = search sound-rules depth 60
+
 pub sound : (c : Call) → Sound (startOf c) (limit c)
 sound opening = (search sound-rules depth 60, search sound-rules depth 60 fits 4000)
-sound (request r) = request-sound r
+sound (reader (request r)) = request-sound r
+sound (reader (device d)) = device-sound d

@@ -4,9 +4,10 @@ use mathlib.Core.List.{List, [], _∷_, _++_}
 use Prim.Native.Nat.{ℕ, _+_, _*_, _/_, _%_}
 use lib.Dec.{eqb, ltb}
 use lib.ListN.{length, getD}
+use Rattle.errors.specs.declared.Refusal.{Refusal}
 use Rattle.errors.specs.declared.Refusal.the-variants.{Status, ShortResponse, Rate}
 use Rattle.exchange.specs.Packets.{isEmpty}
-use Rattle.protocol.specs.Scripts.{Script, finish, refuse, ask, ifElse, done, Byte, card}
+use Rattle.protocol.specs.Scripts.{Script, command, either, refuse, ask, ifElse, Byte, card}
 
 -- ---- how a response is judged
 
@@ -14,13 +15,19 @@ use Rattle.protocol.specs.Scripts.{Script, finish, refuse, ask, ifElse, 
 abbrev pub statusByte : List ℕ → ℕ
 statusByte bytes = getD bytes 0 0xFF
 
--- a status of 0, else 15
+-- a status of 0, else 15; g says what a refusal leads to
+abbrev pub withStatusElse : List ℕ → Script → (Refusal → Script) → Script
+withStatusElse bytes s g = ifElse (eqb (statusByte bytes) 0) s (g (Status (statusByte bytes)))
+
 abbrev pub withStatus : List ℕ → Script → Script
-withStatus bytes s = ifElse (eqb (statusByte bytes) 0) s (refuse (Status (statusByte bytes)))
+withStatus bytes s = withStatusElse bytes s refuse
 
 -- at least n bytes, else 16
+abbrev pub withLengthElse : List ℕ → ℕ → Script → (Refusal → Script) → Script
+withLengthElse bytes n s g = ifElse (ltb (length bytes) n) (g ShortResponse) s
+
 abbrev pub withLength : List ℕ → ℕ → Script → Script
-withLength bytes n s = ifElse (ltb (length bytes) n) (refuse ShortResponse) s
+withLength bytes n s = withLengthElse bytes n s refuse
 
 -- ---- the commands
 
@@ -80,14 +87,20 @@ maskedStatus bytes = getD bytes 0 0 % 64
 abbrev pub moreFlag : List ℕ → ℕ
 moreFlag bytes = getD bytes 0 0 / 64 % 2
 
+abbrev pub inDataExchangeElse : List ℕ → ℕ → (List ℕ → Script) → (Refusal → Script) → Script
+inDataExchangeElse bytes ms f g =
+    command 0x40 ms (0x01 ∷ bytes)
+    (either (λ bs. ifElse (isEmpty bs) (g (Status 0xFF)) (ifElse (eqb (maskedStatus bs) 0) (f bs) (g (Status (maskedStatus bs))))) g)
+
 abbrev pub inDataExchange : List ℕ → ℕ → (List ℕ → Script) → Script
-inDataExchange bytes ms f =
-    ask 0x40 ms (0x01 ∷ bytes)
-    (λ bs. ifElse (isEmpty bs) (refuse (Status 0xFF)) (ifElse (eqb (maskedStatus bs) 0) (f bs) (refuse (Status (maskedStatus bs)))))
+inDataExchange bytes ms f = inDataExchangeElse bytes ms f refuse
 
 -- in_communicate_thru
+abbrev pub inCommunicateThruElse : List ℕ → ℕ → (List ℕ → Script) → (Refusal → Script) → Script
+inCommunicateThruElse bytes ms f g = command 0x42 ms bytes (either (λ bs. withStatusElse bs (f bs) g) g)
+
 abbrev pub inCommunicateThru : List ℕ → ℕ → (List ℕ → Script) → Script
-inCommunicateThru bytes ms f = ask 0x42 ms bytes (λ bs. withStatus bs (f bs))
+inCommunicateThru bytes ms f = inCommunicateThruElse bytes ms f refuse
 
 -- in_jump_for_dep: `active` is 1 or 0; a bit for each of the three that is not empty
 abbrev pub bit : List ℕ → ℕ
@@ -96,8 +109,12 @@ bit bytes = cond (isEmpty bytes) 0 1
 abbrev pub jumpData : ℕ → ℕ → List ℕ → List ℕ → List ℕ → List ℕ
 jumpData active br passive nfcid3 gi = active ∷ br ∷ (bit passive + 2 * bit nfcid3 + 4 * bit gi) ∷ passive ++ nfcid3 ++ gi
 
+abbrev pub inJumpForDepElse : ℕ → ℕ → List ℕ → List ℕ → List ℕ → (List ℕ → Script) → (Refusal → Script) → Script
+inJumpForDepElse active br passive nfcid3 gi f g =
+    command 0x56 3000 (jumpData active br passive nfcid3 gi) (either (λ bs. withStatusElse bs (withLengthElse bs 2 (f bs) g) g) g)
+
 abbrev pub inJumpForDep : ℕ → ℕ → List ℕ → List ℕ → List ℕ → (List ℕ → Script) → Script
-inJumpForDep active br passive nfcid3 gi f = ask 0x56 3000 (jumpData active br passive nfcid3 gi) (λ bs. withStatus bs (withLength bs 2 (f bs)))
+inJumpForDep active br passive nfcid3 gi f = inJumpForDepElse active br passive nfcid3 gi f refuse
 
 -- tg_init_target
 abbrev pub initData : ℕ → List ℕ → List ℕ → List ℕ → List ℕ → List ℕ

@@ -7,7 +7,7 @@ use Prim.Native.Nat.{ℕ, suc, _≤_, _<_, min}
 use lib.ListN.{length, drop, getElem?}
 use Rattle.exchange.specs.Packets.{commandFrame, ackLed, response, replyOf}
 use Rattle.exchange.specs.Exchange.{write, read, drain, pause, ok, bad, pkt, time, fail, late, slept}
-use Rattle.protocol.specs.Scripts.{Byte, card, Answer, done, nothing, refused}
+use Rattle.protocol.specs.Scripts.{Byte, card, Answer, done, type1, nothing, refused}
 use Rattle.protocol.specs.Calls.{Call, limit}
 use Rattle.protocol.specs.Session.{Entry, Output, ceiling}
 use Rattle.protocol.specs.Record.{Item, ordered, accepted, Record, Note, recordOf, linesOf, frames, events, allowed, framesSinceOpening}
@@ -52,6 +52,7 @@ pub record CardByte (l : Record) (n k p b : ℕ) : Type 0 where
 
 abbrev pub bytesOf : Answer Byte → List Byte
 bytesOf (done bytes) = bytes
+bytesOf (type1 bytes) = bytes
 bytesOf nothing = []
 bytesOf (refused r) = []
 

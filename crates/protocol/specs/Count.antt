@@ -10,7 +10,7 @@ use lib.ListN.{length}
 use Rattle.framing.specs.Frames.{ack}
 use Rattle.exchange.specs.Packets.{isAck}
 use Rattle.exchange.specs.Exchange.{Order, write, read, drain, pause, Event, unfit, pending, ended}
-use Rattle.protocol.specs.Scripts.{Byte, Answer, done, nothing, refused, Script}
+use Rattle.protocol.specs.Scripts.{Byte, Answer, done, type1, nothing, refused, Script}
 use Rattle.protocol.specs.Calls.{Call, Start, refuses, starts, startOf, isOpening}
 use Rattle.protocol.specs.Session.{Phase, CallResult, begin, progress, Activity, idle, busy, Session, fresh, ceiling, addFrame, counted, Entry, call, event}
 use Rattle.protocol.specs.Session.{Outcome, outcome, bufferNeed, packetLimit, packetLength, admitted, eventOutcome, countFrom, started, callOutcome, outcomeOf, after, given, step, outputs, sessionAfter}
@@ -69,6 +69,7 @@ module _ (isOpen : Bool) (m : ℕ) (l : Record) (ns : List Note) (c : Call) (u :
       go unfit = right
       go (pending x phase) = ordered-right false x e
       go (ended (done bytes)) = ended-right e (some (done bytes))
+      go (ended (type1 bytes)) = ended-right e (some (type1 bytes))
       go (ended nothing) = ended-right e (some nothing)
       go (ended (refused r)) = right
 

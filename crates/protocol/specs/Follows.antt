@@ -2,7 +2,7 @@
 use mathlib.Core.Path.{_≡_, refl, ap₂}
 use mathlib.Core.List.{List, [], _∷_, map}
 use Prim.Native.Nat.{ℕ}
-use Rattle.protocol.specs.Scripts.{Byte, value, Answer, done, nothing, refused}
+use Rattle.protocol.specs.Scripts.{Byte, value, Answer, done, type1, nothing, refused}
 use Rattle.protocol.specs.Session.{Session, fresh, Entry, Output, orders, answers, step, outputs, sessionAfter}
 use Rattle.protocol.specs.Claim.{Demand3}
 use Rattle.protocol.specs.Demand3.{demand3}
@@ -10,6 +10,7 @@ use Rattle.protocol.specs.Demand3.{demand3}
 -- what is given out, its bytes without their places
 abbrev pub plainAnswer : Answer Byte → Answer ℕ
 plainAnswer (done bytes) = done (map value bytes)
+plainAnswer (type1 bytes) = type1 (map value bytes)
 plainAnswer nothing = nothing
 plainAnswer (refused r) = refused r
 

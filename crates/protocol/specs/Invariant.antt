@@ -18,7 +18,7 @@ use Rattle.framing.specs.declared.FrameType.the-variants.{Ack, Error, Data, Not
 use Rattle.exchange.specs.Packets.{commandFrame, resetCode, resetData, Reply, response, failed, replyOf, codeReply, payloadReply, frameReply}
 use Rattle.exchange.specs.Exchange.{write, read, drain, pause, pkt}
 use Rattle.exchange.specs.Exchange.{unfit, pending, ended, Step, sending, reading, waiting, cancelling, rejecting, draining}
-use Rattle.protocol.specs.Scripts.{Byte, card, Answer, done, nothing, refused, Script, finish, command, reset, fieldPause}
+use Rattle.protocol.specs.Scripts.{Byte, card, Answer, done, type1, nothing, refused, Script, finish, command, reset, fieldPause}
 use Rattle.protocol.specs.Calls.{Call, limit}
 use Rattle.protocol.specs.Session.{Rest, byReply, ofReset, Phase, exchange, resetAck, resetPause, fieldPausing, openingAck, openingReads}
 use Rattle.protocol.specs.Session.{CallResult, enter}
@@ -202,11 +202,13 @@ module _ (n : ℕ) (c : Call) where
 
   final-cards : (l : Record) (rs : List (List ℕ)) → Sourced l rs → (a : Answer Byte) → Final rs a → (k p b : ℕ) → List·Memᴰ (card k p b) (bytesOf a) → CardByte l n k p b
   final-cards l rs f (done bs) h k p b m = placed-cards l rs f h k p b m
+  final-cards l rs f (type1 bs) h k p b m = placed-cards l rs f h k p b m
   final-cards l rs f nothing h k p b m = absurd (List·Memᴰ·not-nil m)
   final-cards l rs f (refused r) h k p b m = absurd (List·Memᴰ·not-nil m)
 
   final-accepts : (rs : List (List ℕ)) (a : Answer Byte) → Final rs a → accepts a ≡ true
   final-accepts rs (done bs) h = refl
+  final-accepts rs (type1 bs) h = refl
   final-accepts rs nothing h = refl
   final-accepts rs (refused r) h = go (accepts (refused r)) h
     where

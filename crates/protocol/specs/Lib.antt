@@ -2,6 +2,7 @@
 pub mod Scripts
 pub mod Chipset
 pub mod Device
+pub mod Discovery
 pub mod Calls
 pub mod Session
 -- definitions: the record, its counts, and demand 3 of it

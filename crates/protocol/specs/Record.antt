@@ -10,7 +10,7 @@ use Rattle.errors.specs.Refusals.{numbered}
 use Rattle.framing.specs.Lists.{same}
 use Rattle.exchange.specs.Packets.{commandFrame, resetCode, resetData, isAck, ackLed, isEmpty}
 use Rattle.exchange.specs.Exchange.{Order, write, read, drain, pause, Event, onRead}
-use Rattle.protocol.specs.Scripts.{Byte, Answer, done, nothing, refused}
+use Rattle.protocol.specs.Scripts.{Byte, Answer, done, type1, nothing, refused}
 use Rattle.protocol.specs.Calls.{Call, isOpening}
 use Rattle.protocol.specs.Session.{Entry, call, event, Output, orders, answers}
 
@@ -45,12 +45,14 @@ observed lines notes = record { lines = lines; notes = notes }
 abbrev pub addCall : Call → Record → List Note → Output Byte → Observed
 addCall c l ns (orders x) = observed ((length ns, ordered x) ∷ l) (note c none ∷ ns)
 addCall c l ns (answers (done bytes)) = observed l (note c (some (done bytes)) ∷ ns)
+addCall c l ns (answers (type1 bytes)) = observed l (note c (some (type1 bytes)) ∷ ns)
 addCall c l ns (answers nothing) = observed l (note c (some nothing) ∷ ns)
 addCall c l ns (answers (refused r)) = observed l ns
 
 -- an event is accepted if it does not get 1, 2 or 3
 abbrev pub accepts : Answer Byte → Bool
 accepts (done bytes) = true
+accepts (type1 bytes) = true
 accepts nothing = true
 accepts (refused r) = ltb 3 ((numbered r) .0)
 

@@ -11,7 +11,7 @@ use Rattle.framing.specs.Parse.{isError, extends, lengthAt, normalAt, extendedA
 use Rattle.exchange.specs.Packets.{commandFrame, isAck, hasStart, ackLed, Reply, replyOf, response, failed}
 use Rattle.exchange.specs.Exchange.{write, read, pause, Event, ok, bad, pkt, time, late, slept, pending, reading, waiting, cancelling, advance}
 use Rattle.protocol.specs.Scripts.{done, refused}
-use Rattle.protocol.specs.Calls.{opening, request, version}
+use Rattle.protocol.specs.Calls.{opening, reader, request, version}
 use Rattle.protocol.specs.Session.{Entry, call, event, Output, orders, answers, fresh, outputs, sessionAfter}
 use Rattle.protocol.specs.Record.{Item, recordOf, linesOf, frames, events, resets, idleReads, allowed}
 use Rattle.protocol.specs.Follows.{plain}
@@ -37,7 +37,7 @@ abbrev Runs : List Pair → Type 0
 Runs ps = map plain (outputs fresh (entriesOf ps)) ≡ givenFor ps
 
 -- document 01's whole case: `open`, `bad`, `version`
-whole-case : Runs ((call opening 1024, writes ack) ∷ on bad (answers (refused Transport)) ∷ (call (request version) 1024, answers (refused OutOfTurn)) ∷ [])
+whole-case : Runs ((call opening 1024, writes ack) ∷ on bad (answers (refused Transport)) ∷ (call (reader (request version)) 1024, answers (refused OutOfTurn)) ∷ [])
 whole-case = refl
 
 -- refusals in their order; nothing changes by them
@@ -100,7 +100,7 @@ openingRun =
     (answers (done (0x33 ∷ 0x01 ∷ 0x30 ∷ 0x52 ∷ 0x43 ∷ 0x53 ∷ 0x39 ∷ 0x35 ∷ 0x36 ∷ 0x76 ∷ 0x31 ∷ 0x2E ∷ 0x33 ∷ 0x30 ∷ []))))))))))))))
 
 abbrev versionRun : List Pair
-versionRun = (call (request version) 1024, getVersion) ∷ answeredBy 100 versionIs (answers (done (0x33 ∷ 0x01 ∷ 0x30 ∷ [])))
+versionRun = (call (reader (request version)) 1024, getVersion) ∷ answeredBy 100 versionIs (answers (done (0x33 ∷ 0x01 ∷ 0x30 ∷ [])))
 
 abbrev run : List Pair
 run = openingRun ++ versionRun

@@ -16,9 +16,10 @@ abbrev pub value : Byte → ℕ
 value (own b) = b
 value (card k p b) = b
 
--- how a call ends: `done` with bytes, `none`, or `refused`
+-- how a call ends: `done` with bytes, the same of a Type 1 tag, `none`, or `refused`
 pub data Answer (B : Type 0) : Type 0 where
   done : List B → Answer B
+  type1 : List B → Answer B
   nothing : Answer B
   refused : Refusal → Answer B
 

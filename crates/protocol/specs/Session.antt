@@ -10,7 +10,7 @@ use Rattle.framing.specs.Frames.{ack}
 use Rattle.exchange.specs.Packets.{commandFrame, resetCode, resetData, isAck, Reply}
 use Rattle.exchange.specs.Exchange.{Order, write, read, drain, pause, Event}
 use Rattle.exchange.specs.Exchange.{Result, unfit, pending, ended, onWrite, onRead, onPause, Step, sending, advance, ExchangeResult}
-use Rattle.protocol.specs.Scripts.{Byte, Answer, done, nothing, refused, Script, finish, command, reset, fieldPause}
+use Rattle.protocol.specs.Scripts.{Byte, Answer, done, type1, nothing, refused, Script, finish, command, reset, fieldPause}
 use Rattle.protocol.specs.Calls.{Call, Start, refuses, starts, startOf, isOpening}
 
 -- ---- a running call
@@ -93,6 +93,7 @@ counted (pause us) n = n
 -- is the reader open after the call
 abbrev pub answered : Answer Byte → Bool
 answered (done bytes) = true
+answered (type1 bytes) = true
 answered nothing = false
 answered (refused r) = false
 

@@ -3,7 +3,7 @@
 use mathlib.Core.Path.{_≡_, refl}
 use mathlib.Core.Bool.{Bool, true, false, not, cond}
 use mathlib.Core.List.{List, [], _∷_, _++_}
-use mathlib.Core.Option.{some}
+use mathlib.Core.Option.{Option, none, some}
 use Prim.Native.Nat.{ℕ, zero, suc, _+_, _-_, _%_, _/_, _≤_, _<_}
 use native.Mathlib.Decide.{decLe}
 use native.Mathlib.Nat.{le-of-suc-le-suc, not-suc-le-zero}
@@ -11,10 +11,12 @@ use native.Mathlib.Omega.{arith}
 use lib.Dec.{T, eqb, leb, leb→le, ltb, ltb→lt, nltb→le}
 use lib.ListN.{length, getD, getElem?}
 use Rattle.errors.specs.declared.Refusal.{Refusal}
+use Rattle.targets.specs.Bitrates.{Choice, chosen, noCode}
+use Rattle.targets.specs.declared.Bitrate.{Bitrate}
 use Rattle.exchange.specs.Packets.{Reply, response, failed}
-use Rattle.protocol.specs.Scripts.{Byte, own, card, Answer, done, nothing, refused}
+use Rattle.protocol.specs.Scripts.{Byte, own, card, Answer, done, type1, nothing, refused}
 use Rattle.protocol.specs.Scripts.{Script, finish, command, reset, fieldPause, either, ifElse, part, rest}
-use Rattle.protocol.specs.Calls.{Start, refuses, starts}
+use Rattle.protocol.specs.Calls.{Start, refuses, starts, onCode, withBitrate}
 use Rattle.protocol.specs.Device.{hexDigit, hex}
 use Rattle.protocol.specs.Record.{accepts}
 
@@ -48,6 +50,7 @@ Ends r = T (accepts (refused r))
 
 abbrev pub Final : List (List ℕ) → Answer Byte → Type 0
 Final rs (done bs) = Placed rs bs
+Final rs (type1 bs) = Placed rs bs
 Final rs nothing = Unit {0}
 Final rs (refused r) = Ends r
 
@@ -76,6 +79,14 @@ sound-if false x y n h k = k
 -- a test that computes
 pub holds : Unit {0}
 holds = tt
+
+pub sound-bitrate : (c : Choice) (f : Bitrate → Start) (n : ℕ) → ((b : Bitrate) → Sound (f b) n) → Sound (withBitrate c f) n
+sound-bitrate (chosen b) f n h = h b
+sound-bitrate (noCode e) f n h = tt
+
+pub sound-code : (o : Option ℕ) (f : ℕ → Start) (n : ℕ) → ((code : ℕ) → Sound (f code) n) → Sound (onCode o f) n
+sound-code none f n h = tt
+sound-code (some code) f n h = h code
 
 pub within-either : (f : List ℕ → Script) (g : Refusal → Script) (n : ℕ) → ((bs : List ℕ) → Within (f bs) n) → ((e : Refusal) → Within (g e) n)
     → (r : Reply) → Within (either f g r) n
@@ -117,6 +128,15 @@ part-placed rs k bs p (suc n) e h = card-byte {k = k} {p = p} {b = getD bs p 0} 
 pub placed-part : (rs : List (List ℕ)) (k : ℕ) (bs : List ℕ) (p n m : ℕ) → responseTo rs k ≡ bs → m ≤ length bs → T (leb (p + n) m) → Placed rs (part k bs p n)
 placed-part rs k bs p n m e h t = part-placed rs k bs p n e (omega (arith, leb→le (p + n) m t))
 
+-- all but the last bytes, from a position on
+pub placed-inner : (rs : List (List ℕ)) (k : ℕ) (bs : List ℕ) (p q : ℕ) → responseTo rs k ≡ bs → T (leb p q) → Placed rs (part k bs p (length bs - q))
+unfolding part
+placed-inner rs k bs p q e t = go (decLe q (length bs))
+  where
+    go : Dec (q ≤ length bs) → Placed rs (part k bs p (length bs - q))
+    go (yes h) = part-placed rs k bs p (length bs - q) e (omega (arith, leb→le p q t))
+    go (no h) = let z : length bs - q ≡ 0 = omega arith in rw z no-bytes
+
 pub placed-rest : (rs : List (List ℕ)) (k : ℕ) (bs : List ℕ) (p : ℕ) → responseTo rs k ≡ bs → Placed rs (rest k bs p)
 unfolding rest part
 placed-rest rs k bs p e = go (decLe p (length bs))
@@ -137,4 +157,4 @@ placed-hex rs b = go (ltb b 16)
     go true = own-byte no-bytes
     go false = own-byte (own-byte no-bytes)
 
-pub ruleset sound-rules = (holds, sound-if, within-either, within-if, correct-either, correct-short, correct-if, no-bytes, own-byte, card-byte, reach, placed-part, placed-rest, placed-append, placed-hex)
+pub ruleset sound-rules = (holds, sound-if, sound-bitrate, sound-code, within-either, within-if, correct-either, correct-short, correct-if, no-bytes, own-byte, card-byte, reach, placed-part, placed-inner, placed-rest, placed-append, placed-hex)

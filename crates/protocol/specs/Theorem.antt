@@ -9,7 +9,7 @@ use lib.Dec.{ltb}
 use lib.ListN.{length}
 use Rattle.framing.specs.Frames.{ack}
 use Rattle.exchange.specs.Exchange.{write, Event, unfit, pending, ended}
-use Rattle.protocol.specs.Scripts.{Byte, Answer, done, nothing, refused, Script}
+use Rattle.protocol.specs.Scripts.{Byte, Answer, done, type1, nothing, refused, Script}
 use Rattle.protocol.specs.Calls.{Call, Start, refuses, starts, startOf, isOpening, limit}
 use Rattle.protocol.specs.Session.{Phase, CallResult, begin, progress, Activity, idle, busy, Session, fresh, Entry, call, event}
 use Rattle.protocol.specs.Session.{Outcome, outcome, bufferNeed, packetLimit, withRoom, packetLength, admitted, eventOutcome, started, callOutcome, outcomeOf, after, given, step, outputs}
@@ -74,6 +74,7 @@ begun s l ns c k (pending x phase) h u i q = (
   unused-later l (length ns) (ordered x) (λ m z. u m (omega arith)),
 )
 begun s l ns c k (ended (done bs)) h u i q = ((q .0, h), λ m z. u m (omega arith))
+begun s l ns c k (ended (type1 bs)) h u i q = ((q .0, h), λ m z. u m (omega arith))
 begun s l ns c k (ended nothing) h u i q = ((q .0, h), λ m z. u m (omega arith))
 begun s l ns c k (ended (refused r)) h u i q = (h, u)
 

@@ -79,8 +79,8 @@ returns-5 c =
     (at-false _ _ _ _ (ne-eqb _ _ (at-if4 .if4 .left))
     (at-true _ _ _ _ (eq-eqb _ _ (at-if5 .if5 .taken)) (c .four-words .ensures))))))
 
-six-words-requires : tie.Need-six-words-requires
-six-words-requires c κs = search needs
+five-words-requires : tie.Need-five-words-requires
+five-words-requires c κs = search needs
 
 returns-6 : tie.Need-returns-6
 unfolding inputOf byWords
@@ -98,10 +98,10 @@ returns-6 c =
     (at-false _ _ _ _ (ne-eqb _ _ (at-if3 .if3 .left))
     (at-false _ _ _ _ (ne-eqb _ _ (at-if4 .if4 .left))
     (at-false _ _ _ _ (ne-eqb _ _ (at-if5 .if5 .left))
-    (at-true _ _ _ _ (eq-eqb _ _ (at-if6 .if6 .taken)) (c .six-words .ensures)))))))
+    (at-true _ _ _ _ (eq-eqb _ _ (at-if6 .if6 .taken)) (c .five-words .ensures)))))))
 
-seven-words-requires : tie.Need-seven-words-requires
-seven-words-requires c κs = search needs
+six-words-requires : tie.Need-six-words-requires
+six-words-requires c κs = search needs
 
 returns-7 : tie.Need-returns-7
 unfolding inputOf byWords
@@ -121,12 +121,18 @@ returns-7 c =
     (at-false _ _ _ _ (ne-eqb _ _ (at-if4 .if4 .left))
     (at-false _ _ _ _ (ne-eqb _ _ (at-if5 .if5 .left))
     (at-false _ _ _ _ (ne-eqb _ _ (at-if6 .if6 .left))
-    (at-true _ _ _ _ (eq-eqb _ _ (at-if7 .if7 .taken)) (c .seven-words .ensures))))))))
+    (at-true _ _ _ _ (eq-eqb _ _ (at-if7 .if7 .taken)) (c .six-words .ensures))))))))
+
+seven-words-requires : tie.Need-seven-words-requires
+seven-words-requires c κs = search needs
 
 returns-8 : tie.Need-returns-8
 unfolding inputOf byWords
 returns-8 c =
-    let at-if5 = c .before .before in
+    let at-if8 = c .before .before in
+    let at-if7 = at-if8 .before in
+    let at-if6 = at-if7 .before in
+    let at-if5 = at-if6 .before in
     let at-if4 = at-if5 .before in
     let at-if3 = at-if4 .before in
     let at-if2 = at-if3 .before in
@@ -138,8 +144,29 @@ returns-8 c =
     (at-false _ _ _ _ (ne-eqb _ _ (at-if3 .if3 .left))
     (at-false _ _ _ _ (ne-eqb _ _ (at-if4 .if4 .left))
     (at-false _ _ _ _ (ne-eqb _ _ (at-if5 .if5 .left))
-    (at-false _ _ _ _ (ne-eqb _ _ (c .before .if6 .left))
-    (at-false _ _ _ _ (ne-eqb _ _ (c .if7 .left)) refl)))))))
+    (at-false _ _ _ _ (ne-eqb _ _ (at-if6 .if6 .left))
+    (at-false _ _ _ _ (ne-eqb _ _ (at-if7 .if7 .left))
+    (at-true _ _ _ _ (eq-eqb _ _ (at-if8 .if8 .taken)) (c .seven-words .ensures)))))))))
+
+returns-9 : tie.Need-returns-9
+unfolding inputOf byWords
+returns-9 c =
+    let at-if6 = c .before .before in
+    let at-if5 = at-if6 .before in
+    let at-if4 = at-if5 .before in
+    let at-if3 = at-if4 .before in
+    let at-if2 = at-if3 .before in
+    let at-count = at-if2 .before in
+    let at-if1 = at-count .before in
+    at-false _ _ _ _ (le-ltb _ _ (at-if1 .if1 .left))
+    (counted _ _ _ _ (at-count .count .ensures)
+    (at-false _ _ _ _ (ne-eqb _ _ (at-if2 .if2 .left))
+    (at-false _ _ _ _ (ne-eqb _ _ (at-if3 .if3 .left))
+    (at-false _ _ _ _ (ne-eqb _ _ (at-if4 .if4 .left))
+    (at-false _ _ _ _ (ne-eqb _ _ (at-if5 .if5 .left))
+    (at-false _ _ _ _ (ne-eqb _ _ (at-if6 .if6 .left))
+    (at-false _ _ _ _ (ne-eqb _ _ (c .before .if7 .left))
+    (at-false _ _ _ _ (ne-eqb _ _ (c .if8 .left)) refl))))))))
 
 pub read-spec : {M : Type 1} → statement M
 read-spec =
@@ -155,8 +182,10 @@ read-spec =
     returns-4
     four-words-requires
     returns-5
-    six-words-requires
+    five-words-requires
     returns-6
-    seven-words-requires
+    six-words-requires
     returns-7
-    returns-8)
+    seven-words-requires
+    returns-8
+    returns-9)

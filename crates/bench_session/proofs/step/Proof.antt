@@ -32,6 +32,12 @@ tg-call-requires c κs = search needs
 enum-known-input-4 : tie.Need-enum-known-input-4
 enum-known-input-4 c = search needs
 
+dev-call-requires : tie.Need-dev-call-requires
+dev-call-requires c κs = search needs
+
+enum-known-input-5 : tie.Need-enum-known-input-5
+enum-known-input-5 c = search needs
+
 part-requires : tie.Need-part-requires
 part-requires c κs = search needs
 
@@ -90,14 +96,24 @@ same-length-5 c = search needs
 returns-5 : tie.Need-returns-5
 unfolding stepOf
 returns-5 c =
-    let at-event = c .before .before in
-    let at-part = at-event .before .before in
-    let at-input4 = at-part .before .before .before in
-    rw (at-input4 .input4 .given .1, ← at-part .part .ensures) (at-event .event .ensures)
+    let at-dev-call = c .before .before in
+    let at-input4 = at-dev-call .before .before .before .before in
+    rw (at-input4 .input4 .given .1) (at-dev-call .dev-call .ensures)
+
+same-length-6 : tie.Need-same-length-6
+same-length-6 c = search needs
 
 returns-6 : tie.Need-returns-6
 unfolding stepOf
-returns-6 c = rw (c .before .enum-told2 .given .1) (kept-is _ _ _ (c .unreadable .ensures .0) (c .unreadable .ensures .1))
+returns-6 c =
+    let at-event = c .before .before in
+    let at-part = at-event .before .before in
+    let at-input5 = at-part .before .before .before in
+    rw (at-input5 .input5 .given .1, ← at-part .part .ensures) (at-event .event .ensures)
+
+returns-7 : tie.Need-returns-7
+unfolding stepOf
+returns-7 c = rw (c .before .enum-told2 .given .1) (kept-is _ _ _ (c .unreadable .ensures .0) (c .unreadable .ensures .1))
 
 pub step-spec : {M : Type 1} → statement M
 step-spec =
@@ -112,6 +128,8 @@ step-spec =
     enum-known-input-3
     tg-call-requires
     enum-known-input-4
+    dev-call-requires
+    enum-known-input-5
     part-requires
     event-requires
     enum-told-2
@@ -126,4 +144,6 @@ step-spec =
     returns-4
     same-length-5
     returns-5
-    returns-6)
+    same-length-6
+    returns-6
+    returns-7)

@@ -21,9 +21,25 @@ returns : tie.Need-returns
 unfolding sixWords
 returns c = search (steps, needs) depth 8
 
+slice-aggregate-named-2 : tie.Need-slice-aggregate-named-2
+slice-aggregate-named-2 c = search needs
+
+named-requires-2 : tie.Need-named-requires-2
+named-requires-2 c κs = search needs
+
+transceive-requires : tie.Need-transceive-requires
+transceive-requires c κs = search needs
+
+same-length-2 : tie.Need-same-length-2
+same-length-2 c = search needs
+
 returns-2 : tie.Need-returns-2
 unfolding sixWords
 returns-2 c = search (steps, needs) depth 8
+
+returns-3 : tie.Need-returns-3
+unfolding sixWords
+returns-3 c = search (steps, needs) depth 8
 
 pub six-words-spec : {M : Type 1} → statement M
 six-words-spec =
@@ -34,4 +50,9 @@ six-words-spec =
     in-jump-for-dep-requires
     same-length
     returns
-    returns-2)
+    slice-aggregate-named-2
+    named-requires-2
+    transceive-requires
+    same-length-2
+    returns-2
+    returns-3)

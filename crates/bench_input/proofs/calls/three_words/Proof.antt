@@ -36,8 +36,8 @@ returns-2 c =
     let start = c .before .before .before .before .before .before .before .before .before in
     search (steps, c .write-single-register .ensures (start .args .bytes .now), needs) depth 10
 
-timed-requires : tie.Need-timed-requires
-timed-requires c κs = search needs
+detect-requires : tie.Need-detect-requires
+detect-requires c κs = search needs
 
 same-length-2 : tie.Need-same-length-2
 same-length-2 c = search needs
@@ -59,6 +59,6 @@ three-words-spec =
     named-requires-2
     write-single-register-requires
     returns-2
-    timed-requires
+    detect-requires
     same-length-2
     returns-3)

@@ -58,6 +58,15 @@ first-requires-2 c κs = search needs
 put-done-requires : tie.Need-put-done-requires
 put-done-requires c κs = (search (first-short, needs), search needs)
 
+enum-known-output-5 : tie.Need-enum-known-output-5
+enum-known-output-5 c = search needs
+
+first-requires-3 : tie.Need-first-requires-3
+first-requires-3 c κs = search needs
+
+put-type1-requires : tie.Need-put-type1-requires
+put-type1-requires c κs = (search (first-short, needs), search needs)
+
 enum-told-2 : tie.Need-enum-told-2
 enum-told-2 c = search needs
 
@@ -67,8 +76,8 @@ slice-aggregate-put-2 c = search needs
 put-requires-2 : tie.Need-put-requires-2
 put-requires-2 c κs = search needs
 
-enum-known-output-5 : tie.Need-enum-known-output-5
-enum-known-output-5 c = search needs
+enum-known-output-6 : tie.Need-enum-known-output-6
+enum-known-output-6 c = search needs
 
 put-refused-requires : tie.Need-put-refused-requires
 put-refused-requires c κs = search needs
@@ -94,6 +103,9 @@ returns-6 c = text-bound _ _ _ _ _ (search needs) (search needs) (search (texts,
 returns-7 : tie.Need-returns-7
 returns-7 c = text-bound _ _ _ _ _ (search needs) (search needs) (search (texts, needs))
 
+returns-8 : tie.Need-returns-8
+returns-8 c = text-bound _ _ _ _ _ (search needs) (search needs) (search (texts, needs))
+
 pub put-output-spec : {M : Type 1} → statement M
 put-output-spec =
     tie.close
@@ -116,10 +128,13 @@ put-output-spec =
     enum-known-output-4
     first-requires-2
     put-done-requires
+    enum-known-output-5
+    first-requires-3
+    put-type1-requires
     enum-told-2
     slice-aggregate-put-2
     put-requires-2
-    enum-known-output-5
+    enum-known-output-6
     put-refused-requires
     returns
     returns-2
@@ -127,4 +142,5 @@ put-output-spec =
     returns-4
     returns-5
     returns-6
-    returns-7)
+    returns-7
+    returns-8)

@@ -8,7 +8,7 @@ returns : tie.Need-returns
 returns c = λ l h. limit-passed _ _ _ _ _ _ (search needs) h (search needs)
 
 returns-2 : tie.Need-returns-2
-returns-2 c = λ l h. limit-kept _ _ _ _ _ _ (search needs) h (search needs) (search needs)
+returns-2 c = λ l h. limit-kept _ _ _ _ _ _ (search needs) h (search needs)
 
 pub within-limit-spec : {M : Type 1} → statement M
 within-limit-spec = tie.close (tie.spec returns returns-2)

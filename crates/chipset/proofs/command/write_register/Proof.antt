@@ -11,7 +11,7 @@ whole-registers-requires : tie.Need-whole-registers-requires
 whole-registers-requires c κs = search needs
 
 short-requires : tie.Need-short-requires
-short-requires c κs = (search needs, search needs, few-triples (c .before .before .before .args .registers .now) (sym (c .before .whole-registers .ensures) ∙ c .if1 .taken))
+short-requires c κs = few-triples (c .before .before .before .args .registers .now) (sym (c .before .whole-registers .ensures) ∙ c .if1 .taken)
 
 bad-argument-requires : tie.Need-bad-argument-requires
 bad-argument-requires c κs = search needs

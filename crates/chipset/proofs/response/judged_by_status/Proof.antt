@@ -22,6 +22,12 @@ initiator-requires c κs = search needs
 target-requires : tie.Need-target-requires
 target-requires c κs = search needs
 
+type2-requires : tie.Need-type2-requires
+type2-requires c κs = search needs
+
+type1-requires : tie.Need-type1-requires
+type1-requires c κs = search needs
+
 part-requires : tie.Need-part-requires
 part-requires c κs = search needs
 
@@ -47,9 +53,17 @@ returns-5 c = rw (c .before .match .keys5) (c .target .ensures)
 
 returns-6 : tie.Need-returns-6
 unfolding laterJudge pick
-returns-6 c =
+returns-6 c = rw (c .before .match .keys6) (c .type2 .ensures)
+
+returns-7 : tie.Need-returns-7
+unfolding laterJudge pick
+returns-7 c = rw (c .before .match .keys7) (c .type1 .ensures)
+
+returns-8 : tie.Need-returns-8
+unfolding laterJudge pick
+returns-8 c =
     let r = c .before .match .rest in
-    rw (ne-eqb _ 10 (r .0 .0 .0 .0 .1), ne-eqb _ 11 (r .0 .0 .0 .1), ne-eqb _ 12 (r .0 .0 .1), ne-eqb _ 13 (r .0 .1), ne-eqb _ 14 (r .1)) (c .part .ensures _ (omega arith))
+    rw (ne-eqb _ 10 (r .0 .0 .0 .0 .0 .0 .1), ne-eqb _ 11 (r .0 .0 .0 .0 .0 .1), ne-eqb _ 12 (r .0 .0 .0 .0 .1), ne-eqb _ 13 (r .0 .0 .0 .1), ne-eqb _ 14 (r .0 .0 .1), ne-eqb _ 15 (r .0 .1), ne-eqb _ 16 (r .1)) (c .part .ensures _ (omega arith))
 
 pub judged-by-status-spec : {M : Type 1} → statement M
 judged-by-status-spec =
@@ -60,10 +74,14 @@ judged-by-status-spec =
     status-requires
     initiator-requires
     target-requires
+    type2-requires
+    type1-requires
     part-requires
     returns
     returns-2
     returns-3
     returns-4
     returns-5
-    returns-6)
+    returns-6
+    returns-7
+    returns-8)

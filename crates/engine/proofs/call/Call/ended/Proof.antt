@@ -1,16 +1,16 @@
 -- `engine::call::Call::ended` meets its contract.
-use Rattle.engine.specs.Moves.{ended-reset}
-use Rattle.framing.specs.Rules.{told}
-use Rattle.errors.specs.Choice.{pick}
-use Rattle.engine.specs.Moves.{endedMove}
-use mathlib.Core.Path.{sym, _∙_}
 use borrow.Author.Needs.{needs}
+use mathlib.Core.Path.{sym, ap, _∙_}
+use Rattle.errors.specs.Choice.{pick}
+use Rattle.framing.specs.Rules.{told}
+use Rattle.engine.specs.Moves.{ended-reset, endedMove, refuses}
 use Rattle.engine.proofs.call.Call.ended.Statement.{statement}
 use Rattle.engine.proofs.call.Call.ended.Tie as tie
 use Rattle.engine.proofs.call.Call.ended.Reads as reads
 use Rattle.engine.proofs.call.Call.ended.Lts as lts
 use Rattle.engine.proofs.call.Call.at.Reads as at-reads
 use Rattle.engine.proofs.call.Call.is_reset.Reads as is-reset-reads
+use Rattle.engine.proofs.call.refusal_of.Reads as refusal-of-reads
 
 is-reset-requires : tie.Need-is-reset-requires
 is-reset-requires c κs = search needs
@@ -24,16 +24,19 @@ returns c = λ p. rw (c .at .ensures) (search (ended-reset, told, needs) depth 6
 enum-known-reply : tie.Need-enum-known-reply
 enum-known-reply c = search needs
 
-enum-known-reply-2 : tie.Need-enum-known-reply-2
-enum-known-reply-2 c = search needs
+enum-told : tie.Need-enum-told
+enum-told c = search needs
+
+refusal-of-requires : tie.Need-refusal-of-requires
+refusal-of-requires c κs = search needs
 
 returns-2 : tie.Need-returns-2
 unfolding endedMove pick
-returns-2 c = λ p. rw (c .before .reply .given .1, sym (c .before .before .before .before .is-reset .ensures) ∙ c .before .before .before .if1 .left)
+returns-2 c = λ p. ap refuses (c .refusal-of .ensures) ∙ rw (c .before .enum-told .given .1, sym (c .before .before .before .before .is-reset .ensures) ∙ c .before .before .before .if1 .left)
 
 returns-3 : tie.Need-returns-3
 unfolding endedMove pick
-returns-3 c = λ p. rw (c .before .reply2 .given .1, sym (c .before .before .before .before .is-reset .ensures) ∙ c .before .before .before .if1 .left)
+returns-3 c = λ p. rw (c .before .reply .given .1, sym (c .before .before .before .before .is-reset .ensures) ∙ c .before .before .before .if1 .left)
 
 pub ended-spec : {M : Type 1} → statement M
 ended-spec =
@@ -43,6 +46,7 @@ ended-spec =
     at-requires
     returns
     enum-known-reply
-    enum-known-reply-2
+    enum-told
+    refusal-of-requires
     returns-2
     returns-3)

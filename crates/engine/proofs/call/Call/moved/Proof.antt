@@ -1,5 +1,5 @@
 -- `engine::call::Call::moved` meets its contract.
-use Rattle.engine.specs.Moves.{moves-pause}
+use Rattle.engine.specs.Moves.{moves-pause, moves-field}
 use Rattle.engine.specs.Moves.{moves-exchange, moves-reads}
 use Rattle.engine.specs.Moves.{moveOf}
 use Rattle.errors.specs.Choice.{pick}
@@ -10,6 +10,7 @@ use Rattle.engine.proofs.call.Call.moved.Tie as tie
 use Rattle.engine.proofs.call.Call.moved.Reads as reads
 use Rattle.engine.proofs.call.Call.moved.Lts as lts
 use Rattle.engine.proofs.call.Call.on_exchange.Reads as on-exchange-reads
+use Rattle.engine.proofs.call.Call.on_field_pause.Reads as on-field-pause-reads
 use Rattle.engine.proofs.call.Call.on_opening_ack.Reads as on-opening-ack-reads
 use Rattle.engine.proofs.call.Call.on_opening_reads.Reads as on-opening-reads-reads
 use Rattle.engine.proofs.call.Call.on_reset_ack.Reads as on-reset-ack-reads
@@ -30,6 +31,9 @@ on-opening-ack-requires c κs = search needs
 on-opening-reads-requires : tie.Need-on-opening-reads-requires
 on-opening-reads-requires c κs = search needs
 
+on-field-pause-requires : tie.Need-on-field-pause-requires
+on-field-pause-requires c κs = search needs
+
 returns : tie.Need-returns
 returns c = moves-exchange _ _ _ _ (c .before .match .keys1) (c .on-exchange .ensures)
 
@@ -48,8 +52,11 @@ returns-5 : tie.Need-returns-5
 returns-5 c = moves-reads _ _ _ _ (c .before .match .keys5) (c .on-opening-reads .ensures _)
 
 returns-6 : tie.Need-returns-6
+returns-6 c = moves-field _ _ _ _ (c .before .match .keys6) (c .on-field-pause .ensures _)
+
+returns-7 : tie.Need-returns-7
 unfolding moveOf
-returns-6 c = search (steps, needs) depth 10
+returns-7 c = search (steps, needs) depth 12
 
 pub moved-spec : {M : Type 1} → statement M
 moved-spec =
@@ -60,9 +67,11 @@ moved-spec =
     on-reset-pause-requires
     on-opening-ack-requires
     on-opening-reads-requires
+    on-field-pause-requires
     returns
     returns-2
     returns-3
     returns-4
     returns-5
-    returns-6)
+    returns-6
+    returns-7)

@@ -1,6 +1,5 @@
 use borrow.Author.Needs.{needs}
 use mathlib.Core.Path.{_≡_, ap}
-use native.Mathlib.Omega.{arith}
 use lib.ListN.{length}
 use Rattle.engine.specs.Sessions.{sessionAfter}
 use Rattle.engine.proofs.session.Session.event.Statement.{statement}
@@ -12,16 +11,19 @@ use Rattle.engine.proofs.state.State.event.Reads as event-reads
 slice-aggregate-event : tie.Need-slice-aggregate-event
 slice-aggregate-event c = search needs
 
+slice-aggregate-event-2 : tie.Need-slice-aggregate-event-2
+slice-aggregate-event-2 c = search needs
+
 event-requires : tie.Need-event-requires
-event-requires c κs =
-    let n : length (c .before .before .before .before .before .before .args .self .found) ≡ 1024 = search needs in
-    omega arith
+event-requires c κs = (search needs, search needs)
 
 same-length : tie.Need-same-length
 same-length c = search needs
 
 returns : tie.Need-returns
-returns c = ap (sessionAfter (c .before .before .before .before .before .before .before .before .before .before .before .args .self)) (c .before .before .before .before .event .ensures)
+returns c = ap sessionAfter (c .before .before .before .before .before .event .ensures)
 
 pub event-spec : {M : Type 1} → statement M
-event-spec = tie.close (tie.spec slice-aggregate-event event-requires same-length returns)
+event-spec =
+    tie.close
+    (tie.spec slice-aggregate-event slice-aggregate-event-2 event-requires same-length returns)

@@ -1,5 +1,6 @@
 -- `engine::session::Session::tg_get_target_status` meets its contract.
 use borrow.Author.Needs.{needs}
+use mathlib.Core.List.{[]}
 use mathlib.Core.Path.{ap, _∙_}
 use Rattle.engine.specs.Sessions.{launchStep}
 use Rattle.engine.proofs.session.Session.tg_get_target_status.Statement.{statement}
@@ -19,7 +20,7 @@ same-length : tie.Need-same-length
 same-length c = search needs
 
 returns : tie.Need-returns
-returns c = c .before .before .call .ensures ∙ ap (λ l. launchStep (c .before .before .before .before .before .before .args .self) l (c .before .before .before .before .before .before .args .buffer .now)) (c .before .before .before .before .tg-get-target-status .ensures .0)
+returns c = c .before .before .call .ensures ∙ ap (λ l. launchStep (c .before .before .before .before .before .before .args .self) l [] (c .before .before .before .before .before .before .args .buffer .now)) (c .before .before .before .before .tg-get-target-status .ensures .0)
 
 pub tg-get-target-status-spec : {M : Type 1} → statement M
 tg-get-target-status-spec =

@@ -1,10 +1,10 @@
 use borrow.Author.Needs.{needs}
-use Rattle.engine.specs.Moves.{packetLength}
-use Rattle.exchange.specs.Steps.{eventOf}
 use mathlib.Core.Path.{_≡_, sym, _∙_}
 use native.Mathlib.Omega.{arith}
 use borrow.Author.Tests.{lt-ltb, le-ltb, ltb-false}
 use Rattle.framing.specs.Rules.{at-true, at-false}
+use Rattle.exchange.specs.Steps.{eventOf}
+use Rattle.engine.specs.Moves.{packetLength}
 use Rattle.engine.specs.Sessions.{admittedOf, isLong}
 use Rattle.engine.proofs.state.State.admitted.Statement.{statement}
 use Rattle.engine.proofs.state.State.admitted.Tie as tie
@@ -40,8 +40,15 @@ returns-2 c =
 moved-requires : tie.Need-moved-requires
 unfolding isLong
 moved-requires c κs =
-    let a = c .before .before .before .before .before .before .before .before .before .before .args in
-    (omega (arith, ltb-false 1024 (packetLength (eventOf (a .event) (a .packet .now))) (sym (c .before .before .before .is-long .ensures) ∙ c .before .before .if3 .left), c .before .before .before .before .before .before .before .before .before .before .pre .0), c .before .before .before .before .before .before .before .before .before .before .pre .1, search needs, c .before .before .before .before .before .before .before .before .before .before .pre .2)
+    let a = c .before .before .before .before .before .before .before .before .before .before .before .before .args in (
+      omega (arith, ltb-false 1024 (packetLength (eventOf (a .event) (a .packet .now))) (sym (c .before .before .before .before .is-long .ensures) ∙ c .before .before .before .if3 .left), c .before .before .before .before .before .before .before .before .before .before .before .before .pre .0),
+      c .before .before .before .before .before .before .before .before .before .before .before .before .pre .1,
+      c .before .before .before .before .before .before .before .before .before .before .before .before .pre .2,
+      c .before .before .before .before .before .before .before .before .before .before .before .before .pre .3,
+      c .before .before .before .before .before .before .before .before .before .before .before .before .pre .4,
+      search needs,
+      c .before .before .before .before .before .before .before .before .before .before .before .before .pre .5,
+    )
 
 refused-requires-3 : tie.Need-refused-requires-3
 refused-requires-3 c κs = search needs
@@ -52,11 +59,14 @@ same-length c = search needs
 same-length-2 : tie.Need-same-length-2
 same-length-2 c = search needs
 
+same-length-3 : tie.Need-same-length-3
+same-length-3 c = search needs
+
 returns-3 : tie.Need-returns-3
 unfolding admittedOf
 returns-3 c =
-    at-true _ _ _ _ (sym (c .before .before .before .before .before .before .before .before .before .before .before .fits2 .ensures _) ∙ c .before .before .before .before .before .before .before .before .before .before .if1 .taken)
-    (at-false _ _ _ _ (le-ltb _ _ (c .before .before .before .before .before .before .before .before .before .if2 .left)) (at-false _ _ _ _ (sym (c .before .before .before .before .before .before .before .before .is-long .ensures) ∙ c .before .before .before .before .before .before .before .if3 .left) (c .before .before .before .before .moved .ensures)))
+    at-true _ _ _ _ (sym (c .before .before .before .before .before .before .before .before .before .before .before .before .before .before .fits2 .ensures _) ∙ c .before .before .before .before .before .before .before .before .before .before .before .before .before .if1 .taken)
+    (at-false _ _ _ _ (le-ltb _ _ (c .before .before .before .before .before .before .before .before .before .before .before .before .if2 .left)) (at-false _ _ _ _ (sym (c .before .before .before .before .before .before .before .before .before .before .before .is-long .ensures) ∙ c .before .before .before .before .before .before .before .before .before .before .if3 .left) (c .before .before .before .before .before .before .moved .ensures)))
 
 returns-4 : tie.Need-returns-4
 unfolding admittedOf
@@ -76,5 +86,6 @@ admitted-spec =
     refused-requires-3
     same-length
     same-length-2
+    same-length-3
     returns-3
     returns-4)

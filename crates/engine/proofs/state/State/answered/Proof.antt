@@ -28,7 +28,7 @@ slice-aggregate-put-both c = sym (length-take-le (c .before .before .before .bef
 put-both-requires : tie.Need-put-both-requires
 put-both-requires c κs =
     let a = c .before .before .before .before .before .before .args in
-    let room : a .answer .len + a .answer .count ≤ 1024 = c .before .before .before .before .before .before .pre .2 .2 1024 (c .before .before .before .before .before .before .pre .0) (omega arith) in
+    let room : a .answer .len + a .answer .count ≤ 1024 = c .before .before .before .before .before .before .pre .2 .2 1024 (omega (arith, c .before .before .before .before .before .before .pre .0)) (omega arith) in
     let part = ap length (c .before .before .part-of .ensures) ∙ length-take (a .answer .len) (drop (a .answer .start) (a .response .now)) in
     let tail = length-take (a .answer .count) (tailBytes (a .answer .tail)) in
     omega (arith, room, part, tail, c .before .before .before .before .before .before .pre .1)

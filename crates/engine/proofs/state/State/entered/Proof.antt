@@ -1,15 +1,18 @@
 use borrow.Author.Needs.{needs}
-use mathlib.Core.Path.{_≡_, sym, ap, _∙_}
+use mathlib.Core.Path.{_≡_, refl, sym, ap, _∙_}
 use Prim.Native.Nat.{_≤_}
 use native.Mathlib.Omega.{arith}
+use borrow.Author.Tests.{eq-eqb, ne-eqb}
 use lib.ListN.{length, length-take}
 use lib.Seq.{length-take-le}
-use Rattle.engine.specs.Sessions.{sendsOf, entersOf}
+use Rattle.framing.specs.Rules.{at-true, at-false}
+use Rattle.engine.specs.Sessions.{held, planOf, sendsOf, entersOf}
 use Rattle.engine.proofs.state.State.entered.Statement.{statement}
 use Rattle.engine.proofs.state.State.entered.Tie as tie
 use Rattle.engine.proofs.state.State.entered.Reads as reads
 use Rattle.engine.proofs.state.State.entered.Lts as lts
 use Rattle.engine.proofs.device.opening.Reads as opening-reads
+use Rattle.engine.proofs.state.State.searched.Reads as searched-reads
 use Rattle.engine.proofs.state.State.sent.Reads as sent-reads
 
 opening-requires : tie.Need-opening-requires
@@ -32,16 +35,31 @@ slice-aggregate-sent c =
 sent-requires : tie.Need-sent-requires
 sent-requires c κs =
     let l = c .before .before .before .opening .result .2 in
-    let twelve : length l ≡ 12 = search needs in
     let n : c .before .before .before .opening .result .3 ≤ 12 = c .before .before .before .opening .ensures .1 in
-    (simp length-take (omega arith), search needs)
+    (omega (arith, length-take (c .before .before .before .opening .result .3) l), c .before .before .before .before .before .before .before .before .pre .2)
+
+searched-requires : tie.Need-searched-requires
+searched-requires c κs = c .before .before .before .before .before .pre
 
 same-length : tie.Need-same-length
 same-length c = search needs
 
 returns : tie.Need-returns
-unfolding entersOf
-returns c = λ f. c .before .before .sent .ensures f ∙ ap (λ m. sendsOf (c .before .before .before .before .before .before .before .before .args .self) f (c .before .before .before .before .before .before .before .before .args .call) m (c .before .before .before .before .before .before .before .before .args .buffer .now)) (c .before .before .before .before .before .before .opening .ensures .0)
+unfolding entersOf planOf
+returns c = λ f.
+    let a = c .before .before .before .before .before .before .before .before .before .before .before .args in
+    c .before .before .sent .ensures (held (a .command .now) f)
+    ∙ ap (λ m. sendsOf (a .self) (held (a .command .now) f) (a .call) m (a .buffer .now)) (at-true _ _ _ _ (eq-eqb _ _ (c .before .before .before .before .before .before .before .if1 .taken)) (c .before .before .before .before .before .before .opening .ensures .0))
+
+same-length-2 : tie.Need-same-length-2
+same-length-2 c = search needs
+
+returns-2 : tie.Need-returns-2
+unfolding entersOf planOf
+returns-2 c = λ f.
+    let a = c .before .before .before .before .before .before .before .before .args in
+    c .before .before .searched .ensures f
+    ∙ ap (λ m. sendsOf (a .self) (held (a .command .now) f) (a .call) m (a .buffer .now)) (at-false _ _ _ _ (ne-eqb _ _ (c .before .before .before .before .if1 .left)) refl)
 
 pub entered-spec : {M : Type 1} → statement M
 entered-spec =
@@ -51,5 +69,8 @@ entered-spec =
     array-share-prefix-bytes
     slice-aggregate-sent
     sent-requires
+    searched-requires
     same-length
-    returns)
+    returns
+    same-length-2
+    returns-2)

@@ -3,11 +3,11 @@ use mathlib.Core.Path.{_≡_, sym, _∙_, subst}
 use Prim.Native.Nat.{_≤_}
 use borrow.Author.Tests.{eq-eqb, ne-eqb}
 use Rattle.framing.specs.Rules.{at-true, at-false}
+use Rattle.exchange.specs.Steps.{eventOf}
 use Rattle.engine.specs.Moves.{packetLength, replyLength}
-use Rattle.engine.specs.Laws.{valid-stage}
+use Rattle.engine.specs.Laws.{valid-stage, valid-command, valid-found}
 use Rattle.engine.specs.Exchanges.{reply-short}
 use Rattle.engine.specs.Sessions.{eventAfter}
-use Rattle.exchange.specs.Steps.{eventOf}
 use Rattle.engine.proofs.state.State.event.Statement.{statement}
 use Rattle.engine.proofs.state.State.event.Tie as tie
 use Rattle.engine.proofs.state.State.event.Reads as reads
@@ -31,11 +31,15 @@ moved-requires : tie.Need-moved-requires
 moved-requires c κs = valid-stage _ (sym (c .before .before .before .is-valid .ensures) ∙ c .before .before .if1 .taken)
 
 admitted-requires : tie.Need-admitted-requires
-admitted-requires c κs = (
-  subst (λ m. replyLength m ≤ packetLength (eventOf (c .before .before .before .before .before .before .before .before .before .before .before .before .args .event) (c .before .before .before .before .before .before .before .before .before .before .before .before .args .packet .now))) (sym (c .before .before .moved .ensures)) (reply-short _ _ _),
-  c .before .before .before .before .before .before .before .before .before .before .before .before .pre,
-  valid-stage _ (sym (c .before .before .before .before .before .before .is-valid .ensures) ∙ c .before .before .before .before .before .if1 .taken),
-)
+admitted-requires c κs =
+    let valid = sym (c .before .before .before .before .before .before .before .is-valid .ensures) ∙ c .before .before .before .before .before .before .if1 .taken in (
+      subst (λ m. replyLength m ≤ packetLength (eventOf (c .before .before .before .before .before .before .before .before .before .before .before .before .before .before .args .event) (c .before .before .before .before .before .before .before .before .before .before .before .before .before .before .args .packet .now))) (sym (c .before .before .before .moved .ensures)) (reply-short _ _ _),
+      valid-found _ valid,
+      valid-command _ valid,
+      c .before .before .before .before .before .before .before .before .before .before .before .before .before .before .pre .0,
+      c .before .before .before .before .before .before .before .before .before .before .before .before .before .before .pre .1,
+      valid-stage _ valid,
+    )
 
 refused-requires-2 : tie.Need-refused-requires-2
 refused-requires-2 c κs = search needs
@@ -46,11 +50,14 @@ same-length c = search needs
 same-length-2 : tie.Need-same-length-2
 same-length-2 c = search needs
 
+same-length-3 : tie.Need-same-length-3
+same-length-3 c = search needs
+
 returns-2 : tie.Need-returns-2
 unfolding eventAfter
 returns-2 c =
-    at-true _ _ _ _ (sym (c .before .before .before .before .before .before .before .before .before .before .before .is-valid .ensures) ∙ c .before .before .before .before .before .before .before .before .before .before .if1 .taken)
-    (at-false _ _ _ _ (ne-eqb _ _ (c .before .before .before .before .before .before .before .before .if2 .left)) (rw (c .before .before .before .before .before .before .before .moved .ensures) at (c .before .before .before .before .admitted .ensures)))
+    at-true _ _ _ _ (sym (c .before .before .before .before .before .before .before .before .before .before .before .before .before .before .is-valid .ensures) ∙ c .before .before .before .before .before .before .before .before .before .before .before .before .before .if1 .taken)
+    (at-false _ _ _ _ (ne-eqb _ _ (c .before .before .before .before .before .before .before .before .before .before .before .if2 .left)) (rw (c .before .before .before .before .before .before .before .before .before .before .moved .ensures) at (c .before .before .before .before .before .before .admitted .ensures)))
 
 returns-3 : tie.Need-returns-3
 unfolding eventAfter
@@ -68,5 +75,6 @@ event-spec =
     refused-requires-2
     same-length
     same-length-2
+    same-length-3
     returns-2
     returns-3)

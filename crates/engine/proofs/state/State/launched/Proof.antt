@@ -24,7 +24,7 @@ returns c = λ f.
     (at-true _ _ _ _ (c .before .before .if2 .taken) (at-true _ _ _ _ (lt-ltb _ _ (c .before .if3 .taken)) (c .refused .ensures _ _)))
 
 sent-by-requires : tie.Need-sent-by-requires
-sent-by-requires c κs = search needs
+sent-by-requires c κs = (c .before .before .before .before .before .before .before .before .before .before .pre .0, c .before .before .before .before .before .before .before .before .before .before .pre .1, c .before .before .before .before .before .before .before .before .before .before .pre .2, search needs)
 
 refused-requires-2 : tie.Need-refused-requires-2
 refused-requires-2 c κs = search needs
@@ -35,11 +35,14 @@ refused-requires-3 c κs = search needs
 same-length : tie.Need-same-length
 same-length c = search needs
 
+same-length-2 : tie.Need-same-length-2
+same-length-2 c = search needs
+
 returns-2 : tie.Need-returns-2
 unfolding launchAfter
 returns-2 c = λ f.
-    at-true _ _ _ _ (sym (c .before .before .before .before .before .before .before .is-free .ensures) ∙ c .before .before .before .before .before .before .if1 .taken)
-    (at-true _ _ _ _ (c .before .before .before .before .before .if2 .taken) (at-false _ _ _ _ (le-ltb _ _ (c .before .before .before .before .if3 .left)) (c .before .before .sent-by .ensures f)))
+    at-true _ _ _ _ (sym (c .before .before .before .before .before .before .before .before .before .before .is-free .ensures) ∙ c .before .before .before .before .before .before .before .before .before .if1 .taken)
+    (at-true _ _ _ _ (c .before .before .before .before .before .before .before .before .if2 .taken) (at-false _ _ _ _ (le-ltb _ _ (c .before .before .before .before .before .before .before .if3 .left)) (c .before .before .before .before .sent-by .ensures f)))
 
 returns-3 : tie.Need-returns-3
 unfolding launchAfter
@@ -60,6 +63,7 @@ launched-spec =
     refused-requires-2
     refused-requires-3
     same-length
+    same-length-2
     returns-2
     returns-3
     returns-4)

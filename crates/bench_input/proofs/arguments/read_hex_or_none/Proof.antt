@@ -1,0 +1,37 @@
+-- `arguments::read_hex_or_none` meets its contract.
+use mathlib.Core.Path.{sym, _∙_}
+use borrow.Author.Needs.{needs}
+use Rattle.framing.specs.Rules.{at-true, at-false}
+use Rattle.bench_input.specs.Arguments.{hexOrNone}
+use Rattle.bench_input.proofs.ReadLaws.{none-read, none-stays}
+use Rattle.bench_input.proofs.arguments.read_hex_or_none.Statement.{statement}
+use Rattle.bench_input.proofs.arguments.read_hex_or_none.Tie as tie
+
+is-none-requires : tie.Need-is-none-requires
+is-none-requires c κs = search needs
+
+returns : tie.Need-returns
+unfolding hexOrNone
+returns c =
+    let start = c .before .before .before .before in (
+      λ f. at-true _ _ _ _ (sym (c .before .is-none .ensures) ∙ c .if1 .taken) (none-read (start .args .at) (start .args .bytes .now) f),
+      none-stays _ _ _,
+    )
+
+read-hex-requires : tie.Need-read-hex-requires
+read-hex-requires c κs = search needs
+
+same-length : tie.Need-same-length
+same-length c = search needs
+
+returns-2 : tie.Need-returns-2
+unfolding hexOrNone
+returns-2 c =
+    let at-read-hex = c .before .before in
+    let at-if1 = at-read-hex .before .before in
+    let at-is-none = at-if1 .before in
+    (λ f. at-false _ _ _ _ (sym (at-is-none .is-none .ensures) ∙ at-if1 .if1 .left) (at-read-hex .read-hex .ensures .0 f), at-read-hex .read-hex .ensures .1)
+
+pub read-hex-or-none-spec : {M : Type 1} → statement M
+read-hex-or-none-spec =
+    tie.close (tie.spec is-none-requires returns read-hex-requires same-length returns-2)

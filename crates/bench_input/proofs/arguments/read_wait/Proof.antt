@@ -1,0 +1,73 @@
+-- `arguments::read_wait` meets its contract.
+use mathlib.Core.Path.{refl, sym, _∙_}
+use borrow.Author.Needs.{needs}
+use borrow.Author.Tests.{lt-ltb, le-ltb}
+use Rattle.framing.specs.Rules.{at-true, at-false}
+use Rattle.bench_input.specs.Arguments.{waitArg}
+use Rattle.bench_input.proofs.ArgumentLaws.{ms-value, ms-none}
+use Rattle.bench_input.proofs.arguments.read_wait.Statement.{statement}
+use Rattle.bench_input.proofs.arguments.read_wait.Tie as tie
+
+is-none-requires : tie.Need-is-none-requires
+is-none-requires c κs = search needs
+
+returns : tie.Need-returns
+unfolding waitArg
+returns c = λ f. at-true _ _ _ _ (sym (c .before .is-none .ensures) ∙ c .if1 .taken) refl
+
+read-ms-requires : tie.Need-read-ms-requires
+read-ms-requires c κs = search needs
+
+enum-known-ms : tie.Need-enum-known-ms
+enum-known-ms c = search needs
+
+enum-told : tie.Need-enum-told
+enum-told c = search needs
+
+returns-2 : tie.Need-returns-2
+unfolding waitArg
+returns-2 c = λ f.
+    let at-read-ms = c .before .before in
+    let at-if1 = at-read-ms .before in
+    let at-is-none = at-if1 .before in
+    at-false _ _ _ _ (sym (at-is-none .is-none .ensures) ∙ at-if1 .if1 .left)
+    (ms-none _ _ (at-read-ms .read-ms .ensures) _ (c .enum-told .given .1))
+
+returns-3 : tie.Need-returns-3
+unfolding waitArg
+returns-3 c = λ f.
+    let at-ms = c .before .before in
+    let at-read-ms = at-ms .before .before in
+    let at-if1 = at-read-ms .before in
+    let at-is-none = at-if1 .before in
+    at-false _ _ _ _ (sym (at-is-none .is-none .ensures) ∙ at-if1 .if1 .left)
+    (ms-value _ _ (at-read-ms .read-ms .ensures) _ _ _ (at-ms .ms .given .1)
+    (at-true _ _ _ _ (lt-ltb _ _ (c .if2 .taken)) refl))
+
+cast-t8 : tie.Need-cast-t8
+cast-t8 c = search needs
+
+returns-4 : tie.Need-returns-4
+unfolding waitArg
+returns-4 c = λ f.
+    let at-ms = c .before .before in
+    let at-read-ms = at-ms .before .before in
+    let at-if1 = at-read-ms .before in
+    let at-is-none = at-if1 .before in
+    at-false _ _ _ _ (sym (at-is-none .is-none .ensures) ∙ at-if1 .if1 .left)
+    (ms-value _ _ (at-read-ms .read-ms .ensures) _ _ _ (at-ms .ms .given .1)
+    (at-false _ _ _ _ (le-ltb _ _ (c .if2 .left)) refl))
+
+pub read-wait-spec : {M : Type 1} → statement M
+read-wait-spec =
+    tie.close
+    (tie.spec
+    is-none-requires
+    returns
+    read-ms-requires
+    enum-known-ms
+    enum-told
+    returns-2
+    returns-3
+    cast-t8
+    returns-4)

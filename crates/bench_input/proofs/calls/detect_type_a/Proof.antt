@@ -1,0 +1,47 @@
+-- `calls::detect_type_a` meets its contract.
+use mathlib.Core.Path.{refl}
+use borrow.Author.Needs.{needs}
+use Rattle.bench_input.specs.Arguments.{hexArg}
+use Rattle.bench_input.specs.Inputs.{detectTypeALine}
+use Rattle.bench_input.proofs.ArgumentLaws.{two-value, two-none}
+use Rattle.bench_input.proofs.calls.detect_type_a.Statement.{statement}
+use Rattle.bench_input.proofs.calls.detect_type_a.Tie as tie
+
+read-two-requires : tie.Need-read-two-requires
+read-two-requires c κs = search needs
+
+enum-known-bitrate : tie.Need-enum-known-bitrate
+enum-known-bitrate c = search needs
+
+enum-told : tie.Need-enum-told
+enum-told c = search needs
+
+same-length : tie.Need-same-length
+same-length c = search needs
+
+returns : tie.Need-returns
+unfolding detectTypeALine
+returns c =
+    let at-read-two = c .before .before .before .before in
+    two-none _ (hexArg _) _ _ (at-read-two .read-two .ensures) _ (c .enum-told .given .1)
+
+same-length-2 : tie.Need-same-length-2
+same-length-2 c = search needs
+
+returns-2 : tie.Need-returns-2
+unfolding detectTypeALine
+returns-2 c =
+    let at-read-two = c .before .before .before .before .before in
+    two-value _ (hexArg _) _ _ (at-read-two .read-two .ensures) _ _ _ _ (c .before .bitrate .given .1) refl
+
+pub detect-type-a-spec : {M : Type 1} → statement M
+detect-type-a-spec =
+    tie.close
+    (tie.spec
+    read-two-requires
+    enum-known-bitrate
+    enum-told
+    same-length
+    returns
+    same-length-2
+    returns-2)

@@ -1,0 +1,97 @@
+-- What the arm for all other variants, or for several numbers, knows.
+use mathlib.Core.Path.{_≡_, refl}
+use mathlib.Core.Bool.{Bool, true, false, _&&_, _||_}
+use mathlib.Core.List.{List, [], _∷_}
+use mathlib.Core.Logic.{inl, inr}
+use mathlib.Core.Option.{none}
+use Prim.Native.Nat.{ℕ, zero, suc, _≤_, _<_}
+use native.Mathlib.Omega.{arith}
+use borrow.Author.Tests.{ne-eqb}
+use denote.Enum.Declared.{tagOf}
+use lib.Dec.{eqb}
+use lib.ListN.{length, getD}
+use types.Run.{OneOf, miss}
+use Rattle.targets.specs.declared.Bitrate.{Bitrate}
+use Rattle.targets.specs.declared.Bitrate.the-variants.{B106A, B212F, B424F, B106B, B212B, B424B, B848B, Other}
+use Rattle.targets.proofs.Bitrate.{the-type}
+use Rattle.protocol.specs.Calls.{typeACode, typeBCode, typeFCode, depCode, is106A, isSendable}
+
+pub no-type-a : (b : Bitrate) → OneOf (4 ∷ 5 ∷ 6 ∷ 7 ∷ []) (tagOf the-type b) → none ≡ typeACode b
+no-type-a B106A h = absurd (miss (4 ∷ 5 ∷ 6 ∷ 7 ∷ []) 0 tt h)
+no-type-a B212F h = absurd (miss (4 ∷ 5 ∷ 6 ∷ 7 ∷ []) 1 tt h)
+no-type-a B424F h = absurd (miss (4 ∷ 5 ∷ 6 ∷ 7 ∷ []) 2 tt h)
+no-type-a B106B h = absurd (miss (4 ∷ 5 ∷ 6 ∷ 7 ∷ []) 3 tt h)
+no-type-a B212B h = refl
+no-type-a B424B h = refl
+no-type-a B848B h = refl
+no-type-a Other h = refl
+
+pub no-type-b : (b : Bitrate) → OneOf (0 ∷ 1 ∷ 2 ∷ 4 ∷ 5 ∷ 6 ∷ 7 ∷ []) (tagOf the-type b) → none ≡ typeBCode b
+no-type-b B106A h = refl
+no-type-b B212F h = refl
+no-type-b B424F h = refl
+no-type-b B106B h = absurd (miss (0 ∷ 1 ∷ 2 ∷ 4 ∷ 5 ∷ 6 ∷ 7 ∷ []) 3 tt h)
+no-type-b B212B h = refl
+no-type-b B424B h = refl
+no-type-b B848B h = refl
+no-type-b Other h = refl
+
+pub no-type-f : (b : Bitrate) → OneOf (0 ∷ 3 ∷ 4 ∷ 5 ∷ 6 ∷ 7 ∷ []) (tagOf the-type b) → none ≡ typeFCode b
+no-type-f B106A h = refl
+no-type-f B212F h = absurd (miss (0 ∷ 3 ∷ 4 ∷ 5 ∷ 6 ∷ 7 ∷ []) 1 tt h)
+no-type-f B424F h = absurd (miss (0 ∷ 3 ∷ 4 ∷ 5 ∷ 6 ∷ 7 ∷ []) 2 tt h)
+no-type-f B106B h = refl
+no-type-f B212B h = refl
+no-type-f B424B h = refl
+no-type-f B848B h = refl
+no-type-f Other h = refl
+
+pub no-dep : (b : Bitrate) → OneOf (3 ∷ 4 ∷ 5 ∷ 6 ∷ 7 ∷ []) (tagOf the-type b) → none ≡ depCode b
+no-dep B106A h = absurd (miss (3 ∷ 4 ∷ 5 ∷ 6 ∷ 7 ∷ []) 0 tt h)
+no-dep B212F h = absurd (miss (3 ∷ 4 ∷ 5 ∷ 6 ∷ 7 ∷ []) 1 tt h)
+no-dep B424F h = absurd (miss (3 ∷ 4 ∷ 5 ∷ 6 ∷ 7 ∷ []) 2 tt h)
+no-dep B106B h = refl
+no-dep B212B h = refl
+no-dep B424B h = refl
+no-dep B848B h = refl
+no-dep Other h = refl
+
+pub not-106a : (b : Bitrate) (t : Bool) → OneOf (1 ∷ 2 ∷ 3 ∷ 4 ∷ 5 ∷ 6 ∷ 7 ∷ []) (tagOf the-type b) → false ≡ (is106A b && t)
+not-106a B106A t h = absurd (miss (1 ∷ 2 ∷ 3 ∷ 4 ∷ 5 ∷ 6 ∷ 7 ∷ []) 0 tt h)
+not-106a B212F t h = refl
+not-106a B424F t h = refl
+not-106a B106B t h = refl
+not-106a B212B t h = refl
+not-106a B424B t h = refl
+not-106a B848B t h = refl
+not-106a Other t h = refl
+
+-- the status bytes 01 and 0A
+pub no-partner-told : (x : ℕ) → OneOf (1 ∷ 10 ∷ []) x → (eqb x 1 || eqb x 10) ≡ true
+no-partner-told x (inl e) = rw e
+no-partner-told x (inr e) = rw e
+
+pub partner-told : (x : ℕ) → (OneOf (1 ∷ 10 ∷ []) x → ⊥) → (eqb x 1 || eqb x 10) ≡ false
+partner-told x h = rw (ne-eqb x 1 (λ e. h (inl e)), ne-eqb x 10 (λ e. h (inr e)))
+
+-- what Type 1 sends
+pub none-sendable : (l : List ℕ) → length l ≡ 0 → false ≡ isSendable l
+none-sendable [] h = refl
+none-sendable (x ∷ l) h = absurd (omega arith)
+
+pub low-sendable : (l : List ℕ) → (length l ≡ 0 → ⊥) → getD l 0 0 < 2 → true ≡ isSendable l
+low-sendable [] n h = absurd (n refl)
+low-sendable (zero ∷ l) n h = refl
+low-sendable (suc zero ∷ l) n h = refl
+low-sendable (suc (suc x) ∷ l) n h = absurd (omega arith)
+
+pub key-sendable : (l : List ℕ) → (length l ≡ 0 → ⊥) → OneOf (0x1A ∷ 0x53 ∷ 0x72 ∷ []) (getD l 0 0) → true ≡ isSendable l
+key-sendable [] n h = absurd (n refl)
+key-sendable (x ∷ l) n (inl e) = rw e
+key-sendable (x ∷ l) n (inr (inl e)) = rw e
+key-sendable (x ∷ l) n (inr (inr e)) = rw e
+
+pub other-sendable : (l : List ℕ) → (length l ≡ 0 → ⊥) → 2 ≤ getD l 0 0 → (OneOf (0x1A ∷ 0x53 ∷ 0x72 ∷ []) (getD l 0 0) → ⊥) → false ≡ isSendable l
+other-sendable [] n g h = absurd (n refl)
+other-sendable (x ∷ l) n g h =
+    rw (ne-eqb x 0 (λ e. omega arith), ne-eqb x 1 (λ e. omega arith), ne-eqb x 0x1A (λ e. h (inl e)), ne-eqb x 0x53 (λ e. h (inr (inl e))), ne-eqb x 0x72 (λ e. h (inr (inr e))))

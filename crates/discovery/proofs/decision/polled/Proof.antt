@@ -1,0 +1,28 @@
+-- `discovery::decision::polled` meets its contract.
+use native.Mathlib.Omega.{arith}
+use Rattle.discovery.specs.Decisions.{withLength, polled}
+use Rattle.discovery.specs.Laws.{decided, decides-false, short-either, not-short}
+use borrow.Author.Needs.{needs}
+use Rattle.discovery.proofs.decision.polled.Statement.{statement}
+use Rattle.discovery.proofs.decision.polled.Tie as tie
+
+byte-or-requires : tie.Need-byte-or-requires
+byte-or-requires c κs = search needs
+
+returns : tie.Need-returns
+unfolding polled withLength
+returns c = λ f. search (decided, needs) depth 8
+
+from-requires : tie.Need-from-requires
+from-requires c κs = search needs
+
+returns-2 : tie.Need-returns-2
+unfolding polled
+returns-2 c = λ f. decides-false _ _ _ _ _ _ (search (decided, needs)) (short-either _ _ _ _ (omega arith))
+
+returns-3 : tie.Need-returns-3
+unfolding polled withLength
+returns-3 c = λ f. decides-false _ _ _ _ _ _ (search (decided, needs)) (decides-false _ _ _ _ _ _ (search (not-short, needs)) (decides-false _ _ _ _ _ _ (search (decided, needs)) (c .from .ensures f _ (omega arith))))
+
+pub polled-spec : {M : Type 1} → statement M
+polled-spec = tie.close (tie.spec byte-or-requires returns from-requires returns-2 returns-3)

@@ -1,0 +1,26 @@
+-- `engine::session::Session::detect_type_f` meets its contract.
+use borrow.Author.Needs.{needs}
+use mathlib.Core.Path.{ap, _∙_}
+use Rattle.engine.specs.Sessions.{searchStep}
+use Rattle.engine.proofs.session.Session.detect_type_f.Statement.{statement}
+use Rattle.engine.proofs.session.Session.detect_type_f.Tie as tie
+use Rattle.engine.proofs.session.Session.detect_type_f.Reads as reads
+use Rattle.engine.proofs.session.Session.detect_type_f.Lts as lts
+use Rattle.discovery.proofs.search.detect_type_f.Reads as detect-type-f-reads
+use Rattle.engine.proofs.session.Session.search.Reads as search-reads
+
+detect-type-f-requires : tie.Need-detect-type-f-requires
+detect-type-f-requires c κs = search needs
+
+search-requires : tie.Need-search-requires
+search-requires c κs = c .before .detect-type-f .ensures .1
+
+same-length : tie.Need-same-length
+same-length c = search needs
+
+returns : tie.Need-returns
+returns c = c .before .before .search .ensures ∙ ap (λ x. searchStep (c .before .before .before .before .before .before .before .args .self) x (c .before .before .before .before .before .before .before .args .buffer .now)) (c .before .before .before .before .detect-type-f .ensures .0)
+
+pub detect-type-f-spec : {M : Type 1} → statement M
+detect-type-f-spec =
+    tie.close (tie.spec detect-type-f-requires search-requires same-length returns)

@@ -1,0 +1,116 @@
+-- discovery.rs, and `transceive` of device.rs, as scripts. Where a list's data is meant, it stands from position 2 of the response on.
+use mathlib.Core.Bool.{Bool, cond, _||_}
+use mathlib.Core.List.{List, [], _∷_, _++_}
+use Prim.Native.Nat.{ℕ, _-_, _/_, _%_}
+use lib.Dec.{eqb, ltb}
+use lib.ListN.{length, take, drop, getD}
+use Rattle.errors.specs.Refusals.{numbered}
+use Rattle.errors.specs.declared.Refusal.{Refusal}
+use Rattle.errors.specs.declared.Refusal.the-variants.{ShortResponse, NoCard, CrcA}
+use Rattle.crc.specs.Crc.{typeA as crcA, checks}
+use Rattle.protocol.specs.Scripts.{Script, finish, command, fieldPause, refuse, either, ifElse, done, type1, nothing, own, byteAt, part, rest}
+use Rattle.protocol.specs.Chipset.{withStatus, word, readRegister, readSingleRegister, writeSingleRegister, rfConfiguration, inListPassiveTarget, inDataExchange, inDataExchangeElse, inCommunicateThru, inCommunicateThruElse, inJumpForDepElse}
+
+-- ---- detect_type_a
+
+-- a UID over 4 bytes gets 0x88 at 0; if then over 8, 0x88 at 4
+abbrev pub prefixed : List ℕ → List ℕ
+prefixed uid = cond (ltb 4 (length uid)) (0x88 ∷ uid) uid
+
+abbrev pub cascaded : List ℕ → List ℕ
+cascaded uid = cond (ltb 8 (length (prefixed uid))) (take 4 (prefixed uid) ++ (0x88 ∷ drop 4 (prefixed uid))) (prefixed uid)
+
+-- SENS_RES in the other order, SEL_RES, SDD_RES
+abbrev pub cardA : List ℕ → Script
+cardA list = finish (done (byteAt 0 list 3 ∷ byteAt 0 list 2 ∷ byteAt 0 list 4 ∷ rest 0 list 6))
+
+-- Type 2: the CRC check is switched off in the RX mode
+abbrev pub withoutCrc : List ℕ → Script
+withoutCrc list = readSingleRegister 0x6303 (λ bs. writeSingleRegister 0x6303 (getD bs 0 0 % 128) (cardA list))
+
+abbrev pub isType2 : ℕ → Bool
+isType2 selRes = eqb (selRes / 32 % 4) 0
+
+abbrev pub foundA : List ℕ → Script
+foundA list = ifElse (ltb (length list) 6) (finish nothing) (ifElse (isType2 (getD list 4 0)) (withoutCrc list) (cardA list))
+
+-- the RID exchange: 15 is none; short list data gives 16 behind it
+abbrev pub noneOnStatus : Refusal → Script
+noneOnStatus r = ifElse (eqb (numbered r .0) 15) (finish nothing) (refuse r)
+
+abbrev pub cardType1 : List ℕ → List ℕ → Script
+cardType1 list rid = ifElse (ltb (length list) 4) (refuse ShortResponse) (finish (type1 (byteAt 2 list 3 ∷ byteAt 2 list 2 ∷ rest 3 rid 1)))
+
+abbrev pub tryType1 : Script
+tryType1 =
+    inListPassiveTarget 1 4 [] (finish nothing)
+    (λ list. inDataExchangeElse (0x78 ∷ 0x00 ∷ 0x00 ∷ 0x00 ∷ 0x00 ∷ 0x00 ∷ 0x00 ∷ []) 100 (cardType1 list) noneOnStatus)
+
+-- no target: FIFO 0x26 is none; any other value, or a refused read, leads to the Type 1 try
+abbrev pub noTarget : Script
+noTarget = command 0x06 250 (word 0x6339) (either (λ bs. ifElse (eqb (getD bs 0 0) 0x26) (finish nothing) tryType1) (λ _. tryType1))
+
+abbrev pub detectTypeA : ℕ → List ℕ → Script
+detectTypeA code uid = inListPassiveTarget 1 code (cascaded uid) noTarget foundA
+
+-- ---- detect_type_b
+
+-- the wake-up's failure is none
+abbrev pub wakeUp : ℕ → Script
+wakeUp afi = inCommunicateThruElse (0x05 ∷ afi ∷ 0x08 ∷ []) 500 (λ bs. finish (done (rest 2 bs 1))) (λ _. finish nothing)
+
+-- the deselect's outcome is ignored
+abbrev pub deselect : ℕ → Script
+deselect afi = command 0x42 500 (0xC2 ∷ []) (λ _. wakeUp afi)
+
+-- byte 10 of the data, masked with 9, is 1
+abbrev pub foundB : ℕ → List ℕ → Script
+foundB afi list =
+    ifElse (ltb (length list) 13) (finish nothing)
+    (ifElse (eqb (getD list 12 0 % 2) 1) (ifElse (eqb (getD list 12 0 / 8 % 2) 0) (deselect afi) (finish nothing)) (finish nothing))
+
+abbrev pub detectTypeB : ℕ → ℕ → Script
+detectTypeB code afi = inListPassiveTarget 1 code (afi ∷ []) (finish nothing) (foundB afi)
+
+-- ---- detect_type_f, whose poll is command k
+
+abbrev pub sensfReq : ℕ → ℕ → ℕ → List ℕ
+sensfReq systemCode requestCode timeSlots = 0x00 ∷ word systemCode ++ (requestCode ∷ timeSlots ∷ [])
+
+abbrev pub poll : ℕ → ℕ → List ℕ → Script
+poll k code req =
+    inListPassiveTarget 1 code req (refuse NoCard)
+    (λ list. ifElse (ltb (length list) 20) (refuse ShortResponse) (finish (done (rest k list 4))))
+
+abbrev pub detectTypeF : ℕ → List ℕ → Script
+detectTypeF code req =
+    readSingleRegister 0x6304
+    (λ bs. ifElse (eqb (getD bs 0 0 % 4) 0) (rfConfiguration 0x01 (0x01 ∷ []) (fieldPause (poll 2 code req))) (poll 1 code req))
+
+-- ---- detect_dep
+
+-- 15 with 01 or 0A is none
+abbrev pub noPartner : Refusal → Script
+noPartner r = ifElse (eqb (numbered r .0) 15) (ifElse (eqb (numbered r .1) 0x01 || eqb (numbered r .1) 0x0A) (finish nothing) (refuse r)) (refuse r)
+
+abbrev pub detectDep : ℕ → List ℕ → Script
+detectDep code atrReq =
+    rfConfiguration 0x02 (0x0B ∷ 0x0B ∷ 0x0A ∷ [])
+    (inJumpForDepElse 1 code [] (take 10 (drop 2 atrReq)) (drop 16 atrReq)
+    (λ bs. writeSingleRegister 0x6301 0x3B (finish (done (own 0xD5 ∷ own 0x01 ∷ rest 1 bs 2)))) noPartner)
+
+-- ---- transceive
+
+-- Type 2: a reply over 2 bytes must pass CRC_A and loses two bytes
+abbrev pub transceiveType2 : List ℕ → ℕ → Script
+transceiveType2 bytes ms =
+    inCommunicateThru bytes ms
+    (λ bs. ifElse (ltb 3 (length bs))
+    (ifElse (checks crcA (drop 1 bs)) (finish (done (part 0 bs 1 (length bs - 3)))) (refuse CrcA))
+    (finish (done (rest 0 bs 1))))
+
+abbrev pub transceiveType1 : List ℕ → ℕ → Script
+transceiveType1 bytes ms = inDataExchange bytes ms (λ bs. finish (done (rest 0 bs 1)))
+
+abbrev pub transceiveThru : List ℕ → ℕ → Script
+transceiveThru bytes ms = inCommunicateThru bytes ms (λ bs. finish (done (rest 0 bs 1)))
