@@ -2,7 +2,7 @@
 ghost use mathlib.Core.Path.{_≡_};
 ghost use Prim.Native.Nat.{_+_, _≤_};
 ghost use lib.ListN.{length};
-ghost use Rattle.bench.specs.Texts.{over, placed, placedAt, decimalOf};
+ghost use Rattle.bench.specs.Texts.{placed, placedAt, decimalOf};
 
 pub(crate) fn put(text: &[u8], out: &mut [u8], at: usize) -> usize
     requires { ⌜ at + length (now text) ≤ length (now out) ⌝ }

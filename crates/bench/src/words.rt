@@ -1,7 +1,7 @@
 // The words of a line, separated by exactly one space: `a  b` has three, and the empty line has one.
 ghost use mathlib.Core.Path.{_≡_};
-ghost use mathlib.Core.List.{List, []};
-ghost use Prim.Native.Nat.{ℕ, _-_, _≤_};
+ghost use mathlib.Core.List.{[]};
+ghost use Prim.Native.Nat.{_-_, _≤_};
 ghost use lib.ListN.{length, getD, take, drop};
 ghost use Rattle.framing.specs.Lists.{same};
 ghost use Rattle.bench.specs.Words.{wordsOf};

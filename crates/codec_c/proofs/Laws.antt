@@ -18,7 +18,7 @@ use Rattle.framing.specs.declared.FrameFormat.{FrameFormat}
 use Rattle.framing.specs.declared.FrameType.{FrameType}
 use Rattle.framing.specs.declared.settings.Setting.{Setting}
 use Rattle.framing.specs.declared.settings.Setting.the-variants.{Format, Nothing}
-use Rattle.codec_c.specs.Answers.{written, writtenOf, buildFor, appendB, found, foundOf, parsed, parseFor}
+use Rattle.codec_c.specs.Answers.{written, writtenOf, buildFor, appendB, foundOf, parsed, parseFor}
 use Rattle.codec_c.specs.declared.Found.{Found}
 
 module _ (bytes out after : List ℕ) (count : ℕ) (r : Added) (e : _≡_ {A = Outcome × List ℕ} (crc.outcome r, after) (added typeB bytes out)) where

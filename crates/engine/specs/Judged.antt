@@ -1,13 +1,12 @@
 -- Each call of one command: the command of its script is the one that is sent, and its response is judged as the script has it.
-use mathlib.Core.Path.{_≡_, refl, sym, ap, ap₂, _∙_}
+use mathlib.Core.Path.{_≡_, refl, sym, ap, _∙_}
 use mathlib.Core.Bool.{Bool, true, false, cond}
 use mathlib.Core.List.{List, [], _∷_, _++_, map, map-append}
-use Prim.Native.Nat.{ℕ, zero, suc, _+_, _-_, _/_, _%_, _≤_, _<_}
+use Prim.Native.Nat.{ℕ, zero, suc, _+_, _-_, _≤_}
 use native.Mathlib.Decide.{decLe}
-use native.Mathlib.Numerals.{add-one}
 use native.Mathlib.Omega.{arith}
 use borrow.Author.Tests.{ltb-true, ltb-false, ne-eqb}
-use lib.Dec.{eqb, leb, ltb}
+use lib.Dec.{eqb, ltb}
 use lib.ListN.{length, take, drop, getD, length-drop, drop-of-length-le}
 use lib.Seq.{drop-cons, take-all}
 use Rattle.errors.specs.Choice.{pick}
@@ -15,8 +14,8 @@ use Rattle.errors.specs.declared.Refusal.{Refusal}
 use Rattle.errors.specs.declared.Refusal.the-variants.{OverLong, BadArgument, ShortResponse, Status, CrcA, Rate}
 use Rattle.crc.specs.Crc.{typeA as crcA, checks}
 use Rattle.exchange.specs.Packets.{isEmpty}
-use Rattle.protocol.specs.Scripts.{Byte, own, card, value, Answer, done, nothing, refused, Script, finish, command, reset, either, refuse, ifElse, part, rest, byteAt}
-use Rattle.protocol.specs.Chipset.{anyNonzero, statusByte, withStatus as statusThen, withLength as lengthThen, maskedStatus, moreFlag, sendIndex, receiveIndex, rate, word, versionBytes, jumpData, initData}
+use Rattle.protocol.specs.Scripts.{Byte, own, value, Answer, done, nothing, refused, Script, finish, command, reset, either, refuse, ifElse, part, rest, byteAt}
+use Rattle.protocol.specs.Chipset.{anyNonzero, statusByte, withStatus as statusThen, withLength as lengthThen, maskedStatus, moreFlag, sendIndex, receiveIndex, rate, versionBytes, jumpData, initData}
 use Rattle.protocol.specs.Calls.{Request, version, resetMode, setParameters, rfConfiguration, rfFieldOff, readRegister, writeRegister, readSingleRegister, writeSingleRegister, inListPassiveTarget, inDataExchange, inCommunicateThru, inJumpForDep, tgInitTarget, tgSetGeneralBytes, tgGetInitiatorCommand, tgResponseToInitiator, tgGetTargetStatus}
 use Rattle.protocol.specs.Calls.{Start, starts, requestStart, finished, answer, rateBytes}
 use Rattle.protocol.specs.Calls.{registers, initFits, activeByte}

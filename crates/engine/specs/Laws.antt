@@ -1,24 +1,22 @@
 -- Laws of what the session's functions do.
-use mathlib.Core.Path.{_≡_, refl, sym, ap, ap₂, _∙_, subst}
+use mathlib.Core.Path.{_≡_, refl, sym, ap, ap₂, _∙_}
 use mathlib.Core.Bool.{Bool, true, false, false≢true}
 use mathlib.Core.List.{List, [], _∷_, _++_, append-assoc}
-use Prim.Native.Nat.{ℕ, suc, _+_, _-_, _≤_, _<_, min}
-use native.Mathlib.Numerals.{add-one}
+use Prim.Native.Nat.{ℕ, _+_, _-_, _≤_, _<_}
 use native.Mathlib.Decide.{decLe}
 use native.Mathlib.Omega.{arith}
 use borrow.Rule.Slice.PartMut.{putMid}
-use borrow.Author.Tests.{eq-eqb, ne-eqb, lt-ltb, le-ltb, leb-true}
-use lib.Dec.{eqb, ltb, leb}
+use borrow.Author.Tests.{eq-eqb, ne-eqb, le-ltb, leb-true}
+use lib.Dec.{leb}
 use lib.ListN.{length, take, drop, getD, length-append, length-drop}
 use lib.Seq.{drop-cons, take-length, take-append-seam, drop-append-add, drop-drop}
 use Rattle.errors.specs.Choice.{pick}
-use Rattle.errors.specs.Refusals.{Outcome, answered, refused, numbered, plain}
+use Rattle.errors.specs.Refusals.{answered, refused, numbered}
 use Rattle.errors.specs.declared.Refusal.{Refusal}
-use Rattle.framing.specs.Build.{Left, left, outcome, buildOf, putFrame, limitOf}
+use Rattle.framing.specs.Build.{left, outcome, buildOf, putFrame, limitOf}
 use Rattle.framing.specs.declared.Built.{Built}
 use Rattle.framing.specs.declared.Built.the-variants.{Frame, Refused}
 use Rattle.framing.specs.Enclose.{length-frame, start-most}
-use Rattle.framing.specs.Frames.{frameOf, startOf, longest}
 use Rattle.framing.specs.Copied.{copied}
 use Rattle.framing.specs.Settings.{rcs956, commandPayload}
 use Rattle.framing.specs.Lists.{both}

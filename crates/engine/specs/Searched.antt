@@ -1,8 +1,8 @@
 -- Each call of discovery.rs, and transceive: its first command is the one that is sent, and what is decided on each reply is what its
 -- script has.
-use mathlib.Core.Path.{_≡_, refl, sym, ap, ap₂, _∙_}
+use mathlib.Core.Path.{_≡_, refl, sym, ap}
 use mathlib.Core.Bool.{Bool, true, false, false≢true, cond, _&&_, _||_}
-use mathlib.Core.List.{List, [], _∷_, _++_, map}
+use mathlib.Core.List.{List, [], _∷_}
 use mathlib.Core.Option.{Option, none, some}
 use Prim.Native.Nat.{ℕ, suc, _+_, _-_, _/_, _%_, _≤_}
 use native.Mathlib.Omega.{arith}
@@ -17,18 +17,18 @@ use Rattle.framing.specs.Lists.{both}
 use Rattle.exchange.specs.Packets.{Reply, response, failed, isEmpty}
 use Rattle.targets.specs.Bitrates.{Choice, chosen, noCode, choiceOf}
 use Rattle.targets.specs.declared.Bitrate.{Bitrate}
-use Rattle.protocol.specs.Scripts.{Byte, own, value, Answer, done, type1, nothing, refused, Script, finish, command, fieldPause, either, refuse, ifElse, byteAt, rest}
-use Rattle.protocol.specs.Chipset.{anyNonzero, statusByte, maskedStatus, word, bit, jumpData}
-use Rattle.protocol.specs.Discovery.{cascaded, isType2, cardA, withoutCrc, foundA, noneOnStatus, cardType1, tryType1, noTarget, wakeUp, deselect, foundB, sensfReq, poll, noPartner as noPartnerScript, detectTypeA as typeAScript, detectTypeB as typeBScript, detectTypeF as typeFScript, detectDep as depScript, transceiveType1, transceiveType2, transceiveThru}
+use Rattle.protocol.specs.Scripts.{Byte, own, Answer, done, type1, nothing, refused, Script, finish, command, fieldPause, either, refuse, ifElse, byteAt, rest}
+use Rattle.protocol.specs.Chipset.{anyNonzero, statusByte, maskedStatus, jumpData}
+use Rattle.protocol.specs.Discovery.{cascaded, isType2, cardA, foundA, noneOnStatus, cardType1, tryType1, noTarget, wakeUp, foundB, sensfReq, poll, noPartner as noPartnerScript, detectTypeA as typeAScript, detectDep as depScript, transceiveType1, transceiveType2, transceiveThru}
 use Rattle.protocol.specs.Calls.{DeviceCall, detectTypeA, detectTypeB, detectTypeF, detectDep, transceive}
 use Rattle.protocol.specs.Calls.{Start, starts, deviceStart, typeACode, typeBCode, typeFCode, depCode, is106A, type2SelRes, isSendable, clockOf, transceiveStart}
 use Rattle.protocol.specs.Calls.{refuses as refusesStart, limited as limitedStart, onCode as codeStart, withBitrate as bitrateStart}
 use Rattle.protocol.specs.Follows.{plainAnswer}
-use Rattle.chipset.specs.Launches.{Launch, refuses, sends, Command, cmd, limited}
+use Rattle.chipset.specs.Launches.{Launch, refuses, sends, cmd, limited}
 use Rattle.chipset.specs.Verdicts.{judgeOf}
 use Rattle.discovery.specs.Searches.{Search, starting, refusing, onCode, withBitrate, codeFor, typeASearch, typeBSearch, typeFSearch, depSearch, transceiveSearch, searchOf}
 use Rattle.discovery.specs.Decisions.{Decision, goes, keeps, sets, pauses, ends, commandOf, typeACommand, typeBCommand, typeFCommand, depCommand, withLength, cardBytes, listedA, listedType1, ridOf, typeADecision, listedB, typeBDecision, polled, typeFDecision, noPartner, depDecision, decisionOf, ridFailure, jumpFailure, typeAFailure, typeBFailure, depFailure, failureOf}
-use Rattle.engine.specs.Judged.{rest-values, Judged, Rule, a-rule, Begins, single-limited, judged-thru, judged-type2, judged-type1}
+use Rattle.engine.specs.Judged.{rest-values, a-rule, Begins, single-limited, judged-thru, judged-type2, judged-type1}
 use Rattle.engine.specs.Laws.{both-r}
 
 -- ---- what a decision leads to, at a stage with a pending command and found bytes; bs is the response

@@ -7,7 +7,7 @@ use native.Mathlib.Omega.{arith}
 use borrow.Author.Tests.{ltb-true, ltb-false, le-leb}
 use lib.Dec.{eqb, leb, ltb}
 use lib.ListN.{length, take, drop, getD, length-append, length-drop}
-use lib.Seq.{drop-cons, take-append-seam}
+use lib.Seq.{take-append-seam}
 use Rattle.errors.specs.Choice.{pick}
 use Rattle.errors.specs.declared.Refusal.{Refusal}
 use Rattle.errors.specs.declared.Refusal.the-variants.{OutOfTurn, ShortBuffer, OverLong, Transport, ShortResponse, Status}
@@ -16,7 +16,7 @@ use Rattle.exchange.specs.Packets.{commandFrame, Reply, response, failed}
 use Rattle.exchange.specs.Exchange.{Order, write, read, drain, pause, Event, ok, bad, pkt, time, fail, late, slept, unfit, pending, ended, onWrite, onRead, onPause, sending, ExchangeResult, advance}
 use Rattle.exchange.specs.Steps.{stepOf, exchangeAt}
 use Rattle.exchange.specs.declared.Exchange.{Exchange}
-use Rattle.protocol.specs.Scripts.{Byte, own, value, Answer, done, type1, nothing, refused, Script, finish, command, fieldPause, either, refuse, ifElse}
+use Rattle.protocol.specs.Scripts.{Byte, own, value, Answer, done, type1, nothing, refused, Script, command, either, refuse, ifElse}
 use Rattle.protocol.specs.Chipset.{versionBytes, rfFieldOff, anyNonzero}
 use Rattle.protocol.specs.Device.{deviceNew, chipsetName, hexDigit as hexDigitOf, hex as hexOf}
 use Rattle.protocol.specs.Calls.{ReaderCall, request, device, Start, readerStart, Call as CallOf, opening, reader, finished}
@@ -26,23 +26,22 @@ use Rattle.protocol.specs.Laws.{frame-not-ack}
 use Rattle.protocol.specs.Follows.{plain, plainAnswer}
 use Rattle.chipset.specs.Launches.{Command, cmd, Launch}
 use Rattle.chipset.specs.Verdicts.{judgeOf}
-use Rattle.discovery.specs.Searches.{Search, starting}
-use Rattle.discovery.specs.Decisions.{Decision, goes, keeps, sets, pauses, commandOf, decisionOf, failureOf}
-use Rattle.discovery.specs.Decisions.{ends as endsDecision}
-use Rattle.engine.specs.Judged.{Judged, Rule, Begins, refusedAtOnce, single, alone, begins}
-use Rattle.engine.specs.Searched.{Leads, leads-end, leads-go, leads-keep, leads-set, leads-pause, Stands, Discovery, Starting, refusedNow, oneCommand, staged, device-begins}
+use Rattle.discovery.specs.Searches.{Search}
+use Rattle.discovery.specs.Decisions.{Decision, goes, commandOf, decisionOf}
+use Rattle.engine.specs.Judged.{Begins, refusedAtOnce, single, alone, begins}
+use Rattle.engine.specs.Searched.{Leads, leads-end, leads-go, leads-keep, leads-set, leads-pause, Stands, Starting, refusedNow, oneCommand, staged, device-begins}
 use Rattle.engine.specs.Moves.{Moved, unfitting, orders as goesOn, enters, finishes, replies, refuses, fits, isReset, moveOf, endedMove, exchangeMove, restedMove, exchangeIn, validCall, toStage, following}
 use Rattle.engine.specs.Names.{hexDigit, hex, dotted, openedBytes}
 use Rattle.engine.specs.Plans.{openingPlan, settingsPlan}
-use Rattle.engine.specs.Sessions.{isValid, Held, held, heldIn, putFound, putCommand, After, after, unchanged, put, sessionAfter, ordersOf, sendsOf, planOf, entersOf, refusesOf, doneOf, answersOf, admittedOf, isLong, movedOf, eventAfter, noCall}
-use Rattle.engine.specs.Sessions.{endsOf as endsAfter, running, counted as oneMore, idle as idleState, withCommand, openAfter as openedAt, launchOn, launchAfter, followsOf, failsOf, versionOf, lastOf, openingOf, judgedOf, repliesOf}
+use Rattle.engine.specs.Sessions.{isValid, Held, heldIn, putFound, putCommand, After, after, unchanged, put, sessionAfter, ordersOf, sendsOf, planOf, entersOf, refusesOf, doneOf, answersOf, admittedOf, isLong, movedOf, eventAfter, noCall}
+use Rattle.engine.specs.Sessions.{running, counted as oneMore, idle as idleState, openAfter as openedAt, launchOn, launchAfter, followsOf, failsOf, versionOf, lastOf, openingOf, judgedOf, repliesOf}
 use Rattle.engine.specs.declared.call.Call.{Call}
 use Rattle.engine.specs.declared.state.State.{State}
 use Rattle.engine.specs.declared.state.Output.{Output}
 use Rattle.engine.specs.declared.state.Output.the-variants.{Refused, Done, Type1, Nothing}
 use Rattle.engine.specs.declared.session.Session.{Session}
 use Rattle.engine.specs.Inputs.{outputOf, Input, opens, asks, tells, entryOf, launchFor, afterInput}
-use Rattle.engine.specs.Places.{Stage, c0, c1, c2, c3, c4, c5, c6, c7, c8, c9, Reset, first, second, Single, Staged, Paused, Place, atAck, atReads, atCommand, atSingle, atStage, atPause, atReset, atResetAck, atResetPause, number, resetNumber, resetKind, resetCall, which, kindAt, callAt, openedFor, s3, s10, restAt, scriptAt, phaseIn, Fields, heldAt, AgreesWith, Agrees, stateWith, sessionWith, freeState, freeMeant, stateAt, meantAt, Means, free, runs}
+use Rattle.engine.specs.Places.{Stage, c0, c1, c2, c3, c4, c5, c6, c7, c8, c9, first, second, Single, Staged, Paused, Place, atAck, atReads, atCommand, atSingle, atStage, atPause, atReset, atResetAck, atResetPause, number, which, kindAt, callAt, openedFor, s3, s10, restAt, phaseIn, Fields, heldAt, AgreesWith, Agrees, stateWith, sessionWith, freeState, freeMeant, stateAt, meantAt, Means, free, runs}
 use Rattle.engine.specs.Places.{alone as aloneReset}
 use Rattle.engine.specs.Exchanges.{Good, ack-free, good, LateMove, late-move}
 

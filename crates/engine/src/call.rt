@@ -7,7 +7,6 @@ use exchange::Exchange;
 use exchange::Next;
 use exchange::Part;
 use exchange::Reply;
-ghost use mathlib.Core.Bool.{Bool};
 ghost use mathlib.Core.List.{List};
 ghost use mathlib.Core.Path.{_≡_};
 ghost use Prim.Native.Nat.{ℕ, _<_};

@@ -25,23 +25,19 @@ use framing::ACK_BYTES;
 use framing::Built;
 use framing::FrameType;
 use framing::frame::build_command;
-ghost use mathlib.Core.Bool.{Bool, true, false};
+ghost use mathlib.Core.Bool.{true, false};
 ghost use mathlib.Core.List.{List, _++_};
 ghost use mathlib.Core.Path.{_≡_};
 ghost use Prim.Native.Nat.{ℕ, _+_, _-_, _≤_, _<_};
-ghost use lib.Dec.{eqb};
 ghost use lib.ListN.{length, take, drop};
-ghost use Rattle.framing.specs.Lists.{both};
 ghost use Rattle.exchange.specs.Packets.{commandFrame};
 ghost use Rattle.exchange.specs.Steps.{eventOf};
-ghost use Rattle.protocol.specs.Scripts.{done};
 ghost use Rattle.chipset.specs.Launches.{cmd};
 ghost use Rattle.chipset.specs.Answers.{verdictIn, Fits};
 ghost use Rattle.chipset.specs.Starts.{launchWith, fits};
 ghost use Rattle.discovery.specs.Decisions.{keeps, sets, commandOf};
 ghost use Rattle.discovery.specs.Decided.{headBytes, arranged as arrangedOf, ArrangedFits, decisionIn, DecisionFits};
 ghost use Rattle.engine.specs.Moves.{orderOf, moveIn, packetLength, replyLength};
-ghost use Rattle.engine.specs.Names.{openedBytes};
 ghost use Rattle.engine.specs.Sessions.{isValid, isFree, Held, held, pendingOf, running, idle, uncounted, unchanged, counted, withFound, withCommand, put, effected, ordersOf, sendsOf, entersOf, endsOf, arrangedFrom, answersOf, versionOf, judgedOf, lastOf, openingOf, followsOf, repliesOf, failsOf, movedOf, isLong, admittedOf, eventAfter, openAfter, launchOn, launchAfter};
 
 // What a session holds beside its arrays: how much of each is in use, the exchange, the call, whether the reader is open, and the

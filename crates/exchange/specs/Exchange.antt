@@ -1,12 +1,12 @@
 -- Orders and events, and the exchange of one command: steps 1 to 5 of document 01, `command` of chipset.rs.
-use mathlib.Core.Bool.{Bool, true, false, cond}
-use mathlib.Core.List.{List, [], _∷_}
+use mathlib.Core.Bool.{cond}
+use mathlib.Core.List.{List}
 use Prim.Native.Nat.{ℕ}
 use lib.Dec.{eqb}
 use Rattle.errors.specs.declared.Refusal.{Refusal}
 use Rattle.errors.specs.declared.Refusal.the-variants.{Transport, TimeOut, FalseStart}
 use Rattle.framing.specs.Frames.{ack}
-use Rattle.exchange.specs.Packets.{hasStart, ackLed, isEmpty, Reply, response, failed, replyOf}
+use Rattle.exchange.specs.Packets.{hasStart, ackLed, isEmpty, Reply, failed, replyOf}
 
 -- what the engine asks of the host, in the words of the bench program
 pub data Order : Type 0 where

@@ -1,6 +1,5 @@
 -- What `build` answers and leaves in the buffer: refusal 3 before 2, nothing written; else the frame at the buffer's start.
-use mathlib.Core.Bool.{Bool, true, false}
-use mathlib.Core.List.{List, [], _∷_, _++_}
+use mathlib.Core.List.{List, _++_}
 use Prim.Native.Nat.{ℕ, _+_, min}
 use lib.Dec.{ltb}
 use lib.ListN.{length, take, drop}

@@ -1,16 +1,16 @@
 -- Laws of what `build` writes.
-use mathlib.Core.Path.{_≡_, refl, sym, ap, ap₂, _∙_, subst}
+use mathlib.Core.Path.{_≡_, refl, sym, ap, ap₂, _∙_}
 use mathlib.Core.Bool.{Bool, true, false}
 use mathlib.Core.List.{List, [], _∷_, _++_}
-use Prim.Native.Nat.{ℕ, suc, _+_, _-_, _≤_, _<_, min}
+use Prim.Native.Nat.{ℕ, _+_, _-_, _≤_, _<_, min}
 use native.Mathlib.Nat.{add-assoc}
 use native.Mathlib.Numerals.{add-one, add-two}
 use native.Mathlib.Omega.{arith}
 use lib.Dec.{ltb}
-use lib.ListN.{length, take, drop, set, length-set, length-append, length-take, length-drop}
+use lib.ListN.{length, take, drop, set, length-set, length-append, length-drop}
 use lib.Seq.{sets-eq, take-append-add, drop-append-add, drop-append-seam, drop-drop, length-take-le}
 use borrow.Author.Tests.{lt-ltb, le-ltb, ltb-false}
-use Rattle.errors.specs.Refusals.{Outcome, answered, refused, numbered, plain}
+use Rattle.errors.specs.Refusals.{answered, refused, numbered, plain}
 use Rattle.errors.specs.declared.Refusal.{Refusal}
 use Rattle.errors.specs.declared.Refusal.the-variants.{OverLong, ShortBuffer}
 use Rattle.framing.specs.Build.{Left, left, buildOf, putFrame, limitOf, placeOf, enclosed}

@@ -1,25 +1,22 @@
 -- `parse` answers Data exactly when the packet starts with a frame, Ack and Error exactly when document 01 says; and what `build`
 -- writes parses to its payload. For every format, so for all six settings at once.
-use mathlib.Core.Path.{_≡_, refl, sym, ap, ap₂, _∙_, subst, subst₂, subst₃}
-use mathlib.Core.Bool.{Bool, true, false, false≢true}
-use mathlib.Core.List.{List, [], _∷_, _++_, append-assoc, append-nil}
+use mathlib.Core.Path.{_≡_, refl, sym, ap, _∙_, subst, subst₃}
+use mathlib.Core.Bool.{Bool, true, false}
+use mathlib.Core.List.{List, [], _++_, append-assoc, append-nil}
 use mathlib.Core.Logic.{_⊎_, inl, inr, _↔_}
-use Prim.Native.Nat.{ℕ, zero, suc, _+_, _-_, _*_, _/_, _%_, _≤_, _<_}
+use Prim.Native.Nat.{ℕ, _+_, _-_, _≤_}
 use native.Mathlib.Omega.{arith}
-use borrow.Author.Tests.{eq-eqb, ne-eqb, eqb-true, eqb-false}
+use borrow.Author.Tests.{eq-eqb, eqb-true}
 use lib.Dec.{eqb, ltb}
-use lib.ListN.{length, getD, take, drop, length-append, length-take, drop-of-length-le}
-use lib.Seq.{take-append-seam, drop-append-seam}
+use lib.ListN.{length, getD, take, drop, length-take, drop-of-length-le}
+use lib.Seq.{take-append-seam}
 use Rattle.framing.specs.Checks.{hasMarker}
-use Rattle.framing.specs.Frames.{checksumOf, sof, ack, errorFrame, ending, normalHead, normalFrame, extendedHead, extendedFrame, lengthBytes, headOf, startOf, frameOf, longest}
+use Rattle.framing.specs.Frames.{sof, ack, ending, normalHead, normalFrame, extendedHead, extendedFrame, lengthBytes, headOf, frameOf}
 use Rattle.errors.specs.Choice.{pick}
-use Rattle.framing.specs.Lists.{both, starts, same, Bytes}
+use Rattle.framing.specs.Lists.{starts, same, Bytes}
 use Rattle.framing.specs.Parse.{isError, extends, lengthAt, normalAt, extendedAt, normalOf, extendedOf, dataOf, parseOf}
-use Rattle.framing.specs.Starts.{starts-whole, starts-split, starts-long}
-use Rattle.framing.specs.Sums.{checksum-byte}
+use Rattle.framing.specs.Starts.{starts-whole, starts-split}
 use Rattle.framing.specs.Valid.{both-left, both-right, length-framed, length-extended, marker-normal}
-use Rattle.framing.specs.declared.ErrorDetection.{ErrorDetection}
-use Rattle.framing.specs.declared.ErrorDetection.the-variants.{ErrorFrame, StatusByte}
 use Rattle.framing.specs.declared.FrameFormat.{FrameFormat}
 use Rattle.framing.specs.declared.FrameType.{FrameType}
 use Rattle.framing.specs.declared.FrameType.the-variants.{Ack, Error, Data, Nothing}

@@ -1,6 +1,5 @@
 -- Frames on the host link, from the PN532 user manual (UM0701-02), section 6.2.1. A byte string is a list of numbers.
 -- The manual's payload is TFI and data together, as document 01 has it. ExtendedLittleEndian is document 01's alone.
-use mathlib.Core.Bool.{Bool, true, false}
 use mathlib.Core.List.{List, [], _∷_, _++_}
 use Prim.Native.Nat.{ℕ, _+_, _-_, _%_, _/_}
 use lib.Dec.{ltb}

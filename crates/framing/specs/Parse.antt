@@ -1,6 +1,6 @@
 -- What a packet is, in document 01's order: start bytes, Ack, Error by the error form, then a frame at the packet's start.
 use mathlib.Core.Bool.{Bool, true, false}
-use mathlib.Core.List.{List, [], _∷_, _++_}
+use mathlib.Core.List.{List, []}
 use Prim.Native.Nat.{ℕ, _+_, _*_}
 use lib.Dec.{eqb}
 use lib.ListN.{length, getD, take, drop}

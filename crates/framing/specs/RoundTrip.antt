@@ -1,19 +1,19 @@
 -- A built frame parses to its payload and length, except under StatusByte, where it gives Error exactly when byte 5 is 0x7F. In an
 -- extended frame byte 5 is a length byte.
-use mathlib.Core.Path.{_≡_, refl, sym, ap, _∙_, subst}
+use mathlib.Core.Path.{_≡_, refl, sym, _∙_}
 use mathlib.Core.Bool.{Bool, true, false}
 use mathlib.Core.List.{List, [], _∷_, _++_, append-nil}
-use mathlib.Core.Logic.{_⊎_, inl, inr}
-use Prim.Native.Nat.{ℕ, zero, suc, _+_, _/_, _%_, _≤_, _<_}
+use mathlib.Core.Logic.{inl, inr}
+use Prim.Native.Nat.{ℕ, zero, suc, _+_, _≤_, _<_}
 use native.Mathlib.Omega.{arith}
 use borrow.Author.Tests.{ne-eqb, ltb-true}
 use lib.Dec.{eqb, ltb}
 use lib.ListN.{length, getD}
 use Rattle.framing.specs.Enclose.{length-frame}
-use Rattle.framing.specs.Exact.{Carries, StartsWith, Open, data-exact, error-exact, sof-frame}
-use Rattle.framing.specs.Frames.{sof, ack, errorFrame, checksumOf, ending, normalHead, normalFrame, extendedHead, extendedFrame, lengthBytes, headOf, startOf, frameOf, longest}
+use Rattle.framing.specs.Exact.{Carries, data-exact, error-exact, sof-frame}
+use Rattle.framing.specs.Frames.{ack, errorFrame, checksumOf, ending, normalHead, normalFrame, extendedHead, extendedFrame, lengthBytes, headOf, startOf, frameOf, longest}
 use Rattle.errors.specs.Choice.{pick}
-use Rattle.framing.specs.Lists.{both, starts, same, Bytes}
+use Rattle.framing.specs.Lists.{same, Bytes}
 use Rattle.framing.specs.Parse.{isError, extends, parseOf}
 use Rattle.framing.specs.Sums.{checksum-byte}
 use Rattle.framing.specs.declared.ErrorDetection.the-variants.{ErrorFrame, StatusByte}

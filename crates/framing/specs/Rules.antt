@@ -1,7 +1,6 @@
 -- Rules by which `search` follows a definition's tests: what held on the way decides each `pick` and `both`.
-use mathlib.Core.Path.{_≡_, refl, sym, _∙_}
+use mathlib.Core.Path.{_≡_, sym, _∙_}
 use mathlib.Core.Bool.{Bool, true, false}
-use Prim.Native.Nat.{ℕ}
 use borrow.Author.Tests.{lt-ltb, le-ltb, lt-leb, le-leb, eq-eqb, ne-eqb}
 use Rattle.errors.specs.Choice.{pick}
 use Rattle.framing.specs.Lists.{both}

@@ -1,5 +1,4 @@
 -- The six settings in document 01's order. A setting's payload limit is the longest that its length form can carry.
-use mathlib.Core.Bool.{Bool, true, false}
 use mathlib.Core.List.{List, _∷_}
 use Prim.Native.Nat.{ℕ}
 use lib.Dec.{eqb}

@@ -2,20 +2,20 @@
 use mathlib.Core.Path.{_≡_, refl, sym, ap, ap₂, _∙_, subst}
 use mathlib.Core.Bool.{Bool, true, false, false≢true}
 use mathlib.Core.List.{List, [], _∷_, _++_}
-use Prim.Native.Nat.{ℕ, suc, _+_, _-_, _*_, _/_, _%_, _≤_, _<_, min}
+use Prim.Native.Nat.{ℕ, suc, _+_, _-_, _%_, _≤_, _<_}
 use native.Mathlib.Numerals.{add-one}
 use native.Mathlib.Omega.{arith}
-use borrow.Author.Tests.{eq-eqb, ne-eqb, eqb-true, le-leb, lt-leb, leb-true, leb-false}
+use borrow.Author.Tests.{eq-eqb, ne-eqb, eqb-true, leb-true, leb-false}
 use lib.Dec.{eqb, leb}
 use lib.ListN.{length, getD, take, drop, List·getD-eq-default, length-append, length-take, length-drop}
-use lib.Seq.{drop-cons, length-take-le, drop-drop}
+use lib.Seq.{drop-cons, length-take-le}
 use Rattle.framing.specs.Frames.{total, checksumOf, sof, ending, normalHead, normalFrame, extendedHead, extendedFrame, lengthBytes}
 use Rattle.errors.specs.Choice.{pick}
-use Rattle.framing.specs.Lists.{both, both-assoc, both-true-r, both-false-r, starts, Bytes}
+use Rattle.framing.specs.Lists.{both, both-true-r, both-false-r, starts, Bytes}
 use Rattle.framing.specs.Parse.{normalAt, extendedAt, normalOf, extendedOf, dataOf, lengthAt, extends}
 use Rattle.framing.specs.Checks.{hasMarker, marked, checked, matches, between, pairLength}
 use Rattle.framing.specs.Starts.{starts-append, starts-cons, starts-take, starts-long, starts-split}
-use Rattle.framing.specs.Sums.{checksum-byte, checksum-sum, checksum-only}
+use Rattle.framing.specs.Sums.{checksum-sum, checksum-only}
 use Rattle.framing.specs.declared.FrameType.{FrameType}
 use Rattle.framing.specs.declared.FrameType.the-variants.{Data, Nothing}
 use Rattle.framing.specs.declared.LengthEncoding.{LengthEncoding}

@@ -1,5 +1,5 @@
 -- What the functions answer. That `isRate` and `parseOf` take exactly the texts of `Form` is proved in `proofs/Exact`.
-use mathlib.Core.Bool.{Bool, true, false, cond, _&&_, _||_}
+use mathlib.Core.Bool.{Bool, cond, _&&_, _||_}
 use mathlib.Core.List.{List, [], _∷_}
 use Prim.Native.Nat.{ℕ, _+_, _-_, _≤_}
 use Prim.Native.Char.{code}

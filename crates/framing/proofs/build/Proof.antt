@@ -1,9 +1,9 @@
 -- `framing::build` meets its contract.
 use Rattle.framing.specs.Enclose.{build-copied}
 use Rattle.framing.specs.Build.{outcome}
-use mathlib.Core.Path.{_≡_, sym, _∙_}
+use mathlib.Core.Path.{sym, _∙_}
 use native.Mathlib.Omega.{arith}
-use Rattle.framing.specs.Enclose.{place-fits, build-refused, build-done}
+use Rattle.framing.specs.Enclose.{place-fits, build-refused}
 use borrow.Author.Needs.{needs}
 use Rattle.framing.proofs.build.Statement.{statement}
 use Rattle.framing.proofs.build.Tie as tie

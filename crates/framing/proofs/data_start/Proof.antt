@@ -1,6 +1,6 @@
 -- `framing::data_start` meets its contract.
 use borrow.Author.Tests.{lt-ltb, le-ltb}
-use Rattle.framing.specs.Frames.{headOf, startOf, longest, lengthBytes}
+use Rattle.framing.specs.Frames.{startOf}
 use Rattle.errors.specs.Choice.{pick}
 use borrow.Author.Needs.{needs}
 use Rattle.framing.proofs.data_start.Statement.{statement}

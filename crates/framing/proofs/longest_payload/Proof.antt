@@ -1,6 +1,5 @@
 -- `framing::longest_payload` meets its contract.
-use Rattle.framing.specs.Frames.{headOf, startOf, longest, lengthBytes}
-use Rattle.errors.specs.Choice.{pick}
+use Rattle.framing.specs.Frames.{longest}
 use borrow.Author.Needs.{needs}
 use Rattle.framing.proofs.longest_payload.Statement.{statement}
 use Rattle.framing.proofs.longest_payload.Tie as tie

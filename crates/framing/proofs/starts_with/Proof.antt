@@ -1,8 +1,6 @@
 -- `framing::starts_with` meets its contract. The invariant: the answer is that of the bytes still to be compared.
-use Prim.Native.Nat.{ℕ, _+_, _-_, _≤_, _<_}
+use Prim.Native.Nat.{_-_, _≤_}
 use mathlib.Core.Path.{_≡_}
-use native.Mathlib.Omega.{arith}
-use native.Mathlib.Numerals.{add-one}
 use lib.ListN.{length, drop}
 use Rattle.framing.specs.Lists.{starts}
 use Rattle.framing.specs.Starts.{starts-short, starts-differ, starts-agree, starts-done}

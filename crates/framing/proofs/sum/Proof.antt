@@ -1,10 +1,9 @@
 -- `framing::sum` meets its contract. The invariant: the sum so far and the bytes still to come make the whole sum, modulo 256.
-use Prim.Native.Nat.{ℕ, _+_, _-_, _%_, _≤_, _<_}
+use Prim.Native.Nat.{_+_, _-_, _%_, _≤_, _<_}
 use mathlib.Core.Path.{_≡_}
 use native.Mathlib.Omega.{arith}
 use native.Mathlib.Numerals.{add-one}
 use lib.ListN.{length, drop}
-use lib.Seq.{drop-length}
 use Rattle.framing.specs.Frames.{total}
 use Rattle.framing.specs.Sums.{total-drop, total-end}
 use borrow.Author.Needs.{needs}

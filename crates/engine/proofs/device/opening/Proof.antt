@@ -1,7 +1,7 @@
 -- `engine::device::opening` meets its contract.
 use Rattle.framing.specs.Rules.{steps}
 use Rattle.errors.specs.Choice.{pick}
-use Rattle.engine.specs.Plans.{openingPlan, settingsPlan}
+use Rattle.engine.specs.Plans.{openingPlan}
 use native.Mathlib.Omega.{arith}
 use borrow.Author.Needs.{needs}
 use Rattle.engine.proofs.device.opening.Statement.{statement}

@@ -1,6 +1,6 @@
 -- `framing::frame::build_command` meets its contract.
 use native.Mathlib.Numerals.{add-two}
-use mathlib.Core.Path.{_≡_, sym, ap, _∙_}
+use mathlib.Core.Path.{_≡_, sym, _∙_}
 use native.Mathlib.Omega.{arith}
 use lib.ListN.{length, length-set, length-take, length-drop}
 use Rattle.framing.specs.Build.{outcome, placeOf}

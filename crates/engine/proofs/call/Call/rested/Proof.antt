@@ -1,6 +1,6 @@
 -- `engine::call::Call::rested` meets its contract.
 use borrow.Author.Needs.{needs}
-use mathlib.Core.Path.{_≡_, ap}
+use mathlib.Core.Path.{ap}
 use borrow.Author.Tests.{eq-eqb, ne-eqb}
 use Rattle.framing.specs.Rules.{at-true, at-false}
 use Rattle.engine.specs.Moves.{restedMove, finishes, enters}

@@ -2,9 +2,8 @@ use borrow.Author.Needs.{needs}
 use lib.Seq.{take-all}
 use Prim.Native.Nat.{_-_}
 use Rattle.protocol.specs.Scripts.{done, type1}
-use mathlib.Core.Path.{_≡_, sym, ap, _∙_}
+use mathlib.Core.Path.{sym, ap, _∙_}
 use mathlib.Core.List.{_++_}
-use Prim.Native.Nat.{_≤_}
 use native.Mathlib.Omega.{arith}
 use lib.ListN.{length, take, drop, length-take, length-drop}
 use lib.Seq.{length-take-le}

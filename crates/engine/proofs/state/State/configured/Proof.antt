@@ -1,7 +1,6 @@
 use borrow.Author.Needs.{needs}
 use Rattle.engine.specs.Laws.{done-copied}
-use Rattle.engine.specs.Sessions.{endsOf}
-use mathlib.Core.Path.{_≡_, sym, ap, ap₂, _∙_}
+use mathlib.Core.Path.{_≡_, sym, _∙_}
 use native.Mathlib.Omega.{arith}
 use lib.ListN.{length, take, length-take}
 use lib.Seq.{length-take-le}

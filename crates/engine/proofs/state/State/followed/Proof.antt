@@ -1,5 +1,5 @@
 use borrow.Author.Needs.{needs}
-use mathlib.Core.Path.{_≡_, sym, ap, _∙_, subst}
+use mathlib.Core.Path.{ap, _∙_, subst}
 use Rattle.discovery.specs.Decided.{DecisionFits}
 use Rattle.engine.specs.Sessions.{held, entersOf, ordersOf, followsOf}
 use Rattle.exchange.specs.Exchange.{pause}

@@ -3,8 +3,7 @@ use Rattle.engine.specs.Sessions.{held, answersOf, arrangedFrom}
 use Rattle.discovery.specs.Decided.{headBytes}
 use mathlib.Core.List.{_++_}
 use lib.ListN.{drop}
-use mathlib.Core.Path.{_≡_, sym, ap, _∙_, subst}
-use mathlib.Core.Bool.{true, false}
+use mathlib.Core.Path.{sym, ap, _∙_, subst}
 use Prim.Native.Nat.{_+_, _-_, _≤_}
 use native.Mathlib.Omega.{arith}
 use lib.ListN.{length, take, length-take}

@@ -1,6 +1,5 @@
 use borrow.Author.Needs.{needs}
-use Rattle.chipset.specs.declared.response.Verdict.the-variants.{Nothing, Refused}
-use mathlib.Core.Path.{_≡_, sym, ap, _∙_, subst}
+use mathlib.Core.Path.{sym, ap, _∙_, subst}
 use Rattle.chipset.specs.Answers.{verdictIn, Fits}
 use Rattle.engine.specs.Sessions.{answersOf, judgedOf}
 use Rattle.engine.proofs.state.State.judged.Statement.{statement}

@@ -2,7 +2,7 @@ use borrow.Author.Needs.{needs}
 use Prim.Native.Nat.{_≤_}
 use mathlib.Core.Path.{subst}
 use Rattle.engine.specs.declared.state.State.{State}
-use mathlib.Core.Path.{_≡_, sym, ap, _∙_}
+use mathlib.Core.Path.{sym, ap, _∙_}
 use native.Mathlib.Omega.{arith}
 use Rattle.engine.specs.Laws.{copied-start}
 use Rattle.engine.specs.Sessions.{held, withFound, entersOf, followsOf}

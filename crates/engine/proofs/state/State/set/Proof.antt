@@ -2,11 +2,11 @@ use borrow.Author.Needs.{needs}
 use Prim.Native.Nat.{_≤_}
 use mathlib.Core.Path.{subst}
 use Rattle.engine.specs.declared.state.State.{State}
-use mathlib.Core.Path.{_≡_, sym, ap, _∙_}
+use mathlib.Core.Path.{sym, _∙_}
 use mathlib.Core.List.{_∷_, []}
 use native.Mathlib.Omega.{arith}
 use Rattle.engine.specs.Laws.{copied-start}
-use Rattle.engine.specs.Sessions.{held, withCommand, entersOf, followsOf}
+use Rattle.engine.specs.Sessions.{held, entersOf, followsOf}
 use Rattle.engine.proofs.state.State.set.Statement.{statement}
 use Rattle.engine.proofs.state.State.set.Tie as tie
 use Rattle.engine.proofs.state.State.set.Reads as reads

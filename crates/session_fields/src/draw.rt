@@ -1,0 +1,119 @@
+// Numbers drawn from a seed, and sessions made of them.
+use engine::call::Call;
+use engine::session::Session;
+use engine::state::State;
+use exchange::Exchange;
+
+// The next seed: a linear congruential generator.
+pub fn next(seed: u64) -> u64 {
+    (seed % 2147483648 * 1103515245 + 12345) % 2147483648
+}
+
+fn mixed(x: u64) -> u64 {
+    let y = x % 2147483648 * 48271 % 2147483647;
+    y ^ (y / 32768)
+}
+
+// The number k of a seed.
+pub fn number(seed: u64, k: u64) -> u64 {
+    mixed(mixed(mixed(seed % 2147483648 + k % 64 * 7919)))
+}
+
+pub fn byte(x: u64) -> u8 {
+    (x % 256) as u8
+}
+
+// Mostly at most `last`, else any byte.
+fn small(x: u64, last: u8) -> u8 {
+    if x / 256 % 16 == 0 {
+        byte(x)
+    } else {
+        byte(x % (last as u64 + 1))
+    }
+}
+
+// Mostly at most `last`, else any number up to 65,535, or the greatest of all.
+fn filled(x: u64, last: u16) -> usize {
+    if x / 65536 % 32 == 0 {
+        (x % 65536) as usize
+    } else if x / 65536 % 32 == 1 {
+        usize::MAX
+    } else {
+        (x % 65536 % (last as u64 + 1)) as usize
+    }
+}
+
+fn wide(x: u64) -> u32 {
+    if x % 8 == 0 {
+        u32::MAX
+    } else {
+        (x % 2147483648) as u32
+    }
+}
+
+// Whether a session is handed a call, not an event.
+pub fn is_call(seed: u64) -> bool {
+    number(seed, 0) % 3 == 0
+}
+
+// What runs: no call in most sessions that are handed one, and in few others.
+fn running(seed: u64) -> u8 {
+    let x = number(seed, 1);
+    if is_call(seed) {
+        if x / 4096 % 8 == 0 { small(x, 20) } else { 0 }
+    } else {
+        small(x, 20)
+    }
+}
+
+// What is awaited: an exchange in more than half.
+fn awaited(x: u64) -> u8 {
+    if x / 4096 % 2 == 0 { 0 } else { small(x, 5) }
+}
+
+fn call(seed: u64) -> Call {
+    Call {
+        kind: running(seed),
+        stage: small(number(seed, 2), 9),
+        phase: awaited(number(seed, 3)),
+    }
+}
+
+fn exchange(seed: u64) -> Exchange {
+    Exchange {
+        phase: small(number(seed, 4), 6),
+        code: byte(number(seed, 5)),
+        clock: wide(number(seed, 6)),
+    }
+}
+
+// A session with any fields, most of them in their ranges.
+pub fn session(seed: u64) -> Session {
+    let exchange = exchange(seed);
+    let call = call(seed);
+    let state = State {
+        command: filled(number(seed, 7), 512),
+        found: filled(number(seed, 8), 1022),
+        exchange,
+        call,
+        opened: number(seed, 9) % 4 > 0,
+        frames: wide(number(seed, 10)),
+    };
+    let command = byte(number(seed, 11));
+    let found = byte(number(seed, 12));
+    Session {
+        command: [command; 512],
+        found: [found; 1024],
+        state,
+    }
+}
+
+// The buffer's length.
+pub fn size(seed: u64) -> usize {
+    match number(seed, 13) % 8 {
+        0 => 0,
+        1 => 1,
+        2 => 1023,
+        _ => 1024,
+    }
+}

@@ -1,0 +1,209 @@
+// The outcomes counted, and what an outcome must not be.
+use engine::state::Output;
+use engine::state::State;
+
+const OUTCOMES: usize = 272;
+
+// The outcomes by number, then: a session out of range not refused with 1, a short buffer with an outcome but 1 and 2, a refusal 1 or 2
+// that changed the session, and more bytes told of than the buffer has.
+pub struct Tally {
+    counts: [u64; OUTCOMES],
+    unfit: u64,
+    short: u64,
+    changed: u64,
+    long: u64,
+}
+
+// An outcome's number: a refusal's is its number in document 01, others come behind them.
+fn kind(output: Output) -> usize {
+    match output {
+        Output::Write(_) => 256,
+        Output::Read(_) => 257,
+        Output::Drain => 258,
+        Output::Pause(_) => 259,
+        Output::Done(_) => 260,
+        Output::Type1(_) => 261,
+        Output::Nothing => 262,
+        Output::Refused(refusal) => {
+            let numbered = refusal.numbered();
+            numbered.0 as usize
+        }
+    }
+}
+
+// How many bytes of the buffer it tells of.
+fn told(output: Output) -> usize {
+    match output {
+        Output::Write(n) => n,
+        Output::Read(_) => 0,
+        Output::Drain => 0,
+        Output::Pause(_) => 0,
+        Output::Done(n) => n,
+        Output::Type1(n) => n,
+        Output::Nothing => 0,
+        Output::Refused(_) => 0,
+    }
+}
+
+// Every field of a session is in its range.
+fn in_range(state: State) -> bool {
+    let exchange = state.exchange;
+    let call = state.call;
+    if state.command > 512 {
+        return false;
+    }
+    if state.found > 1022 {
+        return false;
+    }
+    if exchange.phase > 6 {
+        return false;
+    }
+    if call.kind > 20 {
+        return false;
+    }
+    if call.stage > 9 {
+        return false;
+    }
+    call.phase <= 5
+}
+
+fn same_bool(a: bool, b: bool) -> bool {
+    if a { b } else { !b }
+}
+
+// The call and the exchange are the same.
+fn same_running(before: State, after: State) -> bool {
+    let a = before.call;
+    let b = after.call;
+    let x = before.exchange;
+    let y = after.exchange;
+    if a.kind != b.kind {
+        return false;
+    }
+    if a.stage != b.stage {
+        return false;
+    }
+    if a.phase != b.phase {
+        return false;
+    }
+    if x.phase != y.phase {
+        return false;
+    }
+    if x.code != y.code {
+        return false;
+    }
+    x.clock == y.clock
+}
+
+fn same(before: State, after: State) -> bool {
+    if before.command != after.command {
+        return false;
+    }
+    if before.found != after.found {
+        return false;
+    }
+    if before.frames != after.frames {
+        return false;
+    }
+    if same_bool(before.opened, after.opened) {
+        same_running(before, after)
+    } else {
+        false
+    }
+}
+
+fn one_more(n: u64, more: bool) -> u64 {
+    if more {
+        std::num::wrapping_add_u64(n, 1)
+    } else {
+        n
+    }
+}
+
+// Refused with 1 or 2.
+fn is_early(kind: usize) -> bool {
+    if kind == 1 { true } else { kind == 2 }
+}
+
+fn is_unfit(before: State, kind: usize) -> bool {
+    if in_range(before) { false } else { kind != 1 }
+}
+
+fn is_short(size: usize, kind: usize) -> bool {
+    if size < 1024 { !is_early(kind) } else { false }
+}
+
+fn is_changed(before: State, after: State, kind: usize) -> bool {
+    if is_early(kind) {
+        !same(before, after)
+    } else {
+        false
+    }
+}
+
+fn line(text: &[u8], n: u64) {
+    io::write_all(libc::STDOUT_FILENO, text);
+    io::print_decimal(libc::STDOUT_FILENO, n);
+    io::write_all(libc::STDOUT_FILENO, b"\n");
+}
+
+// The line of a refusal.
+fn refused(counts: [u64; OUTCOMES], k: u8) {
+    let n = k as usize;
+    io::write_all(libc::STDOUT_FILENO, b"refused ");
+    io::print_decimal(libc::STDOUT_FILENO, k as u64);
+    line(b" ", counts[n]);
+}
+
+fn refusals(counts: [u64; OUTCOMES]) {
+    let mut left: u8 = 19;
+    while left > 0 {
+        refused(counts, 20 - left);
+        left -= 1;
+    }
+}
+
+impl Tally {
+    pub fn empty() -> Tally {
+        Tally {
+            counts: [0; OUTCOMES],
+            unfit: 0,
+            short: 0,
+            changed: 0,
+            long: 0,
+        }
+    }
+
+    // Counts an outcome, and what is wrong with it.
+    pub fn judged(self, before: State, after: State, output: Output, size: usize) -> Tally {
+        let kind = kind(output);
+        let mut counts = self.counts;
+        if kind < OUTCOMES {
+            counts[kind] = std::num::wrapping_add_u64(counts[kind], 1);
+        }
+        Tally {
+            counts,
+            unfit: one_more(self.unfit, is_unfit(before, kind)),
+            short: one_more(self.short, is_short(size, kind)),
+            changed: one_more(self.changed, is_changed(before, after, kind)),
+            long: one_more(self.long, told(output) > size),
+        }
+    }
+
+    // One line for each outcome, and one for each kind of violation.
+    pub fn print(self) {
+        let counts = self.counts;
+        line(b"write ", counts[256]);
+        line(b"read ", counts[257]);
+        line(b"drain ", counts[258]);
+        line(b"pause ", counts[259]);
+        line(b"done ", counts[260]);
+        line(b"done type1 ", counts[261]);
+        line(b"none ", counts[262]);
+        refusals(counts);
+        line(b"out of range and not refused with 1: ", self.unfit);
+        line(b"short buffer and not refused with 1 or 2: ", self.short);
+        line(b"refused with 1 or 2 and changed: ", self.changed);
+        line(b"more bytes than the buffer: ", self.long);
+    }
+}
