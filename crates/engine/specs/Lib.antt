@@ -5,6 +5,8 @@ pub mod Exchanges
 pub mod Sessions
 pub mod Laws
 pub mod Inputs
+pub mod Numbers
+pub mod NumberLaws
 pub mod Judged
 pub mod Searched
 pub mod Places

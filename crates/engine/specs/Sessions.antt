@@ -238,6 +238,9 @@ launchAfter s f l pending b =
     (pick (s .opened) (withRoom s f b (launchOn s f l pending b)) (unchanged s f OutOfTurn b))
     (unchanged s f OutOfTurn b)
 
+abbrev pub searchAfter : State → Held → Search → List ℕ → After
+searchAfter s f x b = launchAfter s f (x .launch) (x .pending) b
+
 -- ---- the session whole
 
 pub record Stepped : Type 0 where
@@ -269,7 +272,7 @@ abbrev pub requestStep : Session → Request → List ℕ → Stepped
 requestStep s r b = launchStep s (launchOf r) [] b
 
 abbrev pub searchStep : Session → Search → List ℕ → Stepped
-searchStep s x b = launchStep s (x .launch) (x .pending) b
+searchStep s x b = sessionAfter (searchAfter (s .state) (heldIn s) x b)
 
 abbrev pub deviceStep : Session → DeviceCall → List ℕ → Stepped
 deviceStep s d b = searchStep s (searchOf d) b

@@ -35,6 +35,7 @@ pub const OPENING_READS: u8 = 4;
 pub const FIELD_PAUSE: u8 = 5;
 
 // What runs, which of its commands is on or comes next, and what is awaited.
+#[repr(C)]
 pub struct Call {
     pub kind: u8,
     pub stage: u8,

@@ -1,5 +1,6 @@
 // The RC-S956 reader engine: a call or an event goes in, an order, an answer or a refusal comes out.
 pub mod call;
 pub mod device;
+pub mod numbered;
 pub mod session;
 pub mod state;

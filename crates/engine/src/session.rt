@@ -2,7 +2,6 @@
 use super::call::Call;
 use super::call::EXCHANGE;
 use super::call::NO_CALL;
-use super::state::Effect;
 use super::state::Output;
 use super::state::State;
 use chipset::command;
@@ -17,12 +16,11 @@ ghost use mathlib.Core.Path.{_≡_};
 ghost use Rattle.exchange.specs.Steps.{eventOf};
 ghost use Rattle.protocol.specs.Calls.{version, resetMode, setParameters, rfConfiguration, rfFieldOff, readRegister, writeRegister, readSingleRegister, writeSingleRegister, inListPassiveTarget, inDataExchange, inCommunicateThru, inJumpForDep, tgInitTarget, tgSetGeneralBytes, tgGetInitiatorCommand, tgResponseToInitiator, tgGetTargetStatus};
 ghost use Rattle.protocol.specs.Calls.{detectTypeA, detectTypeB, detectTypeF, detectDep, transceive};
-ghost use Prim.Native.Nat.{_≤_};
-ghost use lib.ListN.{length};
 ghost use Rattle.chipset.specs.Starts.{launchIn, LaunchFits};
 ghost use Rattle.discovery.specs.Starts.{searchIn, SearchFits, timeoutOf};
 ghost use Rattle.engine.specs.Sessions.{stepped, freshSession, eventStep, openStep, launchStep, requestStep, searchStep, deviceStep};
 
+#[repr(C)]
 pub struct Session {
     pub command: [u8; 512],
     pub found: [u8; 1024],
@@ -94,16 +92,14 @@ impl Session {
         }
     }
 
-    // A call with its first command, and the command to send later.
-    fn launch(mut self, launched: Launched, pending: &[u8], buffer: &mut [u8]) -> Step
-        requires { ⌜ LaunchFits launched × (length (now pending) ≤ 512) ⌝ }
-        ensures { λ r. ⌜ stepped r (now (buffer .exit)) ≡ launchStep self (launchIn launched) (now (pending .entry)) (now (buffer .entry)) ⌝ }
+    // A call of one command.
+    fn call(mut self, launched: Launched, buffer: &mut [u8]) -> Step
+        requires { ⌜ LaunchFits launched ⌝ }
+        ensures { λ r. ⌜ stepped r (now (buffer .exit)) ≡ launchStep self (launchIn launched) [] (now (buffer .entry)) ⌝ }
     {
         let state = self.state;
-        let launch = launched.launch;
-        let bytes = launched.bytes;
         let mut command = self.command;
-        let effect = state.launched(launch, &bytes, pending, &mut command, buffer);
+        let effect = state.requested(launched, &mut command, buffer);
         let output = effect.output;
         let after = effect.state;
         self.command = command;
@@ -112,14 +108,6 @@ impl Session {
             session: self,
             output,
         }
-    }
-
-    // A call of one command.
-    fn call(self, launched: Launched, buffer: &mut [u8]) -> Step
-        requires { ⌜ LaunchFits launched ⌝ }
-        ensures { λ r. ⌜ stepped r (now (buffer .exit)) ≡ launchStep self (launchIn launched) [] (now (buffer .entry)) ⌝ }
-    {
-        self.launch(launched, &[], buffer)
     }
 
     // `get_firmware_version`.
@@ -267,14 +255,21 @@ impl Session {
     }
 
     // A call of discovery.rs, or transceive.
-    fn search(self, search: Search, buffer: &mut [u8]) -> Step
+    fn search(mut self, search: Search, buffer: &mut [u8]) -> Step
         requires { ⌜ SearchFits search ⌝ }
         ensures { λ r. ⌜ stepped r (now (buffer .exit)) ≡ searchStep self (searchIn search) (now (buffer .entry)) ⌝ }
     {
-        let launched = search.launched;
-        let pending = search.pending;
-        let n = search.count;
-        self.launch(launched, &pending[..n], buffer)
+        let state = self.state;
+        let mut command = self.command;
+        let effect = state.sought(search, &mut command, buffer);
+        let output = effect.output;
+        let after = effect.state;
+        self.command = command;
+        self.state = after;
+        Step {
+            session: self,
+            output,
+        }
     }
 
     // The UID may be empty.

@@ -10,6 +10,7 @@ use super::call::Order;
 use super::device;
 use super::device::Identity;
 use chipset::command::Launch;
+use chipset::command::Launched;
 use chipset::response;
 use chipset::response::Answer;
 use chipset::response::Verdict;
@@ -17,6 +18,7 @@ use discovery::TYPE_A;
 use discovery::decision;
 use discovery::decision::Arranged;
 use discovery::decision::Decision;
+use discovery::search::Search;
 use errors::Refusal;
 use exchange::Event;
 use exchange::Exchange;
@@ -26,7 +28,7 @@ use framing::Built;
 use framing::FrameType;
 use framing::frame::build_command;
 ghost use mathlib.Core.Bool.{true, false};
-ghost use mathlib.Core.List.{List, _++_};
+ghost use mathlib.Core.List.{List, [], _++_};
 ghost use mathlib.Core.Path.{_≡_};
 ghost use Prim.Native.Nat.{ℕ, _+_, _-_, _≤_, _<_};
 ghost use lib.ListN.{length, take, drop};
@@ -34,14 +36,16 @@ ghost use Rattle.exchange.specs.Packets.{commandFrame};
 ghost use Rattle.exchange.specs.Steps.{eventOf};
 ghost use Rattle.chipset.specs.Launches.{cmd};
 ghost use Rattle.chipset.specs.Answers.{verdictIn, Fits};
-ghost use Rattle.chipset.specs.Starts.{launchWith, fits};
+ghost use Rattle.chipset.specs.Starts.{launchWith, fits, launchIn, LaunchFits};
+ghost use Rattle.discovery.specs.Starts.{searchIn, SearchFits};
 ghost use Rattle.discovery.specs.Decisions.{keeps, sets, commandOf};
 ghost use Rattle.discovery.specs.Decided.{headBytes, arranged as arrangedOf, ArrangedFits, decisionIn, DecisionFits};
 ghost use Rattle.engine.specs.Moves.{orderOf, moveIn, packetLength, replyLength};
-ghost use Rattle.engine.specs.Sessions.{isValid, isFree, Held, held, pendingOf, running, idle, uncounted, unchanged, counted, withFound, withCommand, put, effected, ordersOf, sendsOf, entersOf, endsOf, arrangedFrom, answersOf, versionOf, judgedOf, lastOf, openingOf, followsOf, repliesOf, failsOf, movedOf, isLong, admittedOf, eventAfter, openAfter, launchOn, launchAfter};
+ghost use Rattle.engine.specs.Sessions.{isValid, isFree, Held, held, pendingOf, running, idle, uncounted, unchanged, counted, withFound, withCommand, put, effected, ordersOf, sendsOf, entersOf, endsOf, arrangedFrom, answersOf, versionOf, judgedOf, lastOf, openingOf, followsOf, repliesOf, failsOf, movedOf, isLong, admittedOf, eventAfter, openAfter, launchOn, launchAfter, searchAfter};
 
 // What a session holds beside its arrays: how much of each is in use, the exchange, the call, whether the reader is open, and the
 // command frames ordered since the last opening began.
+#[repr(C)]
 pub struct State {
     pub command: usize,
     pub found: usize,
@@ -545,7 +549,7 @@ impl State {
     }
 
     // Refused, and nothing changes.
-    fn refused(self, refusal: Refusal) -> Effect
+    pub(crate) fn refused(self, refusal: Refusal) -> Effect
         ensures { λ r. ⌜ ((f : Held) (b : List ℕ) → effected r f b ≡ unchanged self f refusal b) ⌝ }
     {
         let output = Output::Refused(refusal);
@@ -682,6 +686,34 @@ impl State {
         } else {
             self.refused(Refusal::OutOfTurn)
         }
+    }
+
+    // A call of one command.
+    pub(crate) fn requested(
+        self,
+        launched: Launched,
+        command: &mut [u8; 512],
+        buffer: &mut [u8],
+    ) -> Effect
+        requires { ⌜ LaunchFits launched ⌝ }
+        ensures { λ r. ⌜ ((f : List ℕ) → effected r (held (now (command .exit)) f) (now (buffer .exit)) ≡ launchAfter self (held (now (command .entry)) f) (launchIn launched) [] (now (buffer .entry))) ⌝ }
+    {
+        let launch = launched.launch;
+        let bytes = launched.bytes;
+        self.launched(launch, &bytes, &[], command, buffer)
+    }
+
+    // A call of discovery.rs, or transceive.
+    pub(crate) fn sought(self, search: Search, command: &mut [u8; 512], buffer: &mut [u8]) -> Effect
+        requires { ⌜ SearchFits search ⌝ }
+        ensures { λ r. ⌜ ((f : List ℕ) → effected r (held (now (command .exit)) f) (now (buffer .exit)) ≡ searchAfter self (held (now (command .entry)) f) (searchIn search) (now (buffer .entry))) ⌝ }
+    {
+        let launched = search.launched;
+        let launch = launched.launch;
+        let bytes = launched.bytes;
+        let pending = search.pending;
+        let n = search.count;
+        self.launched(launch, &bytes, &pending[..n], command, buffer)
     }
 
     // Its arguments are refused, or its first command is ordered.

@@ -43,6 +43,7 @@ pub enum Next {
 }
 
 // An exchange: its phase, the command's code and the command's clock in ms.
+#[repr(C)]
 pub struct Exchange {
     pub phase: u8,
     pub code: u8,

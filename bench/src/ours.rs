@@ -1,40 +1,17 @@
-//! The calls of the proved archive, as include/rcs956_codec.h declares them.
+//! The calls of the proved archives.
 
-use codec_bench::{arguments, bytes, bytes_with_crc, repeat, show};
+use crate::archive::*;
+use crate::host::Host;
+use crate::inputs::{self, Call, bytes, bytes_with_crc};
+use crate::repeat;
 use std::hint::black_box;
 
-#[link(name = "codec_c", kind = "static")]
-unsafe extern "C" {
-    fn rcs956_crc_a_check(bytes: *const u8, len: usize) -> bool;
-    fn rcs956_crc_b_check(bytes: *const u8, len: usize) -> bool;
-    fn rcs956_crc_b_append(
-        bytes: *const u8,
-        len: usize,
-        out: *mut u8,
-        room: usize,
-        count: &mut usize,
-    ) -> u8;
-    fn rcs956_frame_build(
-        setting: u8,
-        payload: *const u8,
-        len: usize,
-        buffer: *mut u8,
-        room: usize,
-        count: &mut usize,
-    ) -> u8;
-    fn rcs956_frame_parse(
-        setting: u8,
-        packet: *const u8,
-        len: usize,
-        kind: &mut u8,
-        start: &mut usize,
-        length: &mut usize,
-        frame: &mut usize,
-    ) -> u8;
-}
-
-/// NormalOrExtendedBigEndian with ErrorFrame.
+/// The RC-S956's setting: NormalOrExtendedBigEndian with ErrorFrame.
 const RCS956: u8 = 4;
+
+fn checksum(data: &[u8]) -> u8 {
+    unsafe { rcs956_checksum(data.as_ptr(), data.len()) }
+}
 
 fn check_crc_a(data: &[u8]) -> bool {
     unsafe { rcs956_crc_a_check(data.as_ptr(), data.len()) }
@@ -87,39 +64,53 @@ fn parse(packet: &[u8]) -> (u8, usize, usize, usize) {
     (kind, start, length, frame)
 }
 
-fn main() {
-    let (name, times) = arguments();
+/// Makes a call of the codec `times` times, and once more for its result.
+pub fn codec(name: &str, times: u64) -> Vec<u8> {
     let mut buffer = [0u8; 2048];
-    match name.as_str() {
+    match name {
+        "checksum" => {
+            let data = bytes(255);
+            vec![repeat(times, || checksum(black_box(&data)))]
+        }
         "crc_a_check" => {
             let data = bytes_with_crc(1024, 0x6363, false);
-            repeat(times, || check_crc_a(black_box(&data)));
-            show(&[check_crc_a(&data) as u8]);
+            vec![repeat(times, || check_crc_a(black_box(&data))) as u8]
         }
         "crc_b_check" => {
             let data = bytes_with_crc(1024, 0xFFFF, true);
-            repeat(times, || check_crc_b(black_box(&data)));
-            show(&[check_crc_b(&data) as u8]);
+            vec![repeat(times, || check_crc_b(black_box(&data))) as u8]
         }
         "crc_b_append" => {
             let data = bytes(1024);
-            repeat(times, || add_crc_b(black_box(&data), &mut buffer));
-            let n = add_crc_b(&data, &mut buffer);
-            show(&buffer[..n]);
+            let n = repeat(times, || add_crc_b(black_box(&data), &mut buffer));
+            buffer[..n].to_vec()
         }
         "frame_build" => {
             let payload = bytes(255);
-            repeat(times, || build(black_box(&payload), &mut buffer));
-            let n = build(&payload, &mut buffer);
-            show(&buffer[..n]);
+            let n = repeat(times, || build(black_box(&payload), &mut buffer));
+            buffer[..n].to_vec()
         }
         "frame_parse" => {
-            let n = build(&bytes(255), &mut buffer);
-            let packet = buffer[..n].to_vec();
-            repeat(times, || parse(black_box(&packet)));
-            let (_, start, length, _) = parse(&packet);
-            show(&packet[start..start + length]);
+            let packet = inputs::frame(&bytes(255));
+            let (_, start, length, _) = repeat(times, || parse(black_box(&packet)));
+            packet[start..start + length].to_vec()
         }
         _ => panic!("no such call: {name}"),
     }
+}
+
+/// Makes a call of the driver `times` times, and once more for its answer.
+pub fn driver(call: &Call, times: u64) -> Vec<u8> {
+    let mut host = Host::new();
+    host.prepare(call);
+    let len = repeat(times, || host.call(call));
+    host.result(len)
+}
+
+/// Prints the stack that the call's entry and its events need, and the session's size.
+pub fn sizes(call: &Call) {
+    let mut host = Host::new();
+    host.prepare(call);
+    let (entry, event) = host.stack(call);
+    println!("{entry} {event} {}", size_of::<Session>());
 }

@@ -1,0 +1,28 @@
+-- Laws of numbers that are none of the keys of a match, and of calls and events by their numbers.
+use mathlib.Core.Path.{_≡_, ap, _∙_}
+use mathlib.Core.List.{List, []}
+use Prim.Native.Nat.{ℕ, _+_, _≤_}
+use native.Mathlib.Omega.{arith}
+use lib.ListN.{List·getD-eq-default}
+use Rattle.protocol.specs.Calls.{Request, DeviceCall, reader, request, device}
+use Rattle.chipset.specs.Launches.{Launch, launchOf}
+use Rattle.discovery.specs.Searches.{Search, searchOf}
+use Rattle.engine.specs.Sessions.{Held, After, launchAfter, searchAfter}
+use Rattle.engine.specs.Inputs.{afterInput}
+use Rattle.engine.specs.Numbers.{calls, callOf, noCall, callInput}
+use Rattle.engine.specs.declared.state.State.{State}
+
+pub beyond : (k n : ℕ) → k ≤ n → (n ≡ k → ⊥) → k + 1 ≤ n
+beyond k n h ne = omega (arith, h, ne)
+
+pub no-call : (n ms word x y : ℕ) (first second third fourth : List ℕ) → 24 ≤ n → callOf n ms word x y first second third fourth ≡ noCall
+unfolding callOf
+no-call n ms word x y first second third fourth h = List·getD-eq-default (calls ms word x y first second third fourth) noCall h
+
+-- a call of one command
+pub requested : (r : After) (s : State) (f : Held) (l : Launch) (q : Request) (b : List ℕ) → r ≡ launchAfter s f l [] b → l ≡ launchOf q → r ≡ afterInput s f (callInput (reader (request q)) b)
+requested r s f l q b h e = h ∙ ap (λ m. launchAfter s f m [] b) e
+
+-- a discovery or transceive
+pub sought : (r : After) (s : State) (f : Held) (x : Search) (d : DeviceCall) (b : List ℕ) → r ≡ searchAfter s f x b → x ≡ searchOf d → r ≡ afterInput s f (callInput (reader (device d)) b)
+sought r s f x d b h e = h ∙ ap (λ m. searchAfter s f m b) e

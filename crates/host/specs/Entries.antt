@@ -1,0 +1,36 @@
+-- The host's entries, and what the host is told for each.
+use mathlib.Core.List.{List}
+use mathlib.Core.Option.{Option, none, some}
+use Prim.Native.Nat.{ℕ}
+use Rattle.errors.specs.declared.Refusal.the-variants.{OutOfTurn}
+use Rattle.exchange.specs.Exchange.{Event}
+use Rattle.engine.specs.Inputs.{Input, tells, stepWith}
+use Rattle.engine.specs.Numbers.{callOf, callInput, eventBy}
+use Rattle.engine.specs.declared.session.Session.{Session}
+use Rattle.host.specs.Outcomes.{Report, report, reportOf, refusedAs}
+
+-- a call or an event as the host gives it: a number, its arguments and the bytes of the buffer
+pub data HostEntry : Type 0 where
+  calling : (number ms word x y : ℕ) (first second third fourth buffer : List ℕ) → HostEntry
+  telling : (number : ℕ) (packet buffer : List ℕ) → HostEntry
+
+abbrev pub eventInput : Option Event → List ℕ → Option Input
+eventInput none b = none
+eventInput (some e) b = some (tells e b)
+
+-- the engine's entry; none for an event with a number that has none
+abbrev pub inputOf : HostEntry → Option Input
+inputOf (calling number ms word x y first second third fourth b) = some (callInput (callOf number ms word x y first second third fourth) b)
+inputOf (telling number packet b) = eventInput (eventBy number packet) b
+
+abbrev pub bufferIn : HostEntry → List ℕ
+bufferIn (calling number ms word x y first second third fourth b) = b
+bufferIn (telling number packet b) = b
+
+-- what has no entry of the engine is refused as out of turn, and nothing changes
+abbrev pub reportWith : Session → Option Input → List ℕ → Report
+reportWith s none b = report s (refusedAs OutOfTurn) b
+reportWith s (some i) b = reportOf (stepWith s i)
+
+abbrev pub reportFor : Session → HostEntry → Report
+reportFor s h = reportWith s (inputOf h) (bufferIn h)

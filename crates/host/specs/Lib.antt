@@ -1,0 +1,5 @@
+pub mod Demand3
+pub mod Entries
+pub mod Outcomes
+pub mod Outputs
+pub mod Steps

@@ -1,0 +1,81 @@
+// The C interface of the session, as include/rcs956.h describes it: the session is updated in place.
+pub mod outcome;
+pub mod step;
+
+use engine::session::Session;
+use outcome::Outcome;
+use step::called;
+use step::told;
+ghost use mathlib.Core.Path.{_≡_};
+ghost use Rattle.engine.specs.Sessions.{freshSession};
+ghost use Rattle.host.specs.Outcomes.{report};
+ghost use Rattle.host.specs.Entries.{calling, telling, reportFor};
+
+// A session in which no call runs, and with no opening behind it.
+#[no_mangle]
+pub extern "C" fn rcs956_fresh() -> Session
+    ensures { λ r. ⌜ r ≡ freshSession ⌝ }
+{
+    Session::fresh()
+}
+
+// A call, by its number. An order, an answer or a refusal comes out; bytes stand at the buffer's start.
+#[no_mangle]
+pub extern "C" fn rcs956_call(
+    session: &mut Session,
+    number: u8,
+    ms: u32,
+    word: u16,
+    x: u8,
+    y: u8,
+    first: &[u8],
+    second: &[u8],
+    third: &[u8],
+    fourth: &[u8],
+    buffer: &mut [u8],
+) -> Outcome
+    ensures { λ r. ⌜ report (now (session .exit)) r (now (buffer .exit)) ≡ reportFor (now (session .entry)) (calling number ms word x y (now (first .entry)) (now (second .entry)) (now (third .entry)) (now (fourth .entry)) (now (buffer .entry))) ⌝ }
+{
+    let state = session.state;
+    let step = called(
+        state,
+        &mut session.command,
+        number,
+        ms,
+        word,
+        x,
+        y,
+        first,
+        second,
+        third,
+        fourth,
+        buffer,
+    );
+    let after = step.state;
+    session.state = after;
+    step.outcome
+}
+
+// An event, by its number, with a packet's bytes. What comes out is the same.
+#[no_mangle]
+pub extern "C" fn rcs956_event(
+    session: &mut Session,
+    number: u8,
+    packet: &[u8],
+    buffer: &mut [u8],
+) -> Outcome
+    ensures { λ r. ⌜ report (now (session .exit)) r (now (buffer .exit)) ≡ reportFor (now (session .entry)) (telling number (now (packet .entry)) (now (buffer .entry))) ⌝ }
+{
+    let state = session.state;
+    let step = told(
+        state,
+        &mut session.command,
+        &mut session.found,
+        number,
+        packet,
+        buffer,
+    );
+    let after = step.state;
+    session.state = after;
+    step.outcome
+}

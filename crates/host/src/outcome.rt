@@ -1,0 +1,107 @@
+// What the host is told, in numbers.
+use engine::state::Effect;
+use engine::state::Output;
+use engine::state::State;
+use errors::Refusal;
+ghost use mathlib.Core.Path.{_≡_};
+ghost use Rattle.host.specs.Outcomes.{withBytes, withTime, refusedAs, outcomeOf, toldOf};
+
+pub const WRITE: u8 = 0;
+
+pub const READ: u8 = 1;
+
+pub const DRAIN: u8 = 2;
+
+pub const PAUSE: u8 = 3;
+
+pub const DONE: u8 = 4;
+
+pub const TYPE1: u8 = 5;
+
+pub const NONE: u8 = 6;
+
+pub const REFUSED: u8 = 7;
+
+// The kind of an order or an answer. With a refusal its number, and the status byte of 15; with a read its ms, with a pause its
+// µs; with a write order and an answer the number of bytes at the buffer's start. What does not apply is 0.
+#[repr(C)]
+pub struct Outcome {
+    pub kind: u8,
+    pub refusal: u8,
+    pub status: u8,
+    pub time: u32,
+    pub len: usize,
+}
+
+// The session's numbers after a call or an event, and what came out.
+pub struct Told {
+    pub state: State,
+    pub outcome: Outcome,
+}
+
+impl Outcome {
+    fn bytes(kind: u8, len: usize) -> Outcome
+        ensures { λ r. ⌜ r ≡ withBytes kind len ⌝ }
+    {
+        Outcome {
+            kind,
+            refusal: 0,
+            status: 0,
+            time: 0,
+            len,
+        }
+    }
+
+    fn timed(kind: u8, time: u32) -> Outcome
+        ensures { λ r. ⌜ r ≡ withTime kind time ⌝ }
+    {
+        Outcome {
+            kind,
+            refusal: 0,
+            status: 0,
+            time,
+            len: 0,
+        }
+    }
+
+    fn refused(refusal: Refusal) -> Outcome
+        ensures { λ r. ⌜ r ≡ refusedAs refusal ⌝ }
+    {
+        let numbered = refusal.numbered();
+        Outcome {
+            kind: REFUSED,
+            refusal: numbered.0,
+            status: numbered.1,
+            time: 0,
+            len: 0,
+        }
+    }
+
+    pub fn of(output: Output) -> Outcome
+        ensures { λ r. ⌜ r ≡ outcomeOf output ⌝ }
+    {
+        match output {
+            Output::Write(len) => Outcome::bytes(WRITE, len),
+            Output::Read(ms) => Outcome::timed(READ, ms),
+            Output::Drain => Outcome::bytes(DRAIN, 0),
+            Output::Pause(us) => Outcome::timed(PAUSE, us),
+            Output::Done(len) => Outcome::bytes(DONE, len),
+            Output::Type1(len) => Outcome::bytes(TYPE1, len),
+            Output::Nothing => Outcome::bytes(NONE, 0),
+            Output::Refused(refusal) => Outcome::refused(refusal),
+        }
+    }
+}
+
+impl Told {
+    pub fn of(effect: Effect) -> Told
+        ensures { λ r. ⌜ r ≡ toldOf effect ⌝ }
+    {
+        let state = effect.state;
+        let output = effect.output;
+        Told {
+            state,
+            outcome: Outcome::of(output),
+        }
+    }
+}

@@ -1,0 +1,55 @@
+// An event and a call, on a session's numbers and on its arrays where they lie.
+use super::outcome::Told;
+use engine::numbered;
+use engine::state::State;
+ghost use mathlib.Core.List.{List};
+ghost use mathlib.Core.Path.{_≡_};
+ghost use Prim.Native.Nat.{ℕ};
+ghost use Rattle.host.specs.Outcomes.{report, joined};
+ghost use Rattle.host.specs.Entries.{calling, telling, reportFor};
+
+pub fn told(
+    state: State,
+    command: &mut [u8; 512],
+    found: &mut [u8; 1024],
+    number: u8,
+    packet: &[u8],
+    buffer: &mut [u8],
+) -> Told
+    ensures { λ r. ⌜ report (joined (now (command .exit)) (now (found .exit)) (r .state)) (r .outcome) (now (buffer .exit)) ≡ reportFor (joined (now (command .entry)) (now (found .entry)) state) (telling number (now (packet .entry)) (now (buffer .entry))) ⌝ }
+{
+    Told::of(numbered::event(state, command, found, number, packet, buffer))
+}
+
+// A call leaves the found bytes alone.
+pub fn called(
+    state: State,
+    command: &mut [u8; 512],
+    number: u8,
+    ms: u32,
+    word: u16,
+    x: u8,
+    y: u8,
+    first: &[u8],
+    second: &[u8],
+    third: &[u8],
+    fourth: &[u8],
+    buffer: &mut [u8],
+) -> Told
+    ensures { λ r. ⌜ ((found : List ℕ) → report (joined (now (command .exit)) found (r .state)) (r .outcome) (now (buffer .exit)) ≡ reportFor (joined (now (command .entry)) found state) (calling number ms word x y (now (first .entry)) (now (second .entry)) (now (third .entry)) (now (fourth .entry)) (now (buffer .entry)))) ⌝ }
+{
+    Told::of(numbered::call(
+        state,
+        command,
+        number,
+        ms,
+        word,
+        x,
+        y,
+        first,
+        second,
+        third,
+        fourth,
+        buffer,
+    ))
+}

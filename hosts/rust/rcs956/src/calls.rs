@@ -1,0 +1,87 @@
+//! The calls, by their names in include/rcs956.h, which has what each takes and answers.
+
+use crate::raw::Arguments;
+
+/// A call and its arguments. Bitrates are texts such as `b"106A"`; an argument of no bytes is absent where it may be.
+#[derive(Clone, Copy, Debug, PartialEq, Eq)]
+pub enum Call<'a> {
+    Open,
+    Version,
+    ResetMode,
+    SetParameters { flags: u8 },
+    RfConfiguration { item: u8, data: &'a [u8] },
+    ReadRegister { addresses: &'a [u8] },
+    WriteRegister { registers: &'a [u8] },
+    ReadSingleRegister { address: u16 },
+    WriteSingleRegister { address: u16, value: u8 },
+    InListPassiveTarget { max_tg: u8, bitrate: u8, initiator: &'a [u8] },
+    InDataExchange { data: &'a [u8], ms: u32 },
+    InCommunicateThru { data: &'a [u8], ms: u32 },
+    InJumpForDep { active: bool, br: u8, passive: &'a [u8], nfcid3: &'a [u8], gi: &'a [u8] },
+    TgInitTarget { mode: u8, mifare: &'a [u8], felica: &'a [u8], nfcid3t: &'a [u8], gt: &'a [u8], ms: u32 },
+    TgSetGeneralBytes { data: &'a [u8] },
+    TgGetInitiatorCommand { ms: u32 },
+    TgResponseToInitiator { data: &'a [u8] },
+    TgGetTargetStatus,
+    RfFieldOff,
+    DetectTypeA { bitrate: &'a [u8], uid: &'a [u8] },
+    DetectTypeB { bitrate: &'a [u8], sensb_req: &'a [u8] },
+    DetectTypeF { bitrate: &'a [u8], system_code: u16, request_code: u8, time_slots: u8 },
+    DetectDep { bitrate: &'a [u8], atr_req: &'a [u8] },
+    Transceive { bitrate: &'a [u8], sel_res: &'a [u8], rid_res: bool, data: &'a [u8], ms: Option<u16> },
+}
+
+impl<'a> Arguments<'a> {
+    /// A call with no arguments.
+    fn of(number: u8) -> Self {
+        Arguments { number, ..Arguments::default() }
+    }
+
+    /// A call with one argument of bytes.
+    fn with(number: u8, first: &'a [u8]) -> Self {
+        Arguments { number, first, ..Arguments::default() }
+    }
+}
+
+impl<'a> Call<'a> {
+    /// The call's number and arguments.
+    pub fn arguments(self) -> Arguments<'a> {
+        match self {
+            Call::Open => Arguments::of(0),
+            Call::Version => Arguments::of(1),
+            Call::ResetMode => Arguments::of(2),
+            Call::SetParameters { flags } => Arguments { x: flags, ..Arguments::of(3) },
+            Call::RfConfiguration { item, data } => Arguments { x: item, ..Arguments::with(4, data) },
+            Call::ReadRegister { addresses } => Arguments::with(5, addresses),
+            Call::WriteRegister { registers } => Arguments::with(6, registers),
+            Call::ReadSingleRegister { address } => Arguments { word: address, ..Arguments::of(7) },
+            Call::WriteSingleRegister { address, value } => Arguments { word: address, x: value, ..Arguments::of(8) },
+            Call::InListPassiveTarget { max_tg, bitrate, initiator } => {
+                Arguments { x: max_tg, y: bitrate, ..Arguments::with(9, initiator) }
+            }
+            Call::InDataExchange { data, ms } => Arguments { ms, ..Arguments::with(10, data) },
+            Call::InCommunicateThru { data, ms } => Arguments { ms, ..Arguments::with(11, data) },
+            Call::InJumpForDep { active, br, passive, nfcid3, gi } => {
+                Arguments { x: active as u8, y: br, second: nfcid3, third: gi, ..Arguments::with(12, passive) }
+            }
+            Call::TgInitTarget { mode, mifare, felica, nfcid3t, gt, ms } => {
+                Arguments { x: mode, ms, second: felica, third: nfcid3t, fourth: gt, ..Arguments::with(13, mifare) }
+            }
+            Call::TgSetGeneralBytes { data } => Arguments::with(14, data),
+            Call::TgGetInitiatorCommand { ms } => Arguments { ms, ..Arguments::of(15) },
+            Call::TgResponseToInitiator { data } => Arguments::with(16, data),
+            Call::TgGetTargetStatus => Arguments::of(17),
+            Call::RfFieldOff => Arguments::of(18),
+            Call::DetectTypeA { bitrate, uid } => Arguments { second: uid, ..Arguments::with(19, bitrate) },
+            Call::DetectTypeB { bitrate, sensb_req } => Arguments { second: sensb_req, ..Arguments::with(20, bitrate) },
+            Call::DetectTypeF { bitrate, system_code, request_code, time_slots } => {
+                Arguments { word: system_code, x: request_code, y: time_slots, ..Arguments::with(21, bitrate) }
+            }
+            Call::DetectDep { bitrate, atr_req } => Arguments { second: atr_req, ..Arguments::with(22, bitrate) },
+            Call::Transceive { bitrate, sel_res, rid_res, data, ms } => {
+                let (y, word) = (ms.is_some() as u8, ms.unwrap_or(0));
+                Arguments { second: sel_res, x: rid_res as u8, third: data, y, word, ..Arguments::with(23, bitrate) }
+            }
+        }
+    }
+}

@@ -1,0 +1,140 @@
+//! The three functions of include/rcs956.h on slices, with numbers for calls, events and outcomes.
+//!
+//! They take any arguments: a session with fields out of range is refused, and so is a short buffer. Most hosts want
+//! [`crate::Reader`] instead.
+
+use crate::ffi;
+use std::fmt;
+
+/// Kinds of outcomes.
+pub mod kind {
+    pub const WRITE: u8 = 0;
+    pub const READ: u8 = 1;
+    pub const DRAIN: u8 = 2;
+    pub const PAUSE: u8 = 3;
+    pub const DONE: u8 = 4;
+    pub const DONE_TYPE1: u8 = 5;
+    pub const NONE: u8 = 6;
+    pub const REFUSED: u8 = 7;
+}
+
+/// Events.
+pub mod event {
+    pub const OK: u8 = 0;
+    pub const BAD: u8 = 1;
+    pub const PACKET: u8 = 2;
+    pub const TIME: u8 = 3;
+    pub const FAIL: u8 = 4;
+    pub const LATE: u8 = 5;
+    pub const SLEPT: u8 = 6;
+}
+
+/// The exchange of one command.
+#[repr(C)]
+#[derive(Clone, Debug, Default, PartialEq, Eq)]
+pub struct ExchangeState {
+    pub phase: u8,
+    pub code: u8,
+    pub clock: u32,
+}
+
+/// The running call; kind 0 is none.
+#[repr(C)]
+#[derive(Clone, Debug, Default, PartialEq, Eq)]
+pub struct CallState {
+    pub kind: u8,
+    pub stage: u8,
+    pub phase: u8,
+}
+
+#[repr(C)]
+#[derive(Clone, Debug, Default, PartialEq, Eq)]
+pub struct State {
+    /// The bytes in use of the two arrays.
+    pub command: usize,
+    pub found: usize,
+    pub exchange: ExchangeState,
+    pub call: CallState,
+    /// The reader is open.
+    pub opened: bool,
+    /// Command frames ordered since the last opening began.
+    pub frames: u32,
+}
+
+/// One reader's session.
+#[repr(C)]
+#[derive(Clone, Debug, PartialEq, Eq)]
+pub struct RawSession {
+    pub command: [u8; 512],
+    pub found: [u8; 1024],
+    pub state: State,
+}
+
+/// What comes out of a call or an event. What does not apply is 0.
+#[repr(C)]
+#[derive(Clone, Copy, Debug, PartialEq, Eq)]
+pub struct Outcome {
+    pub kind: u8,
+    /// Of a refusal its number.
+    pub refusal: u8,
+    /// Of refusal 15 the status byte.
+    pub status: u8,
+    /// Of a read its ms, of a pause its µs.
+    pub time: u32,
+    /// Of a write order and of an answer the bytes at the buffer's start.
+    pub len: usize,
+}
+
+/// A call's number and arguments, as `rcs956_call` takes them.
+#[derive(Clone, Copy, Debug, Default, PartialEq, Eq)]
+pub struct Arguments<'a> {
+    pub number: u8,
+    pub ms: u32,
+    pub word: u16,
+    pub x: u8,
+    pub y: u8,
+    pub first: &'a [u8],
+    pub second: &'a [u8],
+    pub third: &'a [u8],
+    pub fourth: &'a [u8],
+}
+
+/// A session in which no call runs, of a reader that is not open.
+pub fn fresh() -> RawSession {
+    ffi::fresh()
+}
+
+pub fn call(session: &mut RawSession, arguments: &Arguments<'_>, buffer: &mut [u8]) -> Outcome {
+    ffi::call(session, arguments, buffer)
+}
+
+/// The packet's bytes count with [`event::PACKET`] alone.
+pub fn event(session: &mut RawSession, number: u8, packet: &[u8], buffer: &mut [u8]) -> Outcome {
+    ffi::event(session, number, packet, buffer)
+}
+
+/// An outcome and its bytes, printed as a bench line.
+pub struct Line<'a>(pub Outcome, pub &'a [u8]);
+
+impl fmt::Display for Line<'_> {
+    fn fmt(&self, f: &mut fmt::Formatter<'_>) -> fmt::Result {
+        let Line(outcome, bytes) = self;
+        match outcome.kind {
+            kind::WRITE => hex(f, "write", bytes),
+            kind::READ => write!(f, "read {}", outcome.time),
+            kind::DRAIN => f.write_str("drain"),
+            kind::PAUSE => write!(f, "pause {}", outcome.time),
+            kind::DONE => hex(f, "done", bytes),
+            kind::DONE_TYPE1 => hex(f, "done", bytes).and_then(|()| f.write_str(" type1")),
+            kind::NONE => f.write_str("none"),
+            _ if outcome.refusal == 15 => write!(f, "refused 15 {:02X}", outcome.status),
+            _ => write!(f, "refused {}", outcome.refusal),
+        }
+    }
+}
+
+fn hex(f: &mut fmt::Formatter<'_>, word: &str, bytes: &[u8]) -> fmt::Result {
+    f.write_str(word)?;
+    f.write_str(if bytes.is_empty() { "" } else { " " })?;
+    bytes.iter().try_for_each(|byte| write!(f, "{byte:02X}"))
+}

@@ -1,0 +1,280 @@
+//! Readers, orders and the events that fit them.
+
+use crate::raw::{self, Line, Outcome, RawSession, event, kind};
+use crate::{BUFFER_SIZE, Call};
+use std::fmt;
+
+/// One reader: its session and its buffer.
+pub struct Reader {
+    session: RawSession,
+    buffer: [u8; BUFFER_SIZE],
+    /// The order that waits for its event.
+    due: Option<Outcome>,
+}
+
+/// What follows a call or an event. The four orders come first.
+#[must_use = "an order waits for its event"]
+pub enum Step<'r> {
+    Write(Write<'r>),
+    Read(Read<'r>),
+    Drain(Drain<'r>),
+    Pause(Pause<'r>),
+    /// The call ended with an answer.
+    Done(Answer<'r>),
+    /// The call ended with none: no card, or no command.
+    None,
+    /// Refusals 1 to 6 changed nothing: an order that was due still is, see [`Reader::due`]. Others ended the call.
+    Refused(Refusal),
+}
+
+/// The bytes of an answer.
+#[derive(Clone, Copy, Debug, PartialEq, Eq)]
+pub struct Answer<'r> {
+    pub bytes: &'r [u8],
+    /// They are a Type 1 tag's.
+    pub type1: bool,
+}
+
+/// To write bytes.
+pub struct Write<'r>(Order<'r>);
+
+/// To read a packet.
+pub struct Read<'r>(Order<'r>);
+
+/// To read a packet, of those that are thrown away for up to 50 ms.
+pub struct Drain<'r>(Order<'r>);
+
+/// To wait.
+pub struct Pause<'r>(Order<'r>);
+
+/// The reader that has ordered it, and the order.
+struct Order<'r> {
+    reader: &'r mut Reader,
+    outcome: Outcome,
+}
+
+/// Why a call or an event was refused, by document 01's words; `number` has its number.
+#[derive(Clone, Copy, Debug, PartialEq, Eq)]
+pub enum Refusal {
+    OutOfTurn,
+    ShortBuffer,
+    OverLong,
+    BadArgument,
+    Bitrate,
+    NotSendable,
+    Transport,
+    TimeOut,
+    FalseStart,
+    BrokenFrame,
+    Length,
+    FrameKind,
+    Identifier,
+    Code,
+    Status(u8),
+    ShortResponse,
+    NoCard,
+    CrcA,
+    Rate,
+}
+
+/// The refusals in the order of their numbers, from 1 on.
+const REFUSALS: [Refusal; 19] = [
+    Refusal::OutOfTurn,
+    Refusal::ShortBuffer,
+    Refusal::OverLong,
+    Refusal::BadArgument,
+    Refusal::Bitrate,
+    Refusal::NotSendable,
+    Refusal::Transport,
+    Refusal::TimeOut,
+    Refusal::FalseStart,
+    Refusal::BrokenFrame,
+    Refusal::Length,
+    Refusal::FrameKind,
+    Refusal::Identifier,
+    Refusal::Code,
+    Refusal::Status(0),
+    Refusal::ShortResponse,
+    Refusal::NoCard,
+    Refusal::CrcA,
+    Refusal::Rate,
+];
+
+impl Refusal {
+    /// Of a number from 1 to 19, with the status byte of 15.
+    pub fn numbered(number: u8, status: u8) -> Option<Refusal> {
+        match number {
+            15 => Some(Refusal::Status(status)),
+            _ => REFUSALS.get(usize::from(number).checked_sub(1)?).copied(),
+        }
+    }
+
+    pub fn number(self) -> u8 {
+        match self {
+            Refusal::Status(_) => 15,
+            _ => REFUSALS.iter().position(|refusal| *refusal == self).map_or(0, |k| k as u8 + 1),
+        }
+    }
+
+    /// The status byte of 15, else 0.
+    pub fn status(self) -> u8 {
+        if let Refusal::Status(status) = self { status } else { 0 }
+    }
+}
+
+impl Default for Reader {
+    fn default() -> Self {
+        Reader::new()
+    }
+}
+
+impl Reader {
+    /// A reader that is not open.
+    pub fn new() -> Self {
+        Reader { session: raw::fresh(), buffer: [0; BUFFER_SIZE], due: None }
+    }
+
+    pub fn call(&mut self, call: Call<'_>) -> Step<'_> {
+        let outcome = raw::call(&mut self.session, &call.arguments(), &mut self.buffer);
+        self.step(outcome)
+    }
+
+    /// The order that waits for its event, where a step was dropped or its event refused.
+    pub fn due(&mut self) -> Option<Step<'_>> {
+        self.due.map(|outcome| self.step(outcome))
+    }
+
+    pub fn is_open(&self) -> bool {
+        self.session.state.opened
+    }
+
+    /// Command frames ordered since the last opening began, up to 4,294,967,295.
+    pub fn frames(&self) -> u32 {
+        self.session.state.frames
+    }
+
+    fn event(&mut self, number: u8, packet: &[u8]) -> Step<'_> {
+        let outcome = raw::event(&mut self.session, number, packet, &mut self.buffer);
+        self.step(outcome)
+    }
+
+    fn step(&mut self, outcome: Outcome) -> Step<'_> {
+        if outcome.kind <= kind::PAUSE {
+            self.due = Some(outcome);
+        } else if outcome.kind != kind::REFUSED || outcome.refusal > 6 {
+            self.due = None;
+        }
+        match outcome.kind {
+            kind::WRITE => Step::Write(Write(Order { reader: self, outcome })),
+            kind::READ => Step::Read(Read(Order { reader: self, outcome })),
+            kind::DRAIN => Step::Drain(Drain(Order { reader: self, outcome })),
+            kind::PAUSE => Step::Pause(Pause(Order { reader: self, outcome })),
+            kind::DONE => Step::Done(Answer { bytes: &self.buffer[..outcome.len], type1: false }),
+            kind::DONE_TYPE1 => Step::Done(Answer { bytes: &self.buffer[..outcome.len], type1: true }),
+            kind::NONE => Step::None,
+            _ => Step::Refused(Refusal::numbered(outcome.refusal, outcome.status).expect("a refusal has 1 to 19")),
+        }
+    }
+}
+
+impl<'r> Order<'r> {
+    fn event(self, number: u8, packet: &[u8]) -> Step<'r> {
+        self.reader.event(number, packet)
+    }
+}
+
+impl<'r> Write<'r> {
+    /// What is to be written.
+    pub fn bytes(&self) -> &[u8] {
+        &self.0.reader.buffer[..self.0.outcome.len]
+    }
+
+    /// All bytes are written.
+    pub fn ok(self) -> Step<'r> {
+        self.0.event(event::OK, &[])
+    }
+
+    pub fn failed(self) -> Step<'r> {
+        self.0.event(event::BAD, &[])
+    }
+}
+
+impl<'r> Read<'r> {
+    /// How long to wait. Under a command's clock, from the second read behind its frame on, it is the whole clock, which began with
+    /// that second read: what has passed is to be subtracted.
+    pub fn ms(&self) -> u32 {
+        self.0.outcome.time
+    }
+
+    /// A packet came; one of more than 1,024 bytes is refused with 3.
+    pub fn packet(self, bytes: &[u8]) -> Step<'r> {
+        self.0.event(event::PACKET, bytes)
+    }
+
+    pub fn timed_out(self) -> Step<'r> {
+        self.0.event(event::TIME, &[])
+    }
+
+    pub fn failed(self) -> Step<'r> {
+        self.0.event(event::FAIL, &[])
+    }
+
+    /// The command's clock has passed before the read. Refused with 1 where the read is not under that clock.
+    pub fn late(self) -> Step<'r> {
+        self.0.event(event::LATE, &[])
+    }
+}
+
+impl<'r> Drain<'r> {
+    /// A packet came; one of more than 1,024 bytes is refused with 3.
+    pub fn packet(self, bytes: &[u8]) -> Step<'r> {
+        self.0.event(event::PACKET, bytes)
+    }
+
+    pub fn timed_out(self) -> Step<'r> {
+        self.0.event(event::TIME, &[])
+    }
+
+    pub fn failed(self) -> Step<'r> {
+        self.0.event(event::FAIL, &[])
+    }
+
+    /// The drain's 50 ms have passed before the read.
+    pub fn late(self) -> Step<'r> {
+        self.0.event(event::LATE, &[])
+    }
+}
+
+impl<'r> Pause<'r> {
+    pub fn us(&self) -> u32 {
+        self.0.outcome.time
+    }
+
+    pub fn slept(self) -> Step<'r> {
+        self.0.event(event::SLEPT, &[])
+    }
+}
+
+impl Step<'_> {
+    /// The outcome and its bytes.
+    fn outcome(&self) -> (Outcome, &[u8]) {
+        let end = |kind| Outcome { kind, refusal: 0, status: 0, time: 0, len: 0 };
+        match self {
+            Step::Write(order) => (order.0.outcome, order.bytes()),
+            Step::Read(order) => (order.0.outcome, &[]),
+            Step::Drain(order) => (order.0.outcome, &[]),
+            Step::Pause(order) => (order.0.outcome, &[]),
+            Step::Done(answer) => (end(if answer.type1 { kind::DONE_TYPE1 } else { kind::DONE }), answer.bytes),
+            Step::None => (end(kind::NONE), &[]),
+            Step::Refused(why) => (Outcome { refusal: why.number(), status: why.status(), ..end(kind::REFUSED) }, &[]),
+        }
+    }
+}
+
+/// As a bench line.
+impl fmt::Display for Step<'_> {
+    fn fmt(&self, f: &mut fmt::Formatter<'_>) -> fmt::Result {
+        let (outcome, bytes) = self.outcome();
+        Line(outcome, bytes).fmt(f)
+    }
+}

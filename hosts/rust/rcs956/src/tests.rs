@@ -1,0 +1,156 @@
+use crate::raw::{self, Arguments, Outcome, RawSession, State};
+use crate::*;
+use std::mem::{offset_of, size_of};
+
+const ACK: [u8; 6] = [0, 0, 0xFF, 0, 0xFF, 0];
+
+/// A transport that answers reads and drains by these in turn, each packet with the same bytes. Keeps which of them shared their
+/// time, and the step's lines.
+struct Scripted<'a> {
+    received: std::slice::Iter<'a, Received>,
+    bytes: [u8; 6],
+    shared: Vec<bool>,
+    lines: Vec<String>,
+}
+
+impl Scripted<'_> {
+    fn new(received: &[Received], bytes: [u8; 6]) -> Scripted<'_> {
+        Scripted { received: received.iter(), bytes, shared: Vec::new(), lines: Vec::new() }
+    }
+}
+
+impl Transport for Scripted<'_> {
+    fn write(&mut self, _: &[u8]) -> bool {
+        true
+    }
+    fn read(&mut self, _: u32, shared: bool, packet: &mut [u8; BUFFER_SIZE]) -> Received {
+        self.shared.push(shared);
+        packet[..6].copy_from_slice(&self.bytes);
+        *self.received.next().expect("a read too many")
+    }
+    fn drain(&mut self, shared: bool, packet: &mut [u8; BUFFER_SIZE]) -> Received {
+        self.read(50, shared, packet)
+    }
+    fn sleep(&mut self, _: u32) {}
+    fn seen(&mut self, step: &Step<'_>) {
+        self.lines.push(step.to_string());
+    }
+}
+
+#[test]
+fn layout() {
+    assert_eq!(size_of::<RawSession>(), 1568);
+    assert_eq!(offset_of!(RawSession, found), 512);
+    assert_eq!(offset_of!(RawSession, state), 1536);
+    assert_eq!(offset_of!(State, exchange), 16);
+    assert_eq!(offset_of!(State, call), 24);
+    assert_eq!(offset_of!(State, opened), 27);
+    assert_eq!(offset_of!(State, frames), 28);
+    assert_eq!(size_of::<Outcome>(), 16);
+    assert_eq!(offset_of!(Outcome, time), 4);
+    assert_eq!(offset_of!(Outcome, len), 8);
+}
+
+#[test]
+fn fresh_is_zeroed() {
+    assert_eq!(raw::fresh(), RawSession { command: [0; 512], found: [0; 1024], state: State::default() });
+}
+
+#[test]
+fn whole_case() {
+    let mut reader = Reader::new();
+    let step = reader.call(Call::Open);
+    assert_eq!(step.to_string(), "write 0000FF00FF00");
+    let Step::Write(order) = step else { panic!() };
+    assert_eq!(order.failed().to_string(), "refused 7");
+    assert_eq!(reader.call(Call::Version).to_string(), "refused 1");
+    assert!(!reader.is_open());
+}
+
+/// Drives a fresh reader to the first read of the opening.
+fn opening_read(reader: &mut Reader) -> Read<'_> {
+    let Step::Write(order) = reader.call(Call::Open) else { panic!() };
+    let Step::Read(order) = order.ok() else { panic!() };
+    order
+}
+
+#[test]
+fn refused_event_leaves_the_order_due() {
+    let mut reader = Reader::new();
+    assert!(matches!(opening_read(&mut reader).late(), Step::Refused(Refusal::OutOfTurn)));
+    let Some(Step::Read(order)) = reader.due() else { panic!() };
+    assert!(matches!(order.packet(&[0; 1025]), Step::Refused(Refusal::OverLong)));
+    let Some(Step::Read(order)) = reader.due() else { panic!() };
+    assert_eq!(order.ms(), 10);
+    assert!(matches!(order.packet(&[0; 1024]), Step::Read(_)));
+}
+
+#[test]
+fn dropped_order_is_due() {
+    let mut reader = Reader::new();
+    assert!(reader.due().is_none());
+    let _ = opening_read(&mut reader);
+    assert!(matches!(reader.call(Call::Open), Step::Refused(Refusal::OutOfTurn)));
+    let Some(Step::Read(order)) = reader.due() else { panic!() };
+    let Step::Write(order) = order.timed_out() else { panic!() };
+    assert_eq!(order.bytes(), [0, 0, 0xFF, 3, 0xFD, 0xD4, 0x18, 1, 0x13, 0]);
+    assert_eq!(reader.frames(), 1);
+}
+
+#[test]
+fn reads_share_the_clock() {
+    use Received::{Late, Packet, TimedOut};
+    let mut reader = Reader::new();
+    // The opening's reads, then those of the reset and of the version: an ACK, two more, the deadline.
+    let received = [Packet(6), Packet(6), TimedOut, Packet(6), Packet(6), Packet(6), Late, Packet(6), Packet(6), Late];
+    let mut scripted = Scripted::new(&received, ACK);
+    assert_eq!(run(reader.call(Call::Open), &mut scripted).to_string(), "refused 8");
+    assert_eq!(scripted.shared, [false, false, false, false, false, true, true, false, false, true]);
+    assert_eq!(reader.frames(), 2);
+}
+
+#[test]
+fn drains_share_their_time() {
+    use Received::{Failed, Late, Packet, TimedOut};
+    let mut reader = Reader::new();
+    // No packet in the opening's reads and for the reset; the version's answer does not start as a frame.
+    let mut scripted = Scripted::new(&[TimedOut, TimedOut, Packet(6), Packet(6), Failed, Late], [1; 6]);
+    assert_eq!(run(reader.call(Call::Open), &mut scripted).to_string(), "refused 9");
+    assert_eq!(scripted.shared, [false, false, false, false, true, true]);
+    let end = ["write 0000FF02FED4022A00", "read 100", "write 0000FF00FF00", "drain", "drain", "drain", "refused 9"];
+    assert!(scripted.lines.ends_with(&end.map(String::from)));
+}
+
+#[test]
+fn refusals_by_number() {
+    for number in 1..=19 {
+        let refusal = Refusal::numbered(number, 7).unwrap();
+        assert_eq!((refusal.number(), refusal.status()), (number, if number == 15 { 7 } else { 0 }));
+    }
+    assert_eq!(Refusal::numbered(0, 0), None);
+    assert_eq!(Refusal::numbered(20, 0), None);
+    assert_eq!(Step::Refused(Refusal::Status(0xFE)).to_string(), "refused 15 FE");
+}
+
+#[test]
+fn lines_of_ends() {
+    let line = |bytes, type1| Step::Done(Answer { bytes, type1 }).to_string();
+    assert_eq!(line(&[], false), "done");
+    assert_eq!(line(&[0x0A, 0xFF], false), "done 0AFF");
+    assert_eq!(line(&[0x0A, 0xFF], true), "done 0AFF type1");
+    assert_eq!(Step::None.to_string(), "none");
+}
+
+#[test]
+fn no_such_call_and_short_buffer() {
+    let mut session = raw::fresh();
+    session.state.opened = true;
+    let before = session.clone();
+    let unknown = Arguments { number: 24, ..Arguments::default() };
+    let refused = |number| Outcome { kind: raw::kind::REFUSED, refusal: number, status: 0, time: 0, len: 0 };
+    assert_eq!(raw::call(&mut session, &unknown, &mut [0; 1024]), refused(4));
+    assert_eq!(raw::call(&mut session, &unknown, &mut [0; 1023]), refused(2));
+    assert_eq!(raw::call(&mut session, &Call::Version.arguments(), &mut []), refused(2));
+    assert_eq!(raw::event(&mut session, 7, &[], &mut [0; 1024]), refused(1));
+    assert_eq!(session, before);
+}

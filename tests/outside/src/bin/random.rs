@@ -1,0 +1,206 @@
+//! Random sessions, calls and events through the archive: `random SEED COUNT [FIRST]`.
+//!
+//! A case draws a session, three in four with any fields, and makes eight calls and events on it, each with its own buffer; on a
+//! fresh session sixty. What must hold of every step is in `outcome_faults` and `session_faults`. The first fault ends the program
+//! with 1; so does an outcome that a run of 20,000 cases or more never met.
+
+#[path = "../draw.rs"]
+mod draw;
+
+use draw::Draw;
+use rcs956::raw::{self, Arguments, Outcome, RawSession, event, kind};
+
+/// The bytes on each side of the buffer.
+const GUARD: usize = 64;
+
+/// The call or event of a step.
+enum Entry {
+    Call { arguments: [u64; 5], bytes: [Box<[u8]>; 4] },
+    Event { number: u8, packet: Box<[u8]> },
+}
+
+/// Bitrate texts, and none.
+const BITRATES: [&[u8]; 9] = [b"106A", b"106B", b"212F", b"424F", b"212F/424F", b"848B", b"106A/", b"\xFF", b""];
+
+/// A call with any number and any arguments, most of them such as the call takes.
+fn drawn_call(draw: &mut Draw) -> Entry {
+    let number = if draw.once(24) { draw.byte() as u64 } else { draw.below(25) };
+    let bitrate = draw.pick(&BITRATES);
+    let mut bytes = [(); 4].map(|()| {
+        let len = draw.length();
+        draw.bytes(len)
+    });
+    let mut x = draw.pick(&[0, 0, 1, 2, 0xFF]);
+    if number >= 19 && !draw.once(8) {
+        bytes[0] = bitrate.into();
+    }
+    if number == 13 && !draw.once(3) {
+        x = draw.pick(&[0, 2]);
+        for (argument, len) in bytes.iter_mut().zip([6, 18, 10]) {
+            *argument = draw.bytes(len);
+        }
+    }
+    if number == 22 && draw.once(2) {
+        let len = 16 + draw.below(49) as usize;
+        bytes[1] = draw.bytes(len);
+    }
+    if number == 23 {
+        bytes[1] = draw.pick::<&[u8]>(&[b"", b"\x00", b"\x20", b"\x60"]).into();
+        let first = draw.pick(&[0x00, 0x01, 0x1A, 0x53, 0x72, 0x78]);
+        bytes[2].iter_mut().take(1).for_each(|byte| *byte = first);
+    }
+    let ms = draw.pick(&[0, 1, 100, 65535, u32::MAX as u64]);
+    Entry::Call { arguments: [number, ms, draw.number(), x, draw.below(4)], bytes }
+}
+
+impl Entry {
+    fn drawn(draw: &mut Draw, session: &RawSession) -> Entry {
+        if session.state.call.kind == 0 && !draw.once(8) || draw.once(16) {
+            return drawn_call(draw);
+        }
+        let number = draw.event(session);
+        let packet =
+            if number == event::PACKET || draw.once(4) { draw.packet(session.state.exchange.code) } else { [].into() };
+        Entry::Event { number, packet }
+    }
+
+    fn made(&self, session: &mut RawSession, buffer: &mut [u8]) -> Outcome {
+        match self {
+            Entry::Event { number, packet } => raw::event(session, *number, packet, buffer),
+            Entry::Call { arguments: [number, ms, word, x, y], bytes: [first, second, third, fourth] } => {
+                let (number, ms, word, x, y) = (*number as u8, *ms as u32, *word as u16, *x as u8, *y as u8);
+                raw::call(session, &Arguments { number, ms, word, x, y, first, second, third, fourth }, buffer)
+            }
+        }
+    }
+
+    fn is_opening(&self) -> bool {
+        matches!(self, Entry::Call { arguments: [0, ..], .. })
+    }
+}
+
+fn in_range(session: &RawSession) -> bool {
+    let state = &session.state;
+    let call = &state.call;
+    let lengths = state.command <= 512 && state.found <= 1022;
+    lengths && state.exchange.phase <= 6 && call.kind <= 20 && call.stage <= 9 && call.phase <= 5
+}
+
+/// The frame count that must be behind a step.
+fn frames_due(entry: &Entry, before: u32, outcome: Outcome) -> u32 {
+    match outcome.kind {
+        kind::WRITE if entry.is_opening() => 0,
+        kind::WRITE if outcome.len > 6 => before.saturating_add(1),
+        _ => before,
+    }
+}
+
+/// What the session must be behind a step.
+fn session_faults(entry: &Entry, before: &RawSession, after: &RawSession, outcome: Outcome) -> Vec<&'static str> {
+    let refused = outcome.kind == kind::REFUSED;
+    let (early, ends) = (refused && outcome.refusal <= 6, outcome.kind >= kind::DONE);
+    let opening_ended = before.state.call.kind == 1 && ends && !early;
+    let opened = if opening_ended { outcome.kind == kind::DONE } else { before.state.opened };
+    let checks = [
+        (!in_range(before) && outcome.refusal != 1, "a session out of range is not refused with 1"),
+        (early && before != after, "a refusal 1 to 6 has changed the session"),
+        (ends && !early && after.state.call.kind != 0, "a call has ended and still runs"),
+        (!ends && after.state.call.kind == 0, "an order, and no call runs"),
+        (after.state.frames != frames_due(entry, before.state.frames, outcome), "the frame count is wrong"),
+        (!early && after.state.opened != opened, "`opened` is wrong"),
+    ];
+    checks.iter().filter(|(fault, _)| *fault).map(|(_, text)| *text).collect()
+}
+
+/// What the outcome and the buffer must be.
+fn outcome_faults(outcome: Outcome, before: &[u8], after: &[u8]) -> Vec<&'static str> {
+    let Outcome { kind, refusal, status, time, len } = outcome;
+    let size = before.len() - 2 * GUARD;
+    let has_bytes = matches!(kind, kind::WRITE | kind::DONE | kind::DONE_TYPE1);
+    let written = if has_bytes { len.min(size) } else { 0 };
+    let start = &after[GUARD..GUARD + written];
+    let refused = kind == kind::REFUSED;
+    let checks = [
+        (kind > 7, "a kind above 7"),
+        (len > size.min(1024), "more bytes than the buffer has"),
+        (refused != (1..=19).contains(&refusal) || !refused && refusal != 0, "a refusal's number"),
+        (refusal != 15 && status != 0, "a status without 15"),
+        (!matches!(kind, kind::READ | kind::PAUSE) && time != 0, "a time with no read and no pause"),
+        (!has_bytes && len != 0, "a length with no bytes"),
+        (kind == kind::WRITE && !start.starts_with(&[0, 0, 0xFF]), "a write order of no frame"),
+        (kind == kind::WRITE && len < 9 && start != [0, 0, 0xFF, 0, 0xFF, 0], "a short write order, and no ACK"),
+        (size < 1024 && !(refused && refusal <= 2), "a short buffer is not refused with 1 or 2"),
+        (before[..GUARD] != after[..GUARD], "bytes before the buffer have changed"),
+        (before[GUARD + written..] != after[GUARD + written..], "bytes behind the output have changed"),
+    ];
+    checks.iter().filter(|(fault, _)| *fault).map(|(_, text)| *text).collect()
+}
+
+/// The outcomes met: kinds 0 to 6, then refusals 1 to 19.
+#[derive(Default)]
+struct Tally {
+    steps: u64,
+    counts: [u64; 26],
+}
+
+impl Tally {
+    fn add(&mut self, outcome: Outcome) {
+        self.steps += 1;
+        self.counts[(outcome.kind + outcome.refusal.saturating_sub(1)) as usize] += 1;
+    }
+
+    fn print(&self) {
+        let words = ["write", "read", "drain", "pause", "done", "done type1", "none"];
+        for (k, count) in self.counts.iter().enumerate() {
+            let name = words.get(k).map_or_else(|| format!("refused {}", k - 6), |word| word.to_string());
+            println!("  {name}: {count}");
+        }
+    }
+}
+
+/// One case: false where a step has a fault.
+fn case(seed: u64, number: u64, tally: &mut Tally) -> bool {
+    let mut draw = Draw::new(seed, number);
+    let fresh = draw.once(4);
+    let mut session = if fresh { raw::fresh() } else { draw.session() };
+    session.state.opened = !draw.once(8);
+    for step in 0..if fresh { 60 } else { 8 } {
+        let entry = Entry::drawn(&mut draw, &session);
+        let size = draw.buffer_len();
+        let mut memory = draw.bytes(size + 2 * GUARD);
+        let (before, lent) = (session.clone(), memory.clone());
+        let outcome = entry.made(&mut session, &mut memory[GUARD..GUARD + size]);
+        let mut faults = outcome_faults(outcome, &lent, &memory);
+        faults.extend(session_faults(&entry, &before, &session, outcome));
+        if fresh && !in_range(&session) {
+            faults.push("a session that began fresh is out of range");
+        }
+        if !faults.is_empty() {
+            println!(
+                "case {number} of seed {seed}, step {step}: {faults:?}\n{outcome:?}\n{:?}\n{:?}",
+                before.state, session.state
+            );
+            return false;
+        }
+        tally.add(outcome);
+    }
+    true
+}
+
+fn main() {
+    let words: Vec<u64> = std::env::args().skip(1).map(|word| word.parse().expect("a number")).collect();
+    let &[seed, count, ref first @ ..] = &words[..] else { panic!("usage: random SEED COUNT [FIRST]") };
+    let first = first.first().copied().unwrap_or(0);
+    let mut tally = Tally::default();
+    if !(first..first + count).all(|number| case(seed, number, &mut tally)) {
+        std::process::exit(1);
+    }
+    tally.print();
+    let missed = tally.counts.contains(&0) && count >= 20000;
+    println!(
+        "random: {count} cases, {} steps: {}",
+        tally.steps,
+        if missed { "an outcome never met" } else { "no fault" }
+    );
+    std::process::exit(missed as i32);
+}

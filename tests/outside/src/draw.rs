@@ -1,0 +1,196 @@
+//! What a case draws: a session, a call or an event, a buffer.
+
+use rcs956::BUFFER_SIZE;
+use rcs956::raw::{CallState, ExchangeState, RawSession, State, event};
+
+/// A generator of numbers (splitmix64): a seed gives the same numbers in each run.
+pub struct Draw(u64);
+
+impl Draw {
+    pub fn new(seed: u64, case: u64) -> Draw {
+        Draw(seed.wrapping_mul(0x2545_F491_4F6C_DD1D) ^ case.wrapping_mul(0x9E37_79B9_7F4A_7C15))
+    }
+
+    pub fn number(&mut self) -> u64 {
+        self.0 = self.0.wrapping_add(0x9E37_79B9_7F4A_7C15);
+        let x = (self.0 ^ (self.0 >> 30)).wrapping_mul(0xBF58_476D_1CE4_E5B9);
+        let x = (x ^ (x >> 27)).wrapping_mul(0x94D0_49BB_1331_11EB);
+        x ^ (x >> 31)
+    }
+
+    /// 0 to `end` - 1.
+    pub fn below(&mut self, end: u64) -> u64 {
+        self.number() % end
+    }
+
+    pub fn byte(&mut self) -> u8 {
+        self.number() as u8
+    }
+
+    /// True in one of `n`.
+    pub fn once(&mut self, n: u64) -> bool {
+        self.below(n) == 0
+    }
+
+    pub fn pick<T: Copy>(&mut self, from: &[T]) -> T {
+        from[self.below(from.len() as u64) as usize]
+    }
+
+    /// Random bytes in memory of their own, no longer than they are.
+    pub fn bytes(&mut self, len: usize) -> Box<[u8]> {
+        let mut bytes = vec![0; len];
+        self.fill(&mut bytes);
+        bytes.into_boxed_slice()
+    }
+
+    pub fn fill(&mut self, bytes: &mut [u8]) {
+        for chunk in bytes.chunks_mut(8) {
+            chunk.copy_from_slice(&self.number().to_le_bytes()[..chunk.len()]);
+        }
+    }
+
+    /// How many bytes an argument has: mostly few, now and then about a limit.
+    pub fn length(&mut self) -> usize {
+        match self.below(12) {
+            0 => 0,
+            1 => self.pick(&[128, 192, 195, 477, 478, 508, 509, 510, 511, 512, 513, 600]),
+            2 => self.below(1400) as usize,
+            3 => self.pick(&[6, 10, 16, 18, 64]),
+            _ => self.below(20) as usize,
+        }
+    }
+
+    /// Mostly at most `last`; else any byte.
+    fn small(&mut self, last: u8) -> u8 {
+        if self.once(48) { self.byte() } else { self.below(last as u64 + 1) as u8 }
+    }
+
+    /// Mostly at most `last`; else just above, or any number.
+    fn used(&mut self, last: usize) -> usize {
+        match self.below(64) {
+            0 => last + 1 + self.below(4) as usize,
+            1 => self.pick(&[usize::MAX, usize::MAX / 2, 1 << 32, 65536]),
+            2 => self.number() as usize,
+            _ => self.below(last as u64 + 1) as usize,
+        }
+    }
+
+    /// A session of a reader that is not open, with any other fields, most of them in their ranges.
+    pub fn session(&mut self) -> RawSession {
+        let exchange = ExchangeState { phase: self.small(6), code: self.code(), clock: self.number() as u32 };
+        let kind = if self.once(3) { 0 } else { self.small(20) };
+        let phase = if self.once(2) { 0 } else { self.small(5) };
+        let call = CallState { kind, stage: self.small(9), phase };
+        let frames = self.pick(&[0, 1, 77, u32::MAX - 1, u32::MAX, u32::MAX]);
+        let state = State { command: self.used(512), found: self.used(1022), exchange, call, opened: false, frames };
+        let mut session = RawSession { command: [0; 512], found: [0; 1024], state };
+        self.fill(&mut session.command);
+        self.fill(&mut session.found);
+        session
+    }
+
+    /// A command's code, mostly of the chip's.
+    fn code(&mut self) -> u8 {
+        let any = self.byte();
+        self.pick(&[
+            0x02, 0x06, 0x08, 0x12, 0x18, 0x32, 0x40, 0x42, 0x4A, 0x56, 0x86, 0x88, 0x8A, 0x8C, 0x90, 0x92, any,
+        ])
+    }
+
+    /// The buffer's length: mostly enough.
+    pub fn buffer_len(&mut self) -> usize {
+        match self.below(16) {
+            0 => self.below(BUFFER_SIZE as u64) as usize,
+            1 => self.pick(&[0, 1, 1023]),
+            2 => BUFFER_SIZE + self.below(1024) as usize,
+            _ => BUFFER_SIZE,
+        }
+    }
+
+    /// An event's number: mostly one that fits what the session waits for.
+    pub fn event(&mut self, session: &RawSession) -> u8 {
+        if self.once(10) {
+            return if self.once(4) { self.byte() } else { self.below(8) as u8 };
+        }
+        match (session.state.call.phase, session.state.exchange.phase) {
+            (1 | 3, _) | (0, 0 | 3 | 4 | 5) => self.pick(&[event::OK, event::OK, event::OK, event::BAD]),
+            (2 | 5, _) => event::SLEPT,
+            _ if self.once(5) => self.pick(&[event::TIME, event::FAIL, event::LATE]),
+            _ => event::PACKET,
+        }
+    }
+
+    /// A packet: an ACK, the response to the session's command, the same with a fault, or any bytes.
+    pub fn packet(&mut self, code: u8) -> Box<[u8]> {
+        match self.below(12) {
+            0 => Box::new([0, 0, 0xFF, 0, 0xFF, 0]),
+            1 => Box::new([0, 0, 0xFF, 0, 0xFF, 0, self.byte()]),
+            2 => Box::new([0, 0, 0xFF, 0xFF, 0xFF, 0]),
+            3 => {
+                let any = self.below(1030) as usize;
+                let len = self.pick(&[0, 1024, 1025, 2000, any, any]);
+                self.bytes(len)
+            }
+            4 => {
+                let mut frame = self.response(code);
+                let at = self.below(frame.len() as u64) as usize;
+                frame[at] ^= 1 << self.below(8);
+                frame.into_boxed_slice()
+            }
+            5 => {
+                let mut frame = self.response(code);
+                let len = self.below(frame.len() as u64 + 4) as usize;
+                frame.resize(len, 0);
+                frame.into_boxed_slice()
+            }
+            6 => {
+                let head = self.pick(&[[0xD5, code], [0x7F, 0], [0xD4, code.wrapping_add(1)]]);
+                frame(&head).into_boxed_slice()
+            }
+            _ => self.response(code).into_boxed_slice(),
+        }
+    }
+
+    /// The frame of a response: a status or a list of targets, and bytes behind it.
+    fn response(&mut self, code: u8) -> Vec<u8> {
+        let any = self.byte();
+        let mut payload = vec![0xD5, code.wrapping_add(1)];
+        match self.below(5) {
+            0 => payload.extend([1, 1]),
+            1 => payload.push(self.pick(&[0x26, 1, 0x40, 0x80, any])),
+            _ => payload.push(0),
+        }
+        let len = if self.once(20) { self.below(1014) } else { self.below(24) } as usize;
+        let bytes = self.bytes(len);
+        match self.below(5) {
+            0 => payload.truncate(2 + self.below(2) as usize),
+            1 => payload.extend(std::iter::repeat_n(0, len)),
+            2 => payload.extend(with_crc_a(&bytes)),
+            _ => payload.extend(bytes),
+        }
+        frame(&payload)
+    }
+}
+
+/// The frame of a payload, as the chip builds it.
+fn frame(payload: &[u8]) -> Vec<u8> {
+    let negated = |bytes: &[u8]| bytes.iter().fold(0u8, |sum, byte| sum.wrapping_sub(*byte));
+    let mut frame = vec![0, 0, 0xFF];
+    if payload.len() < 256 {
+        let len = payload.len() as u8;
+        frame.extend([len, negated(&[len])]);
+    } else {
+        let len = (payload.len() as u16).to_be_bytes();
+        frame.extend([0xFF, 0xFF, len[0], len[1], negated(&len)]);
+    }
+    frame.extend(payload);
+    frame.extend([negated(payload), 0]);
+    frame
+}
+
+/// Bytes and their CRC_A.
+fn with_crc_a(bytes: &[u8]) -> Vec<u8> {
+    let bits = bytes.iter().flat_map(|byte| (0..8).map(move |k| (byte >> k & 1) as u16));
+    let crc = bits.fold(0x6363u16, |crc, bit| (crc >> 1) ^ if crc & 1 == bit { 0 } else { 0x8408 });
+    [bytes, &crc.to_le_bytes()].concat()
+}
