@@ -1,6 +1,6 @@
 -- Laws of what the functions answer.
 use mathlib.Core.Path.{_≡_, refl, sym, ap, _∙_}
-use mathlib.Core.Bool.{Bool, true, false, false≢true}
+use mathlib.Core.Bool.{Bool, true, false}
 use mathlib.Core.List.{List, [], _∷_, _++_, append-nil, append-assoc}
 use Prim.Native.Nat.{ℕ, _+_, _*_, _-_, _/_, _%_, _≤_, _<_}
 use native.Mathlib.Numerals.{add-one}
@@ -15,7 +15,7 @@ use Rattle.errors.specs.Choice.{pick}
 use Rattle.errors.specs.declared.Refusal.{Refusal}
 use Rattle.errors.specs.declared.Refusal.the-variants.{Status, OverLong, BadArgument}
 use Rattle.framing.specs.Copied.{copied}
-use Rattle.framing.specs.Lists.{both}
+use Rattle.framing.specs.Valid.{both-right}
 use Rattle.protocol.specs.Calls.{registers}
 use Rattle.protocol.specs.Chipset.{anyNonzero, word, bit}
 use Rattle.protocol.specs.Scripts.{Answer, done, nothing, refused}
@@ -196,19 +196,15 @@ module _ (r : Launched) (l : launches.Launch) (t : Bool) where
   unfolding asserted pick
   asserted-false h e = rw h e
 
-pub both-r : (a b : Bool) → both a b ≡ true → b ≡ true
-both-r true b h = h
-both-r false b h = absurd (false≢true h)
-
 -- 64 registers are within the limit
 pub few-words : (l : List ℕ) → registers 2 l ≡ true → length l ≤ 512
 few-words l h =
-    let k : length l / 2 ≤ 64 = leb-true (length l / 2) 64 (both-r (eqb (length l % 2) 0) _ h) in
+    let k : length l / 2 ≤ 64 = leb-true (length l / 2) 64 (both-right (eqb (length l % 2) 0) _ h) in
     omega arith
 
 pub few-triples : (l : List ℕ) → registers 3 l ≡ true → length l ≤ 512
 few-triples l h =
-    let k : length l / 3 ≤ 64 = leb-true (length l / 3) 64 (both-r (eqb (length l % 3) 0) _ h) in
+    let k : length l / 3 ≤ 64 = leb-true (length l / 3) 64 (both-right (eqb (length l % 3) 0) _ h) in
     omega arith
 
 -- the bit of a part of in_jump_for_dep

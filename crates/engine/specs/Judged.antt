@@ -90,7 +90,7 @@ judged-list : (bs : List ℕ) → Judged (ifElse (eqb (getD bs 0 0) 0) (finish n
 unfolding listAnswer
 judged-list bs = judged-if (eqb (getD bs 0 0) 0) (λ _. ends nothing refl) (λ _. by-length bs 2 (λ _. answers 2 bs))
 
-empty-length : (bs : List ℕ) → isEmpty bs ≡ eqb (length bs) 0
+pub empty-length : (bs : List ℕ) → isEmpty bs ≡ eqb (length bs) 0
 empty-length [] = refl
 empty-length (b ∷ bs) = sym (ne-eqb (suc (length bs)) 0 (λ e. omega (arith, e)))
 

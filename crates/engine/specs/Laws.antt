@@ -1,6 +1,6 @@
 -- Laws of what the session's functions do.
 use mathlib.Core.Path.{_≡_, refl, sym, ap, ap₂, _∙_}
-use mathlib.Core.Bool.{Bool, true, false, false≢true}
+use mathlib.Core.Bool.{Bool, true, false}
 use mathlib.Core.List.{List, [], _∷_, _++_, append-assoc}
 use Prim.Native.Nat.{ℕ, _+_, _-_, _≤_, _<_}
 use native.Mathlib.Decide.{decLe}
@@ -19,7 +19,7 @@ use Rattle.framing.specs.declared.Built.the-variants.{Frame, Refused}
 use Rattle.framing.specs.Enclose.{length-frame, start-most}
 use Rattle.framing.specs.Copied.{copied}
 use Rattle.framing.specs.Settings.{rcs956, commandPayload}
-use Rattle.framing.specs.Lists.{both}
+use Rattle.framing.specs.Valid.{both-left, both-right}
 use Rattle.exchange.specs.Packets.{commandFrame}
 use Rattle.exchange.specs.Steps.{exchangeAt}
 use Rattle.exchange.specs.declared.Exchange.{Exchange}
@@ -97,20 +97,12 @@ first-three l h =
     ∙ ap (λ r. getD l 0 0 ∷ r) (drop-cons l 1 0 (omega arith)
     ∙ ap (λ r. getD l 1 0 ∷ r) (drop-cons l 2 0 (omega arith)))))
 
-pub both-l : (a b : Bool) → both a b ≡ true → a ≡ true
-both-l true b h = refl
-both-l false b h = absurd (false≢true h)
-
-pub both-r : (a b : Bool) → both a b ≡ true → b ≡ true
-both-r true b h = h
-both-r false b h = absurd (false≢true h)
-
 -- a session in range has a stage that can be counted on
 pub valid-stage : (s : State) → isValid s ≡ true → s .call .stage < 255
 unfolding isValid validCall
 valid-stage s h =
-    let c = both-r (leb (s .exchange .phase) 6) _ (both-r (leb (s .found) 1022) _ (both-r (leb (s .command) 512) _ h)) in
-    let k = leb-true (s .call .stage) 9 (both-l (leb (s .call .stage) 9) _ (both-r (leb (s .call .kind) 20) _ c)) in
+    let c = both-right (leb (s .exchange .phase) 6) _ (both-right (leb (s .found) 1022) _ (both-right (leb (s .command) 512) _ h)) in
+    let k = leb-true (s .call .stage) 9 (both-left (leb (s .call .stage) 9) _ (both-right (leb (s .call .kind) 20) _ c)) in
     omega arith
 
 -- two lists, the second copied behind the first
@@ -153,8 +145,8 @@ type1-copied s f bytes b b₁ n a p q e = e ∙ (λ i. endsOf s true f (Type1 (p
 -- a session in range has its lengths in range
 pub valid-command : (s : State) → isValid s ≡ true → s .command ≤ 512
 unfolding isValid
-valid-command s h = leb-true (s .command) 512 (both-l (leb (s .command) 512) _ h)
+valid-command s h = leb-true (s .command) 512 (both-left (leb (s .command) 512) _ h)
 
 pub valid-found : (s : State) → isValid s ≡ true → s .found ≤ 1022
 unfolding isValid
-valid-found s h = leb-true (s .found) 1022 (both-l (leb (s .found) 1022) _ (both-r (leb (s .command) 512) _ h))
+valid-found s h = leb-true (s .found) 1022 (both-left (leb (s .found) 1022) _ (both-right (leb (s .command) 512) _ h))

@@ -4,9 +4,9 @@ use mathlib.Core.Path.{_≡_, refl, sym, ap}
 use mathlib.Core.Bool.{Bool, true, false, false≢true, cond, _&&_, _||_}
 use mathlib.Core.List.{List, [], _∷_}
 use mathlib.Core.Option.{Option, none, some}
-use Prim.Native.Nat.{ℕ, suc, _+_, _-_, _/_, _%_, _≤_}
+use Prim.Native.Nat.{ℕ, _+_, _-_, _/_, _%_, _≤_}
 use native.Mathlib.Omega.{arith}
-use borrow.Author.Tests.{ltb-false, ne-eqb, le-leb, leb-true}
+use borrow.Author.Tests.{ltb-false, le-leb, leb-true}
 use lib.Dec.{eqb, leb, ltb}
 use lib.ListN.{length, take, drop, getD, length-append, length-take, length-drop}
 use Rattle.errors.specs.Choice.{pick}
@@ -28,8 +28,8 @@ use Rattle.chipset.specs.Launches.{Launch, refuses, sends, cmd, limited}
 use Rattle.chipset.specs.Verdicts.{judgeOf}
 use Rattle.discovery.specs.Searches.{Search, starting, refusing, onCode, withBitrate, codeFor, typeASearch, typeBSearch, typeFSearch, depSearch, transceiveSearch, searchOf}
 use Rattle.discovery.specs.Decisions.{Decision, goes, keeps, sets, pauses, ends, commandOf, typeACommand, typeBCommand, typeFCommand, depCommand, withLength, cardBytes, listedA, listedType1, ridOf, typeADecision, listedB, typeBDecision, polled, typeFDecision, noPartner, depDecision, decisionOf, ridFailure, jumpFailure, typeAFailure, typeBFailure, depFailure, failureOf}
-use Rattle.engine.specs.Judged.{rest-values, a-rule, Begins, single-limited, judged-thru, judged-type2, judged-type1}
-use Rattle.engine.specs.Laws.{both-r}
+use Rattle.engine.specs.Judged.{empty-length, rest-values, a-rule, Begins, single-limited, judged-thru, judged-type2, judged-type1}
+use Rattle.framing.specs.Valid.{both-right}
 
 -- ---- what a decision leads to, at a stage with a pending command and found bytes; bs is the response
 
@@ -93,10 +93,6 @@ module _ {kind stage : ℕ} {pending found bs : List ℕ} where
   keep-on n code clock bytes h e s = leads-keep n code clock bytes _ h e (s .answered) (s .failing)
 
 -- ---- Type A
-
-empty-length : (bs : List ℕ) → isEmpty bs ≡ eqb (length bs) 0
-empty-length [] = refl
-empty-length (b ∷ bs) = sym (ne-eqb (suc (length bs)) 0 (λ e. omega (arith, e)))
 
 card-plain : (list : List ℕ) → plainAnswer (done (byteAt 0 list 3 ∷ byteAt 0 list 2 ∷ byteAt 0 list 4 ∷ rest 0 list 6)) ≡ done (cardBytes list)
 card-plain list = ap (λ l. done (getD list 3 0 ∷ getD list 2 0 ∷ getD list 4 0 ∷ l)) (rest-values 0 list 6)
@@ -368,7 +364,7 @@ device-begins (detectDep text atrReq) = go (both (leb 16 (length atrReq)) (leb (
   where
     go : (t : Bool) → both (leb 16 (length atrReq)) (leb (length atrReq) 64) ≡ t
         → Starting (cond t (bitrateStart (choiceOf text) (λ b. codeStart (depCode b) (λ code. starts (depScript code atrReq)))) (refusesStart BadArgument)) (pick t (codeFor depCode text (depSearch atrReq)) (refusing BadArgument))
-    go true h = by-code depCode text _ _ (dep-begins atrReq (leb-true (length atrReq) 64 (both-r (leb 16 (length atrReq)) _ h)))
+    go true h = by-code depCode text _ _ (dep-begins atrReq (leb-true (length atrReq) 64 (both-right (leb 16 (length atrReq)) _ h)))
     go false h = refusedNow BadArgument
 device-begins (transceive text selRes ridRes bytes ms) = go (choiceOf text)
   where

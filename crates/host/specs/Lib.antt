@@ -3,3 +3,4 @@ pub mod Entries
 pub mod Outcomes
 pub mod Outputs
 pub mod Steps
+pub mod Unchanged

@@ -151,7 +151,7 @@ fn before(size: usize) -> usize
 }
 
 // Hands the session a call or an event, with a buffer of so many bytes.
-pub fn handed(session: Session, seed: u64, size: usize) -> Step {
+pub(crate) fn handed(session: Session, seed: u64, size: usize) -> Step {
     let mut buffer = [0u8; 1024];
     let start = before(size);
     let bytes = response(draw::byte(draw::number(seed, 25)), 5, 7);

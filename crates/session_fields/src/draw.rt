@@ -5,7 +5,7 @@ use engine::state::State;
 use exchange::Exchange;
 
 // The next seed: a linear congruential generator.
-pub fn next(seed: u64) -> u64 {
+pub(crate) fn next(seed: u64) -> u64 {
     (seed % 2147483648 * 1103515245 + 12345) % 2147483648
 }
 
@@ -15,11 +15,11 @@ fn mixed(x: u64) -> u64 {
 }
 
 // The number k of a seed.
-pub fn number(seed: u64, k: u64) -> u64 {
+pub(crate) fn number(seed: u64, k: u64) -> u64 {
     mixed(mixed(mixed(seed % 2147483648 + k % 64 * 7919)))
 }
 
-pub fn byte(x: u64) -> u8 {
+pub(crate) fn byte(x: u64) -> u8 {
     (x % 256) as u8
 }
 
@@ -52,7 +52,7 @@ fn wide(x: u64) -> u32 {
 }
 
 // Whether a session is handed a call, not an event.
-pub fn is_call(seed: u64) -> bool {
+pub(crate) fn is_call(seed: u64) -> bool {
     number(seed, 0) % 3 == 0
 }
 
@@ -88,7 +88,7 @@ fn exchange(seed: u64) -> Exchange {
 }
 
 // A session with any fields, most of them in their ranges.
-pub fn session(seed: u64) -> Session {
+pub(crate) fn session(seed: u64) -> Session {
     let exchange = exchange(seed);
     let call = call(seed);
     let state = State {
@@ -109,7 +109,7 @@ pub fn session(seed: u64) -> Session {
 }
 
 // The buffer's length.
-pub fn size(seed: u64) -> usize {
+pub(crate) fn size(seed: u64) -> usize {
     match number(seed, 13) % 8 {
         0 => 0,
         1 => 1,

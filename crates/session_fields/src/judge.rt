@@ -164,7 +164,7 @@ fn refusals(counts: [u64; OUTCOMES]) {
 }
 
 impl Tally {
-    pub fn empty() -> Tally {
+    pub(crate) fn empty() -> Tally {
         Tally {
             counts: [0; OUTCOMES],
             unfit: 0,
@@ -175,7 +175,7 @@ impl Tally {
     }
 
     // Counts an outcome, and what is wrong with it.
-    pub fn judged(self, before: State, after: State, output: Output, size: usize) -> Tally {
+    pub(crate) fn judged(self, before: State, after: State, output: Output, size: usize) -> Tally {
         let kind = kind(output);
         let mut counts = self.counts;
         if kind < OUTCOMES {
@@ -191,7 +191,7 @@ impl Tally {
     }
 
     // One line for each outcome, and one for each kind of violation.
-    pub fn print(self) {
+    pub(crate) fn print(self) {
         let counts = self.counts;
         line(b"write ", counts[256]);
         line(b"read ", counts[257]);
