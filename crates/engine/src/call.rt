@@ -10,9 +10,10 @@ use exchange::Reply;
 ghost use mathlib.Core.List.{List};
 ghost use mathlib.Core.Path.{_≡_};
 ghost use Prim.Native.Nat.{ℕ, _<_};
-ghost use Rattle.exchange.specs.Exchange.{advance};
+ghost use Rattle.errors.specs.declared.Refusal.the-variants.{Transport};
+ghost use Rattle.exchange.specs.Exchange.{advance, onWrite, onPause};
 ghost use Rattle.exchange.specs.Steps.{eventOf, orderOf, replyIn, stepOf};
-ghost use Rattle.engine.specs.Moves.{validCall, fits, at, toStage, following, isReset, moveIn, moveOf, endedMove, exchangeMove, orders, resetAckMove, restedMove, resetPauseMove, openingAckMove, openingReadsMove, fieldPauseMove, refusalOf};
+ghost use Rattle.engine.specs.Moves.{validCall, fits, at, toStage, following, isReset, moveIn, moveOf, endedMove, exchangeMove, orders, resetAckMove, restedMove, resetPauseMove, openingAckMove, openingReadsMove, fieldPauseMove, refusalOf, unfitting, refuses};
 
 // What runs: no call, the opening, a call of one command by the number of the rule for its response, or a discovery.
 pub const NO_CALL: u8 = 0;
@@ -68,6 +69,36 @@ fn refusal_of(reply: Reply) -> Refusal
     match reply {
         Reply::Response(_) => Refusal::OutOfTurn,
         Reply::Failed(refusal) => refusal,
+    }
+}
+
+// A write's event: what follows it, or the end with 7.
+fn written(event: Event, next: Move) -> Move
+    ensures { λ r. ⌜ ((p : List ℕ) → moveIn p r ≡ onWrite unfitting (moveIn p next) (refuses Transport) (eventOf event p)) ⌝ }
+{
+    match event {
+        Event::Ok => next,
+        Event::Bad => Move::Refuses(Refusal::Transport),
+        Event::Packet => Move::Unfit,
+        Event::Time => Move::Unfit,
+        Event::Fail => Move::Unfit,
+        Event::Late => Move::Unfit,
+        Event::Slept => Move::Unfit,
+    }
+}
+
+// A pause's event.
+fn slept(event: Event, next: Move) -> Move
+    ensures { λ r. ⌜ ((p : List ℕ) → moveIn p r ≡ onPause unfitting (moveIn p next) (eventOf event p)) ⌝ }
+{
+    match event {
+        Event::Slept => next,
+        Event::Ok => Move::Unfit,
+        Event::Bad => Move::Unfit,
+        Event::Packet => Move::Unfit,
+        Event::Time => Move::Unfit,
+        Event::Fail => Move::Unfit,
+        Event::Late => Move::Unfit,
     }
 }
 
@@ -170,15 +201,8 @@ impl Call {
     fn on_reset_ack(self, exchange: Exchange, event: Event) -> Move
         ensures { λ r. ⌜ ((p : List ℕ) → moveIn p r ≡ resetAckMove self exchange (eventOf event p)) ⌝ }
     {
-        match event {
-            Event::Ok => Move::Orders(Order::Pause(10000), self.at(RESET_PAUSE), exchange),
-            Event::Bad => Move::Refuses(Refusal::Transport),
-            Event::Packet => Move::Unfit,
-            Event::Time => Move::Unfit,
-            Event::Fail => Move::Unfit,
-            Event::Late => Move::Unfit,
-            Event::Slept => Move::Unfit,
-        }
+        let next = Move::Orders(Order::Pause(10000), self.at(RESET_PAUSE), exchange);
+        written(event, next)
     }
 
     // A reset is over: reset_mode is done, the opening goes on.
@@ -197,29 +221,14 @@ impl Call {
         requires { ⌜ self .stage < 255 ⌝ }
         ensures { λ r. ⌜ ((p : List ℕ) → moveIn p r ≡ resetPauseMove self (eventOf event p)) ⌝ }
     {
-        match event {
-            Event::Slept => self.rested(),
-            Event::Ok => Move::Unfit,
-            Event::Bad => Move::Unfit,
-            Event::Packet => Move::Unfit,
-            Event::Time => Move::Unfit,
-            Event::Fail => Move::Unfit,
-            Event::Late => Move::Unfit,
-        }
+        slept(event, self.rested())
     }
 
     fn on_opening_ack(self, exchange: Exchange, event: Event) -> Move
         ensures { λ r. ⌜ ((p : List ℕ) → moveIn p r ≡ openingAckMove self exchange (eventOf event p)) ⌝ }
     {
-        match event {
-            Event::Ok => Move::Orders(Order::Read(10), self.at(OPENING_READS), exchange),
-            Event::Bad => Move::Refuses(Refusal::Transport),
-            Event::Packet => Move::Unfit,
-            Event::Time => Move::Unfit,
-            Event::Fail => Move::Unfit,
-            Event::Late => Move::Unfit,
-            Event::Slept => Move::Unfit,
-        }
+        let next = Move::Orders(Order::Read(10), self.at(OPENING_READS), exchange);
+        written(event, next)
     }
 
     fn on_opening_reads(self, exchange: Exchange, event: Event) -> Move
@@ -240,15 +249,7 @@ impl Call {
         requires { ⌜ self .stage < 255 ⌝ }
         ensures { λ r. ⌜ ((p : List ℕ) → moveIn p r ≡ fieldPauseMove self (eventOf event p)) ⌝ }
     {
-        match event {
-            Event::Slept => Move::Enters(self.following()),
-            Event::Ok => Move::Unfit,
-            Event::Bad => Move::Unfit,
-            Event::Packet => Move::Unfit,
-            Event::Time => Move::Unfit,
-            Event::Fail => Move::Unfit,
-            Event::Late => Move::Unfit,
-        }
+        slept(event, Move::Enters(self.following()))
     }
 
     // What an event does to the call.

@@ -7,11 +7,6 @@ use Rattle.framing.specs.Enclose.{place-fits, build-refused}
 use borrow.Author.Needs.{needs}
 use Rattle.framing.proofs.build.Statement.{statement}
 use Rattle.framing.proofs.build.Tie as tie
-use Rattle.framing.proofs.build.Reads as reads
-use Rattle.framing.proofs.build.Lts as lts
-use Rattle.bytes.proofs.copy.Reads as copy-reads
-use Rattle.framing.proofs.enclose.Reads as enclose-reads
-use Rattle.framing.proofs.room_for.Reads as room-for-reads
 
 room-for-requires : tie.Need-room-for-requires
 room-for-requires c κs = search needs

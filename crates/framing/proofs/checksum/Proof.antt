@@ -4,9 +4,6 @@ use Rattle.framing.specs.Frames.{checksumOf}
 use borrow.Author.Needs.{needs}
 use Rattle.framing.proofs.checksum.Statement.{statement}
 use Rattle.framing.proofs.checksum.Tie as tie
-use Rattle.framing.proofs.checksum.Reads as reads
-use Rattle.framing.proofs.checksum.Lts as lts
-use Rattle.framing.proofs.sum.Reads as sum-reads
 
 sum-requires : tie.Need-sum-requires
 sum-requires c κs = search needs

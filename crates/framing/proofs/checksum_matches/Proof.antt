@@ -9,9 +9,6 @@ use Rattle.framing.specs.Checks.{matches}
 use borrow.Author.Needs.{needs}
 use Rattle.framing.proofs.checksum_matches.Statement.{statement}
 use Rattle.framing.proofs.checksum_matches.Tie as tie
-use Rattle.framing.proofs.checksum_matches.Reads as reads
-use Rattle.framing.proofs.checksum_matches.Lts as lts
-use Rattle.framing.proofs.sum.Reads as sum-reads
 
 sum-requires : tie.Need-sum-requires
 sum-requires c κs = search needs

@@ -5,8 +5,6 @@ use Rattle.errors.specs.Choice.{pick}
 use borrow.Author.Needs.{needs}
 use Rattle.framing.proofs.data_start.Statement.{statement}
 use Rattle.framing.proofs.data_start.Tie as tie
-use Rattle.framing.proofs.data_start.Reads as reads
-use Rattle.framing.proofs.data_start.Lts as lts
 
 enum-told : tie.Need-enum-told
 enum-told c = search needs

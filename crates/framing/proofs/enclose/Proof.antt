@@ -5,11 +5,6 @@ use Rattle.framing.specs.Enclose.{enclose-done}
 use borrow.Author.Needs.{needs}
 use Rattle.framing.proofs.enclose.Statement.{statement}
 use Rattle.framing.proofs.enclose.Tie as tie
-use Rattle.framing.proofs.enclose.Reads as reads
-use Rattle.framing.proofs.enclose.Lts as lts
-use Rattle.framing.proofs.checksum.Reads as checksum-reads
-use Rattle.framing.proofs.data_start.Reads as data-start-reads
-use Rattle.framing.proofs.put_head.Reads as put-head-reads
 
 data-start-requires : tie.Need-data-start-requires
 data-start-requires c κs = search needs

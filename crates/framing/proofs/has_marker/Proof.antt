@@ -5,8 +5,6 @@ use Rattle.framing.specs.Checks.{hasMarker}
 use borrow.Author.Needs.{needs}
 use Rattle.framing.proofs.has_marker.Statement.{statement}
 use Rattle.framing.proofs.has_marker.Tie as tie
-use Rattle.framing.proofs.has_marker.Reads as reads
-use Rattle.framing.proofs.has_marker.Lts as lts
 
 returns : tie.Need-returns
 returns c = search (marker-short, needs)

@@ -5,9 +5,6 @@ use Rattle.framing.specs.Valid.{byte-past}
 use borrow.Author.Needs.{needs}
 use Rattle.framing.proofs.is_error.Statement.{statement}
 use Rattle.framing.proofs.is_error.Tie as tie
-use Rattle.framing.proofs.is_error.Reads as reads
-use Rattle.framing.proofs.is_error.Lts as lts
-use Rattle.framing.proofs.is_exactly.Reads as is-exactly-reads
 
 enum-told : tie.Need-enum-told
 enum-told c = search needs

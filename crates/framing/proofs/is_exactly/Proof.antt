@@ -4,9 +4,6 @@ use Rattle.framing.specs.Lists.{same}
 use borrow.Author.Needs.{needs}
 use Rattle.framing.proofs.is_exactly.Statement.{statement}
 use Rattle.framing.proofs.is_exactly.Tie as tie
-use Rattle.framing.proofs.is_exactly.Reads as reads
-use Rattle.framing.proofs.is_exactly.Lts as lts
-use Rattle.framing.proofs.starts_with.Reads as starts-with-reads
 
 returns : tie.Need-returns
 unfolding same

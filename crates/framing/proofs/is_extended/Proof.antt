@@ -4,9 +4,6 @@ use Rattle.framing.specs.Parse.{extends}
 use borrow.Author.Needs.{needs}
 use Rattle.framing.proofs.is_extended.Statement.{statement}
 use Rattle.framing.proofs.is_extended.Tie as tie
-use Rattle.framing.proofs.is_extended.Reads as reads
-use Rattle.framing.proofs.is_extended.Lts as lts
-use Rattle.framing.proofs.has_marker.Reads as has-marker-reads
 
 enum-told : tie.Need-enum-told
 enum-told c = search needs

@@ -4,8 +4,6 @@ use Rattle.framing.specs.Frames.{total, checksumOf}
 use borrow.Author.Needs.{needs}
 use Rattle.framing.proofs.length_checksum.Statement.{statement}
 use Rattle.framing.proofs.length_checksum.Tie as tie
-use Rattle.framing.proofs.length_checksum.Reads as reads
-use Rattle.framing.proofs.length_checksum.Lts as lts
 
 sub-result : tie.Need-sub-result
 sub-result c = search needs

@@ -3,8 +3,6 @@ use Rattle.framing.specs.Frames.{longest}
 use borrow.Author.Needs.{needs}
 use Rattle.framing.proofs.longest_payload.Statement.{statement}
 use Rattle.framing.proofs.longest_payload.Tie as tie
-use Rattle.framing.proofs.longest_payload.Reads as reads
-use Rattle.framing.proofs.longest_payload.Lts as lts
 
 enum-told : tie.Need-enum-told
 enum-told c = search needs

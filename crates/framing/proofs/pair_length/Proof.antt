@@ -4,8 +4,6 @@ use Rattle.framing.specs.Checks.{pairLength}
 use borrow.Author.Needs.{needs}
 use Rattle.framing.proofs.pair_length.Statement.{statement}
 use Rattle.framing.proofs.pair_length.Tie as tie
-use Rattle.framing.proofs.pair_length.Reads as reads
-use Rattle.framing.proofs.pair_length.Lts as lts
 
 enum-told : tie.Need-enum-told
 enum-told c = search needs

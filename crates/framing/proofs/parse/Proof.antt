@@ -4,12 +4,6 @@ use Rattle.framing.specs.Rules.{told, steps}
 use borrow.Author.Needs.{needs}
 use Rattle.framing.proofs.parse.Statement.{statement}
 use Rattle.framing.proofs.parse.Tie as tie
-use Rattle.framing.proofs.parse.Reads as reads
-use Rattle.framing.proofs.parse.Lts as lts
-use Rattle.framing.proofs.has_sof.Reads as has-sof-reads
-use Rattle.framing.proofs.is_error.Reads as is-error-reads
-use Rattle.framing.proofs.is_exactly.Reads as is-exactly-reads
-use Rattle.framing.proofs.parse_data.Reads as parse-data-reads
 
 has-sof-requires : tie.Need-has-sof-requires
 has-sof-requires c κs = search needs

@@ -5,11 +5,6 @@ use Rattle.framing.specs.Valid.{data-extended, data-normal}
 use borrow.Author.Needs.{needs}
 use Rattle.framing.proofs.parse_data.Statement.{statement}
 use Rattle.framing.proofs.parse_data.Tie as tie
-use Rattle.framing.proofs.parse_data.Reads as reads
-use Rattle.framing.proofs.parse_data.Lts as lts
-use Rattle.framing.proofs.is_extended.Reads as is-extended-reads
-use Rattle.framing.proofs.parse_extended.Reads as parse-extended-reads
-use Rattle.framing.proofs.parse_normal.Reads as parse-normal-reads
 
 is-extended-requires : tie.Need-is-extended-requires
 is-extended-requires c κs = search needs

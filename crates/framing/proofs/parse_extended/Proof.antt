@@ -4,10 +4,6 @@ use Rattle.framing.specs.Valid.{extended-too-short, extended-found, exte
 use borrow.Author.Needs.{needs}
 use Rattle.framing.proofs.parse_extended.Statement.{statement}
 use Rattle.framing.proofs.parse_extended.Tie as tie
-use Rattle.framing.proofs.parse_extended.Reads as reads
-use Rattle.framing.proofs.parse_extended.Lts as lts
-use Rattle.framing.proofs.pair_length.Reads as pair-length-reads
-use Rattle.framing.proofs.validated.Reads as validated-reads
 
 returns : tie.Need-returns
 returns c = search (extended-too-short, needs)

@@ -4,10 +4,6 @@ use Rattle.framing.specs.Valid.{normal-too-short, normal-found, normal-n
 use borrow.Author.Needs.{needs}
 use Rattle.framing.proofs.parse_normal.Statement.{statement}
 use Rattle.framing.proofs.parse_normal.Tie as tie
-use Rattle.framing.proofs.parse_normal.Reads as reads
-use Rattle.framing.proofs.parse_normal.Lts as lts
-use Rattle.framing.proofs.validated.Reads as validated-reads
-use Rattle.framing.proofs.wide.Reads as wide-reads
 
 returns : tie.Need-returns
 returns c = search (normal-too-short, needs)

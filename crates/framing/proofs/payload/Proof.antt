@@ -4,9 +4,6 @@ use Rattle.framing.specs.Parts.{part-clamped}
 use borrow.Author.Needs.{needs}
 use Rattle.framing.proofs.payload.Statement.{statement}
 use Rattle.framing.proofs.payload.Tie as tie
-use Rattle.framing.proofs.payload.Reads as reads
-use Rattle.framing.proofs.payload.Lts as lts
-use Rattle.framing.proofs.least.Reads as least-reads
 
 enum-known-found : tie.Need-enum-known-found
 enum-known-found c = search needs

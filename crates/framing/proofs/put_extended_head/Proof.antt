@@ -7,9 +7,6 @@ use Rattle.framing.specs.Frames.{extendedHead}
 use borrow.Author.Needs.{needs}
 use Rattle.framing.proofs.put_extended_head.Statement.{statement}
 use Rattle.framing.proofs.put_extended_head.Tie as tie
-use Rattle.framing.proofs.put_extended_head.Reads as reads
-use Rattle.framing.proofs.put_extended_head.Lts as lts
-use Rattle.framing.proofs.checksum.Reads as checksum-reads
 
 slice-write-buffer : tie.Need-slice-write-buffer
 slice-write-buffer c = search needs

@@ -8,10 +8,6 @@ use Rattle.errors.specs.Choice.{pick}
 use borrow.Author.Needs.{needs}
 use Rattle.framing.proofs.put_head.Statement.{statement}
 use Rattle.framing.proofs.put_head.Tie as tie
-use Rattle.framing.proofs.put_head.Reads as reads
-use Rattle.framing.proofs.put_head.Lts as lts
-use Rattle.framing.proofs.put_extended_head.Reads as put-extended-head-reads
-use Rattle.framing.proofs.put_normal_head.Reads as put-normal-head-reads
 
 cast-high : tie.Need-cast-high
 cast-high c = search needs

@@ -6,9 +6,6 @@ use Rattle.framing.specs.Frames.{normalHead}
 use borrow.Author.Needs.{needs}
 use Rattle.framing.proofs.put_normal_head.Statement.{statement}
 use Rattle.framing.proofs.put_normal_head.Tie as tie
-use Rattle.framing.proofs.put_normal_head.Reads as reads
-use Rattle.framing.proofs.put_normal_head.Lts as lts
-use Rattle.framing.proofs.length_checksum.Reads as length-checksum-reads
 
 cast-len : tie.Need-cast-len
 cast-len c = search needs

@@ -4,11 +4,6 @@ use Rattle.framing.specs.Enclose.{place-long, place-short, place-at, sta
 use borrow.Author.Needs.{needs}
 use Rattle.framing.proofs.room_for.Statement.{statement}
 use Rattle.framing.proofs.room_for.Tie as tie
-use Rattle.framing.proofs.room_for.Reads as reads
-use Rattle.framing.proofs.room_for.Lts as lts
-use Rattle.framing.proofs.data_start.Reads as data-start-reads
-use Rattle.framing.proofs.least.Reads as least-reads
-use Rattle.framing.proofs.longest_payload.Reads as longest-payload-reads
 
 longest-payload-requires : tie.Need-longest-payload-requires
 longest-payload-requires c κs = search needs

@@ -7,8 +7,6 @@ use Rattle.framing.specs.Starts.{starts-short, starts-differ, starts-agr
 use borrow.Author.Needs.{needs}
 use Rattle.framing.proofs.starts_with.Statement.{statement}
 use Rattle.framing.proofs.starts_with.Tie as tie
-use Rattle.framing.proofs.starts_with.Reads as reads
-use Rattle.framing.proofs.starts_with.Lts as lts
 
 abbrev Inv-loop : tie.InvT-loop
 Inv-loop packet prefix i₀ i = (i ≤ length prefix) × (starts prefix packet ≡ starts (drop i prefix) (drop i packet))

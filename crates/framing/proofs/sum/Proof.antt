@@ -9,8 +9,6 @@ use Rattle.framing.specs.Sums.{total-drop, total-end}
 use borrow.Author.Needs.{needs}
 use Rattle.framing.proofs.sum.Statement.{statement}
 use Rattle.framing.proofs.sum.Tie as tie
-use Rattle.framing.proofs.sum.Reads as reads
-use Rattle.framing.proofs.sum.Lts as lts
 
 abbrev Inv-loop : tie.InvT-loop
 Inv-loop bytes sum₀ i₀ sum i = (i ≤ length bytes) × (sum < 256) × ((sum + total (drop i bytes)) % 256 ≡ total bytes % 256)

@@ -4,9 +4,6 @@ use Rattle.framing.specs.Checks.{checked}
 use borrow.Author.Needs.{needs}
 use Rattle.framing.proofs.validated.Statement.{statement}
 use Rattle.framing.proofs.validated.Tie as tie
-use Rattle.framing.proofs.validated.Reads as reads
-use Rattle.framing.proofs.validated.Lts as lts
-use Rattle.framing.proofs.checksum_matches.Reads as checksum-matches-reads
 
 sub-lcs : tie.Need-sub-lcs
 sub-lcs c = search needs

@@ -2,8 +2,6 @@
 use borrow.Author.Needs.{needs}
 use Rattle.engine.proofs.call.refusal_of.Statement.{statement}
 use Rattle.engine.proofs.call.refusal_of.Tie as tie
-use Rattle.engine.proofs.call.refusal_of.Reads as reads
-use Rattle.engine.proofs.call.refusal_of.Lts as lts
 
 enum-told : tie.Need-enum-told
 enum-told c = search needs

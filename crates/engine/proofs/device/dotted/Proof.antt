@@ -4,9 +4,6 @@ use Rattle.engine.specs.Names.{hex-short, hex-long, dotted-is}
 use borrow.Author.Needs.{needs}
 use Rattle.engine.proofs.device.dotted.Statement.{statement}
 use Rattle.engine.proofs.device.dotted.Tie as tie
-use Rattle.engine.proofs.device.dotted.Reads as reads
-use Rattle.engine.proofs.device.dotted.Lts as lts
-use Rattle.engine.proofs.device.hex_digit.Reads as hex-digit-reads
 
 hex-digit-requires : tie.Need-hex-digit-requires
 hex-digit-requires c κs = search needs

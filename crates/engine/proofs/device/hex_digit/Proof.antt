@@ -4,8 +4,6 @@ use Rattle.engine.specs.Names.{hexDigit}
 use borrow.Author.Needs.{needs}
 use Rattle.engine.proofs.device.hex_digit.Statement.{statement}
 use Rattle.engine.proofs.device.hex_digit.Tie as tie
-use Rattle.engine.proofs.device.hex_digit.Reads as reads
-use Rattle.engine.proofs.device.hex_digit.Lts as lts
 
 add-result : tie.Need-add-result
 add-result c = search needs

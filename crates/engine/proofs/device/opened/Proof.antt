@@ -6,9 +6,6 @@ use Rattle.engine.specs.Names.{opened-is}
 use borrow.Author.Needs.{needs}
 use Rattle.engine.proofs.device.opened.Statement.{statement}
 use Rattle.engine.proofs.device.opened.Tie as tie
-use Rattle.engine.proofs.device.opened.Reads as reads
-use Rattle.engine.proofs.device.opened.Lts as lts
-use Rattle.engine.proofs.device.dotted.Reads as dotted-reads
 
 dotted-requires : tie.Need-dotted-requires
 dotted-requires c κs = search needs

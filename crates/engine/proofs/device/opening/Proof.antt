@@ -6,9 +6,6 @@ use native.Mathlib.Omega.{arith}
 use borrow.Author.Needs.{needs}
 use Rattle.engine.proofs.device.opening.Statement.{statement}
 use Rattle.engine.proofs.device.opening.Tie as tie
-use Rattle.engine.proofs.device.opening.Reads as reads
-use Rattle.engine.proofs.device.opening.Lts as lts
-use Rattle.engine.proofs.device.opening_settings.Reads as opening-settings-reads
 
 opening-settings-requires : tie.Need-opening-settings-requires
 opening-settings-requires c κs = search needs

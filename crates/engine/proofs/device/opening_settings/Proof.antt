@@ -6,8 +6,6 @@ use native.Mathlib.Omega.{arith}
 use borrow.Author.Needs.{needs}
 use Rattle.engine.proofs.device.opening_settings.Statement.{statement}
 use Rattle.engine.proofs.device.opening_settings.Tie as tie
-use Rattle.engine.proofs.device.opening_settings.Reads as reads
-use Rattle.engine.proofs.device.opening_settings.Lts as lts
 
 returns : tie.Need-returns
 unfolding settingsPlan pick

@@ -3,9 +3,6 @@ use Rattle.engine.specs.Laws.{framed-is, framed-else}
 use borrow.Author.Needs.{needs}
 use Rattle.engine.proofs.state.framed.Statement.{statement}
 use Rattle.engine.proofs.state.framed.Tie as tie
-use Rattle.engine.proofs.state.framed.Reads as reads
-use Rattle.engine.proofs.state.framed.Lts as lts
-use Rattle.framing.proofs.frame.build_command.Reads as build-command-reads
 
 build-command-requires : tie.Need-build-command-requires
 build-command-requires c κs = search needs

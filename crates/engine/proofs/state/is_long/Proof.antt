@@ -3,8 +3,6 @@ use Rattle.engine.specs.Sessions.{isLong}
 use borrow.Author.Needs.{needs}
 use Rattle.engine.proofs.state.is_long.Statement.{statement}
 use Rattle.engine.proofs.state.is_long.Tie as tie
-use Rattle.engine.proofs.state.is_long.Reads as reads
-use Rattle.engine.proofs.state.is_long.Lts as lts
 
 enum-told : tie.Need-enum-told
 enum-told c = search needs

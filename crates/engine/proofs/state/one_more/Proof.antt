@@ -4,8 +4,6 @@ use Rattle.engine.specs.Sessions.{counted}
 use borrow.Author.Needs.{needs}
 use Rattle.engine.proofs.state.one_more.Statement.{statement}
 use Rattle.engine.proofs.state.one_more.Tie as tie
-use Rattle.engine.proofs.state.one_more.Reads as reads
-use Rattle.engine.proofs.state.one_more.Lts as lts
 
 add-result : tie.Need-add-result
 add-result c = search needs

@@ -3,9 +3,6 @@ use Rattle.framing.specs.Parse.{payloadOf}
 use borrow.Author.Needs.{needs}
 use Rattle.engine.proofs.state.part_of.Statement.{statement}
 use Rattle.engine.proofs.state.part_of.Tie as tie
-use Rattle.engine.proofs.state.part_of.Reads as reads
-use Rattle.engine.proofs.state.part_of.Lts as lts
-use Rattle.framing.proofs.payload.Reads as payload-reads
 
 payload-requires : tie.Need-payload-requires
 payload-requires c κs = search needs

@@ -4,9 +4,6 @@ use lib.ListN.{length-append}
 use Rattle.engine.specs.Laws.{both-put}
 use Rattle.engine.proofs.state.put_both.Statement.{statement}
 use Rattle.engine.proofs.state.put_both.Tie as tie
-use Rattle.engine.proofs.state.put_both.Reads as reads
-use Rattle.engine.proofs.state.put_both.Lts as lts
-use Rattle.bytes.proofs.copy.Reads as copy-reads
 
 copy-requires : tie.Need-copy-requires
 copy-requires c κs = search needs

@@ -1,8 +1,6 @@
 use borrow.Author.Needs.{needs}
 use Rattle.errors.proofs.Refusal.numbered.Statement.{statement}
 use Rattle.errors.proofs.Refusal.numbered.Tie as tie
-use Rattle.errors.proofs.Refusal.numbered.Reads as reads
-use Rattle.errors.proofs.Refusal.numbered.Lts as lts
 
 -- src/lib.rt:35:35
 enum-told : tie.Need-enum-told

@@ -11,12 +11,6 @@ use Prim.Native.Nat.{_+_}
 use borrow.Author.Needs.{needs}
 use Rattle.framing.proofs.frame.build_command.Statement.{statement}
 use Rattle.framing.proofs.frame.build_command.Tie as tie
-use Rattle.framing.proofs.frame.build_command.Reads as reads
-use Rattle.framing.proofs.frame.build_command.Lts as lts
-use Rattle.bytes.proofs.copy.Reads as copy-reads
-use Rattle.framing.proofs.enclose.Reads as enclose-reads
-use Rattle.framing.proofs.frame.Rcs956Format.format.Reads as format-reads
-use Rattle.framing.proofs.room_for.Reads as room-for-reads
 
 add-n : tie.Need-add-n
 add-n c = search needs

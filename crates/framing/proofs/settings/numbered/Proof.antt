@@ -7,14 +7,6 @@ use Rattle.framing.specs.declared.settings.Setting.the-variants.{Format}
 use borrow.Author.Needs.{needs}
 use Rattle.framing.proofs.settings.numbered.Statement.{statement}
 use Rattle.framing.proofs.settings.numbered.Tie as tie
-use Rattle.framing.proofs.settings.numbered.Reads as reads
-use Rattle.framing.proofs.settings.numbered.Lts as lts
-use Rattle.framing.proofs.settings.BigEndianErrorFrame.format.Reads as settings-BigEndianErrorFrame-format-reads
-use Rattle.framing.proofs.settings.BigEndianStatusByte.format.Reads as settings-BigEndianStatusByte-format-reads
-use Rattle.framing.proofs.settings.LittleEndianErrorFrame.format.Reads as settings-LittleEndianErrorFrame-format-reads
-use Rattle.framing.proofs.settings.LittleEndianStatusByte.format.Reads as settings-LittleEndianStatusByte-format-reads
-use Rattle.framing.proofs.settings.NormalErrorFrame.format.Reads as settings-NormalErrorFrame-format-reads
-use Rattle.framing.proofs.settings.NormalStatusByte.format.Reads as settings-NormalStatusByte-format-reads
 
 format-requires : tie.Need-format-requires
 format-requires c κs = search needs

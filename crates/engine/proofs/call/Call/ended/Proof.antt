@@ -6,11 +6,6 @@ use Rattle.framing.specs.Rules.{told}
 use Rattle.engine.specs.Moves.{ended-reset, endedMove, refuses}
 use Rattle.engine.proofs.call.Call.ended.Statement.{statement}
 use Rattle.engine.proofs.call.Call.ended.Tie as tie
-use Rattle.engine.proofs.call.Call.ended.Reads as reads
-use Rattle.engine.proofs.call.Call.ended.Lts as lts
-use Rattle.engine.proofs.call.Call.at.Reads as at-reads
-use Rattle.engine.proofs.call.Call.is_reset.Reads as is-reset-reads
-use Rattle.engine.proofs.call.refusal_of.Reads as refusal-of-reads
 
 is-reset-requires : tie.Need-is-reset-requires
 is-reset-requires c κs = search needs

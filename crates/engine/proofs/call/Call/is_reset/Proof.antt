@@ -4,8 +4,6 @@ use Rattle.engine.specs.Moves.{isReset}
 use borrow.Author.Needs.{needs}
 use Rattle.engine.proofs.call.Call.is_reset.Statement.{statement}
 use Rattle.engine.proofs.call.Call.is_reset.Tie as tie
-use Rattle.engine.proofs.call.Call.is_reset.Reads as reads
-use Rattle.engine.proofs.call.Call.is_reset.Lts as lts
 
 returns : tie.Need-returns
 unfolding isReset

@@ -4,8 +4,6 @@ use Rattle.engine.specs.Moves.{validCall}
 use borrow.Author.Needs.{needs}
 use Rattle.engine.proofs.call.Call.is_valid.Statement.{statement}
 use Rattle.engine.proofs.call.Call.is_valid.Tie as tie
-use Rattle.engine.proofs.call.Call.is_valid.Reads as reads
-use Rattle.engine.proofs.call.Call.is_valid.Lts as lts
 
 returns : tie.Need-returns
 unfolding validCall

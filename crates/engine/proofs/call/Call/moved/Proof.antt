@@ -7,14 +7,6 @@ use Rattle.framing.specs.Rules.{steps}
 use borrow.Author.Needs.{needs}
 use Rattle.engine.proofs.call.Call.moved.Statement.{statement}
 use Rattle.engine.proofs.call.Call.moved.Tie as tie
-use Rattle.engine.proofs.call.Call.moved.Reads as reads
-use Rattle.engine.proofs.call.Call.moved.Lts as lts
-use Rattle.engine.proofs.call.Call.on_exchange.Reads as on-exchange-reads
-use Rattle.engine.proofs.call.Call.on_field_pause.Reads as on-field-pause-reads
-use Rattle.engine.proofs.call.Call.on_opening_ack.Reads as on-opening-ack-reads
-use Rattle.engine.proofs.call.Call.on_opening_reads.Reads as on-opening-reads-reads
-use Rattle.engine.proofs.call.Call.on_reset_ack.Reads as on-reset-ack-reads
-use Rattle.engine.proofs.call.Call.on_reset_pause.Reads as on-reset-pause-reads
 
 on-exchange-requires : tie.Need-on-exchange-requires
 on-exchange-requires c κs = search needs

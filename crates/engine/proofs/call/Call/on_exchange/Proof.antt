@@ -3,11 +3,6 @@ use Rattle.engine.specs.Moves.{exchange-unfit, exchange-pending, exchang
 use borrow.Author.Needs.{needs}
 use Rattle.engine.proofs.call.Call.on_exchange.Statement.{statement}
 use Rattle.engine.proofs.call.Call.on_exchange.Tie as tie
-use Rattle.engine.proofs.call.Call.on_exchange.Reads as reads
-use Rattle.engine.proofs.call.Call.on_exchange.Lts as lts
-use Rattle.engine.proofs.call.Call.ended.Reads as ended-reads
-use Rattle.engine.proofs.call.Call.pending.Reads as pending-reads
-use Rattle.exchange.proofs.Exchange.advance.Reads as advance-reads
 
 advance-requires : tie.Need-advance-requires
 advance-requires c κs = search needs

@@ -2,71 +2,15 @@
 use borrow.Author.Needs.{needs}
 use Rattle.engine.proofs.call.Call.on_opening_ack.Statement.{statement}
 use Rattle.engine.proofs.call.Call.on_opening_ack.Tie as tie
-use Rattle.engine.proofs.call.Call.on_opening_ack.Reads as reads
-use Rattle.engine.proofs.call.Call.on_opening_ack.Lts as lts
-use Rattle.engine.proofs.call.Call.at.Reads as at-reads
-
-enum-told : tie.Need-enum-told
-enum-told c = search needs
 
 at-requires : tie.Need-at-requires
 at-requires c κs = search needs
 
-enum-told-2 : tie.Need-enum-told-2
-enum-told-2 c = search needs
-
-enum-told-3 : tie.Need-enum-told-3
-enum-told-3 c = search needs
-
-enum-told-4 : tie.Need-enum-told-4
-enum-told-4 c = search needs
-
-enum-told-5 : tie.Need-enum-told-5
-enum-told-5 c = search needs
-
-enum-told-6 : tie.Need-enum-told-6
-enum-told-6 c = search needs
-
-enum-told-7 : tie.Need-enum-told-7
-enum-told-7 c = search needs
+written-requires : tie.Need-written-requires
+written-requires c κs = search needs
 
 returns : tie.Need-returns
-returns c = λ p. rw (c .before .enum-told .given .1, c .at .ensures)
-
-returns-2 : tie.Need-returns-2
-returns-2 c = λ p. rw (c .enum-told2 .given .1)
-
-returns-3 : tie.Need-returns-3
-returns-3 c = λ p. rw (c .enum-told3 .given .1)
-
-returns-4 : tie.Need-returns-4
-returns-4 c = λ p. rw (c .enum-told4 .given .1)
-
-returns-5 : tie.Need-returns-5
-returns-5 c = λ p. rw (c .enum-told5 .given .1)
-
-returns-6 : tie.Need-returns-6
-returns-6 c = λ p. rw (c .enum-told6 .given .1)
-
-returns-7 : tie.Need-returns-7
-returns-7 c = λ p. rw (c .enum-told7 .given .1)
+returns c = λ p. rw (← c .before .at .ensures) (c .written .ensures p)
 
 pub on-opening-ack-spec : {M : Type 1} → statement M
-on-opening-ack-spec =
-    tie.close
-    (tie.spec
-    enum-told
-    at-requires
-    enum-told-2
-    enum-told-3
-    enum-told-4
-    enum-told-5
-    enum-told-6
-    enum-told-7
-    returns
-    returns-2
-    returns-3
-    returns-4
-    returns-5
-    returns-6
-    returns-7)
+on-opening-ack-spec = tie.close (tie.spec at-requires written-requires returns)

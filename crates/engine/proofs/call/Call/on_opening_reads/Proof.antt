@@ -2,9 +2,6 @@
 use borrow.Author.Needs.{needs}
 use Rattle.engine.proofs.call.Call.on_opening_reads.Statement.{statement}
 use Rattle.engine.proofs.call.Call.on_opening_reads.Tie as tie
-use Rattle.engine.proofs.call.Call.on_opening_reads.Reads as reads
-use Rattle.engine.proofs.call.Call.on_opening_reads.Lts as lts
-use Rattle.engine.proofs.call.Call.at.Reads as at-reads
 
 enum-told : tie.Need-enum-told
 enum-told c = search needs

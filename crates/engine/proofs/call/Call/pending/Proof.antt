@@ -2,8 +2,6 @@
 use borrow.Author.Needs.{needs}
 use Rattle.engine.proofs.call.Call.pending.Statement.{statement}
 use Rattle.engine.proofs.call.Call.pending.Tie as tie
-use Rattle.engine.proofs.call.Call.pending.Reads as reads
-use Rattle.engine.proofs.call.Call.pending.Lts as lts
 
 enum-told : tie.Need-enum-told
 enum-told c = search needs

@@ -6,9 +6,6 @@ use Rattle.framing.specs.Rules.{at-true, at-false}
 use Rattle.engine.specs.Moves.{restedMove, finishes, enters}
 use Rattle.engine.proofs.call.Call.rested.Statement.{statement}
 use Rattle.engine.proofs.call.Call.rested.Tie as tie
-use Rattle.engine.proofs.call.Call.rested.Reads as reads
-use Rattle.engine.proofs.call.Call.rested.Lts as lts
-use Rattle.engine.proofs.call.Call.following.Reads as following-reads
 
 following-requires : tie.Need-following-requires
 following-requires c κs = search needs

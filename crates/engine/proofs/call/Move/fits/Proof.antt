@@ -2,8 +2,6 @@
 use borrow.Author.Needs.{needs}
 use Rattle.engine.proofs.call.Move.fits.Statement.{statement}
 use Rattle.engine.proofs.call.Move.fits.Tie as tie
-use Rattle.engine.proofs.call.Move.fits.Reads as reads
-use Rattle.engine.proofs.call.Move.fits.Lts as lts
 
 enum-told : tie.Need-enum-told
 enum-told c = search needs

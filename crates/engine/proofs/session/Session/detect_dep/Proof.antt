@@ -4,10 +4,6 @@ use mathlib.Core.Path.{ap, _∙_}
 use Rattle.engine.specs.Sessions.{searchStep}
 use Rattle.engine.proofs.session.Session.detect_dep.Statement.{statement}
 use Rattle.engine.proofs.session.Session.detect_dep.Tie as tie
-use Rattle.engine.proofs.session.Session.detect_dep.Reads as reads
-use Rattle.engine.proofs.session.Session.detect_dep.Lts as lts
-use Rattle.discovery.proofs.search.detect_dep.Reads as detect-dep-reads
-use Rattle.engine.proofs.session.Session.search.Reads as search-reads
 
 detect-dep-requires : tie.Need-detect-dep-requires
 detect-dep-requires c κs = search needs

@@ -4,10 +4,6 @@ use mathlib.Core.Path.{ap, _∙_}
 use Rattle.engine.specs.Sessions.{searchStep}
 use Rattle.engine.proofs.session.Session.detect_type_a.Statement.{statement}
 use Rattle.engine.proofs.session.Session.detect_type_a.Tie as tie
-use Rattle.engine.proofs.session.Session.detect_type_a.Reads as reads
-use Rattle.engine.proofs.session.Session.detect_type_a.Lts as lts
-use Rattle.discovery.proofs.search.detect_type_a.Reads as detect-type-a-reads
-use Rattle.engine.proofs.session.Session.search.Reads as search-reads
 
 detect-type-a-requires : tie.Need-detect-type-a-requires
 detect-type-a-requires c κs = search needs

@@ -4,10 +4,6 @@ use mathlib.Core.Path.{ap, _∙_}
 use Rattle.engine.specs.Sessions.{searchStep}
 use Rattle.engine.proofs.session.Session.detect_type_b.Statement.{statement}
 use Rattle.engine.proofs.session.Session.detect_type_b.Tie as tie
-use Rattle.engine.proofs.session.Session.detect_type_b.Reads as reads
-use Rattle.engine.proofs.session.Session.detect_type_b.Lts as lts
-use Rattle.discovery.proofs.search.detect_type_b.Reads as detect-type-b-reads
-use Rattle.engine.proofs.session.Session.search.Reads as search-reads
 
 detect-type-b-requires : tie.Need-detect-type-b-requires
 detect-type-b-requires c κs = search needs

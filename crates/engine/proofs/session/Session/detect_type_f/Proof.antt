@@ -4,10 +4,6 @@ use mathlib.Core.Path.{ap, _∙_}
 use Rattle.engine.specs.Sessions.{searchStep}
 use Rattle.engine.proofs.session.Session.detect_type_f.Statement.{statement}
 use Rattle.engine.proofs.session.Session.detect_type_f.Tie as tie
-use Rattle.engine.proofs.session.Session.detect_type_f.Reads as reads
-use Rattle.engine.proofs.session.Session.detect_type_f.Lts as lts
-use Rattle.discovery.proofs.search.detect_type_f.Reads as detect-type-f-reads
-use Rattle.engine.proofs.session.Session.search.Reads as search-reads
 
 detect-type-f-requires : tie.Need-detect-type-f-requires
 detect-type-f-requires c κs = search needs

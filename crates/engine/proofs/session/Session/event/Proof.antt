@@ -3,9 +3,6 @@ use mathlib.Core.Path.{ap}
 use Rattle.engine.specs.Sessions.{sessionAfter}
 use Rattle.engine.proofs.session.Session.event.Statement.{statement}
 use Rattle.engine.proofs.session.Session.event.Tie as tie
-use Rattle.engine.proofs.session.Session.event.Reads as reads
-use Rattle.engine.proofs.session.Session.event.Lts as lts
-use Rattle.engine.proofs.state.State.event.Reads as event-reads
 
 slice-aggregate-event : tie.Need-slice-aggregate-event
 slice-aggregate-event c = search needs

@@ -2,9 +2,6 @@
 use borrow.Author.Needs.{needs}
 use Rattle.engine.proofs.session.Session.fresh.Statement.{statement}
 use Rattle.engine.proofs.session.Session.fresh.Tie as tie
-use Rattle.engine.proofs.session.Session.fresh.Reads as reads
-use Rattle.engine.proofs.session.Session.fresh.Lts as lts
-use Rattle.exchange.proofs.Exchange.start.Reads as start-reads
 
 start-requires : tie.Need-start-requires
 start-requires c κs = search needs

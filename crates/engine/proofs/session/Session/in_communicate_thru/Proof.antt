@@ -5,10 +5,6 @@ use mathlib.Core.Path.{ap, _∙_}
 use Rattle.engine.specs.Sessions.{launchStep}
 use Rattle.engine.proofs.session.Session.in_communicate_thru.Statement.{statement}
 use Rattle.engine.proofs.session.Session.in_communicate_thru.Tie as tie
-use Rattle.engine.proofs.session.Session.in_communicate_thru.Reads as reads
-use Rattle.engine.proofs.session.Session.in_communicate_thru.Lts as lts
-use Rattle.chipset.proofs.command.in_communicate_thru.Reads as in-communicate-thru-reads
-use Rattle.engine.proofs.session.Session.call.Reads as call-reads
 
 in-communicate-thru-requires : tie.Need-in-communicate-thru-requires
 in-communicate-thru-requires c κs = search needs

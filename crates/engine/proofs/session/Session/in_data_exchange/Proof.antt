@@ -5,10 +5,6 @@ use mathlib.Core.Path.{ap, _∙_}
 use Rattle.engine.specs.Sessions.{launchStep}
 use Rattle.engine.proofs.session.Session.in_data_exchange.Statement.{statement}
 use Rattle.engine.proofs.session.Session.in_data_exchange.Tie as tie
-use Rattle.engine.proofs.session.Session.in_data_exchange.Reads as reads
-use Rattle.engine.proofs.session.Session.in_data_exchange.Lts as lts
-use Rattle.chipset.proofs.command.in_data_exchange.Reads as in-data-exchange-reads
-use Rattle.engine.proofs.session.Session.call.Reads as call-reads
 
 in-data-exchange-requires : tie.Need-in-data-exchange-requires
 in-data-exchange-requires c κs = search needs

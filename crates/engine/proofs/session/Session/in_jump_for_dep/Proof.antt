@@ -5,10 +5,6 @@ use mathlib.Core.Path.{ap, _∙_}
 use Rattle.engine.specs.Sessions.{launchStep}
 use Rattle.engine.proofs.session.Session.in_jump_for_dep.Statement.{statement}
 use Rattle.engine.proofs.session.Session.in_jump_for_dep.Tie as tie
-use Rattle.engine.proofs.session.Session.in_jump_for_dep.Reads as reads
-use Rattle.engine.proofs.session.Session.in_jump_for_dep.Lts as lts
-use Rattle.chipset.proofs.command.in_jump_for_dep.Reads as in-jump-for-dep-reads
-use Rattle.engine.proofs.session.Session.call.Reads as call-reads
 
 in-jump-for-dep-requires : tie.Need-in-jump-for-dep-requires
 in-jump-for-dep-requires c κs = search needs

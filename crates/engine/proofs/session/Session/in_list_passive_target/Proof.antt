@@ -4,10 +4,6 @@ use mathlib.Core.Path.{ap, _∙_}
 use Rattle.engine.specs.Sessions.{launchStep}
 use Rattle.engine.proofs.session.Session.in_list_passive_target.Statement.{statement}
 use Rattle.engine.proofs.session.Session.in_list_passive_target.Tie as tie
-use Rattle.engine.proofs.session.Session.in_list_passive_target.Reads as reads
-use Rattle.engine.proofs.session.Session.in_list_passive_target.Lts as lts
-use Rattle.chipset.proofs.command.in_list_passive_target.Reads as in-list-passive-target-reads
-use Rattle.engine.proofs.session.Session.call.Reads as call-reads
 
 in-list-passive-target-requires : tie.Need-in-list-passive-target-requires
 in-list-passive-target-requires c κs = search needs

@@ -3,9 +3,6 @@ use mathlib.Core.Path.{ap}
 use Rattle.engine.specs.Sessions.{sessionAfter}
 use Rattle.engine.proofs.session.Session.open.Statement.{statement}
 use Rattle.engine.proofs.session.Session.open.Tie as tie
-use Rattle.engine.proofs.session.Session.open.Reads as reads
-use Rattle.engine.proofs.session.Session.open.Lts as lts
-use Rattle.engine.proofs.state.State.open.Reads as open-reads
 
 open-requires : tie.Need-open-requires
 open-requires c κs = search needs

@@ -5,10 +5,6 @@ use mathlib.Core.Path.{ap, _∙_}
 use Rattle.engine.specs.Sessions.{launchStep}
 use Rattle.engine.proofs.session.Session.read_register.Statement.{statement}
 use Rattle.engine.proofs.session.Session.read_register.Tie as tie
-use Rattle.engine.proofs.session.Session.read_register.Reads as reads
-use Rattle.engine.proofs.session.Session.read_register.Lts as lts
-use Rattle.chipset.proofs.command.read_register.Reads as read-register-reads
-use Rattle.engine.proofs.session.Session.call.Reads as call-reads
 
 read-register-requires : tie.Need-read-register-requires
 read-register-requires c κs = search needs

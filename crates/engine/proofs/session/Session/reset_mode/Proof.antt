@@ -5,10 +5,6 @@ use mathlib.Core.Path.{ap, _∙_}
 use Rattle.engine.specs.Sessions.{launchStep}
 use Rattle.engine.proofs.session.Session.reset_mode.Statement.{statement}
 use Rattle.engine.proofs.session.Session.reset_mode.Tie as tie
-use Rattle.engine.proofs.session.Session.reset_mode.Reads as reads
-use Rattle.engine.proofs.session.Session.reset_mode.Lts as lts
-use Rattle.chipset.proofs.command.reset_mode.Reads as reset-mode-reads
-use Rattle.engine.proofs.session.Session.call.Reads as call-reads
 
 reset-mode-requires : tie.Need-reset-mode-requires
 reset-mode-requires c κs = search needs

@@ -5,10 +5,6 @@ use mathlib.Core.Path.{ap, _∙_}
 use Rattle.engine.specs.Sessions.{launchStep}
 use Rattle.engine.proofs.session.Session.rf_configuration.Statement.{statement}
 use Rattle.engine.proofs.session.Session.rf_configuration.Tie as tie
-use Rattle.engine.proofs.session.Session.rf_configuration.Reads as reads
-use Rattle.engine.proofs.session.Session.rf_configuration.Lts as lts
-use Rattle.chipset.proofs.command.rf_configuration.Reads as rf-configuration-reads
-use Rattle.engine.proofs.session.Session.call.Reads as call-reads
 
 rf-configuration-requires : tie.Need-rf-configuration-requires
 rf-configuration-requires c κs = search needs

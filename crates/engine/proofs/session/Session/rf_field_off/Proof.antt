@@ -5,10 +5,6 @@ use mathlib.Core.Path.{ap, _∙_}
 use Rattle.engine.specs.Sessions.{launchStep}
 use Rattle.engine.proofs.session.Session.rf_field_off.Statement.{statement}
 use Rattle.engine.proofs.session.Session.rf_field_off.Tie as tie
-use Rattle.engine.proofs.session.Session.rf_field_off.Reads as reads
-use Rattle.engine.proofs.session.Session.rf_field_off.Lts as lts
-use Rattle.chipset.proofs.command.rf_field_off.Reads as rf-field-off-reads
-use Rattle.engine.proofs.session.Session.call.Reads as call-reads
 
 rf-field-off-requires : tie.Need-rf-field-off-requires
 rf-field-off-requires c κs = search needs

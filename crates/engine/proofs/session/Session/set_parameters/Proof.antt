@@ -5,10 +5,6 @@ use mathlib.Core.Path.{ap, _∙_}
 use Rattle.engine.specs.Sessions.{launchStep}
 use Rattle.engine.proofs.session.Session.set_parameters.Statement.{statement}
 use Rattle.engine.proofs.session.Session.set_parameters.Tie as tie
-use Rattle.engine.proofs.session.Session.set_parameters.Reads as reads
-use Rattle.engine.proofs.session.Session.set_parameters.Lts as lts
-use Rattle.chipset.proofs.command.set_parameters.Reads as set-parameters-reads
-use Rattle.engine.proofs.session.Session.call.Reads as call-reads
 
 set-parameters-requires : tie.Need-set-parameters-requires
 set-parameters-requires c κs = search needs

@@ -5,10 +5,6 @@ use mathlib.Core.Path.{ap, _∙_}
 use Rattle.engine.specs.Sessions.{launchStep}
 use Rattle.engine.proofs.session.Session.tg_get_initiator_command.Statement.{statement}
 use Rattle.engine.proofs.session.Session.tg_get_initiator_command.Tie as tie
-use Rattle.engine.proofs.session.Session.tg_get_initiator_command.Reads as reads
-use Rattle.engine.proofs.session.Session.tg_get_initiator_command.Lts as lts
-use Rattle.chipset.proofs.command.tg_get_initiator_command.Reads as tg-get-initiator-command-reads
-use Rattle.engine.proofs.session.Session.call.Reads as call-reads
 
 tg-get-initiator-command-requires : tie.Need-tg-get-initiator-command-requires
 tg-get-initiator-command-requires c κs = search needs

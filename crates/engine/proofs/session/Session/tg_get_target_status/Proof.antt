@@ -5,10 +5,6 @@ use mathlib.Core.Path.{ap, _∙_}
 use Rattle.engine.specs.Sessions.{launchStep}
 use Rattle.engine.proofs.session.Session.tg_get_target_status.Statement.{statement}
 use Rattle.engine.proofs.session.Session.tg_get_target_status.Tie as tie
-use Rattle.engine.proofs.session.Session.tg_get_target_status.Reads as reads
-use Rattle.engine.proofs.session.Session.tg_get_target_status.Lts as lts
-use Rattle.chipset.proofs.command.tg_get_target_status.Reads as tg-get-target-status-reads
-use Rattle.engine.proofs.session.Session.call.Reads as call-reads
 
 tg-get-target-status-requires : tie.Need-tg-get-target-status-requires
 tg-get-target-status-requires c κs = search needs

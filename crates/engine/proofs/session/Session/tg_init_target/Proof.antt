@@ -5,10 +5,6 @@ use mathlib.Core.Path.{ap, _∙_}
 use Rattle.engine.specs.Sessions.{launchStep}
 use Rattle.engine.proofs.session.Session.tg_init_target.Statement.{statement}
 use Rattle.engine.proofs.session.Session.tg_init_target.Tie as tie
-use Rattle.engine.proofs.session.Session.tg_init_target.Reads as reads
-use Rattle.engine.proofs.session.Session.tg_init_target.Lts as lts
-use Rattle.chipset.proofs.command.tg_init_target.Reads as tg-init-target-reads
-use Rattle.engine.proofs.session.Session.call.Reads as call-reads
 
 tg-init-target-requires : tie.Need-tg-init-target-requires
 tg-init-target-requires c κs = search needs

@@ -5,10 +5,6 @@ use mathlib.Core.Path.{ap, _∙_}
 use Rattle.engine.specs.Sessions.{launchStep}
 use Rattle.engine.proofs.session.Session.tg_response_to_initiator.Statement.{statement}
 use Rattle.engine.proofs.session.Session.tg_response_to_initiator.Tie as tie
-use Rattle.engine.proofs.session.Session.tg_response_to_initiator.Reads as reads
-use Rattle.engine.proofs.session.Session.tg_response_to_initiator.Lts as lts
-use Rattle.chipset.proofs.command.tg_response_to_initiator.Reads as tg-response-to-initiator-reads
-use Rattle.engine.proofs.session.Session.call.Reads as call-reads
 
 tg-response-to-initiator-requires : tie.Need-tg-response-to-initiator-requires
 tg-response-to-initiator-requires c κs = search needs

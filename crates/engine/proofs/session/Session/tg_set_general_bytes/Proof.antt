@@ -5,10 +5,6 @@ use mathlib.Core.Path.{ap, _∙_}
 use Rattle.engine.specs.Sessions.{launchStep}
 use Rattle.engine.proofs.session.Session.tg_set_general_bytes.Statement.{statement}
 use Rattle.engine.proofs.session.Session.tg_set_general_bytes.Tie as tie
-use Rattle.engine.proofs.session.Session.tg_set_general_bytes.Reads as reads
-use Rattle.engine.proofs.session.Session.tg_set_general_bytes.Lts as lts
-use Rattle.chipset.proofs.command.tg_set_general_bytes.Reads as tg-set-general-bytes-reads
-use Rattle.engine.proofs.session.Session.call.Reads as call-reads
 
 tg-set-general-bytes-requires : tie.Need-tg-set-general-bytes-requires
 tg-set-general-bytes-requires c κs = search needs

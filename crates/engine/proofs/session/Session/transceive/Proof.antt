@@ -4,10 +4,6 @@ use mathlib.Core.Path.{ap, _∙_}
 use Rattle.engine.specs.Sessions.{searchStep}
 use Rattle.engine.proofs.session.Session.transceive.Statement.{statement}
 use Rattle.engine.proofs.session.Session.transceive.Tie as tie
-use Rattle.engine.proofs.session.Session.transceive.Reads as reads
-use Rattle.engine.proofs.session.Session.transceive.Lts as lts
-use Rattle.discovery.proofs.search.transceive.Reads as transceive-reads
-use Rattle.engine.proofs.session.Session.search.Reads as search-reads
 
 transceive-requires : tie.Need-transceive-requires
 transceive-requires c κs = search needs

@@ -5,10 +5,6 @@ use mathlib.Core.Path.{ap, _∙_}
 use Rattle.engine.specs.Sessions.{launchStep}
 use Rattle.engine.proofs.session.Session.version.Statement.{statement}
 use Rattle.engine.proofs.session.Session.version.Tie as tie
-use Rattle.engine.proofs.session.Session.version.Reads as reads
-use Rattle.engine.proofs.session.Session.version.Lts as lts
-use Rattle.chipset.proofs.command.get_firmware_version.Reads as get-firmware-version-reads
-use Rattle.engine.proofs.session.Session.call.Reads as call-reads
 
 get-firmware-version-requires : tie.Need-get-firmware-version-requires
 get-firmware-version-requires c κs = search needs

@@ -5,10 +5,6 @@ use mathlib.Core.Path.{ap, _∙_}
 use Rattle.engine.specs.Sessions.{launchStep}
 use Rattle.engine.proofs.session.Session.write_register.Statement.{statement}
 use Rattle.engine.proofs.session.Session.write_register.Tie as tie
-use Rattle.engine.proofs.session.Session.write_register.Reads as reads
-use Rattle.engine.proofs.session.Session.write_register.Lts as lts
-use Rattle.chipset.proofs.command.write_register.Reads as write-register-reads
-use Rattle.engine.proofs.session.Session.call.Reads as call-reads
 
 write-register-requires : tie.Need-write-register-requires
 write-register-requires c κs = search needs

@@ -5,10 +5,6 @@ use mathlib.Core.Path.{ap, _∙_}
 use Rattle.engine.specs.Sessions.{launchStep}
 use Rattle.engine.proofs.session.Session.write_single_register.Statement.{statement}
 use Rattle.engine.proofs.session.Session.write_single_register.Tie as tie
-use Rattle.engine.proofs.session.Session.write_single_register.Reads as reads
-use Rattle.engine.proofs.session.Session.write_single_register.Lts as lts
-use Rattle.chipset.proofs.command.write_single_register.Reads as write-single-register-reads
-use Rattle.engine.proofs.session.Session.call.Reads as call-reads
 
 write-single-register-requires : tie.Need-write-single-register-requires
 write-single-register-requires c κs = search needs

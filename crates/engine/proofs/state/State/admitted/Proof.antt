@@ -8,12 +8,6 @@ use Rattle.engine.specs.Moves.{packetLength}
 use Rattle.engine.specs.Sessions.{admittedOf, isLong}
 use Rattle.engine.proofs.state.State.admitted.Statement.{statement}
 use Rattle.engine.proofs.state.State.admitted.Tie as tie
-use Rattle.engine.proofs.state.State.admitted.Reads as reads
-use Rattle.engine.proofs.state.State.admitted.Lts as lts
-use Rattle.engine.proofs.call.Move.fits.Reads as fits-reads
-use Rattle.engine.proofs.state.State.moved.Reads as moved-reads
-use Rattle.engine.proofs.state.State.refused.Reads as refused-reads
-use Rattle.engine.proofs.state.is_long.Reads as is-long-reads
 
 fits-requires : tie.Need-fits-requires
 fits-requires c κs = search needs

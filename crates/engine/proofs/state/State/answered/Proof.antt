@@ -10,11 +10,6 @@ use Rattle.engine.specs.Laws.{done-copied}
 use Rattle.engine.specs.Sessions.{doneOf}
 use Rattle.engine.proofs.state.State.answered.Statement.{statement}
 use Rattle.engine.proofs.state.State.answered.Tie as tie
-use Rattle.engine.proofs.state.State.answered.Reads as reads
-use Rattle.engine.proofs.state.State.answered.Lts as lts
-use Rattle.engine.proofs.state.State.ended.Reads as ended-reads
-use Rattle.engine.proofs.state.part_of.Reads as part-of-reads
-use Rattle.engine.proofs.state.put_both.Reads as put-both-reads
 
 part-of-requires : tie.Need-part-of-requires
 part-of-requires c κs = search needs

@@ -13,10 +13,6 @@ use Rattle.engine.specs.Laws.{done-copied, type1-copied}
 use Rattle.engine.specs.Sessions.{answersOf, arrangedFrom}
 use Rattle.engine.proofs.state.State.arranged.Statement.{statement}
 use Rattle.engine.proofs.state.State.arranged.Tie as tie
-use Rattle.engine.proofs.state.State.arranged.Reads as reads
-use Rattle.engine.proofs.state.State.arranged.Lts as lts
-use Rattle.engine.proofs.state.State.ended.Reads as ended-reads
-use Rattle.engine.proofs.state.put_both.Reads as put-both-reads
 
 array-share-prefix-head : tie.Need-array-share-prefix-head
 array-share-prefix-head c = c .before .before .before .pre .0

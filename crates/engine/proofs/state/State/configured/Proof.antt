@@ -9,11 +9,6 @@ use Rattle.engine.specs.Laws.{copied-start}
 use Rattle.engine.specs.Sessions.{lastOf}
 use Rattle.engine.proofs.state.State.configured.Statement.{statement}
 use Rattle.engine.proofs.state.State.configured.Tie as tie
-use Rattle.engine.proofs.state.State.configured.Reads as reads
-use Rattle.engine.proofs.state.State.configured.Lts as lts
-use Rattle.bytes.proofs.copy.Reads as copy-reads
-use Rattle.chipset.proofs.response.any_nonzero.Reads as any-nonzero-reads
-use Rattle.engine.proofs.state.State.ended.Reads as ended-reads
 
 any-nonzero-requires : tie.Need-any-nonzero-requires
 any-nonzero-requires c κs = search needs

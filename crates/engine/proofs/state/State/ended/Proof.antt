@@ -2,9 +2,6 @@ use borrow.Author.Needs.{needs}
 use Rattle.engine.specs.Laws.{ended-opening, ended-other}
 use Rattle.engine.proofs.state.State.ended.Statement.{statement}
 use Rattle.engine.proofs.state.State.ended.Tie as tie
-use Rattle.engine.proofs.state.State.ended.Reads as reads
-use Rattle.engine.proofs.state.State.ended.Lts as lts
-use Rattle.engine.proofs.state.State.idle.Reads as idle-reads
 
 idle-requires : tie.Need-idle-requires
 idle-requires c κs = search needs

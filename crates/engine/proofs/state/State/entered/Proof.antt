@@ -9,11 +9,6 @@ use Rattle.framing.specs.Rules.{at-true, at-false}
 use Rattle.engine.specs.Sessions.{held, planOf, sendsOf, entersOf}
 use Rattle.engine.proofs.state.State.entered.Statement.{statement}
 use Rattle.engine.proofs.state.State.entered.Tie as tie
-use Rattle.engine.proofs.state.State.entered.Reads as reads
-use Rattle.engine.proofs.state.State.entered.Lts as lts
-use Rattle.engine.proofs.device.opening.Reads as opening-reads
-use Rattle.engine.proofs.state.State.searched.Reads as searched-reads
-use Rattle.engine.proofs.state.State.sent.Reads as sent-reads
 
 opening-requires : tie.Need-opening-requires
 opening-requires c κs = search needs

@@ -10,12 +10,6 @@ use Rattle.engine.specs.Exchanges.{reply-short}
 use Rattle.engine.specs.Sessions.{eventAfter}
 use Rattle.engine.proofs.state.State.event.Statement.{statement}
 use Rattle.engine.proofs.state.State.event.Tie as tie
-use Rattle.engine.proofs.state.State.event.Reads as reads
-use Rattle.engine.proofs.state.State.event.Lts as lts
-use Rattle.engine.proofs.call.Call.moved.Reads as moved-reads
-use Rattle.engine.proofs.state.State.admitted.Reads as admitted-reads
-use Rattle.engine.proofs.state.State.is_valid.Reads as is-valid-reads
-use Rattle.engine.proofs.state.State.refused.Reads as refused-reads
 
 is-valid-requires : tie.Need-is-valid-requires
 is-valid-requires c κs = search needs

@@ -7,11 +7,6 @@ use Rattle.framing.specs.Rules.{at-true, at-false}
 use Rattle.engine.specs.Sessions.{held, followsOf, failsOf}
 use Rattle.engine.proofs.state.State.failed.Statement.{statement}
 use Rattle.engine.proofs.state.State.failed.Tie as tie
-use Rattle.engine.proofs.state.State.failed.Reads as reads
-use Rattle.engine.proofs.state.State.failed.Lts as lts
-use Rattle.discovery.proofs.decision.failed.Reads as failed-reads
-use Rattle.engine.proofs.state.State.ended.Reads as ended-reads
-use Rattle.engine.proofs.state.State.followed.Reads as followed-reads
 
 ended-requires : tie.Need-ended-requires
 ended-requires c κs = search needs

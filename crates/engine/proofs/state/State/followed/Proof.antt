@@ -6,16 +6,6 @@ use Rattle.exchange.specs.Exchange.{pause}
 use lib.ListN.{take}
 use Rattle.engine.proofs.state.State.followed.Statement.{statement}
 use Rattle.engine.proofs.state.State.followed.Tie as tie
-use Rattle.engine.proofs.state.State.followed.Reads as reads
-use Rattle.engine.proofs.state.State.followed.Lts as lts
-use Rattle.engine.proofs.call.Call.at.Reads as at-reads
-use Rattle.engine.proofs.call.Call.to_stage.Reads as to-stage-reads
-use Rattle.engine.proofs.state.State.ended.Reads as ended-reads
-use Rattle.engine.proofs.state.State.entered.Reads as entered-reads
-use Rattle.engine.proofs.state.State.found_card.Reads as found-card-reads
-use Rattle.engine.proofs.state.State.kept.Reads as kept-reads
-use Rattle.engine.proofs.state.State.ordered.Reads as ordered-reads
-use Rattle.engine.proofs.state.State.set.Reads as set-reads
 
 enum-known-decision : tie.Need-enum-known-decision
 enum-known-decision c = search needs

@@ -12,9 +12,6 @@ use Rattle.errors.specs.Choice.{pick}
 use Rattle.engine.specs.Laws.{arranged-room}
 use Rattle.engine.proofs.state.State.found_card.Statement.{statement}
 use Rattle.engine.proofs.state.State.found_card.Tie as tie
-use Rattle.engine.proofs.state.State.found_card.Reads as reads
-use Rattle.engine.proofs.state.State.found_card.Lts as lts
-use Rattle.engine.proofs.state.State.arranged.Reads as arranged-reads
 
 slice-aggregate-arranged : tie.Need-slice-aggregate-arranged
 slice-aggregate-arranged c = sym (length-take-le (c .before .before .before .before .before .args .self .found) (c .before .before .before .before .before .args .found .now) (omega (arith, c .before .before .before .before .before .pre .1, c .before .before .before .before .before .pre .2)))

@@ -3,9 +3,6 @@ use Rattle.framing.specs.Rules.{steps}
 use borrow.Author.Needs.{needs}
 use Rattle.engine.proofs.state.State.is_free.Statement.{statement}
 use Rattle.engine.proofs.state.State.is_free.Tie as tie
-use Rattle.engine.proofs.state.State.is_free.Reads as reads
-use Rattle.engine.proofs.state.State.is_free.Lts as lts
-use Rattle.engine.proofs.state.State.is_valid.Reads as is-valid-reads
 
 is-valid-requires : tie.Need-is-valid-requires
 is-valid-requires c κs = search needs

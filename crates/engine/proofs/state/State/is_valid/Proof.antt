@@ -4,9 +4,6 @@ use Rattle.engine.specs.Sessions.{isValid}
 use borrow.Author.Needs.{needs}
 use Rattle.engine.proofs.state.State.is_valid.Statement.{statement}
 use Rattle.engine.proofs.state.State.is_valid.Tie as tie
-use Rattle.engine.proofs.state.State.is_valid.Reads as reads
-use Rattle.engine.proofs.state.State.is_valid.Lts as lts
-use Rattle.engine.proofs.call.Call.is_valid.Reads as is-valid-reads
 
 returns : tie.Need-returns
 unfolding isValid

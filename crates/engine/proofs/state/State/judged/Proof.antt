@@ -4,11 +4,6 @@ use Rattle.chipset.specs.Answers.{verdictIn, Fits}
 use Rattle.engine.specs.Sessions.{answersOf, judgedOf}
 use Rattle.engine.proofs.state.State.judged.Statement.{statement}
 use Rattle.engine.proofs.state.State.judged.Tie as tie
-use Rattle.engine.proofs.state.State.judged.Reads as reads
-use Rattle.engine.proofs.state.State.judged.Lts as lts
-use Rattle.chipset.proofs.response.judged.Reads as judged-reads
-use Rattle.engine.proofs.state.State.answered.Reads as answered-reads
-use Rattle.engine.proofs.state.State.ended.Reads as ended-reads
 
 judged-requires : tie.Need-judged-requires
 judged-requires c κs = search needs

@@ -8,12 +8,6 @@ use Rattle.engine.specs.Laws.{copied-start}
 use Rattle.engine.specs.Sessions.{held, withFound, entersOf, followsOf}
 use Rattle.engine.proofs.state.State.kept.Statement.{statement}
 use Rattle.engine.proofs.state.State.kept.Tie as tie
-use Rattle.engine.proofs.state.State.kept.Reads as reads
-use Rattle.engine.proofs.state.State.kept.Lts as lts
-use Rattle.bytes.proofs.copy.Reads as copy-reads
-use Rattle.engine.proofs.call.Call.to_stage.Reads as to-stage-reads
-use Rattle.engine.proofs.state.State.entered.Reads as entered-reads
-use Rattle.engine.proofs.state.State.with_found.Reads as with-found-reads
 
 copy-requires : tie.Need-copy-requires
 copy-requires c κs = omega (arith, c .before .before .before .before .before .before .pre .0, c .before .before .before .before .before .before .pre .3)

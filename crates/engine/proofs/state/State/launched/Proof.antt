@@ -5,11 +5,6 @@ use Rattle.framing.specs.Rules.{at-true, at-false}
 use Rattle.engine.specs.Sessions.{launchAfter}
 use Rattle.engine.proofs.state.State.launched.Statement.{statement}
 use Rattle.engine.proofs.state.State.launched.Tie as tie
-use Rattle.engine.proofs.state.State.launched.Reads as reads
-use Rattle.engine.proofs.state.State.launched.Lts as lts
-use Rattle.engine.proofs.state.State.is_free.Reads as is-free-reads
-use Rattle.engine.proofs.state.State.refused.Reads as refused-reads
-use Rattle.engine.proofs.state.State.sent_by.Reads as sent-by-reads
 
 is-free-requires : tie.Need-is-free-requires
 is-free-requires c κs = search needs

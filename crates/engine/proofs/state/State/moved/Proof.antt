@@ -6,15 +6,6 @@ use Rattle.engine.specs.Moves.{moveIn, replyLength}
 use Rattle.engine.specs.Sessions.{movedOf}
 use Rattle.engine.proofs.state.State.moved.Statement.{statement}
 use Rattle.engine.proofs.state.State.moved.Tie as tie
-use Rattle.engine.proofs.state.State.moved.Reads as reads
-use Rattle.engine.proofs.state.State.moved.Lts as lts
-use Rattle.engine.proofs.state.State.ended.Reads as ended-reads
-use Rattle.engine.proofs.state.State.entered.Reads as entered-reads
-use Rattle.engine.proofs.state.State.failed.Reads as failed-reads
-use Rattle.engine.proofs.state.State.ordered.Reads as ordered-reads
-use Rattle.engine.proofs.state.State.refused.Reads as refused-reads
-use Rattle.engine.proofs.state.State.replied.Reads as replied-reads
-use Rattle.engine.proofs.state.part_of.Reads as part-of-reads
 
 enum-told : tie.Need-enum-told
 enum-told c = search needs

@@ -5,12 +5,6 @@ use Rattle.framing.specs.Rules.{at-true, at-false}
 use Rattle.engine.specs.Sessions.{openAfter}
 use Rattle.engine.proofs.state.State.open.Statement.{statement}
 use Rattle.engine.proofs.state.State.open.Tie as tie
-use Rattle.engine.proofs.state.State.open.Reads as reads
-use Rattle.engine.proofs.state.State.open.Lts as lts
-use Rattle.engine.proofs.state.State.is_free.Reads as is-free-reads
-use Rattle.engine.proofs.state.State.ordered.Reads as ordered-reads
-use Rattle.engine.proofs.state.State.refused.Reads as refused-reads
-use Rattle.engine.proofs.state.State.uncounted.Reads as uncounted-reads
 
 is-free-requires : tie.Need-is-free-requires
 is-free-requires c κs = search needs

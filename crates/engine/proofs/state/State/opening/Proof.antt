@@ -5,13 +5,6 @@ use Rattle.framing.specs.Rules.{at-true, at-false}
 use Rattle.engine.specs.Sessions.{held, openingOf, lastOf, entersOf}
 use Rattle.engine.proofs.state.State.opening.Statement.{statement}
 use Rattle.engine.proofs.state.State.opening.Tie as tie
-use Rattle.engine.proofs.state.State.opening.Reads as reads
-use Rattle.engine.proofs.state.State.opening.Lts as lts
-use Rattle.engine.proofs.call.Call.following.Reads as following-reads
-use Rattle.engine.proofs.device.opened.Reads as opened-reads
-use Rattle.engine.proofs.state.State.configured.Reads as configured-reads
-use Rattle.engine.proofs.state.State.entered.Reads as entered-reads
-use Rattle.engine.proofs.state.State.versioned.Reads as versioned-reads
 
 versioned-requires : tie.Need-versioned-requires
 versioned-requires c κs = c .before .before .before .before .before .before .before .before .before .pre

@@ -1,10 +1,6 @@
 use borrow.Author.Needs.{needs}
 use Rattle.engine.proofs.state.State.ordered.Statement.{statement}
 use Rattle.engine.proofs.state.State.ordered.Tie as tie
-use Rattle.engine.proofs.state.State.ordered.Reads as reads
-use Rattle.engine.proofs.state.State.ordered.Lts as lts
-use Rattle.bytes.proofs.copy.Reads as copy-reads
-use Rattle.engine.proofs.state.State.running.Reads as running-reads
 
 running-requires : tie.Need-running-requires
 running-requires c κs = search needs

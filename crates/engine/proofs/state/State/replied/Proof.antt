@@ -7,12 +7,6 @@ use Rattle.framing.specs.Rules.{at-true, at-false}
 use Rattle.engine.specs.Sessions.{held, followsOf, repliesOf}
 use Rattle.engine.proofs.state.State.replied.Statement.{statement}
 use Rattle.engine.proofs.state.State.replied.Tie as tie
-use Rattle.engine.proofs.state.State.replied.Reads as reads
-use Rattle.engine.proofs.state.State.replied.Lts as lts
-use Rattle.discovery.proofs.decision.decided.Reads as decided-reads
-use Rattle.engine.proofs.state.State.followed.Reads as followed-reads
-use Rattle.engine.proofs.state.State.judged.Reads as judged-reads
-use Rattle.engine.proofs.state.State.opening.Reads as opening-reads
 
 opening-requires : tie.Need-opening-requires
 opening-requires c κs = (c .before .before .before .before .before .before .before .before .before .before .pre .0, c .before .before .before .before .before .before .before .before .before .before .pre .2, c .before .before .before .before .before .before .before .before .before .before .pre .3, c .before .before .before .before .before .before .before .before .before .before .pre .4, c .before .before .before .before .before .before .before .before .before .before .pre .5, c .before .before .before .before .before .before .before .before .before .before .pre .6)

@@ -9,10 +9,6 @@ use Rattle.chipset.specs.Launches.{cmd}
 use Rattle.engine.specs.Sessions.{held, sendsOf}
 use Rattle.engine.proofs.state.State.searched.Statement.{statement}
 use Rattle.engine.proofs.state.State.searched.Tie as tie
-use Rattle.engine.proofs.state.State.searched.Reads as reads
-use Rattle.engine.proofs.state.State.searched.Lts as lts
-use Rattle.discovery.proofs.decision.command.Reads as command-reads
-use Rattle.engine.proofs.state.State.sent.Reads as sent-reads
 
 command-requires : tie.Need-command-requires
 command-requires c κs = search needs

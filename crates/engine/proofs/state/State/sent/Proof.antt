@@ -2,11 +2,6 @@ use borrow.Author.Needs.{needs}
 use Rattle.engine.specs.Laws.{sent-is}
 use Rattle.engine.proofs.state.State.sent.Statement.{statement}
 use Rattle.engine.proofs.state.State.sent.Tie as tie
-use Rattle.engine.proofs.state.State.sent.Reads as reads
-use Rattle.engine.proofs.state.State.sent.Lts as lts
-use Rattle.engine.proofs.state.framed.Reads as framed-reads
-use Rattle.engine.proofs.state.one_more.Reads as one-more-reads
-use Rattle.exchange.proofs.Exchange.start.Reads as start-reads
 
 framed-requires : tie.Need-framed-requires
 framed-requires c κs = search needs

@@ -9,12 +9,6 @@ use Rattle.engine.specs.Laws.{copied-start}
 use Rattle.engine.specs.Sessions.{held, withCommand, sendsOf, launchOn}
 use Rattle.engine.proofs.state.State.sent_by.Statement.{statement}
 use Rattle.engine.proofs.state.State.sent_by.Tie as tie
-use Rattle.engine.proofs.state.State.sent_by.Reads as reads
-use Rattle.engine.proofs.state.State.sent_by.Lts as lts
-use Rattle.bytes.proofs.copy.Reads as copy-reads
-use Rattle.engine.proofs.state.State.refused.Reads as refused-reads
-use Rattle.engine.proofs.state.State.sent.Reads as sent-reads
-use Rattle.engine.proofs.state.State.with_command.Reads as with-command-reads
 
 enum-known-launch : tie.Need-enum-known-launch
 enum-known-launch c = search needs

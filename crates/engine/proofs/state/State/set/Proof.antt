@@ -9,12 +9,6 @@ use Rattle.engine.specs.Laws.{copied-start}
 use Rattle.engine.specs.Sessions.{held, entersOf, followsOf}
 use Rattle.engine.proofs.state.State.set.Statement.{statement}
 use Rattle.engine.proofs.state.State.set.Tie as tie
-use Rattle.engine.proofs.state.State.set.Reads as reads
-use Rattle.engine.proofs.state.State.set.Lts as lts
-use Rattle.bytes.proofs.copy.Reads as copy-reads
-use Rattle.engine.proofs.call.Call.to_stage.Reads as to-stage-reads
-use Rattle.engine.proofs.state.State.entered.Reads as entered-reads
-use Rattle.engine.proofs.state.State.with_command.Reads as with-command-reads
 
 slice-aggregate-copy : tie.Need-slice-aggregate-copy
 slice-aggregate-copy c = search needs

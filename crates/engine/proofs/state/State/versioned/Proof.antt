@@ -12,13 +12,6 @@ use Rattle.engine.specs.Laws.{copied-start}
 use Rattle.engine.specs.Sessions.{held, entersOf, versionOf}
 use Rattle.engine.proofs.state.State.versioned.Statement.{statement}
 use Rattle.engine.proofs.state.State.versioned.Tie as tie
-use Rattle.engine.proofs.state.State.versioned.Reads as reads
-use Rattle.engine.proofs.state.State.versioned.Lts as lts
-use Rattle.bytes.proofs.copy.Reads as copy-reads
-use Rattle.engine.proofs.call.Call.following.Reads as following-reads
-use Rattle.engine.proofs.state.State.ended.Reads as ended-reads
-use Rattle.engine.proofs.state.State.entered.Reads as entered-reads
-use Rattle.engine.proofs.state.State.with_found.Reads as with-found-reads
 
 ended-requires : tie.Need-ended-requires
 ended-requires c κs = search needs
