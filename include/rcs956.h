@@ -30,9 +30,9 @@
  *
  * The session. Each reader has one, made by rcs956_fresh and kept by the host for the reader's life; it is handed to each call and
  * event of that reader, by one thread at a time. Any number of sessions may be in use side by side. A session is plain memory: it
- * may be moved or copied between calls, and needs no end. Zeroed memory is a fresh session. Other contents are allowed as well, as
- * long as `opened` is 0 or 1: a session with a field out of range gets refusal 1. `opened` and `frames` may be read; the other
- * fields are the engine's own.
+ * may be moved or copied between calls, and needs no end. Zeroed memory is a fresh session. Any other bytes are allowed as well: a
+ * session with a field out of range gets refusal 1, and any other is served. `state.books.opened` and `state.books.frames` may be
+ * read; the other fields are the engine's own.
  *
  * Memory. No function keeps a pointer or allocates, and none has a state but the session. The caller sees to it that, for the time
  * of a call,
@@ -134,12 +134,22 @@ typedef struct rcs956_call_state {
     uint8_t kind, stage, phase;
 } rcs956_call_state;
 
-typedef struct rcs956_state {
-    size_t command, found; /* the bytes in use of the two arrays */
+/* The numbers of the running call. */
+typedef struct rcs956_core {
+    size_t command, found; /* the bytes in use of the session's two arrays */
     rcs956_exchange_state exchange;
     rcs956_call_state call;
-    bool opened;     /* the reader is open */
+} rcs956_core;
+
+/* The reader's books. An opening that is accepted begins them anew: both are 0. */
+typedef struct rcs956_books {
+    uint8_t opened;  /* 1 where the reader is open, else 0, also while an opening runs; any other value is out of range */
     uint32_t frames; /* command frames ordered since the last opening began, stopping at 4,294,967,295 */
+} rcs956_books;
+
+typedef struct rcs956_state {
+    rcs956_core core;
+    rcs956_books books;
 } rcs956_state;
 
 /* One reader's session. */
@@ -159,19 +169,21 @@ typedef struct rcs956_outcome {
 } rcs956_outcome;
 
 /* The layout that the archive has. An array of -1 elements is an error. */
-typedef char rcs956_session_has_1568_bytes[sizeof(rcs956_session) == 1568 ? 1 : -1];
+typedef char rcs956_session_has_1576_bytes[sizeof(rcs956_session) == 1576 ? 1 : -1];
 typedef char rcs956_session_state_is_at_1536[offsetof(rcs956_session, state) == 1536 ? 1 : -1];
-typedef char rcs956_state_call_is_at_24[offsetof(rcs956_state, call) == 24 ? 1 : -1];
-typedef char rcs956_state_frames_is_at_28[offsetof(rcs956_state, frames) == 28 ? 1 : -1];
-typedef char rcs956_outcome_has_16_bytes[sizeof(rcs956_outcome) == 16 && sizeof(bool) == 1 ? 1 : -1];
+typedef char rcs956_state_books_is_at_32[offsetof(rcs956_state, books) == 32 ? 1 : -1];
+typedef char rcs956_core_exchange_is_at_16[offsetof(rcs956_core, exchange) == 16 ? 1 : -1];
+typedef char rcs956_core_call_is_at_24[offsetof(rcs956_core, call) == 24 ? 1 : -1];
+typedef char rcs956_books_frames_is_at_4[offsetof(rcs956_books, frames) == 4 ? 1 : -1];
+typedef char rcs956_outcome_has_16_bytes[sizeof(rcs956_outcome) == 16 ? 1 : -1];
 
 /* A session in which no call runs, of a reader that is not open. */
 rcs956_session rcs956_fresh(void);
 
 /*
  * Returns what came of the order. The packet's bytes count with RCS956_EVENT_PACKET alone.
- * Refuses, in this order: 1 where the event does not fit or has no such number, 2 where the buffer is short, 3 where the packet is
- * over-long. Other refusals end the call.
+ * Refuses, in this order: 1 where the session is out of range, the event does not fit or has no such number, 2 where the buffer is
+ * short, 3 where the packet is over-long. Other refusals end the call.
  */
 rcs956_outcome rcs956_event(rcs956_session *session, uint8_t number, const uint8_t *packet, size_t packet_len, uint8_t *buffer,
                             size_t buffer_len);

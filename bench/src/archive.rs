@@ -71,11 +71,21 @@ pub struct Session {
 
 #[repr(C)]
 struct State {
+    core: Core,
+    books: Books,
+}
+
+#[repr(C)]
+struct Core {
     command: usize,
     found: usize,
     exchange: Exchange,
     call: Call,
-    opened: bool,
+}
+
+#[repr(C)]
+struct Books {
+    opened: u8,
     frames: u32,
 }
 

@@ -1,2 +1,3 @@
 mod AnswerLaws
 mod CodecLaws
+mod NextLaws

@@ -224,3 +224,7 @@ module _ (w b o : List ℕ) (r : Put) (room : length w / 2 ≤ length b) (told :
       go true h =
           let z : _≡_ {A = ℕ} 0 1 = cc (ap (λ l. l .told) (read-by true h), ap outcome q) in
           absurd (omega arith)
+
+  pub not-put : (e : Refusal) → r ≡ Refused e → o ≡ b
+  unfolding pick
+  not-put e q = ap (λ l. l .buffer) (read-by false (not-read e q))

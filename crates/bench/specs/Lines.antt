@@ -1,36 +1,92 @@
 -- A line that is put together from the parts in which it is read.
-use mathlib.Core.List.{List}
-use Prim.Native.Nat.{ℕ, _+_, _-_}
+use mathlib.Core.Path.{_≡_}
+use mathlib.Core.Bool.{Bool, false}
+use mathlib.Core.List.{List, [], _∷_, _++_}
+use mathlib.Core.Logic.{_⊎_}
+use Prim.Native.Nat.{ℕ, _+_, _≤_, _<_}
 use lib.Dec.{eqb, ltb}
-use lib.ListN.{length}
+use lib.ListN.{length, take, drop}
+use lib.Seq.{slice}
 use Rattle.errors.specs.Choice.{pick}
-use Rattle.bench.specs.Texts.{over, Placed, placed}
+use Rattle.bytes.specs.Bytes.{indexOf}
 use Rattle.bench.specs.declared.lines.Given.{Given}
 use Rattle.bench.specs.declared.lines.Held.{Held}
 use Rattle.bench.specs.declared.lines.Line.{Line}
 use Rattle.bench.specs.declared.lines.Line.the-variants.{Text, OverLong, End}
 
--- a part behind the n bytes of a line; a line that the buffer does not hold has a length above the buffer's
-unfoldable pub addOf : List ℕ → ℕ → List ℕ → Placed
-addOf part n b =
-    pick (ltb (length b) n) (placed n b)
-    (pick (ltb (length b - n) (length part)) (placed (length b + 1) b)
-    (placed (n + length part) (over n part b)))
+abbrev pub feed : ℕ
+feed = 10
+
+-- how many bytes stand before the first line feed: all of them where there is none
+abbrev pub beforeFeed : List ℕ → ℕ
+beforeFeed b = indexOf feed b
+
+abbrev pub NoFeed : List ℕ → Type 0
+NoFeed b = beforeFeed b ≡ length b
+
+-- a line's buffer l with the text at its start, as much of it as the buffer takes
+unfoldable pub begin : List ℕ → List ℕ → List ℕ
+begin text l = take (length l) text ++ drop (length text) l
+
+-- n counts k bytes for a buffer of r: it is k, or r + 1 where the buffer does not take them
+abbrev pub Counted : ℕ → ℕ → ℕ → Type 0
+Counted n k r = ((n ≡ k) × (k ≤ r)) ⊎ ((n ≡ r + 1) × (r < k))
+
+-- the text was put into a line's buffer l, which became m, and n counts it
+pub record Begun (text l : List ℕ) (n : ℕ) (m : List ℕ) : Type 0 where
+  pub count : Counted n (length text) (length l)
+  pub put : m ≡ begin text l
 
 -- what is told of a line of n bytes
 unfoldable pub toldOf : ℕ → List ℕ → Line
-toldOf n b = pick (ltb (length b) n) OverLong (Text n)
+toldOf n l = pick (ltb (length l) n) OverLong (Text n)
+
+-- what is told of the last n bytes of the input
+unfoldable pub endOf : ℕ → List ℕ → Line
+endOf n l = pick (eqb n 0) End (toldOf n l)
 
 abbrev pub nothing : Held
 nothing = record { from = 0; to = 0 }
 
--- what is held of a buffer of n bytes
+abbrev pub lastOf : ℕ → List ℕ → Given
+lastOf n l = record { line = endOf n l; held = nothing }
+
+-- what is held of a buffer of n bytes: nothing where the places are none of the buffer's
 unfoldable pub heldOf : Held → ℕ → Held
 heldOf h n = pick (ltb n (h .to)) nothing (pick (ltb (h .to) (h .from)) nothing h)
 
--- what is told of the last n bytes of the input
-unfoldable pub lastOf : ℕ → List ℕ → Given
-lastOf n b = pick (eqb n 0) (record { line = End; held = nothing }) (record { line = toldOf n b; held = nothing })
+-- the bytes that are held of the buffer b
+unfoldable pub heldIn : Held → List ℕ → List ℕ
+heldIn h b = slice (heldOf h (length b) .from) (heldOf h (length b) .to) b
+
+-- what is given, the buffer and the line's buffer after it
+pub record Next : Type 0 where
+  pub given : Given
+  pub buffer : List ℕ
+  pub line : List ℕ
+
+abbrev pub nextOf : Given → List ℕ → List ℕ → Next
+nextOf g b l = record { given = g; buffer = b; line = l }
+
+-- the line that is held in the buffer b, up to its line feed
+unfoldable pub heldLine : Held → List ℕ → List ℕ → Next
+heldLine h b l =
+    let n : ℕ = beforeFeed (heldIn h b) in
+    let behind : Held = record { from = heldOf h (length b) .from + n + 1; to = heldOf h (length b) .to } in
+    nextOf (record { line = toldOf n l; held = behind }) b (begin (take n (heldIn h b)) l)
+
+-- Of the bytes held and those that came from the input none is lost, and none made up: they are the text of the line, the line
+-- feed where one ended it, and what is held afterwards. t is told of the line, and its buffer l became m.
+pub record Gave (held l : List ℕ) (t : Line) (m after : List ℕ) : Type 0 where
+  pub came : List ℕ
+  pub text : List ℕ
+  pub fed : Bool
+  pub all : held ++ came ≡ text ++ (pick fed (feed ∷ []) [] ++ after)
+  -- the first line feed ends the line; without one, all bytes are the line's, and no byte is no line
+  pub first : NoFeed text
+  pub last : fed ≡ false → after ≡ []
+  pub told : t ≡ pick fed (toldOf (length text) l) (endOf (length text) l)
+  pub put : m ≡ begin text l
 
 abbrev pub lengthOf : Line → ℕ
 lengthOf (Text n) = n

@@ -297,7 +297,8 @@ fn reply(told: Line, line: &[u8], out: &mut [u8; OUT]) -> usize
     }
 }
 
-// Answers standard input line by line on standard output.
+// Answers standard input line by line on standard output. No contract can say what is read or written: `lines::next` fixes each
+// line by the bytes that come, and `reply` the text that is written for it.
 pub fn run() {
     let mut buffer = io::large_buffer();
     let mut line = [0u8; LINE];

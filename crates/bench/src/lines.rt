@@ -1,10 +1,12 @@
 // The lines of standard input, one after the other.
+use super::text;
 use libc::STDIN_FILENO;
 ghost use mathlib.Core.Path.{_≡_};
-ghost use Prim.Native.Nat.{_≤_};
+ghost use mathlib.Core.List.{List, _++_};
+ghost use Prim.Native.Nat.{ℕ, _<_};
 ghost use lib.ListN.{length};
-ghost use Rattle.bench.specs.Texts.{placed};
-ghost use Rattle.bench.specs.Lines.{addOf, toldOf, heldOf, lastOf, lengthOf, nothing as nothingHeld};
+ghost use Rattle.io.specs.Counts.{Counts};
+ghost use Rattle.bench.specs.Lines.{Begun, NoFeed, beforeFeed, Gave, nextOf, heldLine, heldIn, toldOf, heldOf, lastOf, nothing as nothingHeld};
 
 // What of the lent buffer was read and is no part of a line yet.
 pub struct Held {
@@ -33,18 +35,27 @@ impl Held {
     }
 }
 
-// Adds a part behind the `len` bytes of a line. A line that the buffer does not hold has a length above the buffer's.
+// Adds a part behind the `len` bytes of a line, as much of it as the buffer takes. A line that the buffer does not hold has a
+// length above the buffer's.
 fn add(part: &[u8], line: &mut [u8], len: usize) -> usize
-    ensures { λ r. ⌜ placed r (now (line .exit)) ≡ addOf (now (part .entry)) len (now (line .entry)) ⌝ }
+    ensures { λ r. ⌜ ((t l : List ℕ) → Begun t l len (now (line .entry)) → Begun (t ++ now (part .entry)) l r (now (line .exit))) ⌝ }
 {
     if line.len() < len {
         return len;
     }
-    if line.len() - len < part.len() {
+    let room = line.len() - len;
+    if room < part.len() {
+        text::put(&part[..room], line, len);
         return line.len() + 1;
     }
-    bytes::copy(part, &mut line[len..]);
-    len + part.len()
+    text::put(part, line, len)
+}
+
+// How many bytes stand before the first line feed: all of them where there is none.
+fn before_feed(part: &[u8]) -> usize
+    ensures { λ r. ⌜ (r ≡ beforeFeed (now (part .entry))) × Counts r (now (part .entry)) ⌝ }
+{
+    bytes::scan::find(part, 0, part.len(), b'\n')
 }
 
 fn told(len: usize, line: &[u8]) -> Line
@@ -59,7 +70,7 @@ fn told(len: usize, line: &[u8]) -> Line
 
 // Reads once, and says how many bytes came: none at the end of the input.
 fn fill(buffer: &mut [u8]) -> usize
-    ensures { λ r. ⌜ r ≤ length (now (buffer .exit)) ⌝ }
+    ensures { λ r. ⌜ Counts r (now (buffer .exit)) ⌝ }
 {
     let got = libc::read(STDIN_FILENO, buffer);
     io::count(got, buffer)
@@ -94,31 +105,54 @@ fn last(len: usize, line: &[u8]) -> Given
     }
 }
 
-// Puts the next line, without its line feed, at the start of `line`. The last line may lack its line feed.
-// A loop has to end, and nothing says that the input does: it counts its turns down from a number that no run uses up.
-pub fn next(held: Held, buffer: &mut [u8], line: &mut [u8]) -> Given
-    ensures { λ r. ⌜ lengthOf (r .line) ≤ length (now (line .exit)) ⌝ }
+// Reads on until a line feed or the end of the input, behind the `start` bytes of a line.
+// A loop has to end, and nothing says that the input does: it counts its turns down from a number that no run uses up. Were it
+// used up, the line would be told as far as it was read.
+fn read_on(start: usize, buffer: &mut [u8], line: &mut [u8]) -> Given
+    ensures { λ r. ⌜ ((t l : List ℕ) → NoFeed t → Begun t l start (now (line .entry)) → Gave t l (r .line) (now (line .exit)) (heldIn (r .held) (now (buffer .exit)))) ⌝ }
 {
-    let rest = within(held, buffer.len());
-    let mut from = rest.from;
-    let mut to = rest.to;
-    let mut len = 0;
+    let mut len = start;
     let mut turns = u64::MAX;
     while turns > 0 {
-        let stop = bytes::scan::find(buffer, from, to, b'\n');
-        len = add(&buffer[from..stop], line, len);
+        let to = fill(buffer);
+        if to == 0 {
+            return last(len, line);
+        }
+        let part = &buffer[..to];
+        let stop = before_feed(part);
+        len = add(&part[..stop], line, len);
         if stop < to {
             return Given {
                 line: told(len, line),
                 held: Held { from: stop + 1, to },
             };
         }
-        to = fill(buffer);
-        from = 0;
-        if to == 0 {
-            return last(len, line);
-        }
         turns -= 1;
     }
     last(len, line)
+}
+
+// Puts the next line, without its line feed, at the start of `line`. The last line may lack its line feed.
+// The input is read only where no whole line is held. No contract can say what comes then: what is given is fixed by it, and the
+// bytes of `buffer` that are not held afterwards are free.
+pub fn next(held: Held, buffer: &mut [u8], line: &mut [u8]) -> Given
+    ensures { λ r. ⌜ (beforeFeed (heldIn held (now (buffer .entry))) < length (heldIn held (now (buffer .entry))) → nextOf r (now (buffer .exit)) (now (line .exit)) ≡ heldLine held (now (buffer .entry)) (now (line .entry))) ⌝ }
+    ensures { λ r. ⌜ Gave (heldIn held (now (buffer .entry))) (now (line .entry)) (r .line) (now (line .exit)) (heldIn (r .held) (now (buffer .exit))) ⌝ }
+{
+    let rest = within(held, buffer.len());
+    let from = rest.from;
+    let to = rest.to;
+    let part = &buffer[from..to];
+    let stop = before_feed(part);
+    let len = add(&part[..stop], line, 0);
+    if stop < part.len() {
+        return Given {
+            line: told(len, line),
+            held: Held {
+                from: from + stop + 1,
+                to,
+            },
+        };
+    }
+    read_on(len, buffer, line)
 }

@@ -74,8 +74,9 @@ module _ (arg : (List ℕ → Said) → Said) (o : List ℕ) (at : ℕ) (r : Put
 pub behind-at : (at n size : ℕ) (r : Put) (b o : List ℕ) → Behind at (endOf at r) size b o → r ≡ Bytes n → Behind at n size b o
 behind-at at n size r b o h e = subst (λ (q : Put). Behind at (endOf at q) size b o) e h
 
-pub end-at : (at n most : ℕ) (r : Put) → endOf at r ≤ most → r ≡ Bytes n → n ≤ most
-end-at at n most r h e = subst (λ (q : Put). endOf at q ≤ most) e h
+pub end-at : (at n most : ℕ) (r : Put) (b o : List ℕ) → (endOf at r ≤ most) × (drop (endOf at r) o ≡ drop (endOf at r) b) → r ≡ Bytes n
+    → (n ≤ most) × (drop n o ≡ drop n b)
+end-at at n most r b o h e = subst (λ (q : Put). (endOf at q ≤ most) × (drop (endOf at q) o ≡ drop (endOf at q) b)) e h
 
 take-less : (i j : ℕ) (o b : List ℕ) → i ≤ j → take j o ≡ take j b → take i o ≡ take i b
 take-less i j o b h e = sym (take-take i j o h) ∙ ap (take i) e ∙ take-take i j b h

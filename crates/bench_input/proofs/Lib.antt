@@ -2,3 +2,4 @@ mod ArgumentLaws
 mod ReadLaws
 mod WordsLaws
 mod PartLaws
+mod StandLaws

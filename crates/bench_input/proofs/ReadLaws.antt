@@ -3,18 +3,20 @@ use mathlib.Core.Path.{_≡_, refl, sym, ap, _∙_}
 use mathlib.Core.Bool.{true, false}
 use mathlib.Core.List.{List, [], _∷_, _++_, append-assoc, append-nil}
 use Prim.Native.Nat.{ℕ, _+_, _-_, _*_, _/_, _≤_, _<_}
+use native.Mathlib.Nat.{zero-add}
 use native.Mathlib.Numerals.{add-one}
 use native.Mathlib.Omega.{arith}
 use borrow.Author.Tests.{eq-eqb, ne-eqb, lt-ltb, le-ltb, le-leb, lt-leb}
-use borrow.Rule.Slice.PartMut.{putMid, postOf, take-put}
+use borrow.Rule.Slice.PartMut.{putMid, postOf, take-put, put-same}
 use lib.Dec.{ltb}
-use lib.ListN.{length, getD, take, drop, length-take, length-drop, drop-of-length-le}
+use lib.ListN.{length, getD, take, drop, length-append, length-take, length-drop, drop-of-length-le}
 use lib.Seq.{slice, take-at, drop-at, take-append-add, drop-cons, length-take-le, take-length}
 use Rattle.errors.specs.Choice.{pick}
 use Rattle.errors.specs.declared.Refusal.{Refusal}
 use Rattle.framing.specs.Lists.{both, both-false-r, same}
 use Rattle.bench.specs.Hex.{dash, pairsOf, readOf}
-use Rattle.bench.specs.HexLaws.{length-pairs, was-read, read-count, read-into, not-read}
+use Rattle.bench.specs.HexLaws.{length-pairs, was-read, read-count, read-into, not-read, not-put}
+use Rattle.bench.specs.TextLaws.{over-copied}
 use Rattle.bench.specs.Texts.{outcome, over, left}
 use Rattle.bench.specs.declared.Put.{Put}
 use Rattle.bench.specs.declared.Put.the-variants.{Bytes, Refused}
@@ -74,8 +76,19 @@ module _ (w u b part : List ℕ) (at : ℕ) (q : Put) (is : w ≡ u) (room : at 
         rw (was-read u p part q behind-room told′ n given)
         (ap f (ap (λ y. slice at (at + n) (take at b ++ y)) e ∙ placed-here (take at b) (pairsOf u) (d ++ z) at n l (count-is ∙ sym (length-pairs u))))
 
+    behind-kept : drop (at + n) (putMid at (length b - at) b part) ≡ drop (at + n) b
+    unfolding over
+    behind-kept =
+        let t : List ℕ = pairsOf u in
+        let p : List ℕ = take (length b - at) (drop at b) in
+        let z : List ℕ = drop (at + length t) b in
+        let size : n ≡ length t = count-is ∙ sym (length-pairs u) in
+        let l : length (take at b ++ t) ≡ at + length t = length-append (take at b) t ∙ rw (length-take-le at b (omega arith)) in
+        let e : part ≡ take (length t) t ++ drop (length t) p = read-into u p part q behind-room told′ n given ∙ rw (take-length t, zero-add (length t)) in
+        rw (size, over-copied b t part at (omega (arith, length-pairs u)) e, ← append-assoc (take at b) t z) (drop-at (take at b ++ t) z (at + length t) l)
+
     pub hex-behind : Behind at (at + n) (length u) b (putMid at (length b - at) b part)
-    hex-behind = record { from = omega arith; short = omega (arith, count-is); kept = before-kept }
+    hex-behind = record { from = omega arith; short = omega (arith, count-is); kept = before-kept; behind = behind-kept }
 
     pub hex-within : at + n ≤ length b
     hex-within = omega (arith, count-is)
@@ -85,8 +98,11 @@ module _ (w u b part : List ℕ) (at : ℕ) (q : Put) (is : w ≡ u) (room : at 
     unfolding hexArg pick
     hex-unread f = rw (not-read u (take (length b - at) (drop at b)) part q behind-room told′ e given)
 
+    all-kept : putMid at (length b - at) b part ≡ b
+    all-kept = rw (not-put u (take (length b - at) (drop at b)) part q behind-room told′ e given) (put-same at (length b - at) b)
+
     pub hex-stays : Behind at at (length u) b (putMid at (length b - at) b part)
-    hex-stays = record { from = omega arith; short = omega arith; kept = before-kept }
+    hex-stays = record { from = omega arith; short = omega arith; kept = before-kept; behind = ap (drop at) all-kept }
 
 -- decimal digits, place by place
 grows : (n : ℕ) (w : List ℕ) → n ≤ numberFrom n w
@@ -156,6 +172,9 @@ module _ (w u : List ℕ) (is : w ≡ u) (f : List ℕ → Said) where
       let here : slice 0 (length w) o ≡ w = ap (take (length w)) (e ∙ ap (λ z. z ++ drop (length w) b) (take-length w)) ∙ take-at w (drop (length w) b) (length w) refl in
       rw (← is, ne-eqb (length w) 0 some, h) (ap f here)
 
+pub text-behind : (w b o : List ℕ) → o ≡ take (length w) w ++ drop (length w) b → drop (length w) o ≡ drop (length w) b
+text-behind w b o e = rw (e, take-length w) (drop-at w (drop (length w) b) (length w) refl)
+
 -- an absent argument has no bytes
 pub none-read : (at : ℕ) (b : List ℕ) (f : List ℕ → Said) → f (slice at at b) ≡ f []
 none-read at b f =
@@ -163,4 +182,4 @@ none-read at b f =
     ap f (drop-of-length-le (take at b) {i = at} short)
 
 pub none-stays : (at size : ℕ) (b : List ℕ) → Behind at at size b b
-none-stays at size b = record { from = omega arith; short = omega arith; kept = refl }
+none-stays at size b = record { from = omega arith; short = omega arith; kept = refl; behind = refl }

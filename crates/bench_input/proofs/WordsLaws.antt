@@ -36,12 +36,12 @@ total-at [] (suc k) = omega arith
 total-at (w ∷ ws) zero = omega arith
 total-at (w ∷ ws) (suc k) = total-at ws k
 
-four-short : (l : List ℕ) → length (word l 3) + length (word l 4) + length (word l 5) + length (word l 6) ≤ length l
+pub four-short : (l : List ℕ) → length (word l 3) + length (word l 4) + length (word l 5) + length (word l 6) ≤ length l
 four-short l =
     let ws : List (List ℕ) = wordsOf l in
     omega (arith, total-words l, total-at ws 0, total-at ws 1, total-at ws 2, total-at ws 3, total-at ws 4, total-at ws 5, total-at ws 6)
 
-two-short : (l : List ℕ) → length (word l 1) + length (word l 2) + length (word l 5) ≤ length l
+pub two-short : (l : List ℕ) → length (word l 1) + length (word l 2) + length (word l 5) ≤ length l
 two-short l =
     let ws : List (List ℕ) = wordsOf l in
     omega (arith, total-words l, total-at ws 0, total-at ws 1, total-at ws 2, total-at ws 3, total-at ws 4, total-at ws 5)

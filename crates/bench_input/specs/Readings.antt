@@ -1,16 +1,18 @@
 -- The code's values in the terms of the definitions. The bytes of the arguments stand one behind the other in the buffer b.
 use mathlib.Core.Path.{_≡_}
 use mathlib.Core.Bool.{Bool}
-use mathlib.Core.List.{List}
+use mathlib.Core.List.{List, [], _∷_}
 use mathlib.Core.Option.{Option, none, some}
 use Prim.Native.Nat.{ℕ, _+_, _≤_}
-use lib.ListN.{length, take}
+use lib.ListN.{length, take, drop}
 use lib.Seq.{slice}
 use Rattle.exchange.specs.Steps.{eventOf}
+use Rattle.exchange.specs.declared.Event.{Event}
+use Rattle.exchange.specs.declared.Event.the-variants.{Ok, Bad, Packet, Time, Fail, Late, Slept}
 use Rattle.protocol.specs.Calls as to
 use Rattle.bench.specs.declared.Put.{Put}
 use Rattle.bench.specs.declared.Put.the-variants.{Bytes, Refused}
-use Rattle.bench_input.specs.Arguments.{Said, calls, happens, unreadable, word}
+use Rattle.bench_input.specs.Arguments.{Said, calls, happens, unreadable, bytesRoom, word}
 use Rattle.bench_input.specs.declared.Command.{Command}
 use Rattle.bench_input.specs.declared.Command.the-variants.{Version, ResetMode, SetParameters, RfConfiguration, RfFieldOff, ReadRegister, WriteRegister, ReadSingleRegister, WriteSingleRegister}
 use Rattle.bench_input.specs.declared.Initiator.{Initiator}
@@ -84,6 +86,68 @@ inputIn b (Dev c) = calls (to.reader (to.device (deviceIn b c)))
 inputIn b (Happened e n) = happens (eventOf e (slice 0 n b))
 inputIn b Unreadable = unreadable
 
+-- the places where the arguments of a call end
+abbrev pub commandEnds : Command → List ℕ
+commandEnds Version = []
+commandEnds ResetMode = []
+commandEnds (SetParameters flags) = []
+commandEnds (RfConfiguration item n) = n ∷ []
+commandEnds RfFieldOff = []
+commandEnds (ReadRegister n) = n ∷ []
+commandEnds (WriteRegister n) = n ∷ []
+commandEnds (ReadSingleRegister address) = []
+commandEnds (WriteSingleRegister address value) = []
+
+abbrev pub initiatorEnds : Initiator → List ℕ
+initiatorEnds (InListPassiveTarget maxTg bitrate n) = n ∷ []
+initiatorEnds (InDataExchange n ms) = n ∷ []
+initiatorEnds (InCommunicateThru n ms) = n ∷ []
+initiatorEnds (InJumpForDep active br i j k) = i ∷ j ∷ k ∷ []
+
+abbrev pub targetEnds : Target → List ℕ
+targetEnds (TgInitTarget mode i j k n ms) = i ∷ j ∷ k ∷ n ∷ []
+targetEnds (TgSetGeneralBytes n) = n ∷ []
+targetEnds (TgGetInitiatorCommand ms) = []
+targetEnds (TgResponseToInitiator n) = n ∷ []
+targetEnds TgGetTargetStatus = []
+
+abbrev pub deviceEnds : Device → List ℕ
+deviceEnds (DetectTypeA i j) = i ∷ j ∷ []
+deviceEnds (DetectTypeB i j) = i ∷ j ∷ []
+deviceEnds (DetectTypeF i systemCode requestCode timeSlots) = i ∷ []
+deviceEnds (DetectDep i j) = i ∷ j ∷ []
+deviceEnds (Transceive i j ridRes k wait) = i ∷ j ∷ k ∷ []
+
+-- the ends follow a place, each behind the one before and all in the buffer; b became o, and is as it was behind the last
+abbrev pub InOrder : ℕ → List ℕ → List ℕ → List ℕ → Type 0
+InOrder at [] b o = (at ≤ bytesRoom) × (drop at o ≡ drop at b)
+InOrder at (i ∷ ends) b o = (at ≤ i) × InOrder i ends b o
+
+-- the packet's bytes go with Packet alone
+abbrev pub PacketEnd : Event → ℕ → Type 0
+PacketEnd Packet n = Unit {0}
+PacketEnd Ok n = n ≡ 0
+PacketEnd Bad n = n ≡ 0
+PacketEnd Time n = n ≡ 0
+PacketEnd Fail n = n ≡ 0
+PacketEnd Late n = n ≡ 0
+PacketEnd Slept n = n ≡ 0
+
+-- what holds of the ends and of the buffer: nothing where the line cannot be read
+abbrev pub Stands : Input → List ℕ → List ℕ → Type 0
+Stands Open b o = InOrder 0 [] b o
+Stands (Chip c) b o = InOrder 0 (commandEnds c) b o
+Stands (In c) b o = InOrder 0 (initiatorEnds c) b o
+Stands (Tg c) b o = InOrder 0 (targetEnds c) b o
+Stands (Dev c) b o = InOrder 0 (deviceEnds c) b o
+Stands (Happened e n) b o = PacketEnd e n × InOrder 0 (n ∷ []) b o
+Stands Unreadable b o = Unit {0}
+
+-- what a line says was read, with the bytes of its arguments in the buffer b, which became o
+pub record Reads (b o : List ℕ) (r : Input) (s : Said) : Type 0 where
+  pub says : inputIn o r ≡ s
+  pub stands : Stands r b o
+
 -- what is said with an argument that was read
 abbrev pub byteIn : Byte → (ℕ → Said) → Said
 byteIn (ByteValue n) f = f n
@@ -122,18 +186,19 @@ abbrev pub endOf : ℕ → Put → ℕ
 endOf at (Bytes n) = n
 endOf at (Refused e) = at
 
--- a word of some size was read from a place to an end: what stands before it in the buffer b is in o too
+-- a word of some size was read from a place to an end: what stands before it and behind it in the buffer b is in o too
 pub record Behind (at end size : ℕ) (b o : List ℕ) : Type 0 where
   pub from : at ≤ end
   pub short : end + end ≤ at + at + size
   pub kept : take at o ≡ take at b
+  pub behind : drop end o ≡ drop end b
 
--- three arguments end one behind the other, within the words of the line l
-abbrev pub Ordered : Ends → List ℕ → Type 0
-Ordered (At i j k) l = (i ≤ j) × (j ≤ k) × (k + k ≤ length (word l 3) + length (word l 4) + length (word l 5))
-Ordered NoEnds l = Unit {0}
+-- three arguments end one behind the other, within the words of the line l; behind them the buffer b, which became o, is as it was
+abbrev pub Ordered : Ends → List ℕ → List ℕ → List ℕ → Type 0
+Ordered (At i j k) l b o = (i ≤ j) × (j ≤ k) × (k + k ≤ length (word l 3) + length (word l 4) + length (word l 5)) × (drop k o ≡ drop k b)
+Ordered NoEnds l b o = Unit {0}
 
 -- a BITRATE and the argument behind it, within words 1 and 2
-abbrev pub OrderedTwo : Two → List ℕ → Type 0
-OrderedTwo (AtTwo i j) l = (i ≤ j) × (j ≤ length (word l 1) + length (word l 2))
-OrderedTwo NoTwo l = Unit {0}
+abbrev pub OrderedTwo : Two → List ℕ → List ℕ → List ℕ → Type 0
+OrderedTwo (AtTwo i j) l b o = (i ≤ j) × (j ≤ length (word l 1) + length (word l 2)) × (drop j o ≡ drop j b)
+OrderedTwo NoTwo l b o = Unit {0}

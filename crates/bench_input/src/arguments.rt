@@ -9,7 +9,7 @@ ghost use mathlib.Core.Bool.{Bool};
 ghost use mathlib.Core.List.{List};
 ghost use mathlib.Core.Option.{Option};
 ghost use Prim.Native.Nat.{ℕ, _+_, _*_, _/_, _≤_};
-ghost use lib.ListN.{length};
+ghost use lib.ListN.{length, drop};
 ghost use Rattle.framing.specs.Lists.{same};
 ghost use Rattle.bench_input.specs.Arguments.{Said, word, byteArg, wordArg, msArg, hexArg, textArg, isNone, hexOrNone, presentArg, waitArg, digitOf, lineLimit, bytesRoom};
 ghost use Rattle.bench_input.specs.Readings.{byteIn, wordIn, msIn, hexIn, presentIn, waitIn, twoIn, endsIn, Behind, endOf, OrderedTwo, Ordered};
@@ -150,7 +150,7 @@ pub(crate) fn read_hex(line: &[u8], k: usize, bytes: &mut [u8], at: usize) -> Pu
 pub(crate) fn read_three(line: &[u8], bytes: &mut [u8]) -> Ends
     requires { ⌜ (length (now line) ≤ lineLimit) × (length (now bytes) ≡ bytesRoom) ⌝ }
     ensures { λ r. ⌜ ((f : List ℕ → List ℕ → List ℕ → Said) → endsIn r (now (bytes .exit)) f ≡ hexArg (word (now (line .entry)) 3) (λ a. hexArg (word (now (line .entry)) 4) (λ b. hexArg (word (now (line .entry)) 5) (λ c. f a b c)))) ⌝ }
-    ensures { λ r. ⌜ Ordered r (now (line .entry)) ⌝ }
+    ensures { λ r. ⌜ Ordered r (now (line .entry)) (now (bytes .entry)) (now (bytes .exit)) ⌝ }
 {
     let Put::Bytes(first) = read_hex(line, 3, bytes, 0) else {
         return Ends::Unreadable;
@@ -168,7 +168,7 @@ pub(crate) fn read_three(line: &[u8], bytes: &mut [u8]) -> Ends
 pub(crate) fn read_text(line: &[u8], bytes: &mut [u8]) -> Put
     requires { ⌜ (length (now line) ≤ lineLimit) × (length (now bytes) ≡ bytesRoom) ⌝ }
     ensures { λ r. ⌜ ((f : List ℕ → Said) → hexIn 0 r (now (bytes .exit)) f ≡ textArg (word (now (line .entry)) 1) f) ⌝ }
-    ensures { λ r. ⌜ endOf 0 r ≤ length (word (now (line .entry)) 1) ⌝ }
+    ensures { λ r. ⌜ (endOf 0 r ≤ length (word (now (line .entry)) 1)) × (drop (endOf 0 r) (now (bytes .exit)) ≡ drop (endOf 0 r) (now (bytes .entry))) ⌝ }
 {
     let word = words::word(line, 1);
     if word.len() == 0 {
@@ -204,6 +204,7 @@ fn read_hex_or_none(line: &[u8], k: usize, bytes: &mut [u8], at: usize) -> Put
 pub(crate) fn read_two(line: &[u8], bytes: &mut [u8]) -> Two
     requires { ⌜ (length (now line) ≤ lineLimit) × (length (now bytes) ≡ bytesRoom) ⌝ }
     ensures { λ r. ⌜ ((f : List ℕ → List ℕ → Said) → twoIn r (now (bytes .exit)) f ≡ textArg (word (now (line .entry)) 1) (λ a. hexArg (word (now (line .entry)) 2) (λ b. f a b))) ⌝ }
+    ensures { λ r. ⌜ OrderedTwo r (now (line .entry)) (now (bytes .entry)) (now (bytes .exit)) ⌝ }
 {
     let Put::Bytes(first) = read_text(line, bytes) else {
         return Two::Unreadable;
@@ -218,7 +219,7 @@ pub(crate) fn read_two(line: &[u8], bytes: &mut [u8]) -> Two
 pub(crate) fn read_two_or_none(line: &[u8], bytes: &mut [u8]) -> Two
     requires { ⌜ (length (now line) ≤ lineLimit) × (length (now bytes) ≡ bytesRoom) ⌝ }
     ensures { λ r. ⌜ ((f : List ℕ → List ℕ → Said) → twoIn r (now (bytes .exit)) f ≡ textArg (word (now (line .entry)) 1) (λ a. hexOrNone (word (now (line .entry)) 2) (λ b. f a b))) ⌝ }
-    ensures { λ r. ⌜ OrderedTwo r (now (line .entry)) ⌝ }
+    ensures { λ r. ⌜ OrderedTwo r (now (line .entry)) (now (bytes .entry)) (now (bytes .exit)) ⌝ }
 {
     let Put::Bytes(first) = read_text(line, bytes) else {
         return Two::Unreadable;

@@ -16,17 +16,17 @@ use arguments::named;
 use bench::Put;
 use exchange::Event;
 ghost use mathlib.Core.Path.{_≡_};
-ghost use mathlib.Core.List.{List};
+ghost use mathlib.Core.List.{List, [], _∷_};
 ghost use Prim.Native.Nat.{ℕ, _≤_};
 ghost use lib.ListN.{length};
 ghost use lib.Seq.{slice};
 ghost use Rattle.bench_input.specs.Arguments.{lineLimit, bytesRoom};
 ghost use Rattle.bench_input.specs.Inputs.{waitLine, eventLine, oneWord, setParametersLine, readSingleRegisterLine, tgGetInitiatorCommandLine, hexNamed, hexLine, twoWords, rfConfigurationLine, writeSingleRegisterLine, timedNamed, timedLine, detectTypeALine, detectTypeBLine, detectDepLine, detectLine, threeWords, inListPassiveTargetLine, fourWords, detectTypeFLine, fiveWords, inJumpForDepLine, transceiveLine, sixWords, tgInitTargetLine, sevenWords};
-ghost use Rattle.bench_input.specs.Readings.{inputIn};
+ghost use Rattle.bench_input.specs.Readings.{InOrder, Reads};
 
 // An order that was to wait: nothing came, or the time is over.
 fn waited(line: &[u8]) -> Input
-    ensures { λ r. ⌜ ((b : List ℕ) → inputIn b r ≡ waitLine (now (line .entry))) ⌝ }
+    ensures { λ r. ⌜ ((b : List ℕ) → Reads b b r (waitLine (now (line .entry)))) ⌝ }
 {
     if named(line, b"time") {
         return Input::Happened(Event::Time, 0);
@@ -41,7 +41,7 @@ fn waited(line: &[u8]) -> Input
 }
 
 fn event(line: &[u8]) -> Input
-    ensures { λ r. ⌜ ((b : List ℕ) → inputIn b r ≡ eventLine (now (line .entry))) ⌝ }
+    ensures { λ r. ⌜ ((b : List ℕ) → Reads b b r (eventLine (now (line .entry)))) ⌝ }
 {
     if named(line, b"ok") {
         return Input::Happened(Event::Ok, 0);
@@ -59,7 +59,7 @@ fn event(line: &[u8]) -> Input
 }
 
 pub(crate) fn one_word(line: &[u8]) -> Input
-    ensures { λ r. ⌜ ((b : List ℕ) → inputIn b r ≡ oneWord (now (line .entry))) ⌝ }
+    ensures { λ r. ⌜ ((b : List ℕ) → Reads b b r (oneWord (now (line .entry)))) ⌝ }
 {
     if named(line, b"open") {
         return Input::Open;
@@ -80,7 +80,7 @@ pub(crate) fn one_word(line: &[u8]) -> Input
 }
 
 fn set_parameters(line: &[u8]) -> Input
-    ensures { λ r. ⌜ ((b : List ℕ) → inputIn b r ≡ setParametersLine (now (line .entry))) ⌝ }
+    ensures { λ r. ⌜ ((b : List ℕ) → Reads b b r (setParametersLine (now (line .entry)))) ⌝ }
 {
     let Byte::Value(flags) = arguments::read_byte(line, 1) else {
         return Input::Unreadable;
@@ -89,7 +89,7 @@ fn set_parameters(line: &[u8]) -> Input
 }
 
 fn read_single_register(line: &[u8]) -> Input
-    ensures { λ r. ⌜ ((b : List ℕ) → inputIn b r ≡ readSingleRegisterLine (now (line .entry))) ⌝ }
+    ensures { λ r. ⌜ ((b : List ℕ) → Reads b b r (readSingleRegisterLine (now (line .entry)))) ⌝ }
 {
     let Word::Value(address) = arguments::read_word(line, 1) else {
         return Input::Unreadable;
@@ -98,7 +98,7 @@ fn read_single_register(line: &[u8]) -> Input
 }
 
 fn tg_get_initiator_command(line: &[u8]) -> Input
-    ensures { λ r. ⌜ ((b : List ℕ) → inputIn b r ≡ tgGetInitiatorCommandLine (now (line .entry))) ⌝ }
+    ensures { λ r. ⌜ ((b : List ℕ) → Reads b b r (tgGetInitiatorCommandLine (now (line .entry)))) ⌝ }
 {
     let Ms::Value(ms) = arguments::read_ms(line, 1) else {
         return Input::Unreadable;
@@ -108,7 +108,7 @@ fn tg_get_initiator_command(line: &[u8]) -> Input
 
 // A name and n bytes.
 fn hex_named(line: &[u8], n: usize) -> Input
-    ensures { λ r. ⌜ ((b : List ℕ) → n ≤ length b → inputIn b r ≡ hexNamed (now (line .entry)) (slice 0 n b)) ⌝ }
+    ensures { λ r. ⌜ ((b o : List ℕ) → n ≤ length o → InOrder 0 (n ∷ []) b o → Reads b o r (hexNamed (now (line .entry)) (slice 0 n o))) ⌝ }
 {
     if named(line, b"pkt") {
         return Input::Happened(Event::Packet, n);
@@ -138,7 +138,7 @@ fn hex_named(line: &[u8], n: usize) -> Input
 
 fn hex(line: &[u8], bytes: &mut [u8]) -> Input
     requires { ⌜ (length (now line) ≤ lineLimit) × (length (now bytes) ≡ bytesRoom) ⌝ }
-    ensures { λ r. ⌜ inputIn (now (bytes .exit)) r ≡ hexLine (now (line .entry)) ⌝ }
+    ensures { λ r. ⌜ Reads (now (bytes .entry)) (now (bytes .exit)) r (hexLine (now (line .entry))) ⌝ }
 {
     let Put::Bytes(n) = arguments::read_hex(line, 1, bytes, 0) else {
         return Input::Unreadable;
@@ -148,7 +148,7 @@ fn hex(line: &[u8], bytes: &mut [u8]) -> Input
 
 pub(crate) fn two_words(line: &[u8], bytes: &mut [u8]) -> Input
     requires { ⌜ (length (now line) ≤ lineLimit) × (length (now bytes) ≡ bytesRoom) ⌝ }
-    ensures { λ r. ⌜ inputIn (now (bytes .exit)) r ≡ twoWords (now (line .entry)) ⌝ }
+    ensures { λ r. ⌜ Reads (now (bytes .entry)) (now (bytes .exit)) r (twoWords (now (line .entry))) ⌝ }
 {
     if named(line, b"set_parameters") {
         return set_parameters(line);
@@ -164,7 +164,7 @@ pub(crate) fn two_words(line: &[u8], bytes: &mut [u8]) -> Input
 
 fn rf_configuration(line: &[u8], bytes: &mut [u8]) -> Input
     requires { ⌜ (length (now line) ≤ lineLimit) × (length (now bytes) ≡ bytesRoom) ⌝ }
-    ensures { λ r. ⌜ inputIn (now (bytes .exit)) r ≡ rfConfigurationLine (now (line .entry)) ⌝ }
+    ensures { λ r. ⌜ Reads (now (bytes .entry)) (now (bytes .exit)) r (rfConfigurationLine (now (line .entry))) ⌝ }
 {
     let Byte::Value(item) = arguments::read_byte(line, 1) else {
         return Input::Unreadable;
@@ -176,7 +176,7 @@ fn rf_configuration(line: &[u8], bytes: &mut [u8]) -> Input
 }
 
 fn write_single_register(line: &[u8]) -> Input
-    ensures { λ r. ⌜ ((b : List ℕ) → inputIn b r ≡ writeSingleRegisterLine (now (line .entry))) ⌝ }
+    ensures { λ r. ⌜ ((b : List ℕ) → Reads b b r (writeSingleRegisterLine (now (line .entry)))) ⌝ }
 {
     let Word::Value(address) = arguments::read_word(line, 1) else {
         return Input::Unreadable;
@@ -189,7 +189,7 @@ fn write_single_register(line: &[u8]) -> Input
 
 // A name, a time and n bytes.
 fn timed_named(line: &[u8], ms: u32, n: usize) -> Input
-    ensures { λ r. ⌜ ((b : List ℕ) → inputIn b r ≡ timedNamed (now (line .entry)) ms (slice 0 n b)) ⌝ }
+    ensures { λ r. ⌜ ((b o : List ℕ) → InOrder 0 (n ∷ []) b o → Reads b o r (timedNamed (now (line .entry)) ms (slice 0 n o))) ⌝ }
 {
     if named(line, b"in_data_exchange") {
         return Input::In(Initiator::InDataExchange(n, ms));
@@ -202,7 +202,7 @@ fn timed_named(line: &[u8], ms: u32, n: usize) -> Input
 
 fn timed(line: &[u8], bytes: &mut [u8]) -> Input
     requires { ⌜ (length (now line) ≤ lineLimit) × (length (now bytes) ≡ bytesRoom) ⌝ }
-    ensures { λ r. ⌜ inputIn (now (bytes .exit)) r ≡ timedLine (now (line .entry)) ⌝ }
+    ensures { λ r. ⌜ Reads (now (bytes .entry)) (now (bytes .exit)) r (timedLine (now (line .entry))) ⌝ }
 {
     let Ms::Value(ms) = arguments::read_ms(line, 1) else {
         return Input::Unreadable;
@@ -215,7 +215,7 @@ fn timed(line: &[u8], bytes: &mut [u8]) -> Input
 
 fn detect_type_a(line: &[u8], bytes: &mut [u8]) -> Input
     requires { ⌜ (length (now line) ≤ lineLimit) × (length (now bytes) ≡ bytesRoom) ⌝ }
-    ensures { λ r. ⌜ inputIn (now (bytes .exit)) r ≡ detectTypeALine (now (line .entry)) ⌝ }
+    ensures { λ r. ⌜ Reads (now (bytes .entry)) (now (bytes .exit)) r (detectTypeALine (now (line .entry))) ⌝ }
 {
     let Two::At(bitrate, uid) = arguments::read_two(line, bytes) else {
         return Input::Unreadable;
@@ -225,7 +225,7 @@ fn detect_type_a(line: &[u8], bytes: &mut [u8]) -> Input
 
 fn detect_type_b(line: &[u8], bytes: &mut [u8]) -> Input
     requires { ⌜ (length (now line) ≤ lineLimit) × (length (now bytes) ≡ bytesRoom) ⌝ }
-    ensures { λ r. ⌜ inputIn (now (bytes .exit)) r ≡ detectTypeBLine (now (line .entry)) ⌝ }
+    ensures { λ r. ⌜ Reads (now (bytes .entry)) (now (bytes .exit)) r (detectTypeBLine (now (line .entry))) ⌝ }
 {
     let Two::At(bitrate, sensb_req) = arguments::read_two(line, bytes) else {
         return Input::Unreadable;
@@ -235,7 +235,7 @@ fn detect_type_b(line: &[u8], bytes: &mut [u8]) -> Input
 
 fn detect_dep(line: &[u8], bytes: &mut [u8]) -> Input
     requires { ⌜ (length (now line) ≤ lineLimit) × (length (now bytes) ≡ bytesRoom) ⌝ }
-    ensures { λ r. ⌜ inputIn (now (bytes .exit)) r ≡ detectDepLine (now (line .entry)) ⌝ }
+    ensures { λ r. ⌜ Reads (now (bytes .entry)) (now (bytes .exit)) r (detectDepLine (now (line .entry))) ⌝ }
 {
     let Two::At(bitrate, atr_req) = arguments::read_two_or_none(line, bytes) else {
         return Input::Unreadable;
@@ -245,7 +245,7 @@ fn detect_dep(line: &[u8], bytes: &mut [u8]) -> Input
 
 fn detect(line: &[u8], bytes: &mut [u8]) -> Input
     requires { ⌜ (length (now line) ≤ lineLimit) × (length (now bytes) ≡ bytesRoom) ⌝ }
-    ensures { λ r. ⌜ inputIn (now (bytes .exit)) r ≡ detectLine (now (line .entry)) ⌝ }
+    ensures { λ r. ⌜ Reads (now (bytes .entry)) (now (bytes .exit)) r (detectLine (now (line .entry))) ⌝ }
 {
     if named(line, b"detect_type_a") {
         return detect_type_a(line, bytes);
@@ -261,7 +261,7 @@ fn detect(line: &[u8], bytes: &mut [u8]) -> Input
 
 pub(crate) fn three_words(line: &[u8], bytes: &mut [u8]) -> Input
     requires { ⌜ (length (now line) ≤ lineLimit) × (length (now bytes) ≡ bytesRoom) ⌝ }
-    ensures { λ r. ⌜ inputIn (now (bytes .exit)) r ≡ threeWords (now (line .entry)) ⌝ }
+    ensures { λ r. ⌜ Reads (now (bytes .entry)) (now (bytes .exit)) r (threeWords (now (line .entry))) ⌝ }
 {
     if named(line, b"rf_configuration") {
         return rf_configuration(line, bytes);
@@ -274,7 +274,7 @@ pub(crate) fn three_words(line: &[u8], bytes: &mut [u8]) -> Input
 
 fn in_list_passive_target(line: &[u8], bytes: &mut [u8]) -> Input
     requires { ⌜ (length (now line) ≤ lineLimit) × (length (now bytes) ≡ bytesRoom) ⌝ }
-    ensures { λ r. ⌜ inputIn (now (bytes .exit)) r ≡ inListPassiveTargetLine (now (line .entry)) ⌝ }
+    ensures { λ r. ⌜ Reads (now (bytes .entry)) (now (bytes .exit)) r (inListPassiveTargetLine (now (line .entry))) ⌝ }
 {
     let Byte::Value(max_tg) = arguments::read_byte(line, 1) else {
         return Input::Unreadable;
@@ -290,7 +290,7 @@ fn in_list_passive_target(line: &[u8], bytes: &mut [u8]) -> Input
 
 pub(crate) fn four_words(line: &[u8], bytes: &mut [u8]) -> Input
     requires { ⌜ (length (now line) ≤ lineLimit) × (length (now bytes) ≡ bytesRoom) ⌝ }
-    ensures { λ r. ⌜ inputIn (now (bytes .exit)) r ≡ fourWords (now (line .entry)) ⌝ }
+    ensures { λ r. ⌜ Reads (now (bytes .entry)) (now (bytes .exit)) r (fourWords (now (line .entry))) ⌝ }
 {
     if named(line, b"in_list_passive_target") {
         return in_list_passive_target(line, bytes);
@@ -300,7 +300,7 @@ pub(crate) fn four_words(line: &[u8], bytes: &mut [u8]) -> Input
 
 fn detect_type_f(line: &[u8], bytes: &mut [u8]) -> Input
     requires { ⌜ (length (now line) ≤ lineLimit) × (length (now bytes) ≡ bytesRoom) ⌝ }
-    ensures { λ r. ⌜ inputIn (now (bytes .exit)) r ≡ detectTypeFLine (now (line .entry)) ⌝ }
+    ensures { λ r. ⌜ Reads (now (bytes .entry)) (now (bytes .exit)) r (detectTypeFLine (now (line .entry))) ⌝ }
 {
     let Put::Bytes(bitrate) = arguments::read_text(line, bytes) else {
         return Input::Unreadable;
@@ -319,7 +319,7 @@ fn detect_type_f(line: &[u8], bytes: &mut [u8]) -> Input
 
 pub(crate) fn five_words(line: &[u8], bytes: &mut [u8]) -> Input
     requires { ⌜ (length (now line) ≤ lineLimit) × (length (now bytes) ≡ bytesRoom) ⌝ }
-    ensures { λ r. ⌜ inputIn (now (bytes .exit)) r ≡ fiveWords (now (line .entry)) ⌝ }
+    ensures { λ r. ⌜ Reads (now (bytes .entry)) (now (bytes .exit)) r (fiveWords (now (line .entry))) ⌝ }
 {
     if named(line, b"detect_type_f") {
         return detect_type_f(line, bytes);
@@ -329,7 +329,7 @@ pub(crate) fn five_words(line: &[u8], bytes: &mut [u8]) -> Input
 
 fn in_jump_for_dep(line: &[u8], bytes: &mut [u8]) -> Input
     requires { ⌜ (length (now line) ≤ lineLimit) × (length (now bytes) ≡ bytesRoom) ⌝ }
-    ensures { λ r. ⌜ inputIn (now (bytes .exit)) r ≡ inJumpForDepLine (now (line .entry)) ⌝ }
+    ensures { λ r. ⌜ Reads (now (bytes .entry)) (now (bytes .exit)) r (inJumpForDepLine (now (line .entry))) ⌝ }
 {
     let Byte::Value(active) = arguments::read_byte(line, 1) else {
         return Input::Unreadable;
@@ -348,7 +348,7 @@ fn in_jump_for_dep(line: &[u8], bytes: &mut [u8]) -> Input
 
 fn transceive(line: &[u8], bytes: &mut [u8]) -> Input
     requires { ⌜ (length (now line) ≤ lineLimit) × (length (now bytes) ≡ bytesRoom) ⌝ }
-    ensures { λ r. ⌜ inputIn (now (bytes .exit)) r ≡ transceiveLine (now (line .entry)) ⌝ }
+    ensures { λ r. ⌜ Reads (now (bytes .entry)) (now (bytes .exit)) r (transceiveLine (now (line .entry))) ⌝ }
 {
     let Two::At(bitrate, sel_res) = arguments::read_two_or_none(line, bytes) else {
         return Input::Unreadable;
@@ -367,7 +367,7 @@ fn transceive(line: &[u8], bytes: &mut [u8]) -> Input
 
 pub(crate) fn six_words(line: &[u8], bytes: &mut [u8]) -> Input
     requires { ⌜ (length (now line) ≤ lineLimit) × (length (now bytes) ≡ bytesRoom) ⌝ }
-    ensures { λ r. ⌜ inputIn (now (bytes .exit)) r ≡ sixWords (now (line .entry)) ⌝ }
+    ensures { λ r. ⌜ Reads (now (bytes .entry)) (now (bytes .exit)) r (sixWords (now (line .entry))) ⌝ }
 {
     if named(line, b"in_jump_for_dep") {
         return in_jump_for_dep(line, bytes);
@@ -380,7 +380,7 @@ pub(crate) fn six_words(line: &[u8], bytes: &mut [u8]) -> Input
 
 fn tg_init_target(line: &[u8], bytes: &mut [u8]) -> Input
     requires { ⌜ (length (now line) ≤ lineLimit) × (length (now bytes) ≡ bytesRoom) ⌝ }
-    ensures { λ r. ⌜ inputIn (now (bytes .exit)) r ≡ tgInitTargetLine (now (line .entry)) ⌝ }
+    ensures { λ r. ⌜ Reads (now (bytes .entry)) (now (bytes .exit)) r (tgInitTargetLine (now (line .entry))) ⌝ }
 {
     let Ms::Value(ms) = arguments::read_ms(line, 1) else {
         return Input::Unreadable;
@@ -399,7 +399,7 @@ fn tg_init_target(line: &[u8], bytes: &mut [u8]) -> Input
 
 pub(crate) fn seven_words(line: &[u8], bytes: &mut [u8]) -> Input
     requires { ⌜ (length (now line) ≤ lineLimit) × (length (now bytes) ≡ bytesRoom) ⌝ }
-    ensures { λ r. ⌜ inputIn (now (bytes .exit)) r ≡ sevenWords (now (line .entry)) ⌝ }
+    ensures { λ r. ⌜ Reads (now (bytes .entry)) (now (bytes .exit)) r (sevenWords (now (line .entry))) ⌝ }
 {
     if named(line, b"tg_init_target") {
         return tg_init_target(line, bytes);

@@ -9,7 +9,7 @@ ghost use mathlib.Core.Path.{_≡_};
 ghost use lib.ListN.{drop};
 ghost use lib.Seq.{slice};
 ghost use Rattle.bench_input.specs.Inputs.{inputOf};
-ghost use Rattle.bench_input.specs.Readings.{inputIn};
+ghost use Rattle.bench_input.specs.Readings.{Reads};
 
 // The longest line, without its line feed, and room for its bytes: a BITRATE has as many as its word.
 pub const LINE: usize = 8192;
@@ -95,9 +95,10 @@ pub fn part(bytes: &[u8], from: usize, to: usize) -> &[u8]
     }
 }
 
-// Reads a line.
+// Reads a line. Where it can be read, the array is fixed: it holds the arguments' bytes, and behind them what it held before.
+// Where it cannot be read, all bytes of the array are free.
 pub fn read(line: &[u8], bytes: &mut [u8; BYTES]) -> Input
-    ensures { λ r. ⌜ inputIn (now (bytes .exit)) r ≡ inputOf (now (line .entry)) ⌝ }
+    ensures { λ r. ⌜ Reads (now (bytes .entry)) (now (bytes .exit)) r (inputOf (now (line .entry))) ⌝ }
 {
     if LINE < line.len() {
         return Input::Unreadable;

@@ -4,22 +4,30 @@ use mathlib.Core.List.{List}
 use Prim.Native.Nat.{ℕ, _+_}
 use native.Mathlib.Nat.{zero-add}
 use lib.ListN.{length, take, set}
+use Rattle.protocol.specs.Calls.{Call}
+use Rattle.engine.specs.Inputs.{stepWith}
+use Rattle.engine.specs.Numbers.{callInput}
 use Rattle.engine.specs.Sessions.{Stepped, stepped}
 use Rattle.errors.specs.declared.Refusal.the-variants.{BadArgument}
-use Rattle.engine.specs.declared.state.Output.{Output}
-use Rattle.engine.specs.declared.state.Output.the-variants.{Refused}
+use Rattle.engine.specs.declared.core.Output.{Output}
+use Rattle.engine.specs.declared.core.Output.the-variants.{Refused}
 use Rattle.engine.specs.declared.session.Session.{Session}
 use Rattle.engine.specs.declared.session.Step.{Step}
 use Rattle.bench.specs.Texts.{over, Placed, placed, placedAt}
 use Rattle.bench.specs.declared.lines.Line.{Line}
 use Rattle.bench.specs.declared.lines.Line.the-variants.{Text, OverLong, End}
-use Rattle.bench_input.specs.Arguments.{Said}
+use Rattle.bench_input.specs.Arguments.{Said, calls}
 use Rattle.bench_input.specs.Inputs.{inputOf}
 use Rattle.bench_session.specs.Outputs.{textOf}
 use Rattle.bench_session.specs.Answers.{kept, stepOf, After, after, printed, answerOf, fed, replyOf}
 
 pub kept-is : (s : Session) (r : Step) (b : List ℕ) → r .session ≡ s → r .output ≡ Refused BadArgument → stepped r b ≡ kept s b
 kept-is s r b p q = ap₂ (λ (x : Session) (y : Output). record { session = x; output = y; buffer = b }) p q
+
+-- a call that was read
+pub call-done : (s : Session) (t : Stepped) (c d : Call) (b : List ℕ) → t ≡ stepWith s (callInput c b) → c ≡ d → t ≡ stepOf s (calls d) b
+unfolding stepOf
+call-done s t c d b e p = e ∙ ap (λ z. stepWith s (callInput z b)) p
 
 -- the text of a step
 pub print-done : (t : Stepped) (s : Session) (f : Output) (b o o′ : List ℕ) (n : ℕ) → record { session = s; output = f; buffer = b } ≡ t → placed n o′ ≡ placedAt 0 (textOf f b) o

@@ -9,12 +9,13 @@ use lib.Dec.{eqb}
 use lib.ListN.{length, take, length-append, length-take}
 use lib.Seq.{length-take-le, take-all}
 use Rattle.errors.specs.Choice.{pick}
-use Rattle.errors.specs.Refusals.{numbered}
+use Rattle.errors.specs.Refusals.{numbered, faultNumbered}
 use Rattle.errors.specs.declared.Numbered.{Numbered}
+use Rattle.errors.specs.declared.Fault.{Fault}
 use Rattle.errors.specs.declared.Refusal.{Refusal}
 use Rattle.targets.specs.Bitrates.{ascii}
-use Rattle.engine.specs.declared.state.Output.{Output}
-use Rattle.engine.specs.declared.state.Output.the-variants.{Write, Read, Drain, Pause, Done, Type1, Nothing, Refused}
+use Rattle.engine.specs.declared.core.Output.{Output}
+use Rattle.engine.specs.declared.core.Output.the-variants.{Ack, Command, Read, Drain, Pause, Done, Type1, Nothing, Failed, Refused}
 use Rattle.bench.specs.DecimalLaws.{decimal-short}
 use Rattle.bench.specs.Hex.{hexOf}
 use Rattle.bench.specs.HexLaws.{hex-short}
@@ -80,15 +81,15 @@ module _ (n r : ℕ) (b o : List ℕ) (before : placed r o ≡ placedAt 0 (ascii
     status-done s x e =
         put-behind (ascii "refused " ++ decimalOf n ++ ascii " ") b o′ r′ spaced (hexOf (s ∷ [])) x e (omega (arith, spaced-short, hex-short (s ∷ [])))
 
--- the number m that was asked of a refusal
-module _ (n m : Numbered) (b : List ℕ) (x : Placed) (is : m ≡ n) where
-  pub refused-15 : m .0 ≡ 15 → x ≡ placedAt 0 (ascii "refused " ++ decimalOf (m .0) ++ ascii " " ++ hexOf (m .1 ∷ [])) b → x ≡ placedAt 0 (refusedText n) b
+-- a refusal whole
+module _ (n : Numbered) (b : List ℕ) (x : Placed) where
+  pub refused-15 : n .number ≡ 15 → x ≡ placedAt 0 (ascii "refused " ++ decimalOf (n .number) ++ ascii " " ++ hexOf (n .status ∷ [])) b → x ≡ placedAt 0 (refusedText n) b
   unfolding refusedText pick
-  refused-15 h e = rw (← is, eq-eqb (m .0) 15 h) e
+  refused-15 h e = rw (eq-eqb (n .number) 15 h) e
 
-  pub refused-other : (m .0 ≡ 15 → ⊥) → x ≡ placedAt 0 (ascii "refused " ++ decimalOf (m .0)) b → x ≡ placedAt 0 (refusedText n) b
+  pub refused-other : (n .number ≡ 15 → ⊥) → x ≡ placedAt 0 (ascii "refused " ++ decimalOf (n .number)) b → x ≡ placedAt 0 (refusedText n) b
   unfolding refusedText pick
-  refused-other h e = rw (← is, ne-eqb (m .0) 15 h) e
+  refused-other h e = rw (ne-eqb (n .number) 15 h) e
 
 -- a text within the limit
 abbrev Fits : List ℕ → Type 0
@@ -108,14 +109,15 @@ number-fits t n h = rw (length-append t (decimalOf n)) (omega (arith, decimal-sh
 refused-fits : (n : Numbered) → Fits (refusedText n)
 unfolding refusedText
 refused-fits n =
-    pick-fits (eqb (n .0) 15) _ _
-    (rw (length-append (ascii "refused " ++ decimalOf (n .0) ++ ascii " ") (hexOf (n .1 ∷ [])), length-append (ascii "refused " ++ decimalOf (n .0)) (ascii " "), length-append (ascii "refused ") (decimalOf (n .0)))
-    (omega (arith, decimal-short (n .0), hex-short (n .1 ∷ []))))
-    (number-fits (ascii "refused ") (n .0) (omega arith))
+    pick-fits (eqb (n .number) 15) _ _
+    (rw (length-append (ascii "refused " ++ decimalOf (n .number) ++ ascii " ") (hexOf (n .status ∷ [])), length-append (ascii "refused " ++ decimalOf (n .number)) (ascii " "), length-append (ascii "refused ") (decimalOf (n .number)))
+    (omega (arith, decimal-short (n .number), hex-short (n .status ∷ []))))
+    (number-fits (ascii "refused ") (n .number) (omega arith))
 
 pub text-fits : (o : Output) (b : List ℕ) → length b ≤ 1024 → length (textOf o b) ≤ textLimit
 unfolding textOf doneText type1Text
-text-fits (Write n) b h = bytes-fit (ascii "write ") (take n b) (omega arith) (omega (arith, length-take n b))
+text-fits Ack b h = bytes-fit (ascii "write ") (take 6 b) (omega arith) (omega (arith, length-take 6 b))
+text-fits (Command n) b h = bytes-fit (ascii "write ") (take n b) (omega arith) (omega (arith, length-take n b))
 text-fits (Read ms) b h = number-fits (ascii "read ") ms (omega arith)
 text-fits Drain b h = omega arith
 text-fits (Pause us) b h = number-fits (ascii "pause ") us (omega arith)
@@ -123,6 +125,7 @@ text-fits (Done n) b h = pick-fits (eqb (length (take n b)) 0) _ _ (omega arith)
 text-fits (Type1 n) b h =
     rw (length-append (ascii "done " ++ hexOf (take n b)) (ascii " type1"), length-append (ascii "done ") (hexOf (take n b))) (omega (arith, hex-short (take n b), length-take n b))
 text-fits Nothing b h = omega arith
+text-fits (Failed e) b h = refused-fits (faultNumbered e)
 text-fits (Refused e) b h = refused-fits (numbered e)
 
 -- the text that was printed, and its bound
@@ -135,9 +138,13 @@ out-part n o h l = sym (length-take-le n o (omega arith))
 
 -- the text of a known output
 module _ (f : Output) (b out : List ℕ) (x : Placed) where
-  pub text-write : (n : ℕ) (p : List ℕ) → f ≡ Write n → p ≡ take n b → x ≡ placedAt 0 (ascii "write " ++ hexOf p) out → x ≡ placedAt 0 (textOf f b) out
+  pub text-ack : (p : List ℕ) → f ≡ Ack → p ≡ take 6 b → x ≡ placedAt 0 (ascii "write " ++ hexOf p) out → x ≡ placedAt 0 (textOf f b) out
   unfolding textOf
-  text-write n p h q e = rw h (rw q at e)
+  text-ack p h q e = rw h (rw q at e)
+
+  pub text-command : (n : ℕ) (p : List ℕ) → f ≡ Command n → p ≡ take n b → x ≡ placedAt 0 (ascii "write " ++ hexOf p) out → x ≡ placedAt 0 (textOf f b) out
+  unfolding textOf
+  text-command n p h q e = rw h (rw q at e)
 
   pub text-read : (ms : ℕ) → f ≡ Read ms → x ≡ placedAt 0 (ascii "read " ++ decimalOf ms) out → x ≡ placedAt 0 (textOf f b) out
   unfolding textOf
@@ -163,8 +170,12 @@ module _ (f : Output) (b out : List ℕ) (x : Placed) where
   unfolding textOf
   text-none h e = rw h e
 
-  pub text-refused : (e : Refusal) → f ≡ Refused e → x ≡ placedAt 0 (refusedText (numbered e)) out → x ≡ placedAt 0 (textOf f b) out
+  pub text-failed : (e : Fault) (n : Numbered) → f ≡ Failed e → n ≡ faultNumbered e → x ≡ placedAt 0 (refusedText n) out → x ≡ placedAt 0 (textOf f b) out
   unfolding textOf
-  text-refused e h d = rw h d
+  text-failed e n h q d = rw h (rw q at d)
 
-pub ruleset texts = (text-write, text-read, text-drain, text-pause, text-done, text-type1, text-none, text-refused)
+  pub text-refused : (e : Refusal) (n : Numbered) → f ≡ Refused e → n ≡ numbered e → x ≡ placedAt 0 (refusedText n) out → x ≡ placedAt 0 (textOf f b) out
+  unfolding textOf
+  text-refused e n h q d = rw h (rw q at d)
+
+pub ruleset texts = (text-ack, text-command, text-read, text-drain, text-pause, text-done, text-type1, text-none, text-failed, text-refused)

@@ -2,10 +2,13 @@
 use mathlib.Core.List.{List}
 use Prim.Native.Nat.{ℕ, _+_}
 use lib.ListN.{length, take, set}
+use lib.Seq.{slice}
 use Rattle.errors.specs.declared.Refusal.the-variants.{BadArgument}
-use Rattle.protocol.specs.Calls.{opening, reader, request, device}
-use Rattle.engine.specs.Sessions.{Stepped, openStep, requestStep, deviceStep, eventStep}
-use Rattle.engine.specs.declared.state.Output.the-variants.{Refused}
+use Rattle.protocol.specs.Calls.{Call}
+use Rattle.engine.specs.Inputs.{tells, stepWith}
+use Rattle.engine.specs.Numbers.{callOf, callInput}
+use Rattle.engine.specs.Sessions.{Stepped}
+use Rattle.engine.specs.declared.core.Output.the-variants.{Refused}
 use Rattle.engine.specs.declared.session.Session.{Session}
 use Rattle.bench.specs.Texts.{over}
 use Rattle.bench.specs.declared.lines.Line.{Line}
@@ -13,6 +16,11 @@ use Rattle.bench.specs.declared.lines.Line.the-variants.{Text, OverLong, End}
 use Rattle.bench_input.specs.Arguments.{Said, calls, happens, unreadable}
 use Rattle.bench_input.specs.Inputs.{inputOf}
 use Rattle.bench_session.specs.Outputs.{textOf}
+use Rattle.bench_session.specs.declared.Asked.{Asked}
+
+-- a call by its number, with its byte strings one behind the other in b
+abbrev pub askedIn : List ℕ → Asked → Call
+askedIn b a = callOf (a .0) (a .1) (a .2) (a .3) (a .4) (slice 0 (a .5) b) (slice (a .5) (a .6) b) (slice (a .6) (a .7) b) (slice (a .7) (a .8) b)
 
 -- a line that cannot be read: the session stays as it was
 abbrev pub kept : Session → List ℕ → Stepped
@@ -20,10 +28,8 @@ kept s b = record { session = s; output = Refused BadArgument; buffer = b }
 
 -- what the engine does with what a line says
 unfoldable pub stepOf : Session → Said → List ℕ → Stepped
-stepOf s (calls opening) b = openStep s b
-stepOf s (calls (reader (request r))) b = requestStep s r b
-stepOf s (calls (reader (device d))) b = deviceStep s d b
-stepOf s (happens e) b = eventStep s e b
+stepOf s (calls c) b = stepWith s (callInput c b)
+stepOf s (happens e) b = stepWith s (tells e b)
 stepOf s unreadable b = kept s b
 
 -- a session and a text's length, with the engine's buffer and the text's buffer

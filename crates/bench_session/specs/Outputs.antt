@@ -4,11 +4,11 @@ use Prim.Native.Nat.{ℕ}
 use lib.Dec.{eqb}
 use lib.ListN.{length, take}
 use Rattle.errors.specs.Choice.{pick}
-use Rattle.errors.specs.Refusals.{numbered}
+use Rattle.errors.specs.Refusals.{numbered, faultNumbered}
 use Rattle.errors.specs.declared.Numbered.{Numbered}
 use Rattle.targets.specs.Bitrates.{ascii}
-use Rattle.engine.specs.declared.state.Output.{Output}
-use Rattle.engine.specs.declared.state.Output.the-variants.{Write, Read, Drain, Pause, Done, Type1, Nothing, Refused}
+use Rattle.engine.specs.declared.core.Output.{Output}
+use Rattle.engine.specs.declared.core.Output.the-variants.{Ack, Command, Read, Drain, Pause, Done, Type1, Nothing, Failed, Refused}
 use Rattle.bench.specs.Texts.{decimalOf}
 use Rattle.bench.specs.Hex.{hexOf}
 
@@ -30,15 +30,17 @@ type1Text p = ascii "done " ++ hexOf p ++ ascii " type1"
 
 -- a refusal's number, and of 15 the status
 unfoldable pub refusedText : Numbered → List ℕ
-refusedText n = pick (eqb (n .0) 15) (ascii "refused " ++ decimalOf (n .0) ++ ascii " " ++ hexOf (n .1 ∷ [])) (ascii "refused " ++ decimalOf (n .0))
+refusedText n = pick (eqb (n .number) 15) (ascii "refused " ++ decimalOf (n .number) ++ ascii " " ++ hexOf (n .status ∷ [])) (ascii "refused " ++ decimalOf (n .number))
 
 -- an output whose bytes stand at the start of b
 unfoldable pub textOf : Output → List ℕ → List ℕ
-textOf (Write n) b = ascii "write " ++ hexOf (take n b)
+textOf Ack b = ascii "write " ++ hexOf (take 6 b)
+textOf (Command n) b = ascii "write " ++ hexOf (take n b)
 textOf (Read ms) b = ascii "read " ++ decimalOf ms
 textOf Drain b = ascii "drain"
 textOf (Pause us) b = ascii "pause " ++ decimalOf us
 textOf (Done n) b = doneText (take n b)
 textOf (Type1 n) b = type1Text (take n b)
 textOf Nothing b = ascii "none"
+textOf (Failed e) b = refusedText (faultNumbered e)
 textOf (Refused e) b = refusedText (numbered e)

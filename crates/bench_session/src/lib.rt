@@ -1,4 +1,5 @@
 // The lines of the program `session`: a call or an event in, an order or an answer out.
+mod calls;
 pub mod output;
 mod text;
 
@@ -6,28 +7,24 @@ use bench::lines;
 use bench::lines::Held;
 use bench::lines::Line;
 use bench_input::BYTES;
-use bench_input::Command;
-use bench_input::Device;
-use bench_input::Initiator;
 use bench_input::Input;
 use bench_input::LINE;
-use bench_input::Target;
-use bench_input::Wait;
 use bench_input::part;
-use discovery::search::Timeout;
+use engine::core::Output;
+use engine::numbered::OPEN;
 use engine::session::Session;
 use engine::session::Step;
-use engine::state::Output;
 use errors::Refusal;
 ghost use mathlib.Core.Path.{_≡_};
 ghost use Prim.Native.Nat.{_+_, _≤_};
 ghost use lib.ListN.{length, set};
-ghost use Rattle.discovery.specs.Starts.{timeoutOf};
-ghost use Rattle.engine.specs.Sessions.{stepped, requestStep, deviceStep};
+ghost use Rattle.engine.specs.Inputs.{stepWith};
+ghost use Rattle.engine.specs.Numbers.{callInput};
+ghost use Rattle.engine.specs.Sessions.{stepped};
 ghost use Rattle.bench.specs.Lines.{lengthOf};
-ghost use Rattle.bench_input.specs.Readings.{commandIn, initiatorIn, targetIn, waitOf, deviceIn, inputIn};
+ghost use Rattle.bench_input.specs.Readings.{inputIn};
 ghost use Rattle.bench_session.specs.Outputs.{outRoom, textLimit};
-ghost use Rattle.bench_session.specs.Answers.{stepOf, after, answerOf, replyOf};
+ghost use Rattle.bench_session.specs.Answers.{askedIn, stepOf, after, answerOf, replyOf};
 
 // Room for the engine's bytes, and for any answer and a line feed.
 pub const BUFFER: usize = 1024;
@@ -50,107 +47,20 @@ fn unreadable(session: Session) -> Step
     }
 }
 
-// What the engine does with a call of the chip itself.
-fn chip(session: Session, call: Command, bytes: &[u8], buffer: &mut [u8]) -> Step
-    ensures { λ r. ⌜ stepped r (now (buffer .exit)) ≡ requestStep session (commandIn (now (bytes .entry)) call) (now (buffer .entry)) ⌝ }
-{
-    match call {
-        Command::Version => session.version(buffer),
-        Command::ResetMode => session.reset_mode(buffer),
-        Command::SetParameters(flags) => session.set_parameters(flags, buffer),
-        Command::RfConfiguration(item, n) => {
-            session.rf_configuration(item, part(bytes, 0, n), buffer)
-        }
-        Command::RfFieldOff => session.rf_field_off(buffer),
-        Command::ReadRegister(n) => session.read_register(part(bytes, 0, n), buffer),
-        Command::WriteRegister(n) => session.write_register(part(bytes, 0, n), buffer),
-        Command::ReadSingleRegister(address) => session.read_single_register(address, buffer),
-        Command::WriteSingleRegister(address, value) => {
-            session.write_single_register(address, value, buffer)
-        }
-    }
-}
+// A call's number, its ms, word, x and y as `engine::numbered` takes them, and the places where its four byte strings end in the lent
+// array: each begins where the one before ends. What a call does not have is 0.
+struct Asked(u8, u32, u16, u8, u8, usize, usize, usize, usize);
 
-// What it does with a call of an initiator.
-fn in_call(session: Session, call: Initiator, bytes: &[u8], buffer: &mut [u8]) -> Step
-    ensures { λ r. ⌜ stepped r (now (buffer .exit)) ≡ requestStep session (initiatorIn (now (bytes .entry)) call) (now (buffer .entry)) ⌝ }
+// What the engine does with a call.
+fn called(session: Session, call: Asked, bytes: &[u8], buffer: &mut [u8]) -> Step
+    ensures { λ r. ⌜ stepped r (now (buffer .exit)) ≡ stepWith session (callInput (askedIn (now (bytes .entry)) call) (now (buffer .entry))) ⌝ }
 {
-    match call {
-        Initiator::InListPassiveTarget(max_tg, bitrate, n) => {
-            session.in_list_passive_target(max_tg, bitrate, part(bytes, 0, n), buffer)
-        }
-        Initiator::InDataExchange(n, ms) => {
-            session.in_data_exchange(part(bytes, 0, n), ms, buffer)
-        }
-        Initiator::InCommunicateThru(n, ms) => {
-            session.in_communicate_thru(part(bytes, 0, n), ms, buffer)
-        }
-        Initiator::InJumpForDep(active, br, i, j, k) => {
-            let passive = part(bytes, 0, i);
-            let nfcid3 = part(bytes, i, j);
-            session.in_jump_for_dep(active, br, passive, nfcid3, part(bytes, j, k), buffer)
-        }
-    }
-}
-
-// What it does with a call of a target.
-fn tg_call(session: Session, call: Target, bytes: &[u8], buffer: &mut [u8]) -> Step
-    ensures { λ r. ⌜ stepped r (now (buffer .exit)) ≡ requestStep session (targetIn (now (bytes .entry)) call) (now (buffer .entry)) ⌝ }
-{
-    match call {
-        Target::TgInitTarget(mode, i, j, k, n, ms) => {
-            let mifare = part(bytes, 0, i);
-            let felica = part(bytes, i, j);
-            let nfcid3t = part(bytes, j, k);
-            session.tg_init_target(mode, mifare, felica, nfcid3t, part(bytes, k, n), ms, buffer)
-        }
-        Target::TgSetGeneralBytes(n) => session.tg_set_general_bytes(part(bytes, 0, n), buffer),
-        Target::TgGetInitiatorCommand(ms) => session.tg_get_initiator_command(ms, buffer),
-        Target::TgResponseToInitiator(n) => {
-            session.tg_response_to_initiator(part(bytes, 0, n), buffer)
-        }
-        Target::TgGetTargetStatus => session.tg_get_target_status(buffer),
-    }
-}
-
-// The engine's name of a time-out.
-fn timeout(wait: Wait) -> Timeout
-    ensures { λ r. ⌜ timeoutOf r ≡ waitOf wait ⌝ }
-{
-    match wait {
-        Wait::Standard => Timeout::Standard,
-        Wait::Ms(ms) => Timeout::Ms(ms),
-    }
-}
-
-// What it does with a call of the device.
-fn dev_call(session: Session, call: Device, bytes: &[u8], buffer: &mut [u8]) -> Step
-    ensures { λ r. ⌜ stepped r (now (buffer .exit)) ≡ deviceStep session (deviceIn (now (bytes .entry)) call) (now (buffer .entry)) ⌝ }
-{
-    match call {
-        Device::DetectTypeA(i, j) => {
-            let bitrate = part(bytes, 0, i);
-            session.detect_type_a(bitrate, part(bytes, i, j), buffer)
-        }
-        Device::DetectTypeB(i, j) => {
-            let bitrate = part(bytes, 0, i);
-            session.detect_type_b(bitrate, part(bytes, i, j), buffer)
-        }
-        Device::DetectTypeF(i, system_code, request_code, time_slots) => {
-            let bitrate = part(bytes, 0, i);
-            session.detect_type_f(bitrate, system_code, request_code, time_slots, buffer)
-        }
-        Device::DetectDep(i, j) => {
-            let bitrate = part(bytes, 0, i);
-            session.detect_dep(bitrate, part(bytes, i, j), buffer)
-        }
-        Device::Transceive(i, j, rid_res, k, wait) => {
-            let bitrate = part(bytes, 0, i);
-            let sel_res = part(bytes, i, j);
-            let given = timeout(wait);
-            session.transceive(bitrate, sel_res, rid_res, part(bytes, j, k), given, buffer)
-        }
-    }
+    let Asked(number, ms, word, x, y, i, j, k, n) = call;
+    let first = part(bytes, 0, i);
+    let second = part(bytes, i, j);
+    let third = part(bytes, j, k);
+    let fourth = part(bytes, k, n);
+    session.call(number, ms, word, x, y, first, second, third, fourth, buffer)
 }
 
 // What the engine does with what was read.
@@ -158,11 +68,11 @@ fn step(session: Session, input: Input, bytes: &[u8; BYTES], buffer: &mut [u8]) 
     ensures { λ r. ⌜ stepped r (now (buffer .exit)) ≡ stepOf session (inputIn (now (bytes .entry)) input) (now (buffer .entry)) ⌝ }
 {
     match input {
-        Input::Open => session.open(buffer),
-        Input::Chip(call) => chip(session, call, bytes, buffer),
-        Input::In(call) => in_call(session, call, bytes, buffer),
-        Input::Tg(call) => tg_call(session, call, bytes, buffer),
-        Input::Dev(call) => dev_call(session, call, bytes, buffer),
+        Input::Open => called(session, Asked(OPEN, 0, 0, 0, 0, 0, 0, 0, 0), bytes, buffer),
+        Input::Chip(call) => called(session, calls::chip(call), bytes, buffer),
+        Input::In(call) => called(session, calls::initiator(call), bytes, buffer),
+        Input::Tg(call) => called(session, calls::target(call), bytes, buffer),
+        Input::Dev(call) => called(session, calls::device(call), bytes, buffer),
         Input::Happened(event, n) => session.event(event, part(bytes, 0, n), buffer),
         Input::Unreadable => unreadable(session),
     }
@@ -227,7 +137,8 @@ fn fed(answer: Answered, out: &mut [u8; OUT]) -> Answered
     }
 }
 
-// Answers standard input line by line on standard output.
+// Answers standard input line by line on standard output. No contract can say what is read or written: `lines::next` fixes each
+// line by the bytes that come, and `reply` the text that is written for it.
 pub fn run() {
     let mut read = io::large_buffer();
     let mut line = [0u8; LINE];

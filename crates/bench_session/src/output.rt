@@ -2,13 +2,12 @@
 use super::BUFFER;
 use super::OUT;
 use super::text;
-use engine::state::Output;
-use errors::Refusal;
+use engine::core::Output;
+use errors::Numbered;
 ghost use mathlib.Core.Path.{_≡_};
 ghost use mathlib.Core.List.{_++_};
 ghost use Prim.Native.Nat.{_≤_};
 ghost use lib.ListN.{length, take};
-ghost use Rattle.errors.specs.Refusals.{numbered as numberedOf};
 ghost use Rattle.bench.specs.Texts.{placed, placedAt, decimalOf};
 ghost use Rattle.bench.specs.Hex.{hexOf};
 ghost use Rattle.bench_session.specs.Outputs.{outRoom, textLimit, doneText, type1Text, refusedText, textOf};
@@ -57,14 +56,13 @@ fn put_type1(bytes: &[u8], out: &mut [u8]) -> usize
 }
 
 // A refusal's number, and the status of 15.
-fn put_refused(refusal: Refusal, out: &mut [u8]) -> usize
+fn put_refused(numbered: Numbered, out: &mut [u8]) -> usize
     requires { ⌜ outRoom ≤ length (now out) ⌝ }
-    ensures { λ r. ⌜ placed r (now (out .exit)) ≡ placedAt 0 (refusedText (numberedOf refusal)) (now (out .entry)) ⌝ }
+    ensures { λ r. ⌜ placed r (now (out .exit)) ≡ placedAt 0 (refusedText numbered) (now (out .entry)) ⌝ }
 {
-    let numbered = refusal.numbered();
-    let at = put_number(b"refused ", numbered.0 as u64, out);
-    if numbered.0 == 15 {
-        let status = [numbered.1];
+    let at = put_number(b"refused ", numbered.number as u64, out);
+    if numbered.number == 15 {
+        let status = [numbered.status];
         let next = text::put(b" ", out, at);
         return text::put_hex(&status, out, next);
     }
@@ -76,14 +74,16 @@ fn put_output(output: Output, bytes: &[u8], out: &mut [u8; OUT]) -> usize
     ensures { λ r. ⌜ (placed r (now (out .exit)) ≡ placedAt 0 (textOf output (now (bytes .entry))) (now (out .entry))) × (r ≤ textLimit) × (length (now (out .exit)) ≡ outRoom) ⌝ }
 {
     match output {
-        Output::Write(n) => put_bytes(b"write ", first(n, bytes), out),
+        Output::Ack => put_bytes(b"write ", first(6, bytes), out),
+        Output::Command(n) => put_bytes(b"write ", first(n, bytes), out),
         Output::Read(ms) => put_number(b"read ", ms as u64, out),
         Output::Drain => text::put(b"drain", out, 0),
         Output::Pause(us) => put_number(b"pause ", us as u64, out),
         Output::Done(n) => put_done(first(n, bytes), out),
         Output::Type1(n) => put_type1(first(n, bytes), out),
         Output::Nothing => text::put(b"none", out, 0),
-        Output::Refused(refusal) => put_refused(refusal, out),
+        Output::Failed(fault) => put_refused(fault.numbered(), out),
+        Output::Refused(refusal) => put_refused(refusal.numbered(), out),
     }
 }
 

@@ -12,8 +12,9 @@ use lib.ListN.{length, take, drop, getD, length-append, length-drop, drop-of-len
 use lib.Seq.{drop-cons, take-all, take-at}
 use Rattle.crc.specs.Crc.{typeA as crcA, checks}
 use Rattle.errors.specs.Choice.{pick}
-use Rattle.errors.specs.declared.Refusal.{Refusal}
-use Rattle.errors.specs.declared.Refusal.the-variants.{Status, OverLong, BadArgument}
+use Rattle.errors.specs.declared.Fault.{Fault}
+use Rattle.errors.specs.declared.Fault.the-variants.{Status}
+use Rattle.errors.specs.declared.Refusal.the-variants.{OverLong, BadArgument}
 use Rattle.framing.specs.Copied.{copied}
 use Rattle.framing.specs.Valid.{both-right}
 use Rattle.protocol.specs.Calls.{registers}
@@ -78,7 +79,7 @@ module _ (bs : List ℕ) where
   pub comes-nothing : Comes bs Nothing nothing
   comes-nothing = record { is = refl; fits = tt }
 
-  pub comes-refused : (x : Refusal) → Comes bs (Refused x) (refused x)
+  pub comes-refused : (x : Fault) → Comes bs (Refused x) (refused x)
   comes-refused x = record { is = refl; fits = tt }
 
   pub comes-status : (s x : ℕ) → s ≡ x → Comes bs (Refused (Status s)) (refused (Status x))

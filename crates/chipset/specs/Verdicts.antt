@@ -4,7 +4,7 @@ use Prim.Native.Nat.{ℕ, _-_}
 use lib.Dec.{eqb, ltb}
 use lib.ListN.{length, take, drop, getD}
 use Rattle.errors.specs.Choice.{pick}
-use Rattle.errors.specs.declared.Refusal.the-variants.{Status, ShortResponse, CrcA, Rate}
+use Rattle.errors.specs.declared.Fault.the-variants.{Status, ShortResponse, CrcA, Rate}
 use Rattle.crc.specs.Crc.{typeA as crcA, checks}
 use Rattle.protocol.specs.Scripts.{Answer, done, nothing, refused}
 use Rattle.protocol.specs.Chipset.{anyNonzero, statusByte, maskedStatus, moreFlag, sendIndex, receiveIndex, rate, word}

@@ -40,7 +40,8 @@ pub enum Launch {
     Refused(Refusal),
 }
 
-// A launch; the data of its command are the first bytes of these. An enum cannot hold an array.
+// A launch; the data of its command are the first `len` bytes of these. An enum cannot hold an array.
+// Bytes behind them, and all bytes beside a refusal, are free: nothing reads them.
 pub struct Launched {
     pub launch: Launch,
     pub bytes: [u8; 512],

@@ -12,7 +12,7 @@ use super::THRU;
 use super::TYPE_1;
 use super::TYPE_2;
 use super::VERSION;
-use errors::Refusal;
+use errors::Fault;
 ghost use mathlib.Core.List.{List, [], _∷_, _++_};
 ghost use mathlib.Core.Path.{_≡_};
 ghost use Prim.Native.Nat.{ℕ, _+_, _≤_};
@@ -26,6 +26,8 @@ ghost use Rattle.chipset.specs.Answers.{verdictIn, Fits, Comes, laterJud
 pub struct Tail(pub u8, pub u8, pub u8, pub u8);
 
 // The answer: the part of the response from `start`, `len` bytes of it, and behind it the first `count` bytes of `tail`.
+// The contracts fix the answer's bytes. How they divide into part and tail is free, and so are bytes of `tail` behind `count`, which
+// nothing reads.
 pub struct Answer {
     pub start: usize,
     pub len: usize,
@@ -36,7 +38,7 @@ pub struct Answer {
 pub enum Verdict {
     Done(Answer),
     Nothing,
-    Refused(Refusal),
+    Refused(Fault),
 }
 
 // The first byte, `other` where there is none.
@@ -86,7 +88,7 @@ fn version(response: &[u8]) -> Verdict
     ensures { λ r. ⌜ Comes (now (response .entry)) r (versionAnswer (now (response .entry))) ⌝ }
 {
     if response.len() < 4 {
-        Verdict::Refused(Refusal::ShortResponse)
+        Verdict::Refused(Fault::ShortResponse)
     } else {
         part(0, 3)
     }
@@ -97,7 +99,7 @@ fn written(response: &[u8]) -> Verdict
     ensures { λ r. ⌜ Comes (now (response .entry)) r (writeAnswer (now (response .entry))) ⌝ }
 {
     if any_nonzero(response) {
-        Verdict::Refused(Refusal::Status(0xFE))
+        Verdict::Refused(Fault::Status(0xFE))
     } else {
         part(0, 0)
     }
@@ -108,7 +110,7 @@ fn first(response: &[u8]) -> Verdict
     ensures { λ r. ⌜ Comes (now (response .entry)) r (firstAnswer (now (response .entry))) ⌝ }
 {
     if response.len() < 1 {
-        Verdict::Refused(Refusal::ShortResponse)
+        Verdict::Refused(Fault::ShortResponse)
     } else {
         part(0, 1)
     }
@@ -122,7 +124,7 @@ fn listed(response: &[u8]) -> Verdict
         return Verdict::Nothing;
     }
     if response.len() < 2 {
-        Verdict::Refused(Refusal::ShortResponse)
+        Verdict::Refused(Fault::ShortResponse)
     } else {
         from(response, 2)
     }
@@ -133,7 +135,7 @@ fn exchanged(response: &[u8]) -> Verdict
     ensures { λ r. ⌜ Comes (now (response .entry)) r (exchangeAnswer (now (response .entry))) ⌝ }
 {
     if response.len() == 0 {
-        return Verdict::Refused(Refusal::Status(0xFF));
+        return Verdict::Refused(Fault::Status(0xFF));
     }
     let status = response[0] % 64;
     if status == 0 {
@@ -146,7 +148,7 @@ fn exchanged(response: &[u8]) -> Verdict
         };
         Verdict::Done(answer)
     } else {
-        Verdict::Refused(Refusal::Status(status))
+        Verdict::Refused(Fault::Status(status))
     }
 }
 
@@ -158,7 +160,7 @@ fn thru(response: &[u8]) -> Verdict
     if status == 0 {
         from(response, 1)
     } else {
-        Verdict::Refused(Refusal::Status(status))
+        Verdict::Refused(Fault::Status(status))
     }
 }
 
@@ -169,12 +171,12 @@ fn jumped(response: &[u8]) -> Verdict
     let status = first_or(response, 0xFF);
     if status == 0 {
         if response.len() < 2 {
-            Verdict::Refused(Refusal::ShortResponse)
+            Verdict::Refused(Fault::ShortResponse)
         } else {
             from(response, 2)
         }
     } else {
-        Verdict::Refused(Refusal::Status(status))
+        Verdict::Refused(Fault::Status(status))
     }
 }
 
@@ -186,7 +188,7 @@ fn status(response: &[u8]) -> Verdict
     if status == 0 {
         part(0, 0)
     } else {
-        Verdict::Refused(Refusal::Status(status))
+        Verdict::Refused(Fault::Status(status))
     }
 }
 
@@ -235,16 +237,16 @@ fn target(response: &[u8]) -> Verdict
     ensures { λ r. ⌜ Comes (now (response .entry)) r (targetAnswer (now (response .entry))) ⌝ }
 {
     if response.len() < 2 {
-        return Verdict::Refused(Refusal::ShortResponse);
+        return Verdict::Refused(Fault::ShortResponse);
     }
     if response[0] == 1 {
         let send = response[1] / 16 % 8;
         let receive = response[1] % 8;
         if 2 < send {
-            return Verdict::Refused(Refusal::Rate);
+            return Verdict::Refused(Fault::Rate);
         }
         if 2 < receive {
-            return Verdict::Refused(Refusal::Rate);
+            return Verdict::Refused(Fault::Rate);
         }
         with_rates(rate(send), rate(receive))
     } else {
@@ -262,13 +264,13 @@ fn type2(response: &[u8]) -> Verdict
             if crc::check_crc_a(&response[1..]) {
                 part(1, response.len() - 3)
             } else {
-                Verdict::Refused(Refusal::CrcA)
+                Verdict::Refused(Fault::CrcA)
             }
         } else {
             from(response, 1)
         }
     } else {
-        Verdict::Refused(Refusal::Status(status))
+        Verdict::Refused(Fault::Status(status))
     }
 }
 
@@ -277,13 +279,13 @@ fn type1(response: &[u8]) -> Verdict
     ensures { λ r. ⌜ Comes (now (response .entry)) r (type1Answer (now (response .entry))) ⌝ }
 {
     if response.len() == 0 {
-        return Verdict::Refused(Refusal::Status(0xFF));
+        return Verdict::Refused(Fault::Status(0xFF));
     }
     let status = response[0] % 64;
     if status == 0 {
         from(response, 1)
     } else {
-        Verdict::Refused(Refusal::Status(status))
+        Verdict::Refused(Fault::Status(status))
     }
 }
 

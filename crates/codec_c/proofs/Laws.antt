@@ -26,7 +26,7 @@ module _ (bytes out after : List ℕ) (count : ℕ) (r : Added) (e : _≡_ {A = 
   unfolding appendB writtenOf
   appended n h = rw (← e, h)
 
-  pub not-appended : (k : ℕ) (x : Refusal) → r ≡ added.Refused x → k ≡ numbered x .0 → written k after count ≡ appendB bytes out count
+  pub not-appended : (k : ℕ) (x : Refusal) → r ≡ added.Refused x → k ≡ numbered x .number → written k after count ≡ appendB bytes out count
   unfolding appendB writtenOf
   not-appended k x h g = rw (← e, h, g)
 
@@ -49,6 +49,6 @@ module _ (s t : Setting) (e : s ≡ t) where
       unfolding buildFor writtenOf framing.outcome
       was-built n k = rw (← e, h, ← g, k)
 
-      pub not-built : (m : ℕ) (x : Refusal) → r ≡ built.Refused x → m ≡ numbered x .0 → written m after count ≡ buildFor t payload buffer count
+      pub not-built : (m : ℕ) (x : Refusal) → r ≡ built.Refused x → m ≡ numbered x .number → written m after count ≡ buildFor t payload buffer count
       unfolding buildFor writtenOf framing.outcome
       not-built m x k l = rw (← e, h, ← g, k, l)

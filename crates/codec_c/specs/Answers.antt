@@ -24,7 +24,7 @@ written answer buffer count = record { answer = answer; buffer = buffer; count =
 -- a refusal leaves the count as it was
 unfoldable pub writtenOf : Outcome → List ℕ → ℕ → Written
 writtenOf (answered n) buffer count = written 0 buffer n
-writtenOf (refused e) buffer count = written (e .0) buffer count
+writtenOf (refused e) buffer count = written (e .number) buffer count
 
 -- a frame under a setting; where there is no such setting, refusal 4 and nothing written
 unfoldable pub buildFor : Setting → List ℕ → List ℕ → ℕ → Written

@@ -21,10 +21,10 @@ struct Found {
 
 // The refusal's number in document 01's table.
 fn number(refusal: Refusal) -> u8
-    ensures { λ r. ⌜ r ≡ numbered refusal .0 ⌝ }
+    ensures { λ r. ⌜ r ≡ numbered refusal .number ⌝ }
 {
     let numbered = refusal.numbered();
-    numbered.0
+    numbered.number
 }
 
 // The kind is 0 for no frame, 1 for Ack, 2 for Error, 3 for Data.

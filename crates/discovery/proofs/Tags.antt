@@ -11,6 +11,9 @@ use denote.Enum.Declared.{tagOf}
 use lib.Dec.{eqb}
 use lib.ListN.{length, getD}
 use types.Run.{OneOf, miss}
+use Rattle.errors.specs.Refusals.{byStatus}
+use Rattle.errors.specs.declared.Fault.{Fault}
+use Rattle.errors.specs.declared.Fault.the-variants.{Transport, TimeOut, FalseStart, BrokenFrame, Length, FrameKind, Identifier, Code, Status, ShortResponse, NoCard, CrcA, Rate}
 use Rattle.targets.specs.declared.Bitrate.{Bitrate}
 use Rattle.targets.specs.declared.Bitrate.the-variants.{B106A, B212F, B424F, B106B, B212B, B424B, B848B, Other}
 use Rattle.targets.proofs.Bitrate.{the-type}
@@ -95,3 +98,20 @@ pub other-sendable : (l : List ℕ) → (length l ≡ 0 → ⊥) → 2 ≤ getD 
 other-sendable [] n g h = absurd (n refl)
 other-sendable (x ∷ l) n g h =
     rw (ne-eqb x 0 (λ e. omega arith), ne-eqb x 1 (λ e. omega arith), ne-eqb x 0x1A (λ e. h (inl e)), ne-eqb x 0x53 (λ e. h (inr (inl e))), ne-eqb x 0x72 (λ e. h (inr (inr e))))
+
+-- no status
+pub not-status : {A : Type 0} (f : ℕ → A) (a : A) (fault : Fault) → OneOf (0 ∷ 1 ∷ 2 ∷ 3 ∷ 4 ∷ 5 ∷ 6 ∷ 7 ∷ 9 ∷ 10 ∷ 11 ∷ 12 ∷ []) (tagOf Rattle.errors.proofs.Fault.the-type fault)
+    → byStatus f a fault ≡ a
+not-status f a Transport h = refl
+not-status f a TimeOut h = refl
+not-status f a FalseStart h = refl
+not-status f a BrokenFrame h = refl
+not-status f a Length h = refl
+not-status f a FrameKind h = refl
+not-status f a Identifier h = refl
+not-status f a Code h = refl
+not-status f a (Status s) h = absurd (miss (0 ∷ 1 ∷ 2 ∷ 3 ∷ 4 ∷ 5 ∷ 6 ∷ 7 ∷ 9 ∷ 10 ∷ 11 ∷ 12 ∷ []) 8 tt h)
+not-status f a ShortResponse h = refl
+not-status f a NoCard h = refl
+not-status f a CrcA h = refl
+not-status f a Rate h = refl

@@ -6,7 +6,7 @@ use Prim.Native.Nat.{ℕ, _+_, _/_, _%_, _≤_}
 use lib.Dec.{eqb}
 use lib.ListN.{length, take, drop, getD}
 use Rattle.errors.specs.Choice.{pick}
-use Rattle.errors.specs.declared.Refusal.the-variants.{Status}
+use Rattle.errors.specs.declared.Fault.the-variants.{Status}
 use Rattle.protocol.specs.Scripts.{Answer, done, type1, nothing, refused}
 use Rattle.protocol.specs.Chipset.{anyNonzero, statusByte}
 use Rattle.chipset.specs.Launches.{Command, cmd}
@@ -35,7 +35,7 @@ decisionIn f b (Sets n byte) = sets n byte
 decisionIn f b Pauses = pauses
 decisionIn f b (Done a) = ends (arranged f b a)
 decisionIn f b Nothing = ends nothing
-decisionIn f b (Refused r) = ends (refused r)
+decisionIn f b (Refused fault) = ends (refused fault)
 
 -- the head has its bytes, and the place lies in the others; the head is at most one byte longer than what stands before the place, save
 -- where under 2 bytes were found
@@ -52,7 +52,7 @@ DecisionFits f b (Sets n byte) = Unit
 DecisionFits f b Pauses = Unit
 DecisionFits f b (Done a) = ArrangedFits f b a
 DecisionFits f b Nothing = Unit
-DecisionFits f b (Refused r) = Unit
+DecisionFits f b (Refused fault) = Unit
 
 -- both
 pub record Decides (f b : List ℕ) (r : Decision) (d : decisions.Decision) : Type 0 where

@@ -5,9 +5,9 @@ use Prim.Native.Nat.{ℕ, _/_, _%_}
 use lib.Dec.{eqb, ltb}
 use lib.ListN.{length, drop, getD}
 use Rattle.errors.specs.Choice.{pick}
-use Rattle.errors.specs.Refusals.{numbered}
-use Rattle.errors.specs.declared.Refusal.{Refusal}
-use Rattle.errors.specs.declared.Refusal.the-variants.{Status, ShortResponse, NoCard}
+use Rattle.errors.specs.Refusals.{byStatus}
+use Rattle.errors.specs.declared.Fault.{Fault}
+use Rattle.errors.specs.declared.Fault.the-variants.{Status, ShortResponse, NoCard}
 use Rattle.protocol.specs.Scripts.{Answer, done, type1, nothing, refused}
 use Rattle.protocol.specs.Chipset.{anyNonzero, statusByte, maskedStatus}
 use Rattle.protocol.specs.Discovery.{isType2}
@@ -46,8 +46,8 @@ commandOf kind stage pending =
 
 -- ---- responses; `found` are the bytes kept of an earlier one
 
-abbrev pub refuse : Refusal → Decision
-refuse r = ends (refused r)
+abbrev pub refuse : Fault → Decision
+refuse fault = ends (refused fault)
 
 unfoldable pub withLength : List ℕ → ℕ → Decision → Decision
 withLength bs n d = pick (ltb (length bs) n) (refuse ShortResponse) d
@@ -114,24 +114,24 @@ decisionOf kind stage found bs =
 
 -- ---- a command that failed
 
--- 15 is none in the RID exchange
-unfoldable pub ridFailure : Refusal → Decision
-ridFailure r = pick (eqb (numbered r .0) 15) (ends nothing) (refuse r)
+-- a status is none in the RID exchange
+unfoldable pub ridFailure : Fault → Decision
+ridFailure fault = byStatus (λ status. ends nothing) (refuse fault) fault
 
-unfoldable pub jumpFailure : Refusal → Decision
-jumpFailure r = pick (eqb (numbered r .0) 15) (noPartner (numbered r .1)) (refuse r)
+unfoldable pub jumpFailure : Fault → Decision
+jumpFailure fault = byStatus noPartner (refuse fault) fault
 
-unfoldable pub typeAFailure : ℕ → Refusal → Decision
-typeAFailure stage r = pick (eqb stage 1) (goes 2) (pick (eqb stage 3) (ridFailure r) (refuse r))
+unfoldable pub typeAFailure : ℕ → Fault → Decision
+typeAFailure stage fault = pick (eqb stage 1) (goes 2) (pick (eqb stage 3) (ridFailure fault) (refuse fault))
 
-unfoldable pub typeBFailure : ℕ → Refusal → Decision
-typeBFailure stage r = pick (eqb stage 1) (goes 2) (pick (eqb stage 2) (ends nothing) (refuse r))
+unfoldable pub typeBFailure : ℕ → Fault → Decision
+typeBFailure stage fault = pick (eqb stage 1) (goes 2) (pick (eqb stage 2) (ends nothing) (refuse fault))
 
-unfoldable pub depFailure : ℕ → Refusal → Decision
-depFailure stage r = pick (eqb stage 1) (jumpFailure r) (refuse r)
+unfoldable pub depFailure : ℕ → Fault → Decision
+depFailure stage fault = pick (eqb stage 1) (jumpFailure fault) (refuse fault)
 
-unfoldable pub failureOf : ℕ → ℕ → Refusal → Decision
-failureOf kind stage r =
-    pick (eqb kind 17) (typeAFailure stage r)
-    (pick (eqb kind 18) (typeBFailure stage r)
-    (pick (eqb kind 20) (depFailure stage r) (refuse r)))
+unfoldable pub failureOf : ℕ → ℕ → Fault → Decision
+failureOf kind stage fault =
+    pick (eqb kind 17) (typeAFailure stage fault)
+    (pick (eqb kind 18) (typeBFailure stage fault)
+    (pick (eqb kind 20) (depFailure stage fault) (refuse fault)))

@@ -1,16 +1,15 @@
 -- Laws of what the functions of decision.rt answer.
-use mathlib.Core.Path.{_≡_, refl, sym, ap, _∙_}
+use mathlib.Core.Path.{_≡_, refl, sym, _∙_}
 use mathlib.Core.Bool.{Bool, true, false, false≢true}
 use mathlib.Core.List.{List, [], _∷_}
 use Prim.Native.Nat.{ℕ, zero, suc, _≤_, _<_}
 use native.Mathlib.Omega.{arith}
 use borrow.Author.Tests.{eq-eqb, ne-eqb, lt-ltb, le-ltb}
-use lib.Dec.{eqb, ltb}
+use lib.Dec.{ltb}
 use lib.ListN.{length, drop, getD, drop-of-length-le, List·getD-eq-default}
 use Rattle.errors.specs.Choice.{pick}
-use Rattle.errors.specs.declared.Numbered.{Numbered}
-use Rattle.errors.specs.declared.Refusal.{Refusal}
-use Rattle.errors.specs.declared.Refusal.the-variants.{ShortResponse}
+use Rattle.errors.specs.declared.Fault.{Fault}
+use Rattle.errors.specs.declared.Fault.the-variants.{ShortResponse}
 use Rattle.protocol.specs.Scripts.{done, type1, nothing}
 use Rattle.chipset.specs.Laws.{is-eqb, not-eqb}
 use Rattle.discovery.specs.Decisions.{goes, keeps, sets, pauses, ends, refuse, withLength, cardBytes, noPartner}
@@ -47,7 +46,7 @@ module _ (f b : List ℕ) where
   pub decides-nothing : Decides f b Nothing (ends nothing)
   decides-nothing = record { is = refl; fits = tt }
 
-  pub decides-refused : (x : Refusal) → Decides f b (Refused x) (refuse x)
+  pub decides-refused : (x : Fault) → Decides f b (Refused x) (refuse x)
   decides-refused x = record { is = refl; fits = tt }
 
   -- the response from a place on
@@ -129,10 +128,3 @@ default-behind l i d h = sym (List·getD-eq-default l d {n = i} h)
 -- a place within the bytes
 pub at-end : (l : List ℕ) (i : ℕ) → length l < i → drop (length l) l ≡ drop i l
 at-end l i h = drop-of-length-le l {i = length l} (omega arith) ∙ sym (drop-of-length-le l {i = i} (omega arith))
-
--- a number of a refusal that a call answered
-pub number-is : (n m : Numbered) (k : ℕ) → n ≡ m → n .0 ≡ k → eqb (m .0) k ≡ true
-number-is n m k e h = eq-eqb (m .0) k (sym (ap (λ x. x .0) e) ∙ h)
-
-pub number-not : (n m : Numbered) (k : ℕ) → n ≡ m → (n .0 ≡ k → ⊥) → eqb (m .0) k ≡ false
-number-not n m k e h = ne-eqb (m .0) k (λ g. h (ap (λ x. x .0) e ∙ g))

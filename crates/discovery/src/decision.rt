@@ -1,29 +1,31 @@
-// What follows each reply of a discovery, by its kind and stage, and the command of each stage.
+// What follows each reply of a discovery, by its kind and stage, and the command of each stage. Type A has a file of its own.
 use super::DEP;
 use super::TYPE_A;
 use super::TYPE_B;
 use super::TYPE_F;
+use super::type_a::type_a;
+use super::type_a::type_a_command;
+use super::type_a::type_a_failed;
 use chipset::cmd;
-use errors::Refusal;
-ghost use mathlib.Core.Bool.{false};
+use errors::Fault;
 ghost use mathlib.Core.List.{List};
 ghost use mathlib.Core.Path.{_≡_};
 ghost use Prim.Native.Nat.{ℕ, _≤_};
 ghost use lib.ListN.{length, drop, getD};
-ghost use Rattle.errors.specs.Choice.{pick};
 ghost use Rattle.protocol.specs.Scripts.{done};
-ghost use Rattle.discovery.specs.Decisions.{cardBytes, ends};
-ghost use Rattle.discovery.specs.Decisions.{typeACommand, typeBCommand, typeFCommand, depCommand, commandOf};
-ghost use Rattle.discovery.specs.Decisions.{listedA, listedType1, ridOf, listedB, polled as polledOf, noPartner};
-ghost use Rattle.discovery.specs.Decisions.{typeADecision, typeBDecision, typeFDecision, depDecision, decisionOf};
-ghost use Rattle.discovery.specs.Decisions.{ridFailure, jumpFailure, typeAFailure, typeBFailure, depFailure, failureOf};
+ghost use Rattle.discovery.specs.Decisions.{ends};
+ghost use Rattle.discovery.specs.Decisions.{typeBCommand, typeFCommand, depCommand, commandOf};
+ghost use Rattle.discovery.specs.Decisions.{listedB, polled as polledOf, noPartner};
+ghost use Rattle.discovery.specs.Decisions.{typeBDecision, typeFDecision, depDecision, decisionOf};
+ghost use Rattle.discovery.specs.Decisions.{jumpFailure, typeBFailure, depFailure, failureOf};
 ghost use Rattle.discovery.specs.Decided.{decisionIn, DecisionFits, Decides, Always, Reaches, planned, Plans};
-ghost use Rattle.discovery.specs.Decided.{fifoRead, rxModeRead, rxModeWritten, isoDep, wokenUp, txControlRead, jumpedTo, modeWritten};
+ghost use Rattle.discovery.specs.Decided.{isoDep, wokenUp, txControlRead, jumpedTo, modeWritten};
 
 // Bytes of the engine's own, or in another order than they came. An enum cannot hold an array.
 pub struct Head(pub u8, pub u8, pub u8);
 
 // The answer of a discovery: the first `count` bytes of `head`, then the found bytes (`kept`) or the response from `start` on.
+// The contracts fix the answer's bytes. How they divide is free, and so are bytes of `head` behind `count`, which nothing reads.
 pub struct Arranged {
     pub head: Head,
     pub count: usize,
@@ -41,21 +43,22 @@ pub enum Decision {
     Pauses,
     Done(Arranged),
     Nothing,
-    Refused(Refusal),
+    Refused(Fault),
 }
 
-// The command of a stage: its code, its clock in ms, whether its data is the pending command, else the first `len` of the bytes.
+// The command of a stage: its code, its clock in ms, whether its data is the pending command, the bytes of any other data, and how many
+// they are. Bytes behind them are free, and so are all bytes and their number beside the pending command: nothing reads them.
 pub struct Plan(pub u8, pub u32, pub bool, pub [u8; 8], pub usize);
 
 // The byte at a place, `other` where there is none.
-fn byte_or(bytes: &[u8], at: usize, other: u8) -> u8
+pub(crate) fn byte_or(bytes: &[u8], at: usize, other: u8) -> u8
     ensures { λ r. ⌜ r ≡ getD (now (bytes .entry)) at other ⌝ }
 {
     if at < bytes.len() { bytes[at] } else { other }
 }
 
 // A place, or the end of the bytes where it lies behind it.
-fn within(bytes: &[u8], at: usize) -> usize
+pub(crate) fn within(bytes: &[u8], at: usize) -> usize
     ensures { λ r. ⌜ Reaches (now (bytes .entry)) at r ⌝ }
 {
     if at <= bytes.len() { at } else { bytes.len() }
@@ -73,128 +76,6 @@ fn from(start: usize) -> Decision
         type1: false,
     };
     Decision::Done(answer)
-}
-
-// SENS_RES in the other order, SEL_RES and SDD_RES of a list.
-fn card(list: &[u8], kept: bool) -> Decision
-    ensures { λ r. ⌜ ((f b : List ℕ) → pick kept f b ≡ now (list .entry) → (kept ≡ false → 2 ≤ length b) → Decides f b r (ends (done (cardBytes (now (list .entry)))))) ⌝ }
-{
-    let head = Head(
-        byte_or(list, 3, 0),
-        byte_or(list, 2, 0),
-        byte_or(list, 4, 0),
-    );
-    let answer = Arranged {
-        head,
-        count: 3,
-        kept,
-        start: within(list, 6),
-        type1: false,
-    };
-    Decision::Done(answer)
-}
-
-// detect_type_a: a target was listed, or none.
-fn listed_a(response: &[u8]) -> Decision
-    ensures { λ r. ⌜ ((f : List ℕ) → Decides f (now (response .entry)) r (listedA (now (response .entry)))) ⌝ }
-{
-    if byte_or(response, 0, 0) == 0 {
-        return Decision::Goes(1);
-    }
-    if response.len() < 2 {
-        return Decision::Refused(Refusal::ShortResponse);
-    }
-    if response.len() < 6 {
-        return Decision::Nothing;
-    }
-    if response[4] / 32 % 4 == 0 {
-        Decision::Keeps(4) // Type 2
-    } else {
-        card(response, false)
-    }
-}
-
-// The FIFO holds 0x26 where no SENS_RES came.
-fn fifo(response: &[u8]) -> Decision
-    ensures { λ r. ⌜ ((f : List ℕ) → Decides f (now (response .entry)) r (fifoRead (now (response .entry)))) ⌝ }
-{
-    if byte_or(response, 0, 0) == 0x26 {
-        Decision::Nothing
-    } else {
-        Decision::Goes(2)
-    }
-}
-
-// try_type1_detection: a target was listed, or none.
-fn listed_type1(response: &[u8]) -> Decision
-    ensures { λ r. ⌜ ((f : List ℕ) → Decides f (now (response .entry)) r (listedType1 (now (response .entry)))) ⌝ }
-{
-    if byte_or(response, 0, 0) == 0 {
-        return Decision::Nothing;
-    }
-    if response.len() < 2 {
-        Decision::Refused(Refusal::ShortResponse)
-    } else {
-        Decision::Keeps(3)
-    }
-}
-
-// The RID reply. A status other than 0 is none.
-fn rid(found: &[u8], response: &[u8]) -> Decision
-    ensures { λ r. ⌜ Decides (now (found .entry)) (now (response .entry)) r (ridOf (now (found .entry)) (now (response .entry))) ⌝ }
-{
-    if response.len() == 0 {
-        return Decision::Nothing;
-    }
-    if response[0] % 64 != 0 {
-        return Decision::Nothing;
-    }
-    if found.len() < 4 {
-        return Decision::Refused(Refusal::ShortResponse);
-    }
-    let answer = Arranged {
-        head: Head(found[3], found[2], 0),
-        count: 2,
-        kept: false,
-        start: 1,
-        type1: true,
-    };
-    Decision::Done(answer)
-}
-
-// The RX mode of a Type 2 tag has the CRC check switched off.
-fn rx_mode(response: &[u8]) -> Decision
-    ensures { λ r. ⌜ ((f : List ℕ) → Decides f (now (response .entry)) r (rxModeRead (now (response .entry)))) ⌝ }
-{
-    if response.len() < 1 {
-        Decision::Refused(Refusal::ShortResponse)
-    } else {
-        Decision::Sets(5, response[0] % 128)
-    }
-}
-
-// The answer is in the list that was kept.
-fn rx_mode_written(found: &[u8], response: &[u8]) -> Decision
-    ensures { λ r. ⌜ Decides (now (found .entry)) (now (response .entry)) r (rxModeWritten (now (found .entry)) (now (response .entry))) ⌝ }
-{
-    if chipset::response::any_nonzero(response) {
-        Decision::Refused(Refusal::Status(0xFE))
-    } else {
-        card(found, true)
-    }
-}
-
-fn type_a(stage: u8, found: &[u8], response: &[u8]) -> Decision
-    ensures { λ r. ⌜ Decides (now (found .entry)) (now (response .entry)) r (typeADecision stage (now (found .entry)) (now (response .entry))) ⌝ }
-{
-    match stage {
-        0 => listed_a(response),
-        1 => fifo(response),
-        2 => listed_type1(response),
-        3 => rid(found, response),
-        4 => rx_mode(response),
-        _ => rx_mode_written(found, response),
-    }
 }
 
 // A tag that is capable of ISO-DEP, by its protocol byte, is deselected.
@@ -220,7 +101,7 @@ fn listed_b(response: &[u8]) -> Decision
         return Decision::Nothing;
     }
     if response.len() < 2 {
-        return Decision::Refused(Refusal::ShortResponse);
+        return Decision::Refused(Fault::ShortResponse);
     }
     if response.len() < 13 {
         Decision::Nothing
@@ -255,7 +136,7 @@ fn tx_control(response: &[u8]) -> Decision
     ensures { λ r. ⌜ ((f : List ℕ) → Decides f (now (response .entry)) r (txControlRead (now (response .entry)))) ⌝ }
 {
     if response.len() < 1 {
-        return Decision::Refused(Refusal::ShortResponse);
+        return Decision::Refused(Fault::ShortResponse);
     }
     if response[0] % 4 == 0 {
         Decision::Goes(1)
@@ -269,10 +150,10 @@ fn polled(response: &[u8]) -> Decision
     ensures { λ r. ⌜ ((f : List ℕ) → Decides f (now (response .entry)) r (polledOf (now (response .entry)))) ⌝ }
 {
     if byte_or(response, 0, 0) == 0 {
-        return Decision::Refused(Refusal::NoCard);
+        return Decision::Refused(Fault::NoCard);
     }
     if response.len() < 20 {
-        Decision::Refused(Refusal::ShortResponse)
+        Decision::Refused(Fault::ShortResponse)
     } else {
         from(4)
     }
@@ -294,7 +175,7 @@ fn no_partner(status: u8) -> Decision
 {
     match status {
         0x01 | 0x0A => Decision::Nothing,
-        _ => Decision::Refused(Refusal::Status(status)),
+        _ => Decision::Refused(Fault::Status(status)),
     }
 }
 
@@ -305,7 +186,7 @@ fn jumped(response: &[u8]) -> Decision
     let status = byte_or(response, 0, 0xFF);
     if status == 0 {
         if response.len() < 2 {
-            Decision::Refused(Refusal::ShortResponse)
+            Decision::Refused(Fault::ShortResponse)
         } else {
             Decision::Keeps(2)
         }
@@ -319,7 +200,7 @@ fn mode_written(found: &[u8], response: &[u8]) -> Decision
     ensures { λ r. ⌜ Decides (now (found .entry)) (now (response .entry)) r (modeWritten (now (found .entry)) (now (response .entry))) ⌝ }
 {
     if chipset::response::any_nonzero(response) {
-        return Decision::Refused(Refusal::Status(0xFE));
+        return Decision::Refused(Fault::Status(0xFE));
     }
     let answer = Arranged {
         head: Head(0xD5, 0x01, 0),
@@ -354,104 +235,46 @@ pub fn decided(kind: u8, stage: u8, found: &[u8], response: &[u8]) -> Decision
     }
 }
 
-// 15 is none in the RID exchange.
-fn rid_failed(refusal: Refusal) -> Decision
-    ensures { λ r. ⌜ Always r (ridFailure refusal) ⌝ }
+// A status of InJumpForDEP says why there is no partner.
+fn jump_failed(fault: Fault) -> Decision
+    ensures { λ r. ⌜ Always r (jumpFailure fault) ⌝ }
 {
-    if refusal.numbered().0 == 15 {
-        Decision::Nothing
-    } else {
-        Decision::Refused(refusal)
-    }
-}
-
-fn jump_failed(refusal: Refusal) -> Decision
-    ensures { λ r. ⌜ Always r (jumpFailure refusal) ⌝ }
-{
-    let numbered = refusal.numbered();
-    if numbered.0 == 15 {
-        no_partner(numbered.1)
-    } else {
-        Decision::Refused(refusal)
-    }
-}
-
-fn type_a_failed(stage: u8, refusal: Refusal) -> Decision
-    ensures { λ r. ⌜ Always r (typeAFailure stage refusal) ⌝ }
-{
-    match stage {
-        1 => Decision::Goes(2),
-        3 => rid_failed(refusal),
-        _ => Decision::Refused(refusal),
-    }
+    let Fault::Status(status) = fault else {
+        return Decision::Refused(fault);
+    };
+    no_partner(status)
 }
 
 // The outcome of the deselect is ignored, and a wake-up that fails is none.
-fn type_b_failed(stage: u8, refusal: Refusal) -> Decision
-    ensures { λ r. ⌜ Always r (typeBFailure stage refusal) ⌝ }
+fn type_b_failed(stage: u8, fault: Fault) -> Decision
+    ensures { λ r. ⌜ Always r (typeBFailure stage fault) ⌝ }
 {
     match stage {
         1 => Decision::Goes(2), // the deselect
         2 => Decision::Nothing, // the wake-up
-        _ => Decision::Refused(refusal),
+        _ => Decision::Refused(fault),
     }
 }
 
-fn dep_failed(stage: u8, refusal: Refusal) -> Decision
-    ensures { λ r. ⌜ Always r (depFailure stage refusal) ⌝ }
+fn dep_failed(stage: u8, fault: Fault) -> Decision
+    ensures { λ r. ⌜ Always r (depFailure stage fault) ⌝ }
 {
     match stage {
-        1 => jump_failed(refusal),
-        _ => Decision::Refused(refusal),
+        1 => jump_failed(fault),
+        _ => Decision::Refused(fault),
     }
 }
 
 // What follows a command that failed.
-pub fn failed(kind: u8, stage: u8, refusal: Refusal) -> Decision
-    ensures { λ r. ⌜ ((f b : List ℕ) → decisionIn f b r ≡ failureOf kind stage refusal) ⌝ }
+pub fn failed(kind: u8, stage: u8, fault: Fault) -> Decision
+    ensures { λ r. ⌜ ((f b : List ℕ) → decisionIn f b r ≡ failureOf kind stage fault) ⌝ }
     ensures { λ r. ⌜ ((f b : List ℕ) → DecisionFits f b r) ⌝ }
 {
     match kind {
-        TYPE_A => type_a_failed(stage, refusal),
-        TYPE_B => type_b_failed(stage, refusal),
-        DEP => dep_failed(stage, refusal),
-        _ => Decision::Refused(refusal),
-    }
-}
-
-fn type_a_command(stage: u8) -> Plan
-    ensures { λ r. ⌜ Plans r (typeACommand stage) ⌝ }
-{
-    match stage {
-        1 => Plan(
-            cmd::READ_REGISTER,
-            250,
-            false,
-            [0x63, 0x39, 0, 0, 0, 0, 0, 0],
-            2,
-        ),
-        2 => Plan(
-            cmd::IN_LIST_PASSIVE_TARGET,
-            1000,
-            false,
-            [0x01, 0x04, 0, 0, 0, 0, 0, 0],
-            2,
-        ),
-        3 => Plan(
-            cmd::IN_DATA_EXCHANGE,
-            100,
-            false,
-            [0x01, 0x78, 0, 0, 0, 0, 0, 0],
-            8,
-        ),
-        4 => Plan(
-            cmd::READ_REGISTER,
-            250,
-            false,
-            [0x63, 0x03, 0, 0, 0, 0, 0, 0],
-            2,
-        ),
-        _ => Plan(cmd::WRITE_REGISTER, 250, true, [0; 8], 0),
+        TYPE_A => type_a_failed(stage, fault),
+        TYPE_B => type_b_failed(stage, fault),
+        DEP => dep_failed(stage, fault),
+        _ => Decision::Refused(fault),
     }
 }
 

@@ -1,6 +1,7 @@
 // Discovery and transceive (discovery.rs, device.rs): the first command of a call, and what follows each reply.
 pub mod decision;
 pub mod search;
+mod type_a;
 
 // The discoveries, by the numbers that follow those of chipset's rules.
 pub const TYPE_A: u8 = 17;

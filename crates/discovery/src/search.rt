@@ -28,6 +28,7 @@ ghost use Rattle.discovery.specs.Searches.{starting, refusing, typeASear
 ghost use Rattle.discovery.specs.Starts.{searchIn, SearchFits, Seeks, timeoutOf, supportedIn, type1Search, thruSearch};
 
 // The first command of a call with its data, or a refusal, and the command to send later: the first `count` of the pending bytes.
+// Pending bytes behind `count` are free: nothing reads them.
 pub struct Search {
     pub launched: Launched,
     pub pending: [u8; 64],

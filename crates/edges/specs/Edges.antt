@@ -6,9 +6,9 @@ use Prim.Native.Nat.{ℕ}
 use lib.Dec.{eqb}
 use lib.ListN.{drop}
 use Rattle.errors.specs.Choice.{pick, same as sameBytes}
-use Rattle.errors.specs.Refusals.{numbered, plain}
-use Rattle.errors.specs.declared.Refusal.{Refusal}
-use Rattle.errors.specs.declared.Refusal.the-variants.{TimeOut, BrokenFrame}
+use Rattle.errors.specs.Refusals.{faultNumbered, plain}
+use Rattle.errors.specs.declared.Fault.{Fault}
+use Rattle.errors.specs.declared.Fault.the-variants.{TimeOut, BrokenFrame}
 use Rattle.crc.specs.Crc.{Kind, typeA, typeB, polynomial, bitIn, bitsIn, bits, bytesIn, result, crcOf, crcBytes, checks}
 use Rattle.framing.specs.Frames.{total, checksumOf, ack, normalFrame, extendedFrame, lengthBytes, headOf, frameOf}
 use Rattle.framing.specs.Lists.{starts, same}
@@ -33,7 +33,7 @@ pub data Edge : Type 0 where
   parsed : FrameFormat → List ℕ → FrameType → Edge  -- what a packet is under a format
   parsed-always : List ℕ → FrameType → Edge  -- the same under every setting
   payload : FrameFormat → List ℕ → List ℕ → Edge  -- the payload of a packet
-  refused : List ℕ → Refusal → ℕ → Edge  -- what the packet is refused with in step 5 of the exchange, and the number of that
+  refused : List ℕ → Fault → ℕ → Edge  -- what the packet is refused with in step 5 of the exchange, and the number of that
   skipped : List ℕ → Edge  -- the exchange skips the packet (its step 4), be it the first or a later one
   crc : Kind → List ℕ → List ℕ → Edge  -- the CRC of some bytes
   uid : List ℕ → List ℕ → Edge  -- the bytes that are sent for a UID
@@ -57,7 +57,7 @@ Holds (length-field e n bs) = drop 3 (headOf e n) ≡ bs
 Holds (parsed f p x) = parseOf f p ≡ x
 Holds (parsed-always p x) = (e : LengthEncoding) (d : ErrorDetection) → parseOf (formatOf e d) p ≡ x
 Holds (payload f p bs) = payloadOf (parseOf f p) p ≡ bs
-Holds (refused p r n) = ((code : ℕ) → replyOf code p ≡ failed r) × (numbered r ≡ plain n)
+Holds (refused p r n) = ((code : ℕ) → replyOf code p ≡ failed r) × (faultNumbered r ≡ plain n)
 Holds (skipped p) = ReadsOn reading p × ReadsOn waiting p
 Holds (crc k s bs) = crcBytes k s ≡ bs
 Holds (uid u bs) = cascaded u ≡ bs

@@ -1,5 +1,4 @@
 -- The entries as the engine is given them, and what it does to each, as the host sees it.
-use mathlib.Core.Path.{_≡_, refl}
 use mathlib.Core.List.{List, []}
 use Prim.Native.Nat.{ℕ}
 use lib.ListN.{length, take}
@@ -7,26 +6,29 @@ use Rattle.exchange.specs.Exchange.{write, read, drain, pause, Event}
 use Rattle.protocol.specs.Scripts.{done, type1, nothing, refused}
 use Rattle.protocol.specs.Calls.{ReaderCall, opening, reader, request, device}
 use Rattle.protocol.specs.Session.{Entry, call, event}
-use Rattle.protocol.specs.Session.{Output as Given, orders, answers}
+use Rattle.protocol.specs.Session.{Output as Given, orders, answers, rejects}
 use Rattle.chipset.specs.Launches.{launchOf}
 use Rattle.discovery.specs.Searches.{Search, starting, searchOf}
-use Rattle.engine.specs.Sessions.{Held, heldIn, After, sessionAfter, eventAfter, Stepped, openStep, requestStep, deviceStep, eventStep}
+use Rattle.engine.specs.Core.{Held, After}
+use Rattle.engine.specs.Sessions.{heldIn, sessionAfter, eventAfter, Stepped}
 use Rattle.engine.specs.Sessions.{openAfter as openedAt, launchAfter}
 use Rattle.engine.specs.declared.state.State.{State}
-use Rattle.engine.specs.declared.state.Output.{Output}
-use Rattle.engine.specs.declared.state.Output.the-variants.{Write, Read, Drain, Pause, Done, Type1, Nothing, Refused}
+use Rattle.engine.specs.declared.core.Output.{Output}
+use Rattle.engine.specs.declared.core.Output.the-variants.{Ack, Command, Read, Drain, Pause, Done, Type1, Nothing, Failed, Refused}
 use Rattle.engine.specs.declared.session.Session.{Session}
 
 -- what the host is told: an output with the buffer's bytes
 abbrev pub outputOf : Output → List ℕ → Given ℕ
-outputOf (Write n) b = orders (write (take n b))
+outputOf Ack b = orders (write (take 6 b))
+outputOf (Command n) b = orders (write (take n b))
 outputOf (Read ms) b = orders (read ms)
 outputOf Drain b = orders drain
 outputOf (Pause us) b = orders (pause us)
 outputOf (Done n) b = answers (done (take n b))
 outputOf (Type1 n) b = answers (type1 (take n b))
 outputOf Nothing b = answers nothing
-outputOf (Refused r) b = answers (refused r)
+outputOf (Failed r) b = answers (refused r)
+outputOf (Refused r) b = rejects r
 
 -- a call or an event, each with the bytes of the buffer that is lent with it
 pub data Input : Type 0 where
@@ -44,27 +46,18 @@ entryOf (opens b) = call opening (length b)
 entryOf (asks c b) = call (reader c) (length b)
 entryOf (tells e b) = event e (length b)
 
-abbrev pub stepWith : Session → Input → Stepped
-stepWith s (opens b) = openStep s b
-stepWith s (asks (request q) b) = requestStep s q b
-stepWith s (asks (device d) b) = deviceStep s d b
-stepWith s (tells e b) = eventStep s e b
-
 -- the first command of a call, or its refusal, and the command to send later
 abbrev pub launchFor : ReaderCall → Search
 launchFor (request q) = starting (launchOf q) []
 launchFor (device d) = searchOf d
 
-abbrev pub afterInput : State → Held → Input → After
+abbrev pub afterInput : State → Held → Input → After State
 afterInput s f (opens b) = openedAt s f b
 afterInput s f (asks c b) = launchAfter s f (launchFor c .launch) (launchFor c .pending) b
 afterInput s f (tells e b) = eventAfter s f e b
 
+abbrev pub stepWith : Session → Input → Stepped
+stepWith s i = sessionAfter (afterInput (s .state) (heldIn s) i)
+
 abbrev pub act : Session → Input → Session × Given ℕ
 act s i = ((stepWith s i) .session, outputOf ((stepWith s i) .output) ((stepWith s i) .buffer))
-
-pub stepped-is : (s : Session) (i : Input) → stepWith s i ≡ sessionAfter (afterInput (s .state) (heldIn s) i)
-stepped-is s (opens b) = refl
-stepped-is s (asks (request q) b) = refl
-stepped-is s (asks (device d) b) = refl
-stepped-is s (tells e b) = refl

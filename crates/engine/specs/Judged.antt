@@ -11,7 +11,9 @@ use lib.ListN.{length, take, drop, getD, length-drop, drop-of-length-le}
 use lib.Seq.{drop-cons, take-all}
 use Rattle.errors.specs.Choice.{pick}
 use Rattle.errors.specs.declared.Refusal.{Refusal}
-use Rattle.errors.specs.declared.Refusal.the-variants.{OverLong, BadArgument, ShortResponse, Status, CrcA, Rate}
+use Rattle.errors.specs.declared.Refusal.the-variants.{OverLong, BadArgument}
+use Rattle.errors.specs.declared.Fault.{Fault}
+use Rattle.errors.specs.declared.Fault.the-variants.{ShortResponse, Status, CrcA, Rate}
 use Rattle.crc.specs.Crc.{typeA as crcA, checks}
 use Rattle.exchange.specs.Packets.{isEmpty}
 use Rattle.protocol.specs.Scripts.{Byte, own, value, Answer, done, nothing, refused, Script, finish, command, reset, either, refuse, ifElse, part, rest, byteAt}
@@ -39,7 +41,7 @@ unfolding pick
 judged-if true h k = h refl
 judged-if false h k = k refl
 
-refusing : (r : Refusal) → Judged (refuse r) (refused r)
+refusing : (r : Fault) → Judged (refuse r) (refused r)
 refusing r = ends (refused r) refl
 
 by-length : (bs : List ℕ) (n : ℕ) {s : Script} {a : Answer ℕ} → (n ≤ length bs → Judged s a) → Judged (lengthThen bs n s) (withLength bs n a)

@@ -6,7 +6,7 @@ use Prim.Native.Nat.{ℕ, _+_, _-_, _≤_, _<_}
 use native.Mathlib.Decide.{decLe}
 use native.Mathlib.Omega.{arith}
 use borrow.Rule.Slice.PartMut.{putMid}
-use borrow.Author.Tests.{eq-eqb, ne-eqb, le-ltb, leb-true}
+use borrow.Author.Tests.{le-ltb, leb-true}
 use lib.Dec.{leb}
 use lib.ListN.{length, take, drop, getD, length-append, length-drop}
 use lib.Seq.{drop-cons, take-length, take-append-seam, drop-append-add, drop-drop}
@@ -27,12 +27,11 @@ use Rattle.chipset.specs.Launches.{Command}
 use Rattle.protocol.specs.Scripts.{type1}
 use Rattle.discovery.specs.Decided.{ArrangedFits}
 use Rattle.discovery.specs.declared.decision.Arranged.{Arranged}
-use Rattle.engine.specs.Sessions.{isValid, Held, put, After, after, idle, counted, endsOf, doneOf, answersOf, sendsOf}
+use Rattle.engine.specs.Core.{isValid, Held, put, After, endsOf, doneOf, answersOf, sendsOf, running, after}
 use Rattle.engine.specs.Moves.{validCall}
 use Rattle.engine.specs.declared.call.Call.{Call}
-use Rattle.engine.specs.declared.state.State.{State}
-use Rattle.engine.specs.declared.state.Output.{Output}
-use Rattle.engine.specs.declared.state.Output.the-variants.{Write, Done, Type1}
+use Rattle.engine.specs.declared.core.Core.{Core}
+use Rattle.engine.specs.declared.core.Output.the-variants.{Command as Sends, Done, Type1}
 
 -- ---- a command's frame fits a buffer of 1,024 bytes
 
@@ -49,45 +48,27 @@ command-built code bytes b h room =
     let m = command-length code bytes h in
     rw (le-ltb 65535 (length (commandPayload code bytes)) n, le-ltb (length b) (length (commandFrame code bytes)) (omega (arith, m)))
 
--- `framed`: the frame was built, and nothing else can be
-module _ (code : ℕ) (bytes b b₁ : List ℕ) (h : length bytes ≤ 512) (room : 1024 ≤ length b) where
-  pub framed-is : (built : Built) (n : ℕ) → built ≡ Frame n → left (outcome built) b₁ ≡ buildOf rcs956 (commandPayload code bytes) b
-      → (n ≡ length (commandFrame code bytes)) × (b₁ ≡ put (commandFrame code bytes) b)
+-- the frame of a command was built, and nothing else can be
+module _ (s : Core) (f : Held) (c : Call) (m : Command) (b b₁ : List ℕ) (h : length (m .bytes) ≤ 512) (room : 1024 ≤ length b) where
+  pub sent-frame : (core : Core) (built : Built) (n : ℕ) (x : Exchange) → built ≡ Frame n → left (outcome built) b₁ ≡ buildOf rcs956 (commandPayload (m .code) (m .bytes)) b
+      → x ≡ exchangeAt 0 (m .code) (m .clock) → core ≡ running s c x → after core f (Sends n) b₁ ≡ sendsOf s f c m b
   unfolding outcome
-  framed-is built n e l =
-      let q : left (answered n) b₁ ≡ left (answered (length (commandFrame code bytes))) (put (commandFrame code bytes) b)
-      = ap (λ x. left (outcome x) b₁) (sym e) ∙ l ∙ command-built code bytes b h room in
-      let t : answered n ≡ answered (length (commandFrame code bytes)) = ap (λ x. x .told) q in
-      (cc, ap (λ x. x .buffer) q)
+  sent-frame core built n x e l k is =
+      let q : left (answered n) b₁ ≡ left (answered (length (commandFrame (m .code) (m .bytes)))) (put (commandFrame (m .code) (m .bytes)) b)
+      = ap (λ y. left (outcome y) b₁) (sym e) ∙ l ∙ command-built (m .code) (m .bytes) b h room in
+      let t : answered n ≡ answered (length (commandFrame (m .code) (m .bytes))) = ap (λ y. y .told) q in
+      let size : n ≡ length (commandFrame (m .code) (m .bytes)) = cc in
+      rw is (λ i. after (running s c (k i)) f (Sends (size i)) ((ap (λ y. y .buffer) q) i))
 
-  pub framed-else : (built : Built) (r : Refusal) → built ≡ Refused r → left (outcome built) b₁ ≡ buildOf rcs956 (commandPayload code bytes) b → ⊥
+  pub sent-refused : (a : After Core) (built : Built) (r : Refusal) → built ≡ Refused r → left (outcome built) b₁ ≡ buildOf rcs956 (commandPayload (m .code) (m .bytes)) b
+      → a ≡ sendsOf s f c m b
   unfolding outcome
-  framed-else built r e l =
-      let q : left (refused (numbered r)) b₁ ≡ left (answered (length (commandFrame code bytes))) (put (commandFrame code bytes) b)
-      = ap (λ x. left (outcome x) b₁) (sym e) ∙ l ∙ command-built code bytes b h room in
-      let t : refused (numbered r) ≡ answered (length (commandFrame code bytes)) = ap (λ x. x .told) q in
+  sent-refused a built r e l =
+      let q : left (refused (numbered r)) b₁ ≡ left (answered (length (commandFrame (m .code) (m .bytes)))) (put (commandFrame (m .code) (m .bytes)) b)
+      = ap (λ y. left (outcome y) b₁) (sym e) ∙ l ∙ command-built (m .code) (m .bytes) b h room in
+      let t : refused (numbered r) ≡ answered (length (commandFrame (m .code) (m .bytes))) = ap (λ y. y .told) q in
       let z : _≡_ {A = ℕ} 0 1 = cc in
-      omega arith
-
--- ---- a call that ends: the reader's state behind it
-
-module _ (s st : State) (f : Held) (b : List ℕ) (o : Output) (success : Bool) where
-  pub ended-opening : s .call .kind ≡ 1 → st ≡ idle s success → after st f o b ≡ endsOf s success f o b
-  unfolding pick
-  ended-opening h e = rw (e, eq-eqb (s .call .kind) 1 h)
-
-  pub ended-other : (s .call .kind ≡ 1 → ⊥) → st ≡ idle s (s .opened) → after st f o b ≡ endsOf s success f o b
-  unfolding pick
-  ended-other h e = rw (e, ne-eqb (s .call .kind) 1 h)
-
--- ---- a command that was ordered
-
-pub sent-is : (s : State) (f : Held) (c : Call) (b b₁ : List ℕ) (m : Command) (x : Exchange) (k n : ℕ)
-    → x ≡ exchangeAt 0 (m .code) (m .clock) → k ≡ counted (s .frames) → n ≡ length (commandFrame (m .code) (m .bytes))
-    → b₁ ≡ put (commandFrame (m .code) (m .bytes)) b
-    → after (record { command = s .command; found = s .found; exchange = x; call = c; opened = s .opened; frames = k }) f (Write n) b₁ ≡ sendsOf s f c m b
-sent-is s f c b b₁ m x k n p q r w i =
-    after (record { command = s .command; found = s .found; exchange = p i; call = c; opened = s .opened; frames = q i }) f (Write (r i)) (w i)
+      absurd (omega (arith, z))
 
 -- the first three bytes of a list that has them
 pub first-three : (l : List ℕ) → 3 ≤ length l → getD l 0 0 ∷ getD l 1 0 ∷ getD l 2 0 ∷ [] ≡ take 3 l
@@ -98,7 +79,7 @@ first-three l h =
     ∙ ap (λ r. getD l 1 0 ∷ r) (drop-cons l 2 0 (omega arith)))))
 
 -- a session in range has a stage that can be counted on
-pub valid-stage : (s : State) → isValid s ≡ true → s .call .stage < 255
+pub valid-stage : (s : Core) → isValid s ≡ true → s .call .stage < 255
 unfolding isValid validCall
 valid-stage s h =
     let c = both-right (leb (s .exchange .phase) 6) _ (both-right (leb (s .found) 1022) _ (both-right (leb (s .command) 512) _ h)) in
@@ -125,8 +106,8 @@ pub copied-start : (bytes b b₁ : List ℕ) → b₁ ≡ take (length bytes) by
 copied-start bytes b b₁ e = e ∙ ap (λ l. l ++ drop (length bytes) b) (take-length bytes)
 
 -- a call that is done with bytes at the buffer's start
-pub done-copied : (s : State) (f : Held) (bytes b b₁ : List ℕ) (n : ℕ) (a : After) → n ≡ length bytes → b₁ ≡ put bytes b → a ≡ endsOf s true f (Done n) b₁ → a ≡ doneOf s f bytes b
-done-copied s f bytes b b₁ n a p q e = e ∙ (λ i. endsOf s true f (Done (p i)) (q i))
+pub done-copied : (s : Core) (f : Held) (bytes b b₁ : List ℕ) (n : ℕ) (a : After Core) → n ≡ length bytes → b₁ ≡ put bytes b → a ≡ endsOf s f (Done n) b₁ → a ≡ doneOf s f bytes b
+done-copied s f bytes b b₁ n a p q e = e ∙ (λ i. endsOf s f (Done (p i)) (q i))
 
 -- the answer of a discovery fits a buffer of 1,024 bytes
 pub arranged-room : (f b : List ℕ) (a : Arranged) → ArrangedFits f b a → length f ≤ 1022 → length b ≤ 1022 → a .count + (length (pick (a .kept) f b) - a .start) ≤ 1024
@@ -138,15 +119,15 @@ arranged-room f b a h p q = go (a .kept) refl (h .1)
     go false e k = omega (arith, h .2 e)
 
 -- the same of a Type 1 tag
-pub type1-copied : (s : State) (f : Held) (bytes b b₁ : List ℕ) (n : ℕ) (a : After) → n ≡ length bytes → b₁ ≡ put bytes b → a ≡ endsOf s true f (Type1 n) b₁
+pub type1-copied : (s : Core) (f : Held) (bytes b b₁ : List ℕ) (n : ℕ) (a : After Core) → n ≡ length bytes → b₁ ≡ put bytes b → a ≡ endsOf s f (Type1 n) b₁
     → a ≡ answersOf s f (type1 bytes) b
-type1-copied s f bytes b b₁ n a p q e = e ∙ (λ i. endsOf s true f (Type1 (p i)) (q i))
+type1-copied s f bytes b b₁ n a p q e = e ∙ (λ i. endsOf s f (Type1 (p i)) (q i))
 
 -- a session in range has its lengths in range
-pub valid-command : (s : State) → isValid s ≡ true → s .command ≤ 512
+pub valid-command : (s : Core) → isValid s ≡ true → s .command ≤ 512
 unfolding isValid
 valid-command s h = leb-true (s .command) 512 (both-left (leb (s .command) 512) _ h)
 
-pub valid-found : (s : State) → isValid s ≡ true → s .found ≤ 1022
+pub valid-found : (s : Core) → isValid s ≡ true → s .found ≤ 1022
 unfolding isValid
 valid-found s h = leb-true (s .found) 1022 (both-left (leb (s .found) 1022) _ (both-right (leb (s .command) 512) _ h))

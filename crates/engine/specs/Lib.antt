@@ -2,6 +2,9 @@ pub mod Plans
 pub mod Names
 pub mod Moves
 pub mod Exchanges
+pub mod Books
+pub mod Booking
+pub mod Core
 pub mod Sessions
 pub mod Laws
 pub mod Inputs
@@ -10,6 +13,7 @@ pub mod NumberLaws
 pub mod Judged
 pub mod Searched
 pub mod Places
+pub mod Simulation
 pub mod Tie
 pub mod Follows
 pub mod Unchanged

@@ -5,30 +5,30 @@ use mathlib.Core.List.{List}
 use Prim.Native.Nat.{ℕ, zero, suc, _+_, _≤_}
 use native.Mathlib.Omega.{arith}
 use lib.Dec.{eqb, leb}
-use lib.ListN.{length, take, drop}
+use lib.ListN.{length}
 use Rattle.errors.specs.Choice.{pick}
-use Rattle.errors.specs.Refusals.{numbered}
-use Rattle.errors.specs.declared.Refusal.{Refusal}
-use Rattle.errors.specs.declared.Refusal.the-variants.{OutOfTurn, Transport}
+use Rattle.errors.specs.declared.Fault.{Fault}
+use Rattle.errors.specs.declared.Fault.the-variants.{Transport, TimeOut, FalseStart, BrokenFrame, Length, FrameKind, Identifier, Code, Status, ShortResponse, NoCard, CrcA, Rate}
 use Rattle.framing.specs.Frames.{ack}
 use Rattle.framing.specs.Lists.{both}
 use Rattle.framing.specs.Rules.{at-true, at-false}
 use borrow.Author.Tests.{eq-eqb}
 use Rattle.exchange.specs.Exchange.{Event, unfit, pending, ended, onWrite, onRead, onPause, Step, sending, reading, waiting, cancelling, rejecting, draining, ExchangeResult, advance}
 use Rattle.exchange.specs.Exchange.{Order as HostOrder, write, read, drain, pause}
-use Rattle.exchange.specs.Packets.{Reply, response, failed}
-use Rattle.exchange.specs.Steps.{stepOf, exchangeAt, resultIn, replyIn, Kept}
+use Rattle.exchange.specs.Packets.{Reply, response, failed, replyOf}
+use Rattle.exchange.specs.Steps.{stepOf, exchangeAt, resultIn, Kept}
 use Rattle.exchange.specs.Steps.{orderOf as nextOrder}
 use Rattle.exchange.specs.declared.Advanced.{Advanced}
 use Rattle.exchange.specs.declared.Next.{Next}
-use Rattle.exchange.specs.declared.Reply.{Reply as CodeReply}
-use Rattle.exchange.specs.declared.Reply.the-variants.{Response, Failed}
 use Rattle.exchange.specs.declared.Exchange.{Exchange}
 use Rattle.engine.specs.declared.call.Call.{Call}
 use Rattle.engine.specs.declared.call.Order.{Order}
 use Rattle.engine.specs.declared.call.Order.the-variants.{Ack, Read, Drain, Pause}
 use Rattle.engine.specs.declared.call.Move.{Move}
-use Rattle.engine.specs.declared.call.Move.the-variants.{Unfit, Orders, Enters, Finishes, Replies, Refuses}
+use Rattle.engine.specs.declared.call.Move.the-variants.{Unfit, Orders, Enters, Finishes, Arrives, Fails}
+
+abbrev pub noCall : Call
+noCall = record { kind = 0; stage = 0; phase = 0 }
 
 -- a call at another phase, at the command of a stage, and at its next command
 abbrev pub at : Call → ℕ → Call
@@ -44,12 +44,28 @@ following c = record { kind = c .kind; stage = c .stage + 1; phase = 0 }
 unfoldable pub isReset : Call → Bool
 isReset c = pick (eqb (c .kind) 1) (pick (eqb (c .stage) 0) true (eqb (c .stage) 8)) (eqb (c .kind) 3)
 
+-- ACK is being written: after a failed write 3, at the deadline 4
+abbrev cancelPhase : Fault → ℕ
+cancelPhase Transport = 3
+cancelPhase TimeOut = 4
+cancelPhase FalseStart = 4
+cancelPhase BrokenFrame = 4
+cancelPhase Length = 4
+cancelPhase FrameKind = 4
+cancelPhase Identifier = 4
+cancelPhase Code = 4
+cancelPhase (Status s) = 4
+cancelPhase ShortResponse = 4
+cancelPhase NoCard = 4
+cancelPhase CrcA = 4
+cancelPhase Rate = 4
+
 -- the number of an exchange's step
 abbrev pub phaseOf : Step → ℕ
 phaseOf (sending code clock) = 0
 phaseOf (reading code clock) = 1
 phaseOf (waiting code clock) = 2
-phaseOf (cancelling r) = pick (eqb (numbered r .0) 7) 3 4
+phaseOf (cancelling r) = cancelPhase r
 phaseOf rejecting = 5
 phaseOf draining = 6
 
@@ -64,7 +80,7 @@ pub data Moved : Type 0 where
   enters : Call → Moved
   finishes : Moved
   replies : List ℕ → Moved
-  refuses : Refusal → Moved
+  refuses : Fault → Moved
 
 abbrev pub orderOf : Order → HostOrder
 orderOf Ack = write ack
@@ -72,23 +88,26 @@ orderOf (Read ms) = read ms
 orderOf Drain = drain
 orderOf (Pause us) = pause us
 
-abbrev pub moveIn : List ℕ → Move → Moved
-moveIn packet Unfit = unfitting
-moveIn packet (Orders o c x) = orders (orderOf o) c x
-moveIn packet (Enters c) = enters c
-moveIn packet Finishes = finishes
-moveIn packet (Replies part) = replies (take (part .len) (drop (part .start) packet))
-moveIn packet (Refuses r) = refuses r
+-- the response in a packet, or its fault
+abbrev pub replyMove : Reply → Moved
+replyMove (response bytes) = replies bytes
+replyMove (failed r) = refuses r
 
--- the refusal of a reply; of a response, which has none, 1
-abbrev pub refusalOf : CodeReply → Refusal
-refusalOf (Response part) = OutOfTurn
-refusalOf (Failed r) = r
+-- of a packet that a command with this code waits for
+abbrev pub moveIn : ℕ → List ℕ → Move → Moved
+moveIn code packet Unfit = unfitting
+moveIn code packet (Orders o c x) = orders (orderOf o) c x
+moveIn code packet (Enters c) = enters c
+moveIn code packet Finishes = finishes
+moveIn code packet Arrives = replyMove (replyOf code packet)
+moveIn code packet (Fails r) = refuses r
 
--- behind a command's exchange: a reset's is followed by ACK whatever the reply
-unfoldable pub endedMove : Call → Exchange → Reply → Moved
-endedMove c x (response bytes) = pick (isReset c) (orders (write ack) (at c 1) x) (replies bytes)
-endedMove c x (failed r) = pick (isReset c) (orders (write ack) (at c 1) x) (refuses r)
+-- a command's exchange is over: behind a reset's follows ACK, whatever came of it
+unfoldable pub overMove : Call → Exchange → Moved → Moved
+overMove c x m = pick (isReset c) (orders (write ack) (at c 1) x) m
+
+abbrev pub endedMove : Call → Exchange → Reply → Moved
+endedMove c x r = overMove c x (replyMove r)
 
 unfoldable pub exchangeMove : Call → Exchange → ExchangeResult → Moved
 exchangeMove c x unfit = unfitting
@@ -131,6 +150,11 @@ fits finishes = true
 fits (replies bytes) = true
 fits (refuses r) = true
 
+-- a reply fits the order that waits for it
+pub reply-fits : (r : Reply) → fits (replyMove r) ≡ true
+reply-fits (response bytes) = refl
+reply-fits (failed r) = refl
+
 -- how many bytes of a packet come with an event, and how many at least a response's packet has
 abbrev pub packetLength : Event → ℕ
 packetLength e = onRead 0 length 0 0 0 e
@@ -149,10 +173,13 @@ validCall c = both (leb (c .kind) 20) (both (leb (c .stage) 9) (leb (c .phase) 5
 
 -- ---- laws
 
-pub ended-reset : (c : Call) (x : Exchange) (r : Reply) → isReset c ≡ true → orders (write ack) (at c 1) x ≡ endedMove c x r
-unfolding endedMove pick
-ended-reset c x (response bytes) h = rw h
-ended-reset c x (failed r) h = rw h
+pub over-reset : (c k : Call) (x : Exchange) (m : Moved) → isReset c ≡ true → k ≡ at c 1 → orders (write ack) k x ≡ overMove c x m
+unfolding overMove pick
+over-reset c k x m h e = rw h (ap (λ d. orders (write ack) d x) e)
+
+pub over-other : (c : Call) (x : Exchange) (m : Moved) → isReset c ≡ false → m ≡ overMove c x m
+unfolding overMove pick
+over-other c x m h = rw h
 
 -- the exchange that goes on is the old one at its new step
 phase-of : (n code clock : ℕ) → n ≤ 6 → phaseOf (stepOf (exchangeAt n code clock)) ≡ n
@@ -170,21 +197,25 @@ exchange-kept : (x y : Exchange) → y .phase ≤ 6 → y .code ≡ x .code → 
 exchange-kept x y h p q =
     λ i. exchangeAt (sym (phase-of (y .phase) (y .code) (y .clock) h) i) (p i) (q i)
 
-module _ (c : Call) (x : Exchange) (packet : List ℕ) (a : Advanced) (r : ExchangeResult) (is : resultIn packet a ≡ r) where
+module _ (c : Call) (x : Exchange) (packet : List ℕ) (a : Advanced) (r : ExchangeResult) (is : resultIn x packet a ≡ r) where
   pub exchange-unfit : a ≡ Advanced.Unfit → unfitting ≡ exchangeMove c x r
   unfolding exchangeMove
-  exchange-unfit h = let e : r ≡ unfit = sym is ∙ ap (resultIn packet) h in rw e
+  exchange-unfit h = let e : r ≡ unfit = sym is ∙ ap (resultIn x packet) h in rw e
 
-  pub exchange-pending : (m : Moved) (n : Next) (y : Exchange) → a ≡ Advanced.Pending n y → Kept x packet a → m ≡ orders (nextOrder n) c y → m ≡ exchangeMove c x r
+  pub exchange-pending : (m : Moved) (n : Next) (y : Exchange) → a ≡ Advanced.Pending n y → Kept x a → m ≡ orders (nextOrder n) c y → m ≡ exchangeMove c x r
   unfolding exchangeMove
   exchange-pending m n y h kept p =
-      let e : r ≡ pending (nextOrder n) (stepOf y) = sym is ∙ ap (resultIn packet) h in
-      let k = subst (Kept x packet) h kept in
+      let e : r ≡ pending (nextOrder n) (stepOf y) = sym is ∙ ap (resultIn x packet) h in
+      let k = subst (Kept x) h kept in
       rw e (p ∙ ap (λ z. orders (nextOrder n) c z) (exchange-kept x y (k .0) (k .1) (k .2)))
 
-  pub exchange-ended : (m : Moved) (reply : CodeReply) → a ≡ Advanced.Ended reply → m ≡ endedMove c x (replyIn packet reply) → m ≡ exchangeMove c x r
+  pub exchange-arrived : (m : Moved) → a ≡ Advanced.Arrived → m ≡ overMove c x (replyMove (replyOf (x .code) packet)) → m ≡ exchangeMove c x r
   unfolding exchangeMove
-  exchange-ended m reply h p = let e : r ≡ ended (replyIn packet reply) = sym is ∙ ap (resultIn packet) h in rw e p
+  exchange-arrived m h p = let e : r ≡ ended (replyOf (x .code) packet) = sym is ∙ ap (resultIn x packet) h in rw e p
+
+  pub exchange-failed : (m : Moved) (q : Fault) → a ≡ Advanced.Failed q → m ≡ overMove c x (refuses q) → m ≡ exchangeMove c x r
+  unfolding exchangeMove
+  exchange-failed m q h p = let e : r ≡ ended (failed q) = sym is ∙ ap (resultIn x packet) h in rw e p
 
 -- a number that is n is none that n is not
 other : {p : ℕ} (n : ℕ) → p ≡ n → (k : ℕ) → eqb n k ≡ false → eqb p k ≡ false

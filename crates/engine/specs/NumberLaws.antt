@@ -9,7 +9,8 @@ use Rattle.errors.specs.declared.Refusal.the-variants.{BadArgument}
 use Rattle.protocol.specs.Calls.{Request, DeviceCall, reader, request, device, detectDep}
 use Rattle.chipset.specs.Launches.{Launch, refuses, launchOf}
 use Rattle.discovery.specs.Searches.{Search, searchOf}
-use Rattle.engine.specs.Sessions.{Held, After, launchAfter, searchAfter}
+use Rattle.engine.specs.Core.{Held, After}
+use Rattle.engine.specs.Sessions.{launchAfter, searchAfter}
 use Rattle.engine.specs.Inputs.{launchFor, afterInput}
 use Rattle.engine.specs.Numbers.{calls, callOf, noCall, callInput}
 use Rattle.engine.specs.declared.state.State.{State}
@@ -27,9 +28,9 @@ unfolding searchOf pick
 no-call-refused = refl
 
 -- a call of one command
-pub requested : (r : After) (s : State) (f : Held) (l : Launch) (q : Request) (b : List ℕ) → r ≡ launchAfter s f l [] b → l ≡ launchOf q → r ≡ afterInput s f (callInput (reader (request q)) b)
+pub requested : (r : After State) (s : State) (f : Held) (l : Launch) (q : Request) (b : List ℕ) → r ≡ launchAfter s f l [] b → l ≡ launchOf q → r ≡ afterInput s f (callInput (reader (request q)) b)
 requested r s f l q b h e = h ∙ ap (λ m. launchAfter s f m [] b) e
 
 -- a discovery or transceive
-pub sought : (r : After) (s : State) (f : Held) (x : Search) (d : DeviceCall) (b : List ℕ) → r ≡ searchAfter s f x b → x ≡ searchOf d → r ≡ afterInput s f (callInput (reader (device d)) b)
+pub sought : (r : After State) (s : State) (f : Held) (x : Search) (d : DeviceCall) (b : List ℕ) → r ≡ searchAfter s f x b → x ≡ searchOf d → r ≡ afterInput s f (callInput (reader (device d)) b)
 sought r s f x d b h e = h ∙ ap (λ m. searchAfter s f m b) e

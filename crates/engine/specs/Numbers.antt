@@ -11,7 +11,8 @@ use Rattle.exchange.specs.Steps as steps
 use Rattle.protocol.specs.Calls.{Call, opening, reader, request, device}
 use Rattle.protocol.specs.Calls.{version, resetMode, setParameters, rfConfiguration, rfFieldOff, readRegister, writeRegister, readSingleRegister, writeSingleRegister, inListPassiveTarget, inDataExchange, inCommunicateThru, inJumpForDep, tgInitTarget, tgSetGeneralBytes, tgGetInitiatorCommand, tgResponseToInitiator, tgGetTargetStatus}
 use Rattle.protocol.specs.Calls.{detectTypeA, detectTypeB, detectTypeF, detectDep, transceive}
-use Rattle.engine.specs.Sessions.{Held, After, unchanged, eventAfter}
+use Rattle.engine.specs.Core.{Held, After, unchanged}
+use Rattle.engine.specs.Sessions.{eventAfter}
 use Rattle.engine.specs.Inputs.{Input, opens, asks}
 use Rattle.engine.specs.declared.state.State.{State}
 use Rattle.engine.specs.declared.numbered.Known.{Known}
@@ -77,6 +78,6 @@ knownIn (Is e) packet = some (steps.eventOf e packet)
 knownIn Not packet = none
 
 -- an event with a number that has none fits no order
-abbrev pub numberedAfter : State → Held → Option Event → List ℕ → After
+abbrev pub numberedAfter : State → Held → Option Event → List ℕ → After State
 numberedAfter s f none b = unchanged s f OutOfTurn b
 numberedAfter s f (some e) b = eventAfter s f e b

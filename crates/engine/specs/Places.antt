@@ -1,11 +1,11 @@
--- Where a session of the engine stands, and the session of the definitions that its fields stand for.
+-- Where a call of the engine stands, and the session of the definitions that the engine's numbers and arrays stand for.
 use mathlib.Core.Path.{_≡_}
-use mathlib.Core.Bool.{Bool, true}
+use mathlib.Core.Bool.{true}
 use mathlib.Core.List.{List, [], _∷_, _++_}
 use Prim.Native.Nat.{ℕ, _+_, _≤_}
 use lib.Dec.{leb, ltb}
 use lib.ListN.{length, take, getD}
-use Rattle.errors.specs.declared.Refusal.the-variants.{ShortResponse, Status}
+use Rattle.errors.specs.declared.Fault.the-variants.{ShortResponse, Status}
 use Rattle.exchange.specs.Packets.{Reply}
 use Rattle.exchange.specs.Steps.{stepOf}
 use Rattle.exchange.specs.declared.Exchange.{Exchange}
@@ -14,15 +14,19 @@ use Rattle.protocol.specs.Chipset.{versionBytes, getFirmwareVersion, rfFieldOff
 use Rattle.protocol.specs.Device.{chipsetName, deviceNew}
 use Rattle.protocol.specs.Calls.{ReaderCall, Call as CallOf, opening, reader, finished}
 use Rattle.protocol.specs.Session.{Rest, byReply, ofReset, Phase, exchange, resetAck, resetPause, openingAck, openingReads, fieldPausing}
-use Rattle.protocol.specs.Session.{idle, busy, Session as Meant}
+use Rattle.protocol.specs.Session.{Running, idle, busy, ceiling}
+use Rattle.protocol.specs.Session as Meant
 use Rattle.chipset.specs.Launches.{cmd}
 use Rattle.chipset.specs.Verdicts.{judgeOf}
 use Rattle.discovery.specs.Decisions.{commandOf}
 use Rattle.engine.specs.Judged.{Judged, Rule}
 use Rattle.engine.specs.Searched.{Stands, Discovery}
-use Rattle.engine.specs.Sessions.{Held, held, noCall}
+use Rattle.engine.specs.Booking.{bookNumbers}
+use Rattle.engine.specs.Core.{Held, held}
+use Rattle.engine.specs.Moves.{noCall}
+use Rattle.engine.specs.Sessions.{heldIn}
 use Rattle.engine.specs.declared.call.Call.{Call}
-use Rattle.engine.specs.declared.state.State.{State}
+use Rattle.engine.specs.declared.core.Core.{Core}
 use Rattle.engine.specs.declared.session.Session.{Session}
 
 -- ---- where a call stands
@@ -149,11 +153,6 @@ phaseNumber (atResetPause r) = 2
 abbrev pub callAt : Place → Call
 callAt p = record { kind = kindAt p; stage = stageOf p; phase = phaseNumber p }
 
--- any call but the opening runs in an open reader alone
-abbrev pub openedFor : CallOf → Bool → Bool
-openedFor opening o = o
-openedFor (reader q) o = true
-
 -- ---- the scripts left, by the version bytes
 
 abbrev pub s10 : ℕ → ℕ → ℕ → Script
@@ -218,27 +217,21 @@ phaseAt (atReset q) x a b c = exchange (stepOf x) (ofReset finished)
 phaseAt (atResetAck r) x a b c = resetAck (scriptAt r a b c)
 phaseAt (atResetPause r) x a b c = resetPause (scriptAt r a b c)
 
--- ---- a session's other fields
+-- ---- the other numbers, and the arrays
 
 pub record Fields : Type 0 where
-  pub opened : Bool
   pub command : List ℕ
   pub found : List ℕ
   pub pending : ℕ
   pub kept : ℕ
   pub exchange : Exchange
-  pub frames : ℕ
   pub long : 3 ≤ length found
   pub pendingFits : leb pending 512 ≡ true
   pub keptFits : leb kept 1022 ≡ true
   pub phaseFits : leb (exchange .phase) 6 ≡ true
-  pub few : frames ≤ 4294967295
 
-abbrev pub stateWith : Fields → Call → Bool → State
-stateWith v c o = record { command = v .pending; found = v .kept; exchange = v .exchange; call = c; opened = o; frames = v .frames }
-
-abbrev pub sessionWith : Fields → State → Session
-sessionWith v s = record { command = v .command; found = v .found; state = s }
+abbrev pub coreWith : Fields → Call → Core
+coreWith v c = record { command = v .pending; found = v .kept; exchange = v .exchange; call = c }
 
 abbrev pub heldAt : Fields → Held
 heldAt v = held (v .command) (v .found)
@@ -258,23 +251,22 @@ AgreesWith (atResetPause r) c f = Unit {0}
 abbrev pub Agrees : Place → Fields → Type 0
 Agrees p v = AgreesWith p (take (v .pending) (v .command)) (take (v .kept) (v .found))
 
--- no call runs
-abbrev pub freeState : Fields → State
-freeState v = stateWith v noCall (v .opened)
-
-abbrev pub freeMeant : Fields → Meant
-freeMeant v = record { activity = idle (v .opened); count = v .frames }
-
--- a call runs
-abbrev pub stateAt : Place → Fields → State
-stateAt p v = stateWith v (callAt p) (openedFor (which p) (v .opened))
+abbrev pub coreAt : Place → Fields → Core
+coreAt p v = coreWith v (callAt p)
 
 abbrev pub phaseIn : Place → Exchange → List ℕ → Phase
 phaseIn p x l = phaseAt p x (getD l 0 0) (getD l 1 0) (getD l 2 0)
 
-abbrev pub meantAt : Place → Fields → Meant
-meantAt p v = record { activity = busy (which p) (phaseIn p (v .exchange) (v .found)); count = v .frames }
+abbrev pub runningAt : Place → Fields → Running
+runningAt p v = busy (which p) (phaseIn p (v .exchange) (v .found))
 
-pub data Means (s : Session) (m : Meant) : Type 0 where
-  free : (v : Fields) → s ≡ sessionWith v (freeState v) → m ≡ freeMeant v → Means s m
-  runs : (p : Place) (v : Fields) → Agrees p v → s ≡ sessionWith v (stateAt p v) → m ≡ meantAt p v → Means s m
+-- the running call of the definitions that the numbers and the arrays stand for
+pub data Represents (s : Core) (f : Held) (m : Running) : Type 0 where
+  free : (v : Fields) → s ≡ coreWith v noCall → f ≡ heldAt v → m ≡ idle → Represents s f m
+  runs : (p : Place) (v : Fields) → Agrees p v → s ≡ coreAt p v → f ≡ heldAt v → m ≡ runningAt p v → Represents s f m
+
+-- the session of the definitions that a session's fields stand for
+pub record Means (s : Session) (m : Meant.Session) : Type 0 where
+  pub call : Represents (s .state .core) (heldIn s) (m .running)
+  pub booked : s .state .books ≡ bookNumbers (m .books)
+  pub few : m .books .count ≤ ceiling

@@ -1,7 +1,7 @@
 -- Each call of discovery.rs, and transceive: its first command is the one that is sent, and what is decided on each reply is what its
 -- script has.
 use mathlib.Core.Path.{_≡_, refl, sym, ap}
-use mathlib.Core.Bool.{Bool, true, false, false≢true, cond, _&&_, _||_}
+use mathlib.Core.Bool.{Bool, true, false, cond, _&&_, _||_}
 use mathlib.Core.List.{List, [], _∷_}
 use mathlib.Core.Option.{Option, none, some}
 use Prim.Native.Nat.{ℕ, _+_, _-_, _/_, _%_, _≤_}
@@ -10,9 +10,11 @@ use borrow.Author.Tests.{ltb-false, le-leb, leb-true}
 use lib.Dec.{eqb, leb, ltb}
 use lib.ListN.{length, take, drop, getD, length-append, length-take, length-drop}
 use Rattle.errors.specs.Choice.{pick}
-use Rattle.errors.specs.Refusals.{numbered}
+use Rattle.errors.specs.Refusals.{byStatus}
 use Rattle.errors.specs.declared.Refusal.{Refusal}
-use Rattle.errors.specs.declared.Refusal.the-variants.{OutOfTurn, ShortBuffer, OverLong, BadArgument, Bitrate as BadBitrate, NotSendable, Transport, TimeOut, FalseStart, BrokenFrame, Length, FrameKind, Identifier, Code, Status, ShortResponse, NoCard, CrcA, Rate}
+use Rattle.errors.specs.declared.Refusal.the-variants.{OverLong, BadArgument, Bitrate as BadBitrate, NotSendable}
+use Rattle.errors.specs.declared.Fault.{Fault}
+use Rattle.errors.specs.declared.Fault.the-variants.{Transport, TimeOut, FalseStart, BrokenFrame, Length, FrameKind, Identifier, Code, Status, ShortResponse, NoCard, CrcA, Rate}
 use Rattle.framing.specs.Lists.{both}
 use Rattle.exchange.specs.Packets.{Reply, response, failed, isEmpty}
 use Rattle.targets.specs.Bitrates.{Choice, chosen, noCode, choiceOf}
@@ -38,28 +40,28 @@ pub data Leads (kind : ℕ) : ℕ → List ℕ → List ℕ → List ℕ → Dec
   leads-go : {stage : ℕ} {pending found bs : List ℕ} (n code clock : ℕ) (bytes : List ℕ) (k : Reply → Script) → leb n 9 ≡ true
       → commandOf kind n pending ≡ cmd code clock bytes
       → ((cs : List ℕ) → Leads kind n pending found cs (decisionOf kind n found cs) (k (response cs)))
-      → ((r : Refusal) → Leads kind n pending found [] (failureOf kind n r) (k (failed r)))
+      → ((r : Fault) → Leads kind n pending found [] (failureOf kind n r) (k (failed r)))
       → Leads kind stage pending found bs (goes n) (command code clock bytes k)
   leads-keep : {stage : ℕ} {pending found bs : List ℕ} (n code clock : ℕ) (bytes : List ℕ) (k : Reply → Script) → leb n 9 ≡ true
       → commandOf kind n pending ≡ cmd code clock bytes
       → ((cs : List ℕ) → Leads kind n pending bs cs (decisionOf kind n bs cs) (k (response cs)))
-      → ((r : Refusal) → Leads kind n pending bs [] (failureOf kind n r) (k (failed r)))
+      → ((r : Fault) → Leads kind n pending bs [] (failureOf kind n r) (k (failed r)))
       → Leads kind stage pending found bs (keeps n) (command code clock bytes k)
   leads-set : {stage : ℕ} {pending found bs : List ℕ} (n v code clock : ℕ) (bytes : List ℕ) (k : Reply → Script) → leb n 9 ≡ true
       → commandOf kind n (0x63 ∷ 0x03 ∷ v ∷ []) ≡ cmd code clock bytes
       → ((cs : List ℕ) → Leads kind n (0x63 ∷ 0x03 ∷ v ∷ []) found cs (decisionOf kind n found cs) (k (response cs)))
-      → ((r : Refusal) → Leads kind n (0x63 ∷ 0x03 ∷ v ∷ []) found [] (failureOf kind n r) (k (failed r)))
+      → ((r : Fault) → Leads kind n (0x63 ∷ 0x03 ∷ v ∷ []) found [] (failureOf kind n r) (k (failed r)))
       → Leads kind stage pending found bs (sets n v) (command code clock bytes k)
   leads-pause : {stage : ℕ} {pending found bs : List ℕ} (code clock : ℕ) (bytes : List ℕ) (k : Reply → Script) → leb (stage + 1) 9 ≡ true
       → commandOf kind (stage + 1) pending ≡ cmd code clock bytes
       → ((cs : List ℕ) → Leads kind (stage + 1) pending found cs (decisionOf kind (stage + 1) found cs) (k (response cs)))
-      → ((r : Refusal) → Leads kind (stage + 1) pending found [] (failureOf kind (stage + 1) r) (k (failed r)))
+      → ((r : Fault) → Leads kind (stage + 1) pending found [] (failureOf kind (stage + 1) r) (k (failed r)))
       → Leads kind stage pending found bs pauses (fieldPause (command code clock bytes k))
 
 -- a command was sent at a stage: both its response and its failure lead on
 pub record Stands (kind stage : ℕ) (pending found : List ℕ) (k : Reply → Script) : Type 0 where
   pub answered : (cs : List ℕ) → Leads kind stage pending found cs (decisionOf kind stage found cs) (k (response cs))
-  pub failing : (r : Refusal) → Leads kind stage pending found [] (failureOf kind stage r) (k (failed r))
+  pub failing : (r : Fault) → Leads kind stage pending found [] (failureOf kind stage r) (k (failed r))
 
 -- ---- rules
 
@@ -69,6 +71,24 @@ unfolding pick
 leads-if true h k = h refl
 leads-if false h k = k refl
 
+-- a fault, by its status byte
+module _ {kind stage : ℕ} {pending found bs : List ℕ} where
+  leads-status : (r : Fault) {f : ℕ → Decision} {d : Decision} {g : ℕ → Script} {s : Script} → ((k : ℕ) → r ≡ Status k → Leads kind stage pending found bs (f k) (g k))
+      → Leads kind stage pending found bs d s → Leads kind stage pending found bs (byStatus f d r) (byStatus g s r)
+  leads-status Transport h k = k
+  leads-status TimeOut h k = k
+  leads-status FalseStart h k = k
+  leads-status BrokenFrame h k = k
+  leads-status Length h k = k
+  leads-status FrameKind h k = k
+  leads-status Identifier h k = k
+  leads-status Code h k = k
+  leads-status (Status n) h k = h n refl
+  leads-status ShortResponse h k = k
+  leads-status NoCard h k = k
+  leads-status CrcA h k = k
+  leads-status Rate h k = k
+
 module _ {kind stage : ℕ} {pending found bs : List ℕ} where
   ending : (a : Answer Byte) {b : Answer ℕ} → plainAnswer a ≡ b → Leads kind stage pending found bs (ends b) (finish a)
   ending a h = leads-end a _ h
@@ -76,7 +96,7 @@ module _ {kind stage : ℕ} {pending found bs : List ℕ} where
   none-found : Leads kind stage pending found bs (ends nothing) (finish nothing)
   none-found = ending nothing refl
 
-  refusal : (r : Refusal) → Leads kind stage pending found bs (ends (refused r)) (refuse r)
+  refusal : (r : Fault) → Leads kind stage pending found bs (ends (refused r)) (refuse r)
   refusal r = ending (refused r) refl
 
   by-length : (cs : List ℕ) (n : ℕ) {d : Decision} {s : Script} → (n ≤ length cs → Leads kind stage pending found bs d s)
@@ -125,7 +145,7 @@ module _ (pending found : List ℕ) where
         (λ _. leads-if (eqb (maskedStatus cs) 0)
         (λ _. by-length found 4 (λ _. ending _ (ap (λ l. type1 (getD found 3 0 ∷ getD found 2 0 ∷ l)) (rest-values 3 cs 1))))
         (λ _. none-found)));
-    failing = λ r. leads-if (eqb (numbered r .0) 15) (λ _. none-found) (λ _. refusal r);
+    failing = λ r. leads-status r (λ _ _. none-found) (refusal r);
   }
 
 typeA-4 : (pending found : List ℕ) → Stands 17 4 pending found (rxRead found)
@@ -232,28 +252,6 @@ module _ (code : ℕ) (req : List ℕ) where
 
 -- ---- DEP
 
--- a refusal of number 15 is its status
-status-is : (r : Refusal) → eqb (numbered r .0) 15 ≡ true → Status (numbered r .1) ≡ r
-status-is OutOfTurn h = absurd (false≢true h)
-status-is ShortBuffer h = absurd (false≢true h)
-status-is OverLong h = absurd (false≢true h)
-status-is BadArgument h = absurd (false≢true h)
-status-is BadBitrate h = absurd (false≢true h)
-status-is NotSendable h = absurd (false≢true h)
-status-is Transport h = absurd (false≢true h)
-status-is TimeOut h = absurd (false≢true h)
-status-is FalseStart h = absurd (false≢true h)
-status-is BrokenFrame h = absurd (false≢true h)
-status-is Length h = absurd (false≢true h)
-status-is FrameKind h = absurd (false≢true h)
-status-is Identifier h = absurd (false≢true h)
-status-is Code h = absurd (false≢true h)
-status-is (Status s) h = refl
-status-is ShortResponse h = absurd (false≢true h)
-status-is NoCard h = absurd (false≢true h)
-status-is CrcA h = absurd (false≢true h)
-status-is Rate h = absurd (false≢true h)
-
 abbrev modeWritten : List ℕ → Reply → Script
 modeWritten found = either (λ bs. ifElse (anyNonzero bs) (refuse (Status 0xFE)) (finish (done (own 0xD5 ∷ own 0x01 ∷ rest 1 found 2)))) refuse
 
@@ -272,10 +270,7 @@ dep-1 pending found = record {
   answered = λ cs.
       leads-if (eqb (statusByte cs) 0) (λ _. by-length cs 2 (λ _. keep-on 2 0x08 250 _ refl refl (dep-2 pending cs)))
       (λ _. leads-if (eqb (statusByte cs) 0x01 || eqb (statusByte cs) 0x0A) (λ _. none-found) (λ _. refusal (Status (statusByte cs))));
-  failing = λ r.
-      leads-if (eqb (numbered r .0) 15)
-      (λ h. leads-if (eqb (numbered r .1) 0x01 || eqb (numbered r .1) 0x0A) (λ _. none-found) (λ _. ending (refused r) (ap refused (sym (status-is r h)))))
-      (λ _. refusal r);
+  failing = λ r. leads-status r (λ k e. leads-if (eqb k 0x01 || eqb k 0x0A) (λ _. none-found) (λ _. ending (refused r) (ap refused e))) (refusal r);
 }
 
 dep-0 : (code : ℕ) (nfcid3 gi found : List ℕ)

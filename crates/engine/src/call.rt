@@ -1,19 +1,17 @@
 // A running call, as a few numbers: what an event does to it, apart from buffer and session.
 use chipset::RESET_MODE;
-use errors::Refusal;
+use errors::Fault;
 use exchange::Advanced;
 use exchange::Event;
 use exchange::Exchange;
 use exchange::Next;
-use exchange::Part;
-use exchange::Reply;
 ghost use mathlib.Core.List.{List};
 ghost use mathlib.Core.Path.{_≡_};
 ghost use Prim.Native.Nat.{ℕ, _<_};
-ghost use Rattle.errors.specs.declared.Refusal.the-variants.{Transport};
+ghost use Rattle.errors.specs.declared.Fault.the-variants.{Transport};
 ghost use Rattle.exchange.specs.Exchange.{advance, onWrite, onPause};
-ghost use Rattle.exchange.specs.Steps.{eventOf, orderOf, replyIn, stepOf};
-ghost use Rattle.engine.specs.Moves.{validCall, fits, at, toStage, following, isReset, moveIn, moveOf, endedMove, exchangeMove, orders, resetAckMove, restedMove, resetPauseMove, openingAckMove, openingReadsMove, fieldPauseMove, refusalOf, unfitting, refuses};
+ghost use Rattle.exchange.specs.Steps.{eventOf, orderOf, stepOf};
+ghost use Rattle.engine.specs.Moves.{noCall, validCall, fits, at, toStage, following, isReset, moveIn, moveOf, overMove, exchangeMove, orders, resetAckMove, restedMove, resetPauseMove, openingAckMove, openingReadsMove, fieldPauseMove, unfitting, refuses};
 
 // What runs: no call, the opening, a call of one command by the number of the rule for its response, or a discovery.
 pub const NO_CALL: u8 = 0;
@@ -51,34 +49,24 @@ pub enum Order {
     Pause(u32),
 }
 
-// What an event does to a call: it does not fit, an order follows, a command comes next, the call is done with no bytes, a response
-// is in, or a refusal.
+// What an event does to a call: it does not fit, an order follows, a command comes next, the call is done with no bytes, the packet
+// that ends a command's exchange is in, or the command failed.
 pub enum Move {
     Unfit,
     Orders(Order, Call, Exchange),
     Enters(Call),
     Finishes,
-    Replies(Part),
-    Refuses(Refusal),
-}
-
-// The refusal of a reply; of a response, which has none, refusal 1.
-fn refusal_of(reply: Reply) -> Refusal
-    ensures { λ r. ⌜ r ≡ refusalOf reply ⌝ }
-{
-    match reply {
-        Reply::Response(_) => Refusal::OutOfTurn,
-        Reply::Failed(refusal) => refusal,
-    }
+    Arrives,
+    Fails(Fault),
 }
 
 // A write's event: what follows it, or the end with 7.
 fn written(event: Event, next: Move) -> Move
-    ensures { λ r. ⌜ ((p : List ℕ) → moveIn p r ≡ onWrite unfitting (moveIn p next) (refuses Transport) (eventOf event p)) ⌝ }
+    ensures { λ r. ⌜ ((code : ℕ) (p : List ℕ) → moveIn code p r ≡ onWrite unfitting (moveIn code p next) (refuses Transport) (eventOf event p)) ⌝ }
 {
     match event {
         Event::Ok => next,
-        Event::Bad => Move::Refuses(Refusal::Transport),
+        Event::Bad => Move::Fails(Fault::Transport),
         Event::Packet => Move::Unfit,
         Event::Time => Move::Unfit,
         Event::Fail => Move::Unfit,
@@ -89,7 +77,7 @@ fn written(event: Event, next: Move) -> Move
 
 // A pause's event.
 fn slept(event: Event, next: Move) -> Move
-    ensures { λ r. ⌜ ((p : List ℕ) → moveIn p r ≡ onPause unfitting (moveIn p next) (eventOf event p)) ⌝ }
+    ensures { λ r. ⌜ ((code : ℕ) (p : List ℕ) → moveIn code p r ≡ onPause unfitting (moveIn code p next) (eventOf event p)) ⌝ }
 {
     match event {
         Event::Slept => next,
@@ -103,6 +91,17 @@ fn slept(event: Event, next: Move) -> Move
 }
 
 impl Call {
+    // No call runs.
+    pub fn none() -> Call
+        ensures { λ r. ⌜ r ≡ noCall ⌝ }
+    {
+        Call {
+            kind: NO_CALL,
+            stage: 0,
+            phase: EXCHANGE,
+        }
+    }
+
     // Every field is in its range.
     pub(crate) fn is_valid(self) -> bool
         ensures { λ r. ⌜ r ≡ validCall self ⌝ }
@@ -167,7 +166,7 @@ impl Call {
     }
 
     fn pending(self, next: Next, exchange: Exchange) -> Move
-        ensures { λ r. ⌜ ((p : List ℕ) → moveIn p r ≡ orders (orderOf next) self exchange) ⌝ }
+        ensures { λ r. ⌜ ((code : ℕ) (p : List ℕ) → moveIn code p r ≡ orders (orderOf next) self exchange) ⌝ }
     {
         match next {
             Next::WriteAck => Move::Orders(Order::Ack, self, exchange),
@@ -176,30 +175,30 @@ impl Call {
         }
     }
 
-    fn ended(self, exchange: Exchange, reply: Reply) -> Move
-        ensures { λ r. ⌜ ((p : List ℕ) → moveIn p r ≡ endedMove self exchange (replyIn p reply)) ⌝ }
+    // A command's exchange is over: behind a reset's follows ACK, whatever came of it.
+    fn over(self, exchange: Exchange, next: Move) -> Move
+        ensures { λ r. ⌜ ((p : List ℕ) → moveIn (exchange .code) p r ≡ overMove self exchange (moveIn (exchange .code) p next)) ⌝ }
     {
         if self.is_reset() {
-            return Move::Orders(Order::Ack, self.at(RESET_ACK), exchange);
+            Move::Orders(Order::Ack, self.at(RESET_ACK), exchange)
+        } else {
+            next
         }
-        let Reply::Response(part) = reply else {
-            return Move::Refuses(refusal_of(reply));
-        };
-        Move::Replies(part)
     }
 
     fn on_exchange(self, exchange: Exchange, event: Event, packet: &[u8]) -> Move
-        ensures { λ r. ⌜ moveIn (now (packet .entry)) r ≡ exchangeMove self exchange (advance (stepOf exchange) (eventOf event (now (packet .entry)))) ⌝ }
+        ensures { λ r. ⌜ moveIn (exchange .code) (now (packet .entry)) r ≡ exchangeMove self exchange (advance (stepOf exchange) (eventOf event (now (packet .entry)))) ⌝ }
     {
         match exchange.advance(event, packet) {
             Advanced::Unfit => Move::Unfit,
             Advanced::Pending(next, x) => self.pending(next, x),
-            Advanced::Ended(reply) => self.ended(exchange, reply),
+            Advanced::Arrived => self.over(exchange, Move::Arrives),
+            Advanced::Failed(fault) => self.over(exchange, Move::Fails(fault)),
         }
     }
 
     fn on_reset_ack(self, exchange: Exchange, event: Event) -> Move
-        ensures { λ r. ⌜ ((p : List ℕ) → moveIn p r ≡ resetAckMove self exchange (eventOf event p)) ⌝ }
+        ensures { λ r. ⌜ ((code : ℕ) (p : List ℕ) → moveIn code p r ≡ resetAckMove self exchange (eventOf event p)) ⌝ }
     {
         let next = Move::Orders(Order::Pause(10000), self.at(RESET_PAUSE), exchange);
         written(event, next)
@@ -208,7 +207,7 @@ impl Call {
     // A reset is over: reset_mode is done, the opening goes on.
     fn rested(self) -> Move
         requires { ⌜ self .stage < 255 ⌝ }
-        ensures { λ r. ⌜ ((p : List ℕ) → moveIn p r ≡ restedMove self) ⌝ }
+        ensures { λ r. ⌜ ((code : ℕ) (p : List ℕ) → moveIn code p r ≡ restedMove self) ⌝ }
     {
         if self.kind == RESET_MODE {
             Move::Finishes
@@ -219,20 +218,20 @@ impl Call {
 
     fn on_reset_pause(self, event: Event) -> Move
         requires { ⌜ self .stage < 255 ⌝ }
-        ensures { λ r. ⌜ ((p : List ℕ) → moveIn p r ≡ resetPauseMove self (eventOf event p)) ⌝ }
+        ensures { λ r. ⌜ ((code : ℕ) (p : List ℕ) → moveIn code p r ≡ resetPauseMove self (eventOf event p)) ⌝ }
     {
         slept(event, self.rested())
     }
 
     fn on_opening_ack(self, exchange: Exchange, event: Event) -> Move
-        ensures { λ r. ⌜ ((p : List ℕ) → moveIn p r ≡ openingAckMove self exchange (eventOf event p)) ⌝ }
+        ensures { λ r. ⌜ ((code : ℕ) (p : List ℕ) → moveIn code p r ≡ openingAckMove self exchange (eventOf event p)) ⌝ }
     {
         let next = Move::Orders(Order::Read(10), self.at(OPENING_READS), exchange);
         written(event, next)
     }
 
     fn on_opening_reads(self, exchange: Exchange, event: Event) -> Move
-        ensures { λ r. ⌜ ((p : List ℕ) → moveIn p r ≡ openingReadsMove self exchange (eventOf event p)) ⌝ }
+        ensures { λ r. ⌜ ((code : ℕ) (p : List ℕ) → moveIn code p r ≡ openingReadsMove self exchange (eventOf event p)) ⌝ }
     {
         match event {
             Event::Packet => Move::Orders(Order::Read(10), self, exchange),
@@ -247,7 +246,7 @@ impl Call {
 
     fn on_field_pause(self, event: Event) -> Move
         requires { ⌜ self .stage < 255 ⌝ }
-        ensures { λ r. ⌜ ((p : List ℕ) → moveIn p r ≡ fieldPauseMove self (eventOf event p)) ⌝ }
+        ensures { λ r. ⌜ ((code : ℕ) (p : List ℕ) → moveIn code p r ≡ fieldPauseMove self (eventOf event p)) ⌝ }
     {
         slept(event, Move::Enters(self.following()))
     }
@@ -255,7 +254,7 @@ impl Call {
     // What an event does to the call.
     pub(crate) fn moved(self, exchange: Exchange, event: Event, packet: &[u8]) -> Move
         requires { ⌜ self .stage < 255 ⌝ }
-        ensures { λ r. ⌜ moveIn (now (packet .entry)) r ≡ moveOf self exchange (eventOf event (now (packet .entry))) ⌝ }
+        ensures { λ r. ⌜ moveIn (exchange .code) (now (packet .entry)) r ≡ moveOf self exchange (eventOf event (now (packet .entry))) ⌝ }
     {
         let phase = self.phase;
         match phase {
@@ -272,15 +271,15 @@ impl Call {
 
 impl Move {
     pub(crate) fn fits(self) -> bool
-        ensures { λ r. ⌜ ((p : List ℕ) → r ≡ fits (moveIn p self)) ⌝ }
+        ensures { λ r. ⌜ ((code : ℕ) (p : List ℕ) → r ≡ fits (moveIn code p self)) ⌝ }
     {
         match self {
             Move::Unfit => false,
             Move::Orders(_, _, _) => true,
             Move::Enters(_) => true,
             Move::Finishes => true,
-            Move::Replies(_) => true,
-            Move::Refuses(_) => true,
+            Move::Arrives => true,
+            Move::Fails(_) => true,
         }
     }
 }

@@ -10,9 +10,59 @@ ghost use mathlib.Core.List.{List};
 ghost use mathlib.Core.Path.{_≡_};
 ghost use Prim.Native.Nat.{ℕ, _≤_, _<_};
 ghost use Rattle.discovery.specs.Starts.{timeoutOf};
-ghost use Rattle.engine.specs.Sessions.{held, effected};
+ghost use Rattle.engine.specs.Core.{held};
+ghost use Rattle.engine.specs.Sessions.{effected};
 ghost use Rattle.engine.specs.Inputs.{afterInput};
 ghost use Rattle.engine.specs.Numbers.{flag, msOf, callOf, callInput, eventBy, knownIn, numberedAfter};
+
+// The numbers of the calls.
+pub const OPEN: u8 = 0;
+
+pub const GET_FIRMWARE_VERSION: u8 = 1;
+
+pub const RESET_MODE: u8 = 2;
+
+pub const SET_PARAMETERS: u8 = 3;
+
+pub const RF_CONFIGURATION: u8 = 4;
+
+pub const READ_REGISTER: u8 = 5;
+
+pub const WRITE_REGISTER: u8 = 6;
+
+pub const READ_SINGLE_REGISTER: u8 = 7;
+
+pub const WRITE_SINGLE_REGISTER: u8 = 8;
+
+pub const IN_LIST_PASSIVE_TARGET: u8 = 9;
+
+pub const IN_DATA_EXCHANGE: u8 = 10;
+
+pub const IN_COMMUNICATE_THRU: u8 = 11;
+
+pub const IN_JUMP_FOR_DEP: u8 = 12;
+
+pub const TG_INIT_TARGET: u8 = 13;
+
+pub const TG_SET_GENERAL_BYTES: u8 = 14;
+
+pub const TG_GET_INITIATOR_COMMAND: u8 = 15;
+
+pub const TG_RESPONSE_TO_INITIATOR: u8 = 16;
+
+pub const TG_GET_TARGET_STATUS: u8 = 17;
+
+pub const RF_FIELD_OFF: u8 = 18;
+
+pub const DETECT_TYPE_A: u8 = 19;
+
+pub const DETECT_TYPE_B: u8 = 20;
+
+pub const DETECT_TYPE_F: u8 = 21;
+
+pub const DETECT_DEP: u8 = 22;
+
+pub const TRANSCEIVE: u8 = 23;
 
 // The event of a number, where it has one.
 pub enum Known {
@@ -66,14 +116,14 @@ fn chip(
     ensures { λ r. ⌜ ((ms y : ℕ) (second third fourth f : List ℕ) → effected r (held (now (cmd .exit)) f) (now (buffer .exit)) ≡ afterInput state (held (now (cmd .entry)) f) (callInput (callOf number ms word x y (now (first .entry)) second third fourth) (now (buffer .entry)))) ⌝ }
 {
     match number {
-        0 => state.open(buffer),
-        1 => state.requested(command::get_firmware_version(), cmd, buffer),
-        2 => state.requested(command::reset_mode(), cmd, buffer),
-        3 => state.requested(command::set_parameters(x), cmd, buffer),
-        4 => state.requested(command::rf_configuration(x, first), cmd, buffer),
-        5 => state.requested(command::read_register(first), cmd, buffer),
-        6 => state.requested(command::write_register(first), cmd, buffer),
-        7 => state.requested(command::read_single_register(word), cmd, buffer),
+        OPEN => state.open(buffer),
+        GET_FIRMWARE_VERSION => state.requested(command::get_firmware_version(), cmd, buffer),
+        RESET_MODE => state.requested(command::reset_mode(), cmd, buffer),
+        SET_PARAMETERS => state.requested(command::set_parameters(x), cmd, buffer),
+        RF_CONFIGURATION => state.requested(command::rf_configuration(x, first), cmd, buffer),
+        READ_REGISTER => state.requested(command::read_register(first), cmd, buffer),
+        WRITE_REGISTER => state.requested(command::write_register(first), cmd, buffer),
+        READ_SINGLE_REGISTER => state.requested(command::read_single_register(word), cmd, buffer),
         _ => state.requested(command::write_single_register(word, x), cmd, buffer),
     }
 }
@@ -103,10 +153,18 @@ fn initiator(
     ensures { λ r. ⌜ ((word : ℕ) (f : List ℕ) → effected r (held (now (cmd .exit)) f) (now (buffer .exit)) ≡ afterInput state (held (now (cmd .entry)) f) (callInput (callOf number ms word x y (now (first .entry)) (now (second .entry)) (now (third .entry)) (now (fourth .entry))) (now (buffer .entry)))) ⌝ }
 {
     match number {
-        9 => state.requested(command::in_list_passive_target(x, y, first), cmd, buffer),
-        10 => state.requested(command::in_data_exchange(first, ms), cmd, buffer),
-        11 => state.requested(command::in_communicate_thru(first, ms), cmd, buffer),
-        12 => {
+        IN_LIST_PASSIVE_TARGET => state.requested(
+            command::in_list_passive_target(x, y, first),
+            cmd,
+            buffer,
+        ),
+        IN_DATA_EXCHANGE => state.requested(command::in_data_exchange(first, ms), cmd, buffer),
+        IN_COMMUNICATE_THRU => state.requested(
+            command::in_communicate_thru(first, ms),
+            cmd,
+            buffer,
+        ),
+        IN_JUMP_FOR_DEP => {
             let active = is_set(x);
             let launched = command::in_jump_for_dep(active, y, first, second, third);
             state.requested(launched, cmd, buffer)
@@ -131,10 +189,18 @@ fn target(
     ensures { λ r. ⌜ ((word x y : ℕ) (second third fourth f : List ℕ) → effected r (held (now (cmd .exit)) f) (now (buffer .exit)) ≡ afterInput state (held (now (cmd .entry)) f) (callInput (callOf number ms word x y (now (first .entry)) second third fourth) (now (buffer .entry)))) ⌝ }
 {
     match number {
-        14 => state.requested(command::tg_set_general_bytes(first), cmd, buffer),
-        15 => state.requested(command::tg_get_initiator_command(ms), cmd, buffer),
-        16 => state.requested(command::tg_response_to_initiator(first), cmd, buffer),
-        17 => state.requested(command::tg_get_target_status(), cmd, buffer),
+        TG_SET_GENERAL_BYTES => state.requested(command::tg_set_general_bytes(first), cmd, buffer),
+        TG_GET_INITIATOR_COMMAND => state.requested(
+            command::tg_get_initiator_command(ms),
+            cmd,
+            buffer,
+        ),
+        TG_RESPONSE_TO_INITIATOR => state.requested(
+            command::tg_response_to_initiator(first),
+            cmd,
+            buffer,
+        ),
+        TG_GET_TARGET_STATUS => state.requested(command::tg_get_target_status(), cmd, buffer),
         _ => state.requested(command::rf_field_off(), cmd, buffer),
     }
 }
@@ -167,11 +233,11 @@ fn device(
     ensures { λ r. ⌜ ((ms : ℕ) (fourth f : List ℕ) → effected r (held (now (cmd .exit)) f) (now (buffer .exit)) ≡ afterInput state (held (now (cmd .entry)) f) (callInput (callOf number ms word x y (now (first .entry)) (now (second .entry)) (now (third .entry)) fourth) (now (buffer .entry)))) ⌝ }
 {
     match number {
-        19 => state.sought(search::detect_type_a(first, second), cmd, buffer),
-        20 => state.sought(search::detect_type_b(first, second), cmd, buffer),
-        21 => state.sought(search::detect_type_f(first, word, x, y), cmd, buffer),
-        22 => state.sought(search::detect_dep(first, second), cmd, buffer),
-        23 => {
+        DETECT_TYPE_A => state.sought(search::detect_type_a(first, second), cmd, buffer),
+        DETECT_TYPE_B => state.sought(search::detect_type_b(first, second), cmd, buffer),
+        DETECT_TYPE_F => state.sought(search::detect_type_f(first, word, x, y), cmd, buffer),
+        DETECT_DEP => state.sought(search::detect_dep(first, second), cmd, buffer),
+        TRANSCEIVE => {
             let ms = timeout(is_set(y), word);
             let begun = search::transceive(first, second, is_set(x), third, ms);
             state.sought(begun, cmd, buffer)

@@ -2,11 +2,14 @@
 use Prim.Native.Nat.{ℕ}
 use Rattle.errors.specs.declared.Numbered.{Numbered}
 use Rattle.errors.specs.declared.Refusal.{Refusal}
-use Rattle.errors.specs.declared.Refusal.the-variants.{OutOfTurn, ShortBuffer, OverLong, BadArgument, Bitrate, NotSendable, Transport, TimeOut, FalseStart, BrokenFrame, Length, FrameKind, Identifier, Code, Status, ShortResponse, NoCard, CrcA, Rate}
+use Rattle.errors.specs.declared.Refusal.the-variants.{OutOfTurn, ShortBuffer, OverLong, BadArgument, Bitrate, NotSendable}
+use Rattle.errors.specs.declared.Fault.{Fault}
+use Rattle.errors.specs.declared.Fault.the-variants.{Transport, TimeOut, FalseStart, BrokenFrame, Length, FrameKind, Identifier, Code, Status, ShortResponse, NoCard, CrcA, Rate}
 
 abbrev pub plain : ℕ → Numbered
-plain k = (k, 0)
+plain k = record { number = k; status = 0 }
 
+-- refused at once
 abbrev pub numbered : Refusal → Numbered
 numbered OutOfTurn = plain 1
 numbered ShortBuffer = plain 2
@@ -14,21 +17,40 @@ numbered OverLong = plain 3
 numbered BadArgument = plain 4
 numbered Bitrate = plain 5
 numbered NotSendable = plain 6
-numbered Transport = plain 7
-numbered TimeOut = plain 8
-numbered FalseStart = plain 9
-numbered BrokenFrame = plain 10
-numbered Length = plain 11
-numbered FrameKind = plain 12
-numbered Identifier = plain 13
-numbered Code = plain 14
-numbered (Status s) = (15, s)
-numbered ShortResponse = plain 16
-numbered NoCard = plain 17
-numbered CrcA = plain 18
-numbered Rate = plain 19
 
--- What an answer says: a value, or a refusal by its number and status byte.
+-- the end of a running call
+abbrev pub faultNumbered : Fault → Numbered
+faultNumbered Transport = plain 7
+faultNumbered TimeOut = plain 8
+faultNumbered FalseStart = plain 9
+faultNumbered BrokenFrame = plain 10
+faultNumbered Length = plain 11
+faultNumbered FrameKind = plain 12
+faultNumbered Identifier = plain 13
+faultNumbered Code = plain 14
+faultNumbered (Status s) = record { number = 15; status = s }
+faultNumbered ShortResponse = plain 16
+faultNumbered NoCard = plain 17
+faultNumbered CrcA = plain 18
+faultNumbered Rate = plain 19
+
+-- by the status byte of 15; a of any other fault
+abbrev pub byStatus : {A : Type 0} → (ℕ → A) → A → Fault → A
+byStatus f a Transport = a
+byStatus f a TimeOut = a
+byStatus f a FalseStart = a
+byStatus f a BrokenFrame = a
+byStatus f a Length = a
+byStatus f a FrameKind = a
+byStatus f a Identifier = a
+byStatus f a Code = a
+byStatus f a (Status s) = f s
+byStatus f a ShortResponse = a
+byStatus f a NoCard = a
+byStatus f a CrcA = a
+byStatus f a Rate = a
+
+-- What an answer says: a value, or a refusal by its number and values.
 pub data Outcome : Type 0 where
   answered : ℕ → Outcome
   refused : Numbered → Outcome

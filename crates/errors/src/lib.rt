@@ -1,7 +1,8 @@
-// Document 01's refusals, by their words there.
+// Document 01's refusals, by their words there: those that refuse at once, and those that end a running call.
 ghost use mathlib.Core.Path.{_≡_};
-ghost use Rattle.errors.specs.Refusals.{numbered as numberedOf};
+ghost use Rattle.errors.specs.Refusals.{plain as plainOf, numbered as numberedOf, faultNumbered};
 
+// 1 to 6: refused at once, and nothing changes.
 pub enum Refusal {
     OutOfTurn,
     ShortBuffer,
@@ -9,6 +10,10 @@ pub enum Refusal {
     BadArgument,
     Bitrate,
     NotSendable,
+}
+
+// 7 and up: a running call ends.
+pub enum Fault {
     Transport,
     TimeOut,
     FalseStart,
@@ -25,32 +30,51 @@ pub enum Refusal {
 }
 
 // A refusal's number in document 01's table, and the status byte that 15 carries (0 beside any other).
-pub struct Numbered(pub u8, pub u8);
+pub struct Numbered {
+    pub number: u8,
+    pub status: u8,
+}
+
+// A refusal that carries no value.
+fn plain(number: u8) -> Numbered
+    ensures { λ r. ⌜ r ≡ plainOf number ⌝ }
+{
+    Numbered { number, status: 0 }
+}
 
 impl Refusal {
     pub fn numbered(self) -> Numbered
         ensures { λ r. ⌜ r ≡ numberedOf self ⌝ }
     {
         match self {
-            Refusal::OutOfTurn => Numbered(1, 0),
-            Refusal::ShortBuffer => Numbered(2, 0),
-            Refusal::OverLong => Numbered(3, 0),
-            Refusal::BadArgument => Numbered(4, 0),
-            Refusal::Bitrate => Numbered(5, 0),
-            Refusal::NotSendable => Numbered(6, 0),
-            Refusal::Transport => Numbered(7, 0),
-            Refusal::TimeOut => Numbered(8, 0),
-            Refusal::FalseStart => Numbered(9, 0),
-            Refusal::BrokenFrame => Numbered(10, 0),
-            Refusal::Length => Numbered(11, 0),
-            Refusal::FrameKind => Numbered(12, 0),
-            Refusal::Identifier => Numbered(13, 0),
-            Refusal::Code => Numbered(14, 0),
-            Refusal::Status(status) => Numbered(15, status),
-            Refusal::ShortResponse => Numbered(16, 0),
-            Refusal::NoCard => Numbered(17, 0),
-            Refusal::CrcA => Numbered(18, 0),
-            Refusal::Rate => Numbered(19, 0),
+            Refusal::OutOfTurn => plain(1),
+            Refusal::ShortBuffer => plain(2),
+            Refusal::OverLong => plain(3),
+            Refusal::BadArgument => plain(4),
+            Refusal::Bitrate => plain(5),
+            Refusal::NotSendable => plain(6),
+        }
+    }
+}
+
+impl Fault {
+    pub fn numbered(self) -> Numbered
+        ensures { λ r. ⌜ r ≡ faultNumbered self ⌝ }
+    {
+        match self {
+            Fault::Transport => plain(7),
+            Fault::TimeOut => plain(8),
+            Fault::FalseStart => plain(9),
+            Fault::BrokenFrame => plain(10),
+            Fault::Length => plain(11),
+            Fault::FrameKind => plain(12),
+            Fault::Identifier => plain(13),
+            Fault::Code => plain(14),
+            Fault::Status(status) => Numbered { number: 15, status },
+            Fault::ShortResponse => plain(16),
+            Fault::NoCard => plain(17),
+            Fault::CrcA => plain(18),
+            Fault::Rate => plain(19),
         }
     }
 }

@@ -1,19 +1,10 @@
 -- What the arm for all other variants knows: the variant's number is one of those that are left.
-use mathlib.Core.Path.{_≡_, refl, ap, _∙_}
+use mathlib.Core.Path.{_≡_, refl}
 use mathlib.Core.List.{List, [], _∷_}
 use Prim.Native.Nat.{ℕ}
-use lib.ListN.{length}
 use denote.Enum.Declared.{tagOf}
 use types.Run.{OneOf, miss}
-use Rattle.errors.specs.declared.Refusal.{Refusal}
-use Rattle.framing.specs.Parse.{parseOf}
-use Rattle.framing.specs.Settings.{rcs956}
-use Rattle.framing.specs.declared.FrameFormat.{FrameFormat}
-use Rattle.framing.specs.declared.FrameType.{FrameType}
-use Rattle.framing.specs.declared.FrameType.the-variants.{Ack, Error, Data, Nothing}
 use Rattle.exchange.specs.Exchange.{onWrite, onRead}
-use Rattle.exchange.specs.Packets.{failed, frameReply, replyOf}
-use Rattle.exchange.specs.Parts.{refusalOf, kind-filling}
 use Rattle.exchange.specs.Steps.{eventOf}
 use Rattle.exchange.specs.declared.Event.{Event}
 use Rattle.exchange.specs.declared.Event.the-variants.{Ok, Bad, Packet, Time, Fail, Late, Slept}
@@ -51,16 +42,3 @@ module _ {X : Type 0} (u : X) where
   not-read-first p t f Fail packet h = absurd (miss (0 ∷ 1 ∷ 5 ∷ 6 ∷ []) 4 tt h)
   not-read-first p t f Late packet h = refl
   not-read-first p t f Slept packet h = refl
-
--- no data frame
-not-data : (found : FrameType) (code : ℕ) (packet : List ℕ) → OneOf (0 ∷ 1 ∷ 3 ∷ []) (tagOf Rattle.framing.proofs.FrameType.the-type found)
-    → failed (refusalOf found (length packet)) ≡ frameReply code packet found
-not-data (Ack frame) code packet h = kind-filling frame packet
-not-data (Error frame) code packet h = kind-filling frame packet
-not-data (Data start len frame) code packet h = absurd (miss (0 ∷ 1 ∷ 3 ∷ []) 2 tt h)
-not-data Nothing code packet h = refl
-
-pub reply-refused : (code : ℕ) (p : List ℕ) (f : FrameFormat) (x : FrameType) (r : Refusal) → f ≡ rcs956 → x ≡ parseOf f p
-    → OneOf (0 ∷ 1 ∷ 3 ∷ []) (tagOf Rattle.framing.proofs.FrameType.the-type x) → r ≡ refusalOf x (length p) → failed r ≡ replyOf code p
-unfolding replyOf
-reply-refused code p f x r e parsed tag h = ap failed h ∙ not-data x code p tag ∙ rw (parsed, e)

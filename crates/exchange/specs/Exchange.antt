@@ -3,8 +3,8 @@ use mathlib.Core.Bool.{cond}
 use mathlib.Core.List.{List}
 use Prim.Native.Nat.{ℕ}
 use lib.Dec.{eqb}
-use Rattle.errors.specs.declared.Refusal.{Refusal}
-use Rattle.errors.specs.declared.Refusal.the-variants.{Transport, TimeOut, FalseStart}
+use Rattle.errors.specs.declared.Fault.{Fault}
+use Rattle.errors.specs.declared.Fault.the-variants.{Transport, TimeOut, FalseStart}
 use Rattle.framing.specs.Frames.{ack}
 use Rattle.exchange.specs.Packets.{hasStart, ackLed, isEmpty, Reply, failed, replyOf}
 
@@ -65,7 +65,7 @@ pub data Step : Type 0 where
   sending : ℕ → ℕ → Step  -- step 1: the frame is being written
   reading : ℕ → ℕ → Step  -- step 2: the first packet is awaited
   waiting : ℕ → ℕ → Step  -- step 4: a packet is awaited under the clock
-  cancelling : Refusal → Step  -- ACK is being written, and the exchange then ends with this refusal
+  cancelling : Fault → Step  -- ACK is being written, and the exchange then ends with this fault
   rejecting : Step  -- step 3: ACK is being written
   draining : Step  -- step 3: the drain
 

@@ -1,5 +1,6 @@
 pub mod Packets
 pub mod Exchange
 pub mod Steps
-pub mod Parts
+pub mod Places
+pub mod Responses
 pub mod Rules

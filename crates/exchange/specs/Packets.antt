@@ -4,8 +4,8 @@ use mathlib.Core.List.{List, [], _∷_}
 use Prim.Native.Nat.{ℕ, _+_, _%_}
 use lib.Dec.{eqb}
 use lib.ListN.{length}
-use Rattle.errors.specs.declared.Refusal.{Refusal}
-use Rattle.errors.specs.declared.Refusal.the-variants.{BrokenFrame, Length, FrameKind, Identifier, Code, Status}
+use Rattle.errors.specs.declared.Fault.{Fault}
+use Rattle.errors.specs.declared.Fault.the-variants.{BrokenFrame, Length, FrameKind, Identifier, Code, Status}
 use Rattle.framing.specs.Frames.{sof, ack, frameOf}
 use Rattle.framing.specs.Lists.{starts, same}
 use Rattle.framing.specs.Parse.{parseOf, payloadOf}
@@ -41,10 +41,10 @@ abbrev pub isEmpty : List ℕ → Bool
 isEmpty [] = true
 isEmpty (b ∷ bs) = false
 
--- what a command's exchange comes to: the response, or a refusal
+-- what a command's exchange comes to: the response, or a fault
 pub data Reply : Type 0 where
   response : List ℕ → Reply
-  failed : Refusal → Reply
+  failed : Fault → Reply
 
 -- step 5. Byte 1 of the payload is the code plus 1, as a byte.
 abbrev pub codeReply : ℕ → List ℕ → Reply

@@ -1,22 +1,19 @@
 -- Rules by which `search` follows a definition's tests: what held on the way decides each `cond`.
-use mathlib.Core.Path.{_≡_, refl, sym, _∙_}
+use mathlib.Core.Path.{_≡_, refl, sym, ap, _∙_}
 use mathlib.Core.Bool.{Bool, true, false, cond}
 use mathlib.Core.List.{List, [], _∷_}
 use Prim.Native.Nat.{ℕ, _≤_}
 use borrow.Author.Tests.{eq-eqb, ne-eqb}
 use native.Mathlib.Omega.{arith}
-use lib.Dec.{eqb}
 use lib.ListN.{length}
-use Rattle.errors.specs.declared.Refusal.{Refusal}
+use Rattle.errors.specs.declared.Fault.{Fault}
 use Rattle.exchange.specs.Packets.{isEmpty, failed, replyOf}
-use Rattle.exchange.specs.Exchange.{pending, ended, unfit, ExchangeResult}
-use Rattle.exchange.specs.Steps.{exchangeAt, stepOf, orderOf, replyIn, Within, Follows}
-use Rattle.exchange.specs.declared.Reply.{Reply}
-use Rattle.exchange.specs.declared.Reply.the-variants.{Failed}
+use Rattle.exchange.specs.Exchange.{Event, Step, pending, ended, unfit, ExchangeResult, advance}
+use Rattle.exchange.specs.Steps.{exchangeAt, stepOf, orderOf, resultIn, Kept, Follows}
 use Rattle.exchange.specs.declared.Next.{Next}
 use Rattle.exchange.specs.declared.Exchange.{Exchange}
 use Rattle.exchange.specs.declared.Advanced.{Advanced}
-use Rattle.exchange.specs.declared.Advanced.the-variants.{Unfit, Pending, Ended}
+use Rattle.exchange.specs.declared.Advanced.the-variants.{Unfit, Pending, Arrived, Failed}
 
 pub at-true : {A : Type 0} (x a b : A) (t : Bool) → t ≡ true → x ≡ a → x ≡ cond t a b
 at-true x a b t h e = rw h e
@@ -36,13 +33,6 @@ pub not-empty : (p : List ℕ) → (length p ≡ 0 → ⊥) → isEmpty p ≡ fa
 not-empty [] h = absurd (h refl)
 not-empty (b ∷ p) h = refl
 
--- a byte beside one that a call answered
-pub eq-told : (a r k : ℕ) → a ≡ r → r ≡ k → eqb a k ≡ true
-eq-told a r k e h = eq-eqb a k (e ∙ h)
-
-pub ne-told : (a r k : ℕ) → (a ≡ r → ⊥) → r ≡ k → eqb a k ≡ false
-ne-told a r k n h = ne-eqb a k (λ e. n (e ∙ sym h))
-
 -- what a handler's result is to follow
 module _ (x : Exchange) (packet : List ℕ) (r : Advanced) where
   pub on-true : (a b : ExchangeResult) (t : Bool) → t ≡ true → Follows x packet a r → Follows x packet (cond t a b) r
@@ -55,16 +45,24 @@ module _ (x : Exchange) (packet : List ℕ) (r : Advanced) where
       → pending (orderOf next) (stepOf (exchangeAt phase (x .code) (x .clock))) ≡ to → Follows x packet to r
   goes-on next phase to e h q = rw e (record { result = q; kept = (h, refl, refl) })
 
-  pub fails : (refusal : Refusal) → r ≡ Ended (Failed refusal) → Follows x packet (ended (failed refusal)) r
-  fails refusal e = rw e (record { result = refl; kept = tt })
+  pub fails : (fault : Fault) → r ≡ Failed fault → Follows x packet (ended (failed fault)) r
+  fails fault e = rw e (record { result = refl; kept = tt })
 
-pub answers : (x : Exchange) (packet : List ℕ) (reply : Reply) (code : ℕ) → replyIn packet reply ≡ replyOf code packet → Within packet reply
-    → Follows x packet (ended (replyOf code packet)) (Ended reply)
-answers x packet reply code e w = record { result = rw e; kept = w }
+  pub arrives : r ≡ Arrived → Follows x packet (ended (replyOf (x .code) packet)) r
+  arrives e = rw e (record { result = refl; kept = tt })
 
 pub stays : (x : Exchange) (packet : List ℕ) (to : ExchangeResult) → unfit ≡ to → Follows x packet to Unfit
 stays x packet to e = record { result = e; kept = tt }
 
+-- a handler's promises are those of `advance` in the handler's phase
+pub in-phase : (x : Exchange) (k : ℕ) (event : Event) (packet : List ℕ) (r : Advanced) → x .phase ≡ k
+    → Follows x packet (advance (stepOf (exchangeAt k (x .code) (x .clock))) event) r
+    → (resultIn x packet r ≡ advance (stepOf x) event) × Kept x r
+unfolding stepOf
+in-phase x k event packet r e f =
+    let same : stepOf (exchangeAt k (x .code) (x .clock)) ≡ stepOf x = ap (λ (n : ℕ). stepOf (exchangeAt n (x .code) (x .clock))) (sym e) in
+    (f .result ∙ ap (λ (s : Step). advance s event) same, f .kept)
+
 pub ruleset cases = (at-true, at-false, told, eq-eqb, ne-eqb)
 
-pub ruleset follows = (on-true, on-false, told, empty, not-empty, eq-eqb, ne-eqb, goes-on, fails, answers)
+pub ruleset follows = (on-true, on-false, told, empty, not-empty, eq-eqb, ne-eqb, goes-on, fails, arrives)

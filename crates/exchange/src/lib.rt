@@ -1,16 +1,16 @@
 // One acknowledged command: steps 1 to 5 of document 01's exchange (`command` of chipset.rs).
-use errors::Refusal;
+use errors::Fault;
 use framing::FrameType;
 use framing::frame::CONTROLLER_TO_HOST;
 use framing::frame::Rcs956Format;
 ghost use mathlib.Core.Path.{_≡_};
 ghost use mathlib.Core.List.{List};
-ghost use Prim.Native.Nat.{ℕ, _+_, _≤_};
-ghost use lib.ListN.{length, getD};
-ghost use Rattle.exchange.specs.Packets.{replyOf};
+ghost use Prim.Native.Nat.{ℕ};
+ghost use lib.ListN.{getD};
+ghost use Rattle.exchange.specs.Packets.{payloadReply};
 ghost use Rattle.exchange.specs.Exchange.{advance as advanceOf, sending, reading, waiting, cancelling, rejecting, draining, onPacket, onFirstPacket, onLaterPacket, onDrained};
-ghost use Rattle.exchange.specs.Steps.{exchangeAt, stepOf, eventOf, replyIn, responseOf, resultIn, Within, Kept, Follows};
-ghost use Rattle.exchange.specs.Parts.{kindRefusal, refusalOf, partReply};
+ghost use Rattle.exchange.specs.Steps.{exchangeAt, stepOf, eventOf, resultIn, Kept, Follows};
+ghost use Rattle.exchange.specs.Places.{partAt, isResponse, responsePlace, frameLength, payloadFault, faultOf};
 
 // What the host returns. A packet's bytes are lent beside it.
 pub enum Event {
@@ -21,18 +21,6 @@ pub enum Event {
     Fail,
     Late,
     Slept,
-}
-
-// A part of the packet.
-pub struct Part {
-    pub start: usize,
-    pub len: usize,
-}
-
-// What a command's exchange comes to: the response, or a refusal.
-pub enum Reply {
-    Response(Part),
-    Failed(Refusal),
 }
 
 // The order that follows inside an exchange; a read has its ms.
@@ -50,11 +38,12 @@ pub struct Exchange {
     pub clock: u32,
 }
 
-// What an event does: it does not fit, an order follows, or the exchange has ended.
+// What an event does: it does not fit, an order follows, the command's packet is in (step 5 is next), or the exchange has failed.
 pub enum Advanced {
     Unfit,
     Pending(Next, Exchange),
-    Ended(Reply),
+    Arrived,
+    Failed(Fault),
 }
 
 // The ms in which the first packet is due.
@@ -95,18 +84,18 @@ impl Exchange {
         }
     }
 
-    // What an event does to the exchange.
+    // What an event does to the exchange. A fault of step 5 may be told as `Arrived` or as `Failed`: `resultIn` gives both the same meaning.
     pub fn advance(self, event: Event, packet: &[u8]) -> Advanced
-        ensures { λ r. ⌜ resultIn (now (packet .entry)) r ≡ advanceOf (stepOf self) (eventOf event (now (packet .entry))) ⌝ }
-        ensures { λ r. ⌜ Kept self (now (packet .entry)) r ⌝ }
+        ensures { λ r. ⌜ resultIn self (now (packet .entry)) r ≡ advanceOf (stepOf self) (eventOf event (now (packet .entry))) ⌝ }
+        ensures { λ r. ⌜ Kept self r ⌝ }
     {
         let phase = self.phase;
         match phase {
             Self::SENDING => self.on_sent(event),
             Self::READING => self.on_first_read(event, packet),
             Self::WAITING => self.on_later_read(event, packet),
-            Self::UNSENT => on_cancelled(event, Refusal::Transport),
-            Self::OVERDUE => on_cancelled(event, Refusal::TimeOut),
+            Self::UNSENT => on_cancelled(event, Fault::Transport),
+            Self::OVERDUE => on_cancelled(event, Fault::TimeOut),
             Self::REJECTING => self.on_rejected(event),
             _ => self.on_drain(event, packet),
         }
@@ -137,8 +126,8 @@ impl Exchange {
     {
         match event {
             Event::Packet => self.on_first_packet(packet),
-            Event::Time => failed(Refusal::TimeOut),
-            Event::Fail => failed(Refusal::Transport),
+            Event::Time => Advanced::Failed(Fault::TimeOut),
+            Event::Fail => Advanced::Failed(Fault::Transport),
             _ => Advanced::Unfit,
         }
     }
@@ -148,7 +137,7 @@ impl Exchange {
         ensures { λ r. ⌜ Follows self (now (packet .entry)) (onFirstPacket (self .code) (self .clock) (now (packet .entry))) r ⌝ }
     {
         if packet.len() == 0 {
-            return failed(Refusal::TimeOut);
+            return Advanced::Failed(Fault::TimeOut);
         }
         if framing::has_sof(packet) {
             self.on_packet(packet)
@@ -163,8 +152,8 @@ impl Exchange {
     {
         match event {
             Event::Packet => self.on_later_packet(packet),
-            Event::Time => failed(Refusal::TimeOut), // no ACK
-            Event::Fail => failed(Refusal::Transport), // no ACK
+            Event::Time => Advanced::Failed(Fault::TimeOut), // no ACK
+            Event::Fail => Advanced::Failed(Fault::Transport), // no ACK
             Event::Late => self.pending(Next::WriteAck, Self::OVERDUE),
             _ => Advanced::Unfit,
         }
@@ -174,7 +163,7 @@ impl Exchange {
         ensures { λ r. ⌜ Follows self (now (packet .entry)) (onLaterPacket (self .code) (self .clock) (now (packet .entry))) r ⌝ }
     {
         if packet.len() == 0 {
-            return failed(Refusal::TimeOut);
+            return Advanced::Failed(Fault::TimeOut);
         }
         self.on_packet(packet)
     }
@@ -189,7 +178,7 @@ impl Exchange {
             }
             self.pending(Next::Read(self.clock), Self::WAITING)
         } else {
-            Advanced::Ended(reply_to(self.code, packet))
+            Advanced::Arrived
         }
     }
 
@@ -210,9 +199,9 @@ impl Exchange {
     {
         match event {
             Event::Packet => self.on_drained(packet),
-            Event::Time => failed(Refusal::FalseStart),
+            Event::Time => Advanced::Failed(Fault::FalseStart),
             Event::Fail => self.pending(Next::Drain, Self::DRAINING),
-            Event::Late => failed(Refusal::FalseStart),
+            Event::Late => Advanced::Failed(Fault::FalseStart),
             _ => Advanced::Unfit,
         }
     }
@@ -221,98 +210,21 @@ impl Exchange {
         ensures { λ r. ⌜ Follows self (now (packet .entry)) (onDrained (now (packet .entry))) r ⌝ }
     {
         if packet.len() == 0 {
-            return failed(Refusal::FalseStart);
+            return Advanced::Failed(Fault::FalseStart);
         }
         self.pending(Next::Drain, Self::DRAINING)
     }
 }
 
-fn failed(refusal: Refusal) -> Advanced
-    ensures { λ r. ⌜ r ≡ Advanced.Ended (Reply.Failed refusal) ⌝ }
-{
-    Advanced::Ended(Reply::Failed(refusal))
-}
-
 // Steps 1 and 4: ACK was written, or that failed.
-fn on_cancelled(event: Event, refusal: Refusal) -> Advanced
-    ensures { λ r. ⌜ ((x : Exchange) (p : List ℕ) → Follows x p (advanceOf (cancelling refusal) (eventOf event p)) r) ⌝ }
+fn on_cancelled(event: Event, fault: Fault) -> Advanced
+    ensures { λ r. ⌜ ((x : Exchange) (p : List ℕ) → Follows x p (advanceOf (cancelling fault) (eventOf event p)) r) ⌝ }
 {
     match event {
-        Event::Ok => failed(refusal),
-        Event::Bad => failed(refusal),
+        Event::Ok => Advanced::Failed(fault),
+        Event::Bad => Advanced::Failed(fault),
         _ => Advanced::Unfit,
     }
-}
-
-// Step 5: what a packet is to a command of this code.
-pub fn reply_to(code: u8, packet: &[u8]) -> Reply
-    ensures { λ r. ⌜ replyIn (now (packet .entry)) r ≡ replyOf code (now (packet .entry)) ⌝ }
-    ensures { λ r. ⌜ Within (now (packet .entry)) r ⌝ }
-{
-    let n = packet.len();
-    let found = framing::parse(Rcs956Format::format(), packet);
-    let FrameType::Data { start, len, frame } = found else {
-        return Reply::Failed(frame_refusal(found, n));
-    };
-    if frame != n {
-        return Reply::Failed(Refusal::Length);
-    }
-    extract_response_payload(code, packet, start, len)
-}
-
-// The refusal of a packet of n bytes that no data frame fills.
-fn frame_refusal(found: FrameType, n: usize) -> Refusal
-    ensures { λ r. ⌜ r ≡ refusalOf found n ⌝ }
-{
-    match found {
-        FrameType::Ack(frame) => kind_refusal(frame, n),
-        FrameType::Error(frame) => kind_refusal(frame, n),
-        FrameType::Data {
-            start: _,
-            len: _,
-            frame: _,
-        } => Refusal::Length,
-        FrameType::Nothing => Refusal::BrokenFrame,
-    }
-}
-
-// The same of a frame of another kind, by its length.
-fn kind_refusal(frame: usize, n: usize) -> Refusal
-    ensures { λ r. ⌜ r ≡ kindRefusal frame n ⌝ }
-{
-    if frame == n {
-        Refusal::FrameKind
-    } else {
-        Refusal::Length
-    }
-}
-
-// The response behind the identifier and the code, of the payload at `start`.
-fn extract_response_payload(code: u8, packet: &[u8], start: usize, len: usize) -> Reply
-    requires { ⌜ start + len ≤ length (now packet) ⌝ }
-    ensures { λ r. ⌜ replyIn (now (packet .entry)) r ≡ partReply code (now (packet .entry)) start len ⌝ }
-    ensures { λ r. ⌜ Within (now (packet .entry)) r ⌝ }
-{
-    if len == 0 {
-        return Reply::Failed(Refusal::Identifier);
-    }
-    let identifier = packet[start];
-    if identifier == ERROR_FRAME {
-        return Reply::Failed(Refusal::Status(ERROR_FRAME));
-    }
-    if identifier != CONTROLLER_TO_HOST {
-        return Reply::Failed(Refusal::Identifier);
-    }
-    if len == 1 {
-        return Reply::Failed(Refusal::Code);
-    }
-    if packet[start + 1] != std::num::wrapping_add_u8(code, 1) {
-        return Reply::Failed(Refusal::Code);
-    }
-    Reply::Response(Part {
-        start: start + 2,
-        len: len - 2,
-    })
 }
 
 // The code that stands at a command's start.
@@ -325,14 +237,92 @@ fn code_of(command: &[u8]) -> u8
     command[0]
 }
 
-// The response to a command (its code, then its data), as a part of the packet; the empty part where there is none.
-pub fn response<'p, 'c>(packet: &'p [u8], command: &'c [u8]) -> &'p [u8]
-    ensures { λ r. ⌜ now r ≡ responseOf (replyOf (getD (now (command .entry)) 0 0) (now (packet .entry))) ⌝ }
+// Whether a payload is a response to a command of this code.
+fn is_response(payload: &[u8], code: u8) -> bool
+    ensures { λ r. ⌜ r ≡ isResponse (payloadReply code (now (payload .entry))) ⌝ }
 {
-    let Reply::Response(part) = reply_to(code_of(command), packet) else {
+    if payload.len() < 2 {
+        return false;
+    }
+    if payload[0] != CONTROLLER_TO_HOST {
+        return false;
+    }
+    payload[1] == std::num::wrapping_add_u8(code, 1)
+}
+
+// Step 5: the payload (identifier, code and response) of an intact response to a command, whose code stands at its start.
+// The empty part where the packet is none.
+pub fn response_payload<'p, 'c>(packet: &'p [u8], command: &'c [u8]) -> &'p [u8]
+    ensures { λ r. ⌜ now r ≡ partAt (responsePlace (getD (now (command .entry)) 0 0) (now (packet .entry))) (now (packet .entry)) ⌝ }
+{
+    let FrameType::Data { start, len, frame } = framing::parse(Rcs956Format::format(), packet)
+    else {
         return &packet[0..0];
     };
-    let start = part.start;
-    let end = start + part.len;
-    &packet[start..end]
+    if frame != packet.len() {
+        return &packet[0..0];
+    }
+    let end = start + len;
+    let payload = &packet[start..end];
+    if is_response(payload, code_of(command)) {
+        payload
+    } else {
+        &packet[0..0]
+    }
+}
+
+// The length of a frame that was found.
+fn frame_length(found: FrameType) -> usize
+    ensures { λ r. ⌜ r ≡ frameLength found ⌝ }
+{
+    match found {
+        FrameType::Ack(frame) => frame,
+        FrameType::Error(frame) => frame,
+        FrameType::Data {
+            start: _,
+            len: _,
+            frame,
+        } => frame,
+        FrameType::Nothing => 0,
+    }
+}
+
+// The fault of a payload that is no response.
+fn payload_fault(payload: &[u8]) -> Fault
+    ensures { λ r. ⌜ r ≡ payloadFault (now (payload .entry)) ⌝ }
+{
+    if payload.len() == 0 {
+        return Fault::Identifier;
+    }
+    let identifier = payload[0];
+    if identifier == ERROR_FRAME {
+        return Fault::Status(ERROR_FRAME);
+    }
+    if identifier != CONTROLLER_TO_HOST {
+        return Fault::Identifier;
+    }
+    Fault::Code
+}
+
+// Step 5: the fault of a packet that is no intact response, by the first check that fails. The code's check is the last.
+pub fn fault(packet: &[u8]) -> Fault
+    ensures { λ r. ⌜ r ≡ faultOf (now (packet .entry)) ⌝ }
+{
+    let found = framing::parse(Rcs956Format::format(), packet);
+    if let FrameType::Nothing = found {
+        return Fault::BrokenFrame;
+    }
+    if frame_length(found) != packet.len() {
+        return Fault::Length;
+    }
+    let FrameType::Data {
+        start,
+        len,
+        frame: _,
+    } = found
+    else {
+        return Fault::FrameKind;
+    };
+    let end = start + len;
+    payload_fault(&packet[start..end])
 }

@@ -1,4 +1,5 @@
--- Demand 3 of the host's entries: what a list of them tells is what the engine gives out for its own entries, in the same order.
+-- Demand 3 of the host's entries, and of lists that mix them with the session's own: what is told is what the engine gives out for
+-- its own entries, in the same order.
 use mathlib.Core.Path.{_≡_, refl, ap₂}
 use mathlib.Core.List.{List, [], _∷_}
 use mathlib.Core.Option.{Option, none, some}
@@ -6,61 +7,96 @@ use Prim.Native.Nat.{ℕ}
 use Rattle.protocol.specs.Session.{Output as Given}
 use Rattle.protocol.specs.Follows.{Obeys, givenOut, stateAfter}
 use Rattle.engine.specs.Sessions.{freshSession}
-use Rattle.engine.specs.Inputs.{Input, stepWith}
+use Rattle.engine.specs.Inputs.{Input, bufferOf, stepWith}
 use Rattle.engine.specs.Follows.{engine, engine-demand3}
 use Rattle.engine.specs.declared.session.Session.{Session}
 use Rattle.host.specs.Outcomes.{Report}
-use Rattle.host.specs.Entries.{HostEntry, inputOf, bufferIn, reportWith, reportFor}
+use Rattle.host.specs.Entries.{HostEntry, inputOf, bufferIn, reportWith}
 use Rattle.host.specs.Outputs.{outputIn, output-is}
 
--- the engine's entries; an event with a number that has none is left out
-abbrev pub withInput : Option Input → List Input → List Input
+-- ---- entries of any kind, each with its engine's entry, if it has one, and the bytes of its buffer
+
+abbrev withInput : Option Input → List Input → List Input
 withInput none is = is
 withInput (some i) is = i ∷ is
 
-abbrev pub inputs : List HostEntry → List Input
-inputs [] = []
-inputs (h ∷ hs) = withInput (inputOf h) (inputs hs)
-
--- the session behind a list
-abbrev pub sessionAfter : Session → List HostEntry → Session
-sessionAfter s [] = s
-sessionAfter s (h ∷ hs) = sessionAfter ((reportFor s h) .session) hs
-
 -- the orders and answers that the outcomes and the buffers say, those of the engine's entries
-abbrev pub withTold : Option Input → Report → List (Given ℕ) → List (Given ℕ)
+abbrev withTold : Option Input → Report → List (Given ℕ) → List (Given ℕ)
 withTold none r os = os
 withTold (some i) r os = outputIn (r .outcome) (r .buffer) ∷ os
 
-abbrev pub toldFor : Session → List HostEntry → List (Given ℕ)
-toldFor s [] = []
-toldFor s (h ∷ hs) = withTold (inputOf h) (reportFor s h) (toldFor ((reportFor s h) .session) hs)
+module _ (E : Type 0) (input : E → Option Input) (buffer : E → List ℕ) where
+  -- the engine's entries; what has none is left out
+  abbrev pub inputs : List E → List Input
+  inputs [] = []
+  inputs (e ∷ es) = withInput (input e) (inputs es)
 
--- the host's list does what the engine's does
-abbrev Same : Session → List HostEntry → Type 0
-Same s hs = (sessionAfter s hs ≡ stateAfter engine s (inputs hs)) × (toldFor s hs ≡ givenOut engine s (inputs hs))
+  abbrev reportFor : Session → E → Report
+  reportFor s e = reportWith s (input e) (buffer e)
 
-abbrev SameWith : Session → Option Input → Report → List HostEntry → Type 0
-SameWith s i r hs =
-    (sessionAfter (r .session) hs ≡ stateAfter engine s (withInput i (inputs hs)))
-    × (withTold i r (toldFor (r .session) hs) ≡ givenOut engine s (withInput i (inputs hs)))
+  -- the session behind a list
+  abbrev pub sessionAfter : Session → List E → Session
+  sessionAfter s [] = s
+  sessionAfter s (e ∷ es) = sessionAfter ((reportFor s e) .session) es
 
-same-with : (s : Session) (i : Option Input) (b : List ℕ) (hs : List HostEntry) → ((t : Session) → Same t hs) → SameWith s i (reportWith s i b) hs
-same-with s none b hs f = f s
-same-with s (some i) b hs f =
-    let r = stepWith s i in
-    let e = f (r .session) in
-    (e .0, ap₂ (λ (x : Given ℕ) (xs : List (Given ℕ)). x ∷ xs) (output-is (r .output) (r .buffer)) (e .1))
+  abbrev pub toldFor : Session → List E → List (Given ℕ)
+  toldFor s [] = []
+  toldFor s (e ∷ es) = withTold (input e) (reportFor s e) (toldFor ((reportFor s e) .session) es)
 
-same : (hs : List HostEntry) (s : Session) → Same s hs
-same [] s = (refl, refl)
-same (h ∷ hs) s = same-with s (inputOf h) (bufferIn h) hs (same hs)
+  -- the list does what the engine's does
+  abbrev Same : Session → List E → Type 0
+  Same s es = (sessionAfter s es ≡ stateAfter engine s (inputs es)) × (toldFor s es ≡ givenOut engine s (inputs es))
 
-pub record HostObeys (hs : List HostEntry) : Type 0 where
-  pub session : sessionAfter freshSession hs ≡ stateAfter engine freshSession (inputs hs)
-  pub told : toldFor freshSession hs ≡ givenOut engine freshSession (inputs hs)
-  pub demand : Obeys engine (inputs hs)
+  abbrev SameWith : Session → Option Input → Report → List E → Type 0
+  SameWith s i r es =
+      (sessionAfter (r .session) es ≡ stateAfter engine s (withInput i (inputs es)))
+      × (withTold i r (toldFor (r .session) es) ≡ givenOut engine s (withInput i (inputs es)))
+
+  same-with : (s : Session) (i : Option Input) (b : List ℕ) (es : List E) → ((t : Session) → Same t es) → SameWith s i (reportWith s i b) es
+  same-with s none b es f = f s
+  same-with s (some i) b es f =
+      let r = stepWith s i in
+      let e = f (r .session) in
+      (e .0, ap₂ (λ (x : Given ℕ) (xs : List (Given ℕ)). x ∷ xs) (output-is (r .output) (r .buffer)) (e .1))
+
+  same : (es : List E) (s : Session) → Same s es
+  same [] s = (refl, refl)
+  same (e ∷ es) s = same-with s (input e) (buffer e) es (same es)
+
+  pub record ObeysFor (es : List E) : Type 0 where
+    pub session : sessionAfter freshSession es ≡ stateAfter engine freshSession (inputs es)
+    pub told : toldFor freshSession es ≡ givenOut engine freshSession (inputs es)
+    pub demand : Obeys engine (inputs es)
+
+  obeys-for : (es : List E) → ObeysFor es
+  obeys-for es = record { session = (same es freshSession) .0; told = (same es freshSession) .1; demand = engine-demand3 (inputs es) }
+
+-- ---- the host's entries
+
+abbrev pub HostObeys : List HostEntry → Type 0
+HostObeys hs = ObeysFor HostEntry inputOf bufferIn hs
 
 -- demand 3 of the host's entries: for every list of them, from a fresh session
 pub host-demand3 : (hs : List HostEntry) → HostObeys hs
-host-demand3 hs = record { session = (same hs freshSession) .0; told = (same hs freshSession) .1; demand = engine-demand3 (inputs hs) }
+host-demand3 hs = obeys-for HostEntry inputOf bufferIn hs
+
+-- ---- the host's entries and the session's own, in one list
+
+pub data MixedEntry : Type 0 where
+  byHost : HostEntry → MixedEntry
+  bySession : Input → MixedEntry
+
+abbrev pub mixedInput : MixedEntry → Option Input
+mixedInput (byHost h) = inputOf h
+mixedInput (bySession i) = some i
+
+abbrev pub mixedBuffer : MixedEntry → List ℕ
+mixedBuffer (byHost h) = bufferIn h
+mixedBuffer (bySession i) = bufferOf i
+
+abbrev pub MixedObeys : List MixedEntry → Type 0
+MixedObeys es = ObeysFor MixedEntry mixedInput mixedBuffer es
+
+-- demand 3 of any list of both, from a fresh session
+pub mixed-demand3 : (es : List MixedEntry) → MixedObeys es
+mixed-demand3 es = obeys-for MixedEntry mixedInput mixedBuffer es

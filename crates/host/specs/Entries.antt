@@ -2,7 +2,7 @@
 use mathlib.Core.List.{List}
 use mathlib.Core.Option.{Option, none, some}
 use Prim.Native.Nat.{ℕ}
-use Rattle.errors.specs.declared.Refusal.the-variants.{OutOfTurn}
+use Rattle.errors.specs.Refusals.{plain}
 use Rattle.exchange.specs.Exchange.{Event}
 use Rattle.engine.specs.Inputs.{Input, tells, stepWith}
 use Rattle.engine.specs.Numbers.{callOf, callInput, eventBy}
@@ -29,7 +29,7 @@ bufferIn (telling number packet b) = b
 
 -- what has no entry of the engine is refused as out of turn, and nothing changes
 abbrev pub reportWith : Session → Option Input → List ℕ → Report
-reportWith s none b = report s (refusedAs OutOfTurn) b
+reportWith s none b = report s (refusedAs (plain 1)) b
 reportWith s (some i) b = reportOf (stepWith s i)
 
 abbrev pub reportFor : Session → HostEntry → Report

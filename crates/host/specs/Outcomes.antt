@@ -1,14 +1,14 @@
 -- What the host is told, in numbers.
 use mathlib.Core.List.{List}
 use Prim.Native.Nat.{ℕ}
-use Rattle.errors.specs.Refusals.{numbered}
-use Rattle.errors.specs.declared.Refusal.{Refusal}
+use Rattle.errors.specs.Refusals.{numbered, faultNumbered}
+use Rattle.errors.specs.declared.Numbered.{Numbered}
 use Rattle.engine.specs.Sessions.{Stepped}
 use Rattle.engine.specs.declared.state.State.{State}
 use Rattle.engine.specs.declared.state.Effect.{Effect}
 use Rattle.engine.specs.declared.session.Session.{Session}
-use Rattle.engine.specs.declared.state.Output.{Output}
-use Rattle.engine.specs.declared.state.Output.the-variants.{Write, Read, Drain, Pause, Done, Type1, Nothing, Refused}
+use Rattle.engine.specs.declared.core.Output.{Output}
+use Rattle.engine.specs.declared.core.Output.the-variants.{Ack, Command, Read, Drain, Pause, Done, Type1, Nothing, Failed, Refused}
 use Rattle.host.specs.declared.outcome.Outcome.{Outcome}
 use Rattle.host.specs.declared.outcome.Told.{Told}
 
@@ -20,18 +20,20 @@ abbrev pub withTime : ℕ → ℕ → Outcome
 withTime kind t = record { kind = kind; refusal = 0; status = 0; time = t; len = 0 }
 
 -- a refusal by document 01's number, and the status byte of 15
-abbrev pub refusedAs : Refusal → Outcome
-refusedAs e = record { kind = 7; refusal = (numbered e) .0; status = (numbered e) .1; time = 0; len = 0 }
+abbrev pub refusedAs : Numbered → Outcome
+refusedAs n = record { kind = 7; refusal = n .number; status = n .status; time = 0; len = 0 }
 
 abbrev pub outcomeOf : Output → Outcome
-outcomeOf (Write n) = withBytes 0 n
+outcomeOf Ack = withBytes 0 6
+outcomeOf (Command n) = withBytes 0 n
 outcomeOf (Read ms) = withTime 1 ms
 outcomeOf Drain = withBytes 2 0
 outcomeOf (Pause us) = withTime 3 us
 outcomeOf (Done n) = withBytes 4 n
 outcomeOf (Type1 n) = withBytes 5 n
 outcomeOf Nothing = withBytes 6 0
-outcomeOf (Refused e) = refusedAs e
+outcomeOf (Failed e) = refusedAs (faultNumbered e)
+outcomeOf (Refused e) = refusedAs (numbered e)
 
 abbrev pub toldOf : Effect → Told
 toldOf e = record { state = e .state; outcome = outcomeOf (e .output) }

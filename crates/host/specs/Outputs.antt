@@ -3,45 +3,47 @@ use mathlib.Core.Path.{_≡_, refl}
 use mathlib.Core.List.{List, [], _∷_}
 use Prim.Native.Nat.{ℕ}
 use lib.ListN.{take, getD}
-use Rattle.errors.specs.Refusals.{numbered}
+use Rattle.errors.specs.Refusals.{numbered, faultNumbered}
 use Rattle.errors.specs.declared.Refusal.{Refusal}
-use Rattle.errors.specs.declared.Refusal.the-variants.{OutOfTurn, ShortBuffer, OverLong, BadArgument, Bitrate, NotSendable, Transport, TimeOut, FalseStart, BrokenFrame, Length, FrameKind, Identifier, Code, Status, ShortResponse, NoCard, CrcA, Rate}
+use Rattle.errors.specs.declared.Refusal.the-variants.{OutOfTurn, ShortBuffer, OverLong, BadArgument, Bitrate, NotSendable}
+use Rattle.errors.specs.declared.Fault.{Fault}
+use Rattle.errors.specs.declared.Fault.the-variants.{Transport, TimeOut, FalseStart, BrokenFrame, Length, FrameKind, Identifier, Code, Status, ShortResponse, NoCard, CrcA, Rate}
 use Rattle.exchange.specs.Exchange.{write, read, drain, pause}
 use Rattle.protocol.specs.Scripts.{done, type1, nothing, refused}
-use Rattle.protocol.specs.Session.{Output as Given, orders, answers}
+use Rattle.protocol.specs.Session.{Output as Given, orders, answers, rejects}
 use Rattle.engine.specs.Inputs.{outputOf}
-use Rattle.engine.specs.declared.state.Output.{Output}
-use Rattle.engine.specs.declared.state.Output.the-variants.{Write, Read, Drain, Pause, Done, Type1, Nothing, Refused}
+use Rattle.engine.specs.declared.core.Output.{Output}
+use Rattle.engine.specs.declared.core.Output.the-variants.{Ack, Command, Read, Drain, Pause, Done, Type1, Nothing, Failed, Refused}
 use Rattle.host.specs.Outcomes.{outcomeOf}
 use Rattle.host.specs.declared.outcome.Outcome.{Outcome}
 
 -- document 01's refusals from 1 on, with the status byte of 15; no refusal has the number 0
-abbrev pub refusals : ℕ → List Refusal
+abbrev pub refusals : ℕ → List (Given ℕ)
 refusals status =
-    OutOfTurn
-    ∷ OutOfTurn
-    ∷ ShortBuffer
-    ∷ OverLong
-    ∷ BadArgument
-    ∷ Bitrate
-    ∷ NotSendable
-    ∷ Transport
-    ∷ TimeOut
-    ∷ FalseStart
-    ∷ BrokenFrame
-    ∷ Length
-    ∷ FrameKind
-    ∷ Identifier
-    ∷ Code
-    ∷ Status status
-    ∷ ShortResponse
-    ∷ NoCard
-    ∷ CrcA
-    ∷ Rate
+    rejects OutOfTurn
+    ∷ rejects OutOfTurn
+    ∷ rejects ShortBuffer
+    ∷ rejects OverLong
+    ∷ rejects BadArgument
+    ∷ rejects Bitrate
+    ∷ rejects NotSendable
+    ∷ answers (refused Transport)
+    ∷ answers (refused TimeOut)
+    ∷ answers (refused FalseStart)
+    ∷ answers (refused BrokenFrame)
+    ∷ answers (refused Length)
+    ∷ answers (refused FrameKind)
+    ∷ answers (refused Identifier)
+    ∷ answers (refused Code)
+    ∷ answers (refused (Status status))
+    ∷ answers (refused ShortResponse)
+    ∷ answers (refused NoCard)
+    ∷ answers (refused CrcA)
+    ∷ answers (refused Rate)
     ∷ []
 
-abbrev pub refusalOf : ℕ → ℕ → Refusal
-refusalOf number status = getD (refusals status) number OutOfTurn
+abbrev pub refusalOf : ℕ → ℕ → Given ℕ
+refusalOf number status = getD (refusals status) number (rejects OutOfTurn)
 
 -- by the kind; bytes stand at the buffer's start
 abbrev pub outputIn : Outcome → List ℕ → Given ℕ
@@ -56,36 +58,40 @@ outputIn o b =
     ∷ answers nothing
     ∷ [])
     (o .kind)
-    (answers (refused (refusalOf (o .refusal) (o .status))))
+    (refusalOf (o .refusal) (o .status))
 
-numbered-is : (e : Refusal) → refusalOf ((numbered e) .0) ((numbered e) .1) ≡ e
+numbered-is : (e : Refusal) → refusalOf (numbered e .number) (numbered e .status) ≡ rejects e
 numbered-is OutOfTurn = refl
 numbered-is ShortBuffer = refl
 numbered-is OverLong = refl
 numbered-is BadArgument = refl
 numbered-is Bitrate = refl
 numbered-is NotSendable = refl
-numbered-is Transport = refl
-numbered-is TimeOut = refl
-numbered-is FalseStart = refl
-numbered-is BrokenFrame = refl
-numbered-is Length = refl
-numbered-is FrameKind = refl
-numbered-is Identifier = refl
-numbered-is Code = refl
-numbered-is (Status s) = refl
-numbered-is ShortResponse = refl
-numbered-is NoCard = refl
-numbered-is CrcA = refl
-numbered-is Rate = refl
+
+fault-is : (e : Fault) → refusalOf (faultNumbered e .number) (faultNumbered e .status) ≡ answers (refused e)
+fault-is Transport = refl
+fault-is TimeOut = refl
+fault-is FalseStart = refl
+fault-is BrokenFrame = refl
+fault-is Length = refl
+fault-is FrameKind = refl
+fault-is Identifier = refl
+fault-is Code = refl
+fault-is (Status s) = refl
+fault-is ShortResponse = refl
+fault-is NoCard = refl
+fault-is CrcA = refl
+fault-is Rate = refl
 
 -- nothing of an output is lost in the numbers
 pub output-is : (o : Output) (b : List ℕ) → outputIn (outcomeOf o) b ≡ outputOf o b
-output-is (Write n) b = refl
+output-is Ack b = refl
+output-is (Command n) b = refl
 output-is (Read ms) b = refl
 output-is Drain b = refl
 output-is (Pause us) b = refl
 output-is (Done n) b = refl
 output-is (Type1 n) b = refl
 output-is Nothing b = refl
-output-is (Refused e) b = rw (numbered-is e) refl
+output-is (Failed e) b = fault-is e
+output-is (Refused e) b = numbered-is e

@@ -1,22 +1,24 @@
 -- What is told of a session's numbers and arrays apart is what is told of the session.
-use mathlib.Core.Path.{_≡_, refl, sym, ap, _∙_}
+use mathlib.Core.Path.{_≡_, refl, ap, _∙_}
 use mathlib.Core.List.{List}
 use mathlib.Core.Option.{Option, none, some}
 use Prim.Native.Nat.{ℕ}
 use Rattle.exchange.specs.Exchange.{Event}
-use Rattle.engine.specs.Sessions.{After, held, effected, heldIn, sessionAfter}
-use Rattle.engine.specs.Inputs.{Input, afterInput, stepped-is}
+use Rattle.engine.specs.Core.{After, held}
+use Rattle.engine.specs.Sessions.{effected, heldIn, sessionAfter}
+use Rattle.engine.specs.Inputs.{Input, afterInput}
 use Rattle.engine.specs.Numbers.{numberedAfter}
 use Rattle.engine.specs.declared.session.Session.{Session}
 use Rattle.engine.specs.declared.state.Effect.{Effect}
+use Rattle.engine.specs.declared.state.State.{State}
 use Rattle.host.specs.Outcomes.{Report, report, reportOf, joined, toldOf}
 use Rattle.host.specs.Entries.{eventInput, reportWith}
 use Rattle.host.specs.declared.outcome.Told.{Told}
 
-abbrev pub reportAfter : After → Report
+abbrev pub reportAfter : After State → Report
 reportAfter a = reportOf (sessionAfter a)
 
-told-is : (t : Told) (e : Effect) (a : After) (command found b : List ℕ)
+told-is : (t : Told) (e : Effect) (a : After State) (command found b : List ℕ)
     → t ≡ toldOf e → effected e (held command found) b ≡ a → report (joined command found (t .state)) (t .outcome) b ≡ reportAfter a
 told-is t e a command found b p h = rw p (ap reportAfter h)
 
@@ -32,4 +34,4 @@ event-told t r s e command found b c p h = told-is t r (numberedAfter (s .state)
 pub call-told : (t : Told) (r : Effect) (s : Session) (i : Input) (command found b c : List ℕ)
     → t ≡ toldOf r → effected r (held command found) c ≡ afterInput (s .state) (heldIn s) i
     → report (joined command found (t .state)) (t .outcome) c ≡ reportWith s (some i) b
-call-told t r s i command found b c p h = told-is t r (afterInput (s .state) (heldIn s) i) command found c p h ∙ ap reportOf (sym (stepped-is s i))
+call-told t r s i command found b c p h = told-is t r (afterInput (s .state) (heldIn s) i) command found c p h

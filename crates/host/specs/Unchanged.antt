@@ -1,12 +1,16 @@
 -- Refusals of the host's entries, of any session: 1 to 6 change neither session nor buffer; a later one ends the call, leaves the
 -- buffer as it was and the session free.
 use mathlib.Core.Bool.{true}
-use mathlib.Core.Path.{_≡_, refl, ap, subst}
+use mathlib.Core.Path.{_≡_, refl, ap}
 use mathlib.Core.List.{List}
 use mathlib.Core.Option.{Option, none, some}
 use Prim.Native.Nat.{ℕ, _≤_}
 use native.Mathlib.Omega.{arith}
+use Rattle.errors.specs.Refusals.{numbered, faultNumbered}
 use Rattle.errors.specs.declared.Refusal.{Refusal}
+use Rattle.errors.specs.declared.Refusal.the-variants.{OutOfTurn, ShortBuffer, OverLong, BadArgument, Bitrate, NotSendable}
+use Rattle.errors.specs.declared.Fault.{Fault}
+use Rattle.errors.specs.declared.Fault.the-variants.{Transport, TimeOut, FalseStart, BrokenFrame, Length, FrameKind, Identifier, Code, Status, ShortResponse, NoCard, CrcA, Rate}
 use Rattle.exchange.specs.Exchange.{Event}
 use Rattle.protocol.specs.Calls.{Call, opening, reader}
 use Rattle.engine.specs.Inputs.{Input, opens, asks, tells, bufferOf, stepWith}
@@ -14,8 +18,8 @@ use Rattle.engine.specs.Numbers.{callOf, callInput, eventBy}
 use Rattle.engine.specs.Sessions.{isFree}
 use Rattle.engine.specs.Unchanged.{refused-unchanged, refused-ends}
 use Rattle.engine.specs.declared.session.Session.{Session}
-use Rattle.engine.specs.declared.state.Output.{Output}
-use Rattle.engine.specs.declared.state.Output.the-variants.{Write, Read, Drain, Pause, Done, Type1, Nothing, Refused}
+use Rattle.engine.specs.declared.core.Output.{Output}
+use Rattle.engine.specs.declared.core.Output.the-variants.{Ack, Command, Read, Drain, Pause, Done, Type1, Nothing, Failed, Refused}
 use Rattle.host.specs.Outcomes.{Report, reportOf, outcomeOf}
 use Rattle.host.specs.Entries.{HostEntry, calling, telling, bufferIn, eventInput, reportWith, reportFor}
 
@@ -24,32 +28,62 @@ pub record Kept (s : Session) (b : List ℕ) (r : Report) : Type 0 where
   pub early : (r .outcome) .kind ≡ 7 → (r .outcome) .refusal ≤ 6 → (r .session ≡ s) × (r .buffer ≡ b)
   pub late : (r .outcome) .kind ≡ 7 → 7 ≤ (r .outcome) .refusal → (isFree (r .session .state) ≡ true) × (r .buffer ≡ b)
 
--- only a refusal has the kind 7
-record IsRefused (o : Output) : Type 0 where
-  by : Refusal
-  is : o ≡ Refused by
+-- a fault's number is none of the first six, and only a refusal and a fault have the kind 7
+fault-late : (r : Fault) → 7 ≤ faultNumbered r .number
+fault-late Transport = omega arith
+fault-late TimeOut = omega arith
+fault-late FalseStart = omega arith
+fault-late BrokenFrame = omega arith
+fault-late Length = omega arith
+fault-late FrameKind = omega arith
+fault-late Identifier = omega arith
+fault-late Code = omega arith
+fault-late (Status s) = omega arith
+fault-late ShortResponse = omega arith
+fault-late NoCard = omega arith
+fault-late CrcA = omega arith
+fault-late Rate = omega arith
+
+refusal-early : (r : Refusal) → numbered r .number ≤ 6
+refusal-early OutOfTurn = omega arith
+refusal-early ShortBuffer = omega arith
+refusal-early OverLong = omega arith
+refusal-early BadArgument = omega arith
+refusal-early Bitrate = omega arith
+refusal-early NotSendable = omega arith
+
+data IsRefused (o : Output) : Type 0 where
+  at-once : (r : Refusal) → o ≡ Refused r → IsRefused o
+  later : (r : Fault) → o ≡ Failed r → IsRefused o
 
 refused-by : (o : Output) → (outcomeOf o) .kind ≡ 7 → IsRefused o
-refused-by (Write n) e = absurd (omega (arith, e))
+refused-by Ack e = absurd (omega (arith, e))
+refused-by (Command n) e = absurd (omega (arith, e))
 refused-by (Read ms) e = absurd (omega (arith, e))
 refused-by Drain e = absurd (omega (arith, e))
 refused-by (Pause us) e = absurd (omega (arith, e))
 refused-by (Done n) e = absurd (omega (arith, e))
 refused-by (Type1 n) e = absurd (omega (arith, e))
 refused-by Nothing e = absurd (omega (arith, e))
-refused-by (Refused r) e = record { by = r; is = refl }
+refused-by (Failed r) e = later r refl
+refused-by (Refused r) e = at-once r refl
 
 step-kept : (s : Session) (i : Input) → Kept s (bufferOf i) (reportOf (stepWith s i))
-step-kept s i =
-    record {
-      early = λ k h.
-          let o = refused-by ((stepWith s i) .output) k in
-          let same = refused-unchanged s i (o .by) (o .is) (subst (λ x. (outcomeOf x) .refusal ≤ 6) (o .is) h) in
-          (ap (λ x. x .session) same, ap (λ x. x .buffer) same);
-      late = λ k h.
-          let o = refused-by ((stepWith s i) .output) k in
-          refused-ends s i (o .by) (o .is) (subst (λ x. 7 ≤ (outcomeOf x) .refusal) (o .is) h);
-    }
+step-kept s i = record {
+  early = λ k h. early (refused-by ((stepWith s i) .output) k) h;
+  late = λ k h. late (refused-by ((stepWith s i) .output) k) h;
+}
+  where
+    number : ℕ
+    number = (outcomeOf ((stepWith s i) .output)) .refusal
+
+    early : IsRefused ((stepWith s i) .output) → number ≤ 6 → ((stepWith s i) .session ≡ s) × ((stepWith s i) .buffer ≡ bufferOf i)
+    early (at-once r e) h = let same = refused-unchanged s i r e (refusal-early r) in (ap (λ x. x .session) same, ap (λ x. x .buffer) same)
+    early (later r e) h = absurd (omega (arith, h, ap (λ x. (outcomeOf x) .refusal) e, fault-late r))
+
+    late : IsRefused ((stepWith s i) .output) → 7 ≤ number → (isFree ((stepWith s i) .session .state) ≡ true) × ((stepWith s i) .buffer ≡ bufferOf i)
+    late (at-once r e) h = absurd (omega (arith, h, ap (λ x. (outcomeOf x) .refusal) e, refusal-early r))
+    late (later r e) h = refused-ends s i r e
 
 call-kept : (s : Session) (c : Call) (b : List ℕ) → Kept s b (reportOf (stepWith s (callInput c b)))
 call-kept s opening b = step-kept s (opens b)

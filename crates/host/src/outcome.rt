@@ -1,8 +1,8 @@
 // What the host is told, in numbers.
+use engine::core::Output;
 use engine::state::Effect;
-use engine::state::Output;
 use engine::state::State;
-use errors::Refusal;
+use errors::Numbered;
 ghost use mathlib.Core.Path.{_≡_};
 ghost use Rattle.host.specs.Outcomes.{withBytes, withTime, refusedAs, outcomeOf, toldOf};
 
@@ -64,14 +64,13 @@ impl Outcome {
         }
     }
 
-    fn refused(refusal: Refusal) -> Outcome
-        ensures { λ r. ⌜ r ≡ refusedAs refusal ⌝ }
+    fn refused(numbered: Numbered) -> Outcome
+        ensures { λ r. ⌜ r ≡ refusedAs numbered ⌝ }
     {
-        let numbered = refusal.numbered();
         Outcome {
             kind: REFUSED,
-            refusal: numbered.0,
-            status: numbered.1,
+            refusal: numbered.number,
+            status: numbered.status,
             time: 0,
             len: 0,
         }
@@ -81,14 +80,16 @@ impl Outcome {
         ensures { λ r. ⌜ r ≡ outcomeOf output ⌝ }
     {
         match output {
-            Output::Write(len) => Outcome::bytes(WRITE, len),
+            Output::Ack => Outcome::bytes(WRITE, 6),
+            Output::Command(len) => Outcome::bytes(WRITE, len),
             Output::Read(ms) => Outcome::timed(READ, ms),
             Output::Drain => Outcome::bytes(DRAIN, 0),
             Output::Pause(us) => Outcome::timed(PAUSE, us),
             Output::Done(len) => Outcome::bytes(DONE, len),
             Output::Type1(len) => Outcome::bytes(TYPE1, len),
             Output::Nothing => Outcome::bytes(NONE, 0),
-            Output::Refused(refusal) => Outcome::refused(refusal),
+            Output::Failed(fault) => Outcome::refused(fault.numbered()),
+            Output::Refused(refusal) => Outcome::refused(refusal.numbered()),
         }
     }
 }

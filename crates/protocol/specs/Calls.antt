@@ -1,4 +1,5 @@
--- The calls. A new one adds its constructor, its line in `requestStart` or `deviceStart`, its script, and its line in CallsSound.
+-- The calls. A new one adds its constructor, its line in `requestStart` or `deviceStart`, its script, and its lines in
+-- CallsSound and Own.
 use mathlib.Core.Bool.{Bool, true, false, cond, _&&_, _||_}
 use mathlib.Core.List.{List, [], _∷_, _++_}
 use mathlib.Core.Option.{Option, none, some}

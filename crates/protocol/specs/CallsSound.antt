@@ -5,9 +5,10 @@ use Rattle.protocol.specs.Discovery as discovery
 use Rattle.protocol.specs.Calls.{Request, version, resetMode, setParameters, rfConfiguration, rfFieldOff, readRegister, writeRegister, readSingleRegister, writeSingleRegister, inListPassiveTarget, inDataExchange, inCommunicateThru, inJumpForDep, tgInitTarget, tgSetGeneralBytes, tgGetInitiatorCommand, tgResponseToInitiator, tgGetTargetStatus}
 use Rattle.protocol.specs.Calls.{DeviceCall, detectTypeA, detectTypeB, detectTypeF, detectDep, transceive}
 use Rattle.protocol.specs.Calls.{Call, opening, reader, request, device, requestStart, deviceStart, startOf, limit}
-use Rattle.protocol.specs.Sound.{Within, Correct, Sound, sound-rules}
+use Rattle.protocol.specs.Own.{onlyCards, requestForm, deviceForm, formOf}
+use Rattle.protocol.specs.Sound.{Within, Correct, Sound, version-name, correct-rules, sound-rules}
 
-request-sound : (r : Request) → Sound (requestStart r) 4
+request-sound : (r : Request) → Sound (requestForm r) (requestStart r) 4
 request-sound version = search sound-rules depth 60
 request-sound resetMode = search sound-rules depth 60
 request-sound (setParameters flags) = search sound-rules depth 60
@@ -27,17 +28,17 @@ request-sound (tgGetInitiatorCommand ms) = search sound-rules depth 60
 request-sound (tgResponseToInitiator bytes) = search sound-rules depth 60
 request-sound tgGetTargetStatus = search sound-rules depth 60
 
-typeA-sound : (code : ℕ) (uid : List ℕ) → Within (discovery.detectTypeA code uid) 4 × Correct (discovery.detectTypeA code uid) []
-typeA-sound code uid = (search sound-rules depth 60, search sound-rules depth 60 fits 4000)
+typeA-sound : (code : ℕ) (uid : List ℕ) → Within (discovery.detectTypeA code uid) 4 × Correct onlyCards (discovery.detectTypeA code uid) []
+typeA-sound code uid = (search sound-rules depth 60, search correct-rules depth 60 fits 4000)
 
-device-sound : (d : DeviceCall) → Sound (deviceStart d) 4
+device-sound : (d : DeviceCall) → Sound (deviceForm d) (deviceStart d) 4
 device-sound (detectTypeA text uid) = search (typeA-sound, sound-rules) depth 60
 device-sound (detectTypeB text sensbReq) = search sound-rules depth 60
 device-sound (detectTypeF text systemCode requestCode timeSlots) = search sound-rules depth 60
 device-sound (detectDep text atrReq) = search sound-rules depth 60
 device-sound (transceive text selRes ridRes bytes ms) = search sound-rules depth 60
 
-pub sound : (c : Call) → Sound (startOf c) (limit c)
-sound opening = (search sound-rules depth 60, search sound-rules depth 60 fits 4000)
+pub sound : (c : Call) → Sound (formOf c) (startOf c) (limit c)
+sound opening = (search sound-rules depth 60, search (version-name, correct-rules) depth 60 fits 4000)
 sound (reader (request r)) = request-sound r
 sound (reader (device d)) = device-sound d

@@ -4,8 +4,8 @@ use mathlib.Core.List.{List, [], _∷_, _++_}
 use Prim.Native.Nat.{ℕ, _+_, _*_, _/_, _%_}
 use lib.Dec.{eqb, ltb}
 use lib.ListN.{length, getD}
-use Rattle.errors.specs.declared.Refusal.{Refusal}
-use Rattle.errors.specs.declared.Refusal.the-variants.{Status, ShortResponse, Rate}
+use Rattle.errors.specs.declared.Fault.{Fault}
+use Rattle.errors.specs.declared.Fault.the-variants.{Status, ShortResponse, Rate}
 use Rattle.exchange.specs.Packets.{isEmpty}
 use Rattle.protocol.specs.Scripts.{Script, command, either, refuse, ask, ifElse, Byte, card}
 
@@ -16,14 +16,14 @@ abbrev pub statusByte : List ℕ → ℕ
 statusByte bytes = getD bytes 0 0xFF
 
 -- a status of 0, else 15; g says what a refusal leads to
-abbrev pub withStatusElse : List ℕ → Script → (Refusal → Script) → Script
+abbrev pub withStatusElse : List ℕ → Script → (Fault → Script) → Script
 withStatusElse bytes s g = ifElse (eqb (statusByte bytes) 0) s (g (Status (statusByte bytes)))
 
 abbrev pub withStatus : List ℕ → Script → Script
 withStatus bytes s = withStatusElse bytes s refuse
 
 -- at least n bytes, else 16
-abbrev pub withLengthElse : List ℕ → ℕ → Script → (Refusal → Script) → Script
+abbrev pub withLengthElse : List ℕ → ℕ → Script → (Fault → Script) → Script
 withLengthElse bytes n s g = ifElse (ltb (length bytes) n) (g ShortResponse) s
 
 abbrev pub withLength : List ℕ → ℕ → Script → Script
@@ -87,7 +87,7 @@ maskedStatus bytes = getD bytes 0 0 % 64
 abbrev pub moreFlag : List ℕ → ℕ
 moreFlag bytes = getD bytes 0 0 / 64 % 2
 
-abbrev pub inDataExchangeElse : List ℕ → ℕ → (List ℕ → Script) → (Refusal → Script) → Script
+abbrev pub inDataExchangeElse : List ℕ → ℕ → (List ℕ → Script) → (Fault → Script) → Script
 inDataExchangeElse bytes ms f g =
     command 0x40 ms (0x01 ∷ bytes)
     (either (λ bs. ifElse (isEmpty bs) (g (Status 0xFF)) (ifElse (eqb (maskedStatus bs) 0) (f bs) (g (Status (maskedStatus bs))))) g)
@@ -96,7 +96,7 @@ abbrev pub inDataExchange : List ℕ → ℕ → (List ℕ → Script) → Scrip
 inDataExchange bytes ms f = inDataExchangeElse bytes ms f refuse
 
 -- in_communicate_thru
-abbrev pub inCommunicateThruElse : List ℕ → ℕ → (List ℕ → Script) → (Refusal → Script) → Script
+abbrev pub inCommunicateThruElse : List ℕ → ℕ → (List ℕ → Script) → (Fault → Script) → Script
 inCommunicateThruElse bytes ms f g = command 0x42 ms bytes (either (λ bs. withStatusElse bs (f bs) g) g)
 
 abbrev pub inCommunicateThru : List ℕ → ℕ → (List ℕ → Script) → Script
@@ -109,7 +109,7 @@ bit bytes = cond (isEmpty bytes) 0 1
 abbrev pub jumpData : ℕ → ℕ → List ℕ → List ℕ → List ℕ → List ℕ
 jumpData active br passive nfcid3 gi = active ∷ br ∷ (bit passive + 2 * bit nfcid3 + 4 * bit gi) ∷ passive ++ nfcid3 ++ gi
 
-abbrev pub inJumpForDepElse : ℕ → ℕ → List ℕ → List ℕ → List ℕ → (List ℕ → Script) → (Refusal → Script) → Script
+abbrev pub inJumpForDepElse : ℕ → ℕ → List ℕ → List ℕ → List ℕ → (List ℕ → Script) → (Fault → Script) → Script
 inJumpForDepElse active br passive nfcid3 gi f g =
     command 0x56 3000 (jumpData active br passive nfcid3 gi) (either (λ bs. withStatusElse bs (withLengthElse bs 2 (f bs) g) g) g)
 

@@ -9,6 +9,7 @@ use Rattle.exchange.specs.Packets.{commandFrame, ackLed, response, replyOf}
 use Rattle.exchange.specs.Exchange.{write, read, drain, pause, ok, bad, pkt, time, fail, late, slept}
 use Rattle.protocol.specs.Scripts.{Byte, card, Answer, done, type1, nothing, refused}
 use Rattle.protocol.specs.Calls.{Call, limit}
+use Rattle.protocol.specs.Own.{Formed, formOf}
 use Rattle.protocol.specs.Session.{Entry, Output, ceiling}
 use Rattle.protocol.specs.Record.{Item, ordered, accepted, Record, Note, recordOf, linesOf, frames, events, allowed, framesSinceOpening}
 
@@ -65,6 +66,7 @@ pub record Ended (l : Record) (n : ℕ) (c : Call) (a : Answer Byte) : Type 0 wh
   pub framesWithin : frames (linesOf n l) ≤ limit c
   pub eventsWithin : events (linesOf n l) ≤ allowed c (linesOf n l)
   pub cardBytes : (k p b : ℕ) → List·Memᴰ (card k p b) (bytesOf a) → CardByte l n k p b
+  pub form : Formed (CardByte l n) (formOf c) a
 
 abbrev pub Claim : Record → ℕ → Call → Option (Answer Byte) → Type 0
 Claim l n c none = Running l n c
@@ -80,7 +82,8 @@ abbrev pub Once : Record → Type 0
 Once l = (n m j k : ℕ) (bs cs : List ℕ) (s : Serves l n j bs) (t : Serves l m k cs) → s .packetLine ≡ t .packetLine → (n ≡ m) × (j ≡ k)
 
 -- Demand 3, of a list of entries, what was given out for each, and the frame count after them: every call keeps to its frames
--- and events, and its card bytes are at their places; no packet serves two commands; the count is the record's.
+-- and events, its card bytes are at their places, and its other bytes are those of its form; no packet serves two commands; the
+-- count is the record's.
 pub record Demand3 (es : List Entry) (outs : List (Output Byte)) (count : ℕ) : Type 0 where
   pub calls : Claims ((recordOf es outs) .lines) ((recordOf es outs) .notes)
   pub once : Once ((recordOf es outs) .lines)

@@ -7,7 +7,7 @@ use Rattle.protocol.specs.Theorem.{all-claims}
 use Rattle.protocol.specs.Once.{once}
 use Rattle.protocol.specs.Count.{count-right}
 
-pub demand3 : (es : List Entry) → Demand3 es (outputs fresh es) ((sessionAfter fresh es) .count)
+pub demand3 : (es : List Entry) → Demand3 es (outputs fresh es) ((sessionAfter fresh es) .books .count)
 demand3 es = record {
   calls = all-claims es;
   once = once ((recordOf es (outputs fresh es)) .lines);

@@ -4,9 +4,9 @@ use mathlib.Core.List.{List, [], _∷_, _++_}
 use Prim.Native.Nat.{ℕ, _-_, _/_, _%_}
 use lib.Dec.{eqb, ltb}
 use lib.ListN.{length, take, drop, getD}
-use Rattle.errors.specs.Refusals.{numbered}
-use Rattle.errors.specs.declared.Refusal.{Refusal}
-use Rattle.errors.specs.declared.Refusal.the-variants.{ShortResponse, NoCard, CrcA}
+use Rattle.errors.specs.Refusals.{byStatus}
+use Rattle.errors.specs.declared.Fault.{Fault}
+use Rattle.errors.specs.declared.Fault.the-variants.{ShortResponse, NoCard, CrcA}
 use Rattle.crc.specs.Crc.{typeA as crcA, checks}
 use Rattle.protocol.specs.Scripts.{Script, finish, command, fieldPause, refuse, either, ifElse, done, type1, nothing, own, byteAt, part, rest}
 use Rattle.protocol.specs.Chipset.{word, readSingleRegister, writeSingleRegister, rfConfiguration, inListPassiveTarget, inDataExchange, inDataExchangeElse, inCommunicateThru, inCommunicateThruElse, inJumpForDepElse}
@@ -35,8 +35,8 @@ abbrev pub foundA : List ℕ → Script
 foundA list = ifElse (ltb (length list) 6) (finish nothing) (ifElse (isType2 (getD list 4 0)) (withoutCrc list) (cardA list))
 
 -- the RID exchange: 15 is none; short list data gives 16 behind it
-abbrev pub noneOnStatus : Refusal → Script
-noneOnStatus r = ifElse (eqb (numbered r .0) 15) (finish nothing) (refuse r)
+abbrev pub noneOnStatus : Fault → Script
+noneOnStatus r = byStatus (λ _. finish nothing) (refuse r) r
 
 abbrev pub cardType1 : List ℕ → List ℕ → Script
 cardType1 list rid = ifElse (ltb (length list) 4) (refuse ShortResponse) (finish (type1 (byteAt 2 list 3 ∷ byteAt 2 list 2 ∷ rest 3 rid 1)))
@@ -90,8 +90,8 @@ detectTypeF code req =
 -- ---- detect_dep
 
 -- 15 with 01 or 0A is none
-abbrev pub noPartner : Refusal → Script
-noPartner r = ifElse (eqb (numbered r .0) 15) (ifElse (eqb (numbered r .1) 0x01 || eqb (numbered r .1) 0x0A) (finish nothing) (refuse r)) (refuse r)
+abbrev pub noPartner : Fault → Script
+noPartner r = byStatus (λ status. ifElse (eqb status 0x01 || eqb status 0x0A) (finish nothing) (refuse r)) (refuse r) r
 
 abbrev pub detectDep : ℕ → List ℕ → Script
 detectDep code atrReq =

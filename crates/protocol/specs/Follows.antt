@@ -3,7 +3,7 @@ use mathlib.Core.Path.{_≡_, refl, ap₂}
 use mathlib.Core.List.{List, [], _∷_, map}
 use Prim.Native.Nat.{ℕ}
 use Rattle.protocol.specs.Scripts.{Byte, value, Answer, done, type1, nothing, refused}
-use Rattle.protocol.specs.Session.{Session, fresh, Entry, Output, orders, answers, step, outputs, sessionAfter}
+use Rattle.protocol.specs.Session.{Session, fresh, Entry, Output, orders, answers, rejects, step, outputs, sessionAfter}
 use Rattle.protocol.specs.Claim.{Demand3}
 use Rattle.protocol.specs.Demand3.{demand3}
 
@@ -17,6 +17,7 @@ plainAnswer (refused r) = refused r
 abbrev pub plain : Output Byte → Output ℕ
 plain (orders x) = orders x
 plain (answers a) = answers (plainAnswer a)
+plain (rejects r) = rejects r
 
 -- `Means s m`: the state s of the machine, such as the fields of a struct, stands for the session m of the definitions.
 -- An input is a call or an event with all that it is lent; `entry` is what the list holds of it.
@@ -29,7 +30,7 @@ pub record Machine : Type 1 where
   pub count : State → ℕ
   pub Means : State → Session → Type 0
   pub begins : Means new fresh
-  pub counts : (s : State) (m : Session) → Means s m → count s ≡ m .count
+  pub counts : (s : State) (m : Session) → Means s m → count s ≡ m .books .count
   pub follows : (s : State) (m : Session) (i : Input) → Means s m
       → Means ((act s i) .0) ((step m (entry i)) .0) × ((act s i) .1 ≡ plain ((step m (entry i)) .1))
 

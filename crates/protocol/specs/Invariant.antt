@@ -7,49 +7,22 @@ use mathlib.Core.Option.{some}
 use Prim.Native.Nat.{ℕ, zero, suc, _+_, _≤_, _<_}
 use native.Mathlib.Omega.{arith}
 use borrow.Author.Tests.{eqb-true}
-use lib.Dec.{T, eqb}
+use lib.Dec.{eqb}
 use lib.ListN.{length, drop, getElem?}
 use Rattle.framing.specs.Frames.{ack}
 use Rattle.framing.specs.Lists.{same}
-use Rattle.framing.specs.Parse.{parseOf}
-use Rattle.framing.specs.Settings.{rcs956}
-use Rattle.framing.specs.declared.FrameType.{FrameType}
-use Rattle.framing.specs.declared.FrameType.the-variants.{Ack, Error, Data, Nothing}
-use Rattle.exchange.specs.Packets.{commandFrame, resetCode, resetData, Reply, response, failed, replyOf, codeReply, payloadReply, frameReply}
+use Rattle.exchange.specs.Packets.{commandFrame, resetCode, resetData, Reply, response, failed, replyOf}
 use Rattle.exchange.specs.Exchange.{write, read, drain, pause, pkt}
 use Rattle.exchange.specs.Exchange.{unfit, pending, ended, Step, sending, reading, waiting, cancelling, rejecting, draining}
 use Rattle.protocol.specs.Scripts.{Byte, card, Answer, done, type1, nothing, refused, Script, finish, command, reset, fieldPause}
 use Rattle.protocol.specs.Calls.{Call, limit}
 use Rattle.protocol.specs.Session.{Rest, byReply, ofReset, Phase, exchange, resetAck, resetPause, fieldPausing, openingAck, openingReads}
 use Rattle.protocol.specs.Session.{CallResult, enter}
-use Rattle.protocol.specs.Record.{Item, ordered, accepted, Record, linesOf, oneIf, frames, events, pendingOrder, acked, allowed, accepts}
+use Rattle.protocol.specs.Record.{Item, ordered, accepted, Record, linesOf, oneIf, frames, events, pendingOrder, acked, allowed}
 use Rattle.protocol.specs.Claim.{allowedBetween, Between, CardByte, bytesOf, Ended}
-use Rattle.protocol.specs.Sound.{Within, responseTo, responseIn, Placed, no-bytes, own-byte, card-byte, Ends, Final, Possible, Correct, holds}
+use Rattle.protocol.specs.Own.{Form, onlyCards, versionAndName, cardsAndFlag, cardAndRates, depAndCards, HasForm, Formed, formOf}
+use Rattle.protocol.specs.Sound.{Within, responseTo, responseIn, Placed, no-bytes, own-byte, card-byte, Stands, Final, Correct}
 use Rattle.protocol.specs.Laws.{frame-not-ack, same-refl, ack-is-ack, lines-own}
-
--- ---- step 5 refuses with none of 1, 2 and 3
-
-possible-if : (b : Bool) (x y : Reply) → Possible x → Possible y → Possible (cond b x y)
-possible-if true x y h k = h
-possible-if false x y h k = k
-
-code-possible : (code : ℕ) (bs : List ℕ) → Possible (codeReply code bs)
-code-possible code [] = tt
-code-possible code (b ∷ bs) = search (possible-if, holds)
-
-payload-possible : (code : ℕ) (bs : List ℕ) → Possible (payloadReply code bs)
-payload-possible code [] = tt
-payload-possible code (b ∷ bs) = search (possible-if, holds, code-possible)
-
-frame-possible : (code : ℕ) (p : List ℕ) (f : FrameType) → Possible (frameReply code p f)
-frame-possible code p Nothing = tt
-frame-possible code p (Ack frame) = search (possible-if, holds)
-frame-possible code p (Error frame) = search (possible-if, holds)
-frame-possible code p (Data start len frame) = search (possible-if, holds, payload-possible)
-
-pub reply-possible : (code : ℕ) (p : List ℕ) → Possible (replyOf code p)
-unfolding replyOf
-reply-possible code p = frame-possible code p (parseOf rcs956 p)
 
 -- ---- the invariant
 
@@ -91,20 +64,36 @@ phase-due (openingAck s) = omega arith
 phase-due (openingReads s) = omega arith
 
 -- what is left of the script after the responses rs: at most m frames, and correct
-abbrev pub Left : Script → ℕ → List (List ℕ) → Type 0
-Left s m rs = Within s m × Correct s rs
+abbrev pub Left : Form → Script → ℕ → List (List ℕ) → Type 0
+Left o s m rs = Within s m × Correct o s rs
 
-abbrev pub LeftRest : Rest → ℕ → List (List ℕ) → Type 0
-LeftRest (byReply k) m rs = ((r : Reply) → Within (k r) m) × ((r : Reply) → Possible r → Correct (k r) (responseIn r ∷ rs))
-LeftRest (ofReset s) m rs = Within s m × ((bs : List ℕ) → Correct s (bs ∷ rs))
+abbrev pub LeftRest : Form → Rest → ℕ → List (List ℕ) → Type 0
+LeftRest o (byReply k) m rs = ((r : Reply) → Within (k r) m) × ((r : Reply) → Correct o (k r) (responseIn r ∷ rs))
+LeftRest o (ofReset s) m rs = Within s m × ((bs : List ℕ) → Correct o s (bs ∷ rs))
 
-abbrev pub LeftPhase : Phase → ℕ → List (List ℕ) → Type 0
-LeftPhase (exchange step rest) m rs = LeftRest rest m rs
-LeftPhase (resetAck s) m rs = Left s m rs
-LeftPhase (resetPause s) m rs = Left s m rs
-LeftPhase (fieldPausing s) m rs = Left s m rs
-LeftPhase (openingAck s) m rs = Left s m rs
-LeftPhase (openingReads s) m rs = Left s m rs
+abbrev pub LeftPhase : Form → Phase → ℕ → List (List ℕ) → Type 0
+LeftPhase o (exchange step rest) m rs = LeftRest o rest m rs
+LeftPhase o (resetAck s) m rs = Left o s m rs
+LeftPhase o (resetPause s) m rs = Left o s m rs
+LeftPhase o (fieldPausing s) m rs = Left o s m rs
+LeftPhase o (openingAck s) m rs = Left o s m rs
+LeftPhase o (openingReads s) m rs = Left o s m rs
+
+-- the form of an answer, if what it is worked out from stands elsewhere too
+module _ (P Q : ℕ → ℕ → ℕ → Type 0) (f : (k p b : ℕ) → P k p b → Q k p b) where
+  has-form-by : (o : Form) (bytes : List Byte) → HasForm P o bytes → HasForm Q o bytes
+  has-form-by onlyCards bytes h = h
+  has-form-by versionAndName bytes h = h
+  has-form-by cardsAndFlag bytes h =
+      record { cards = h .cards; status = h .status; form = h .form; allCards = h .allCards; source = f 0 0 (h .status) (h .source) }
+  has-form-by cardAndRates bytes h = record { state = h .state; indices = h .indices; form = h .form; source = f 0 1 (h .indices) (h .source) }
+  has-form-by depAndCards bytes h = h
+
+  pub form-by : (o : Form) (a : Answer Byte) → Formed P o a → Formed Q o a
+  form-by o (done bytes) h = has-form-by o bytes h
+  form-by o (type1 bytes) h = has-form-by o bytes h
+  form-by o nothing h = tt
+  form-by o (refused r) h = tt
 
 -- n: the call's number. c: the call.
 module _ (n : ℕ) (c : Call) where
@@ -120,7 +109,7 @@ module _ (n : ℕ) (c : Call) where
   AtStep (sending code clock) l xs k = Asked l k code
   AtStep (reading code clock) l xs k = Asked l k code
   AtStep (waiting code clock) l xs k = Asked l k code × (pendingOrder xs ≡ some (read clock)) × (acked xs ≡ true)
-  AtStep (cancelling r) l xs k = Ends r
+  AtStep (cancelling r) l xs k = Unit {0}
   AtStep rejecting l xs k = Unit {0}
   AtStep draining l xs k = pendingOrder xs ≡ some drain
 
@@ -144,7 +133,7 @@ module _ (n : ℕ) (c : Call) where
     pub budget : events xs + due phase ≤ allowed c xs
     pub left : ℕ
     pub room : frames xs + left ≤ limit c
-    pub script : LeftPhase phase left responses
+    pub script : LeftPhase (formOf c) phase left responses
     pub place : At phase l xs (length responses)
     pub source : Sourced l responses
 
@@ -152,7 +141,7 @@ module _ (n : ℕ) (c : Call) where
   abbrev pub Kept : Record → List Item → CallResult → Type 0
   Kept l xs unfit = Unit {0}
   Kept l xs (pending x phase) = Invariant ((n, ordered x) ∷ l) (ordered x ∷ xs) phase
-  Kept l xs (ended a) = Ended l n c a × (accepts a ≡ true)
+  Kept l xs (ended a) = Ended l n c a
 
   -- ---- a new line
 
@@ -200,28 +189,21 @@ module _ (n : ℕ) (c : Call) where
       elim (List·Memᴰ·cases-cons m) [ inl e ↦ absurd (let z : _≡_ {A = ℕ} 0 1 = cc in omega arith) | inr t ↦ placed-cards l rs f h k p b t ]
   placed-cards l rs f (card-byte e h) k p b m = elim (List·Memᴰ·cases-cons m) [ inl q ↦ f k p b (cc) | inr t ↦ placed-cards l rs f h k p b t ]
 
-  final-cards : (l : Record) (rs : List (List ℕ)) → Sourced l rs → (a : Answer Byte) → Final rs a → (k p b : ℕ) → List·Memᴰ (card k p b) (bytesOf a) → CardByte l n k p b
-  final-cards l rs f (done bs) h k p b m = placed-cards l rs f h k p b m
-  final-cards l rs f (type1 bs) h k p b m = placed-cards l rs f h k p b m
+  final-cards : (l : Record) (rs : List (List ℕ)) → Sourced l rs → (a : Answer Byte) → Final (formOf c) rs a → (k p b : ℕ) → List·Memᴰ (card k p b) (bytesOf a) → CardByte l n k p b
+  final-cards l rs f (done bs) h k p b m = placed-cards l rs f (h .0) k p b m
+  final-cards l rs f (type1 bs) h k p b m = placed-cards l rs f (h .0) k p b m
   final-cards l rs f nothing h k p b m = absurd (List·Memᴰ·not-nil m)
   final-cards l rs f (refused r) h k p b m = absurd (List·Memᴰ·not-nil m)
 
-  final-accepts : (rs : List (List ℕ)) (a : Answer Byte) → Final rs a → accepts a ≡ true
-  final-accepts rs (done bs) h = refl
-  final-accepts rs (type1 bs) h = refl
-  final-accepts rs nothing h = refl
-  final-accepts rs (refused r) h = go (accepts (refused r)) h
-    where
-      go : (b : Bool) → T b → b ≡ true
-      go true t = refl
-      go false t = absurd t
+  final-form : (l : Record) (rs : List (List ℕ)) → Sourced l rs → (a : Answer Byte) → Final (formOf c) rs a → Formed (CardByte l n) (formOf c) a
+  final-form l rs f (done bs) h = form-by (Stands rs) (CardByte l n) f (formOf c) (done bs) (h .1)
+  final-form l rs f (type1 bs) h = form-by (Stands rs) (CardByte l n) f (formOf c) (type1 bs) (h .1)
+  final-form l rs f nothing h = tt
+  final-form l rs f (refused r) h = tt
 
   pub closed : (l : Record) (xs : List Item) (rs : List (List ℕ)) (a : Answer Byte) → linesOf n l ≡ xs → frames xs ≤ limit c → events xs ≤ allowed c xs
-      → Final rs a → Sourced l rs → Kept l xs (ended a)
-  closed l xs rs a e f g h s = (
-    record { framesWithin = rw e f; eventsWithin = rw e g; cardBytes = final-cards l rs s a h },
-    final-accepts rs a h,
-  )
+      → Final (formOf c) rs a → Sourced l rs → Kept l xs (ended a)
+  closed l xs rs a e f g h s = record { framesWithin = rw e f; eventsWithin = rw e g; cardBytes = final-cards l rs s a h; form = final-form l rs s a h }
 
   -- ---- a script is entered after the responses rs
 
@@ -233,7 +215,7 @@ module _ (n : ℕ) (c : Call) where
     sent : (code clock : ℕ) (bytes : List ℕ) (rest : Rest) (m : ℕ)
         → events xs + (4 + dueRest rest) ≤ allowed c (ordered (write (commandFrame code bytes)) ∷ xs)
         → frames xs + suc m ≤ limit c
-        → LeftRest rest m rs
+        → LeftRest (formOf c) rest m rs
         → frames xs ≡ length rs
         → Sourced l rs
         → Kept l xs (pending (write (commandFrame code bytes)) (exchange (sending code clock) rest))
@@ -250,7 +232,7 @@ module _ (n : ℕ) (c : Call) where
           source = later-sourced rs f;
         }
 
-    pub entered : (s : Script) (m : ℕ) → events xs ≤ allowed c xs → frames xs + m ≤ limit c → Left s m rs → frames xs ≡ length rs → Sourced l rs
+    pub entered : (s : Script) (m : ℕ) → events xs ≤ allowed c xs → frames xs + m ≤ limit c → Left (formOf c) s m rs → frames xs ≡ length rs → Sourced l rs
         → Kept l xs (enter s)
     entered (finish a) m b q w e f = closed l xs rs a own-lines (omega arith) b (w .1) f
     entered (command code clock bytes k) zero b q w e f = absurd (w .0)

@@ -7,8 +7,8 @@ use native.Mathlib.Omega.{arith}
 use borrow.Author.Tests.{ne-eqb}
 use lib.Dec.{eqb}
 use lib.ListN.{length}
-use Rattle.errors.specs.declared.Refusal.{Refusal}
-use Rattle.errors.specs.declared.Refusal.the-variants.{Transport, TimeOut, FalseStart}
+use Rattle.errors.specs.declared.Fault.{Fault}
+use Rattle.errors.specs.declared.Fault.the-variants.{Transport, TimeOut, FalseStart}
 use Rattle.framing.specs.Frames.{ack}
 use Rattle.exchange.specs.Packets.{hasStart, ackLed, isEmpty, Reply, failed, replyOf}
 use Rattle.exchange.specs.Exchange.{Order, write, read, drain, pause, Event, ok, bad, pkt, time, fail, late, slept}
@@ -19,9 +19,10 @@ use Rattle.protocol.specs.Calls.{Call}
 use Rattle.protocol.specs.Session.{Rest, byReply, ofReset, Phase, exchange, resetAck, resetPause, fieldPausing, openingAck, openingReads}
 use Rattle.protocol.specs.Session.{CallResult, enter, afterExchange, progress}
 use Rattle.protocol.specs.Record.{Item, ordered, accepted, Record, linesOf, oneIf, frames, events, pendingOrder, idleUnder, allowed}
-use Rattle.protocol.specs.Sound.{responseIn, Ends, Possible}
+use Rattle.protocol.specs.Own.{formOf}
+use Rattle.protocol.specs.Sound.{responseIn}
 use Rattle.protocol.specs.Laws.{split, by-write, by-read, by-pause, lines-own}
-use Rattle.protocol.specs.Invariant.{reply-possible, dueStep, step-due, due, phase-due, Left, LeftPhase, Asked, At, Invariant, Kept}
+use Rattle.protocol.specs.Invariant.{dueStep, step-due, due, phase-due, Left, LeftPhase, Asked, At, Invariant, Kept}
 use Rattle.protocol.specs.Invariant.{later-sourced, asked-later, closed, entered, bare, Brought, sourced-more, nothing-brought, brought}
 
 -- n: the call's number. c: the call. l: the record before the event. xs: the call's lines in it.
@@ -42,7 +43,7 @@ module _ (n : ℕ) (c : Call) (l : Record) (xs : List Item) where
   goes-on : {phase : Phase} (new : Phase) (e : Event) (x : Order) (g : Invariant n c l xs phase)
       → events (ordered x ∷ accepted e ∷ xs) + due new ≤ allowed c (ordered x ∷ accepted e ∷ xs)
       → frames (ordered x ∷ accepted e ∷ xs) ≡ frames xs
-      → LeftPhase new (g .left) (g .responses)
+      → LeftPhase (formOf c) new (g .left) (g .responses)
       → At n c new ((n, ordered x) ∷ (n, accepted e) ∷ l) (ordered x ∷ accepted e ∷ xs) (length (g .responses))
       → KeptBy e (pending x new)
   goes-on new e x g b q w s = record {
@@ -57,13 +58,13 @@ module _ (n : ℕ) (c : Call) (l : Record) (xs : List Item) where
   }
 
   -- the call ends with a refusal
-  stops : {phase : Phase} (e : Event) (r : Refusal) → Invariant n c l xs phase → Ends r → KeptBy e (ended (refused r))
-  stops {phase} e r g h =
-      closed n c _ _ (g .responses) (refused r) (own-lines e g) (omega arith) (omega (arith, phase-due phase)) h
+  stops : {phase : Phase} (e : Event) (r : Fault) → Invariant n c l xs phase → KeptBy e (ended (refused r))
+  stops {phase} e r g =
+      closed n c _ _ (g .responses) (refused r) (own-lines e g) (omega arith) (omega (arith, phase-due phase)) tt
       (later-sourced n c (g .responses) (g .source))
 
   -- the script goes on
-  resumes : {phase : Phase} (s : Script) (e : Event) (g : Invariant n c l xs phase) → Left s (g .left) (g .responses) → frames xs ≡ length (g .responses)
+  resumes : {phase : Phase} (s : Script) (e : Event) (g : Invariant n c l xs phase) → Left (formOf c) s (g .left) (g .responses) → frames xs ≡ length (g .responses)
       → KeptBy e (enter s)
   resumes {phase} s e g w q =
       entered n c _ _ (g .responses) (own-lines e g) s (g .left) (omega (arith, phase-due phase)) (omega arith) w (omega arith)
@@ -71,12 +72,12 @@ module _ (n : ℕ) (c : Call) (l : Record) (xs : List Item) where
 
   -- the exchange ends with a reply
   replies : {step : Step} (rest : Rest) (e : Event) (r : Reply) (g : Invariant n c l xs (exchange step rest))
-      → Brought n c ((n, accepted e) ∷ l) (length (g .responses)) (responseIn r) → Possible r → KeptIn rest e (ended r)
-  replies {step} (byReply k) e r g f p =
+      → Brought n c ((n, accepted e) ∷ l) (length (g .responses)) (responseIn r) → KeptIn rest e (ended r)
+  replies {step} (byReply k) e r g f =
       entered n c _ _ (responseIn r ∷ g .responses) (own-lines e g) (k r) (g .left) (omega (arith, step-due step)) (omega arith)
-      (g .script .0 r, g .script .1 r p) (omega arith)
+      (g .script .0 r, g .script .1 r) (omega arith)
       (sourced-more n c _ (g .responses) (responseIn r) (later-sourced n c (g .responses) (g .source)) f)
-  replies {step} (ofReset s) e r g f p =
+  replies {step} (ofReset s) e r g f =
       let h : frames (ordered (write ack) ∷ xs) ≡ frames xs = bare n c xs in
       record {
         lines = lines-own n ((n, accepted e) ∷ l) (ordered (write ack)) (accepted e ∷ xs) (own-lines e g);
@@ -92,20 +93,20 @@ module _ (n : ℕ) (c : Call) (l : Record) (xs : List Item) where
       }
 
   -- with a refusal; with what step 5 makes of the packet
-  fails : {step : Step} {rest : Rest} (e : Event) (r : Refusal) → Invariant n c l xs (exchange step rest) → Ends r → KeptIn rest e (ended (failed r))
-  fails {rest = rest} e r g h = replies rest e (failed r) g (nothing-brought n c _ (length (g .responses))) h
+  fails : {step : Step} {rest : Rest} (e : Event) (r : Fault) → Invariant n c l xs (exchange step rest) → KeptIn rest e (ended (failed r))
+  fails {rest = rest} e r g = replies rest e (failed r) g (nothing-brought n c _ (length (g .responses)))
 
   replies-to : {step : Step} {rest : Rest} (code : ℕ) (packet : List ℕ) (g : Invariant n c l xs (exchange step rest))
       → Asked n c l (length (g .responses)) code → KeptIn rest (pkt packet) (ended (replyOf code packet))
   replies-to {rest = rest} code packet g a =
-      replies rest (pkt packet) (replyOf code packet) g (brought n c l (length (g .responses)) code packet (replyOf code packet) a refl) (reply-possible code packet)
+      replies rest (pkt packet) (replyOf code packet) g (brought n c l (length (g .responses)) code packet (replyOf code packet) a refl)
 
   -- ACK is written, and the exchange then ends with a refusal
-  cancels : {step : Step} {rest : Rest} (e : Event) (r : Refusal) → Invariant n c l xs (exchange step rest) → 2 ≤ dueStep step → Ends r
+  cancels : {step : Step} {rest : Rest} (e : Event) (r : Fault) → Invariant n c l xs (exchange step rest) → 2 ≤ dueStep step
       → KeptIn rest e (pending (write ack) (cancelling r))
-  cancels {rest = rest} e r g d h =
+  cancels {rest = rest} e r g d =
       let b : frames (ordered (write ack) ∷ xs) ≡ frames xs = bare n c xs in
-      goes-on (exchange (cancelling r) rest) e (write ack) g (omega arith) (omega arith) (g .script) (omega arith, h)
+      goes-on (exchange (cancelling r) rest) e (write ack) g (omega arith) (omega arith) (g .script) (omega arith, tt)
 
   -- an ACK-led packet comes: the first, or an idle read
   reads-on : {step : Step} {rest : Rest} (code clock : ℕ) (packet : List ℕ) (g : Invariant n c l xs (exchange step rest)) → 2 ≤ dueStep step
@@ -113,7 +114,7 @@ module _ (n : ℕ) (c : Call) (l : Record) (xs : List Item) where
       → KeptIn rest (pkt packet) (afterAck code clock)
   reads-on {rest = rest} code clock packet g d b a v =
       split (KeptIn rest (pkt packet)) (eqb clock 0) _ _
-      (λ _. cancels (pkt packet) TimeOut g d tt)
+      (λ _. cancels (pkt packet) TimeOut g d)
       (λ _. goes-on (exchange (waiting code clock) rest) (pkt packet) (read clock) g (omega arith) (omega arith) (g .script)
       (omega arith, (asked-later n c (ordered (read clock)) (asked-later n c (accepted (pkt packet)) a v) refl, refl, rw v)))
 
@@ -133,7 +134,7 @@ module _ (n : ℕ) (c : Call) (l : Record) (xs : List Item) where
       → KeptIn rest (pkt packet) (onFirstPacket code clock packet)
   first-kept {rest} code clock packet g =
       split (KeptIn rest (pkt packet)) (isEmpty packet) _ _
-      (λ _. fails (pkt packet) TimeOut g tt)
+      (λ _. fails (pkt packet) TimeOut g)
       (λ _. split (KeptIn rest (pkt packet)) (hasStart packet) _ _
       (λ _. split (KeptIn rest (pkt packet)) (ackLed packet) _ _
       (λ v. reads-on code clock packet g (omega arith) (omega arith) (g .place .1) v)
@@ -145,7 +146,7 @@ module _ (n : ℕ) (c : Call) (l : Record) (xs : List Item) where
       → KeptIn rest (pkt packet) (onLaterPacket code clock packet)
   later-kept {rest} code clock packet g =
       split (KeptIn rest (pkt packet)) (isEmpty packet) _ _
-      (λ _. fails (pkt packet) TimeOut g tt)
+      (λ _. fails (pkt packet) TimeOut g)
       (λ _. split (KeptIn rest (pkt packet)) (ackLed packet) _ _
       (λ v. reads-on code clock packet g (omega arith) (omega (arith, idle-ack packet g v)) (g .place .1 .0) v)
       (λ _. replies-to code packet g (g .place .1 .0)))
@@ -153,7 +154,7 @@ module _ (n : ℕ) (c : Call) (l : Record) (xs : List Item) where
   drained-kept : {rest : Rest} (packet : List ℕ) → Invariant n c l xs (exchange draining rest) → KeptIn rest (pkt packet) (onDrained packet)
   drained-kept {rest} packet g =
       split (KeptIn rest (pkt packet)) (isEmpty packet) _ _
-      (λ _. fails (pkt packet) FalseStart g tt)
+      (λ _. fails (pkt packet) FalseStart g)
       (λ e. let i : oneIf (idleUnder (pendingOrder xs) xs (pkt packet)) ≡ 1 = rw (g .place .1, e) in drains (pkt packet) g (omega arith))
 
   -- ---- every event
@@ -164,30 +165,30 @@ module _ (n : ℕ) (c : Call) (l : Record) (xs : List Item) where
       by-write (KeptIn rest) unfit (λ _. tt) _ _
       (goes-on (exchange (reading code clock) rest) ok (read 100) g (omega arith) (omega arith) (g .script)
       (omega arith, asked-later n c (ordered (read 100)) (asked-later n c (accepted ok) (g .place .1) refl) refl))
-      (cancels bad Transport g (omega arith) tt)
+      (cancels bad Transport g (omega arith))
   advance-kept (reading code clock) rest g =
       by-read (KeptIn rest) unfit (λ _. tt) (onFirstPacket code clock) _ _ _
       (λ p. first-kept code clock p g)
-      (fails time TimeOut g tt)
-      (fails fail Transport g tt)
+      (fails time TimeOut g)
+      (fails fail Transport g)
       tt
   advance-kept (waiting code clock) rest g =
       by-read (KeptIn rest) unfit (λ _. tt) (onLaterPacket code clock) _ _ _
       (λ p. later-kept code clock p g)
-      (fails time TimeOut g tt)
-      (fails fail Transport g tt)
-      (cancels late TimeOut g (omega arith) tt)
+      (fails time TimeOut g)
+      (fails fail Transport g)
+      (cancels late TimeOut g (omega arith))
   advance-kept (cancelling r) rest g =
-      by-write (KeptIn rest) unfit (λ _. tt) _ _ (fails ok r g (g .place .1)) (fails bad r g (g .place .1))
+      by-write (KeptIn rest) unfit (λ _. tt) _ _ (fails ok r g) (fails bad r g)
   advance-kept rejecting rest g =
       by-write (KeptIn rest) unfit (λ _. tt) _ _ (drains ok g (omega arith)) (drains bad g (omega arith))
   advance-kept draining rest g =
       let i : oneIf (idleUnder (pendingOrder xs) xs fail) ≡ 1 = rw (g .place .1) in
       by-read (KeptIn rest) unfit (λ _. tt) onDrained _ _ _
       (λ p. drained-kept p g)
-      (fails time FalseStart g tt)
+      (fails time FalseStart g)
       (drains fail g (omega arith))
-      (fails late FalseStart g tt)
+      (fails late FalseStart g)
 
   -- in the call
   pub kept : (phase : Phase) → Invariant n c l xs phase → (e : Event) → KeptBy e (progress phase e)
@@ -195,13 +196,13 @@ module _ (n : ℕ) (c : Call) (l : Record) (xs : List Item) where
   kept (resetAck s) g =
       by-write KeptBy unfit (λ _. tt) _ _
       (goes-on (resetPause s) ok (pause 10000) g (omega arith) (omega arith) (g .script) (omega arith))
-      (stops bad Transport g tt)
+      (stops bad Transport g)
   kept (resetPause s) g = by-pause KeptBy unfit (λ _. tt) _ (resumes s slept g (g .script) (g .place))
   kept (fieldPausing s) g = by-pause KeptBy unfit (λ _. tt) _ (resumes s slept g (g .script) (g .place))
   kept (openingAck s) g =
       by-write KeptBy unfit (λ _. tt) _ _
       (goes-on (openingReads s) ok (read 10) g (omega arith) (omega arith) (g .script) (omega arith, g .place .1, refl))
-      (stops bad Transport g tt)
+      (stops bad Transport g)
   kept (openingReads s) g =
       by-read KeptBy unfit (λ _. tt) (λ p. pending (read 10) (openingReads s)) _ _ _
       (λ p. let z : frames xs ≡ 0 = omega arith in

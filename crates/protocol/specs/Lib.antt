@@ -5,10 +5,11 @@ pub mod Device
 pub mod Discovery
 pub mod Calls
 pub mod Session
--- definitions: the record, its counts, and demand 3 of it
+-- definitions: the record, its counts, which bytes of an answer are no card bytes, and demand 3
 pub mod Record
+pub mod Own
 pub mod Claim
--- the theorem, and what follows the definitions has it
+-- the theorems; what follows the definitions has demand 3
 pub mod Demand3
 pub mod Follows
 pub mod Sample

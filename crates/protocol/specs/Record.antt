@@ -4,15 +4,14 @@ use mathlib.Core.Bool.{Bool, true, false, not, cond, _&&_, _||_}
 use mathlib.Core.List.{List, [], _∷_}
 use mathlib.Core.Option.{Option, none, some}
 use Prim.Native.Nat.{ℕ, _+_, _*_}
-use lib.Dec.{eqb, ltb}
+use lib.Dec.{eqb}
 use lib.ListN.{length}
-use Rattle.errors.specs.Refusals.{numbered}
 use Rattle.framing.specs.Lists.{same}
 use Rattle.exchange.specs.Packets.{commandFrame, resetCode, resetData, isAck, ackLed, isEmpty}
 use Rattle.exchange.specs.Exchange.{Order, write, read, drain, pause, Event, onRead}
-use Rattle.protocol.specs.Scripts.{Byte, Answer, done, type1, nothing, refused}
+use Rattle.protocol.specs.Scripts.{Byte, Answer}
 use Rattle.protocol.specs.Calls.{Call, isOpening}
-use Rattle.protocol.specs.Session.{Entry, call, event, Output, orders, answers}
+use Rattle.protocol.specs.Session.{Entry, call, event, Output, orders, answers, rejects}
 
 -- ---- the record
 
@@ -44,23 +43,15 @@ observed lines notes = record { lines = lines; notes = notes }
 -- a call that is refused at once leaves no trace
 abbrev pub addCall : Call → Record → List Note → Output Byte → Observed
 addCall c l ns (orders x) = observed ((length ns, ordered x) ∷ l) (note c none ∷ ns)
-addCall c l ns (answers (done bytes)) = observed l (note c (some (done bytes)) ∷ ns)
-addCall c l ns (answers (type1 bytes)) = observed l (note c (some (type1 bytes)) ∷ ns)
-addCall c l ns (answers nothing) = observed l (note c (some nothing) ∷ ns)
-addCall c l ns (answers (refused r)) = observed l ns
+addCall c l ns (answers a) = observed l (note c (some a) ∷ ns)
+addCall c l ns (rejects r) = observed l ns
 
--- an event is accepted if it does not get 1, 2 or 3
-abbrev pub accepts : Answer Byte → Bool
-accepts (done bytes) = true
-accepts (type1 bytes) = true
-accepts nothing = true
-accepts (refused r) = ltb 3 ((numbered r) .0)
-
+-- an event is accepted if it is not refused at once: of refusals at once an event gets 1, 2 and 3 alone
 abbrev pub addEvent : Event → Record → List Note → Output Byte → Observed
 addEvent e l [] out = observed l []
 addEvent e l (x ∷ ns) (orders o) = observed ((length ns, ordered o) ∷ (length ns, accepted e) ∷ l) (x ∷ ns)
-addEvent e l (x ∷ ns) (answers a) =
-    cond (accepts a) (observed ((length ns, accepted e) ∷ l) (note (x .call) (some a) ∷ ns)) (observed l (x ∷ ns))
+addEvent e l (x ∷ ns) (answers a) = observed ((length ns, accepted e) ∷ l) (note (x .call) (some a) ∷ ns)
+addEvent e l (x ∷ ns) (rejects r) = observed l (x ∷ ns)
 
 abbrev pub add : Observed → Entry → Output Byte → Observed
 add w (call c room) out = addCall c (w .lines) (w .notes) out

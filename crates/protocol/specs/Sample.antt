@@ -3,7 +3,8 @@ use mathlib.Core.Path.{_≡_, refl}
 use mathlib.Core.List.{List, [], _∷_, _++_, map}
 use Prim.Native.Nat.{ℕ}
 use lib.ListN.{replicate}
-use Rattle.errors.specs.declared.Refusal.the-variants.{OutOfTurn, ShortBuffer, OverLong, Transport, TimeOut, BrokenFrame, Length, FrameKind, Identifier, Code, Status}
+use Rattle.errors.specs.declared.Refusal.the-variants.{OutOfTurn, ShortBuffer, OverLong}
+use Rattle.errors.specs.declared.Fault.the-variants.{Transport, TimeOut, BrokenFrame, Length, FrameKind, Identifier, Code, Status}
 use Rattle.framing.specs.Frames.{ack, total, checksumOf, lengthBytes, normalFrame, extendedFrame, headOf, frameOf}
 use Rattle.errors.specs.Choice.{pick}
 use Rattle.framing.specs.Lists.{starts, same}
@@ -12,7 +13,7 @@ use Rattle.exchange.specs.Packets.{commandFrame, isAck, hasStart, ackLed, Reply
 use Rattle.exchange.specs.Exchange.{write, read, pause, Event, ok, bad, pkt, time, late, slept, pending, reading, waiting, cancelling, advance}
 use Rattle.protocol.specs.Scripts.{done, refused}
 use Rattle.protocol.specs.Calls.{opening, reader, request, version}
-use Rattle.protocol.specs.Session.{Entry, call, event, Output, orders, answers, fresh, outputs, sessionAfter}
+use Rattle.protocol.specs.Session.{Entry, call, event, Output, orders, answers, rejects, fresh, outputs, sessionAfter}
 use Rattle.protocol.specs.Record.{Item, recordOf, linesOf, frames, events, resets, idleReads, allowed}
 use Rattle.protocol.specs.Follows.{plain}
 
@@ -37,21 +38,21 @@ abbrev Runs : List Pair → Type 0
 Runs ps = map plain (outputs fresh (entriesOf ps)) ≡ givenFor ps
 
 -- document 01's whole case: `open`, `bad`, `version`
-whole-case : Runs ((call opening 1024, writes ack) ∷ on bad (answers (refused Transport)) ∷ (call (reader (request version)) 1024, answers (refused OutOfTurn)) ∷ [])
+whole-case : Runs ((call opening 1024, writes ack) ∷ on bad (answers (refused Transport)) ∷ (call (reader (request version)) 1024, rejects OutOfTurn) ∷ [])
 whole-case = refl
 
 -- refusals in their order; nothing changes by them
 refusals : Runs
-    ((call opening 1023, answers (refused ShortBuffer))
-    ∷ (event ok 0, answers (refused OutOfTurn))
+    ((call opening 1023, rejects ShortBuffer)
+    ∷ (event ok 0, rejects OutOfTurn)
     ∷ (call opening 1024, writes ack)
-    ∷ (call opening 0, answers (refused OutOfTurn))
-    ∷ (event time 0, answers (refused OutOfTurn))
-    ∷ (event ok 1023, answers (refused ShortBuffer))
+    ∷ (call opening 0, rejects OutOfTurn)
+    ∷ (event time 0, rejects OutOfTurn)
+    ∷ (event ok 1023, rejects ShortBuffer)
     ∷ (event ok 1024, orders (read 10))
-    ∷ (event late 1024, answers (refused OutOfTurn))
-    ∷ (event (pkt (replicate 1025 0)) 1023, answers (refused ShortBuffer))
-    ∷ (event (pkt (replicate 1025 0)) 1024, answers (refused OverLong))
+    ∷ (event late 1024, rejects OutOfTurn)
+    ∷ (event (pkt (replicate 1025 0)) 1023, rejects ShortBuffer)
+    ∷ (event (pkt (replicate 1025 0)) 1024, rejects OverLong)
     ∷ (event (pkt (replicate 1024 0)) 1024, orders (read 10))
     ∷ [])
 refusals = refl
@@ -125,7 +126,7 @@ opening-counts : counts openingLines ≡ 10 ∷ 2 ∷ 1 ∷ 37 ∷ 47 ∷ []
 unfolding formats
 opening-counts = refl
 
-count-after : (sessionAfter fresh (entriesOf run)) .count ≡ 11
+count-after : (sessionAfter fresh (entriesOf run)) .books .count ≡ 11
 unfolding formats
 count-after = refl
 

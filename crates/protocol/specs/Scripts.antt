@@ -3,7 +3,7 @@ use mathlib.Core.Bool.{Bool, true, false}
 use mathlib.Core.List.{List, [], _∷_}
 use Prim.Native.Nat.{ℕ, zero, suc, _-_}
 use lib.ListN.{length, getD}
-use Rattle.errors.specs.declared.Refusal.{Refusal}
+use Rattle.errors.specs.declared.Fault.{Fault}
 use Rattle.exchange.specs.Packets.{Reply, response, failed}
 
 -- A byte of an answer: the engine's own, or a "card byte" with its "place": the command of the call and the position in the
@@ -21,7 +21,7 @@ pub data Answer (B : Type 0) : Type 0 where
   done : List B → Answer B
   type1 : List B → Answer B
   nothing : Answer B
-  refused : Refusal → Answer B
+  refused : Fault → Answer B
 
 pub data Script : Type 0 where
   finish : Answer Byte → Script
@@ -32,11 +32,11 @@ pub data Script : Type 0 where
 -- ---- forms of the Rust
 
 -- a reply taken apart
-abbrev pub either : (List ℕ → Script) → (Refusal → Script) → Reply → Script
+abbrev pub either : (List ℕ → Script) → (Fault → Script) → Reply → Script
 either f g (response bytes) = f bytes
 either f g (failed r) = g r
 
-abbrev pub refuse : Refusal → Script
+abbrev pub refuse : Fault → Script
 refuse r = finish (refused r)
 
 -- a command whose failure ends the call, as by `?`

@@ -1,11 +1,12 @@
--- The session: a running call, the entries of a list, and what each does.
+-- The session: a running call, the reader's books around it, the entries of a list, and what each does.
 use mathlib.Core.Bool.{Bool, true, false, cond, _||_}
 use mathlib.Core.List.{List, [], _∷_}
 use Prim.Native.Nat.{ℕ, suc, min}
 use lib.Dec.{ltb}
 use lib.ListN.{length}
 use Rattle.errors.specs.declared.Refusal.{Refusal}
-use Rattle.errors.specs.declared.Refusal.the-variants.{OutOfTurn, ShortBuffer, OverLong, Transport}
+use Rattle.errors.specs.declared.Refusal.the-variants.{OutOfTurn, ShortBuffer, OverLong}
+use Rattle.errors.specs.declared.Fault.the-variants.{Transport}
 use Rattle.framing.specs.Frames.{ack}
 use Rattle.exchange.specs.Packets.{commandFrame, resetCode, resetData, isAck, Reply}
 use Rattle.exchange.specs.Exchange.{Order, write, read, drain, pause, Event}
@@ -62,19 +63,29 @@ abbrev pub begin : Bool → Script → CallResult
 begin true s = pending (write ack) (openingAck s)
 begin false s = enter s
 
--- ---- the session
+-- no call, or one in its phase
+pub data Running : Type 0 where
+  idle : Running
+  busy : Call → Phase → Running
 
-pub data Activity : Type 0 where
-  idle : Bool → Activity  -- no call runs; is the reader open
-  busy : Call → Phase → Activity
+-- ---- the reader's books
 
 -- "count": command frames ordered since the last opening began, its own included, up to the ceiling
-pub record Session : Type 0 where
-  pub activity : Activity
+pub record Books : Type 0 where
+  pub opened : Bool
   pub count : ℕ
 
-abbrev pub fresh : Session
-fresh = record { activity = idle false; count = 0 }
+-- of a fresh session, and where an opening begins
+abbrev pub noBooks : Books
+noBooks = record { opened = false; count = 0 }
+
+-- a call is admitted in an open reader, an opening in any
+abbrev pub admits : Books → Call → Bool
+admits b c = b .opened || isOpening c
+
+-- what a call's doings are booked on: an opening begins the books anew
+abbrev pub booksFor : Call → Books → Books
+booksFor c b = cond (isOpening c) noBooks b
 
 abbrev pub ceiling : ℕ
 ceiling = 4294967295
@@ -90,15 +101,27 @@ counted (read ms) n = n
 counted drain n = n
 counted (pause us) n = n
 
--- is the reader open after the call
+abbrev pub bookOrder : Order → Books → Books
+bookOrder x b = record { opened = b .opened; count = counted x (b .count) }
+
+-- an opening that succeeds leaves the reader open, one that fails unopened; any other call leaves it as it was
 abbrev pub answered : Answer Byte → Bool
 answered (done bytes) = true
 answered (type1 bytes) = true
 answered nothing = false
 answered (refused r) = false
 
-abbrev pub openAfter : Call → Answer Byte → Bool
-openAfter c a = cond (isOpening c) (answered a) true
+abbrev pub bookAnswer : Call → Answer Byte → Books → Books
+bookAnswer c a b = record { opened = cond (isOpening c) (answered a) (b .opened); count = b .count }
+
+-- ---- the session
+
+pub record Session : Type 0 where
+  pub running : Running
+  pub books : Books
+
+abbrev pub fresh : Session
+fresh = record { running = idle; books = noBooks }
 
 -- ---- the list
 
@@ -107,21 +130,22 @@ pub data Entry : Type 0 where
   call : Call → ℕ → Entry
   event : Event → ℕ → Entry
 
--- what is given out, as the bench program prints it
+-- what is given out, as the bench program prints it; `rejects` is a refusal at once, a later one is an answer
 pub data Output (B : Type 0) : Type 0 where
   orders : Order → Output B
   answers : Answer B → Output B
+  rejects : Refusal → Output B
 
--- what an entry does: it is refused and nothing changes, or its call goes on with an order or ends, with the count after it
+-- what an entry does: it is refused and nothing changes, or its call goes on with an order, or ends
 pub data Outcome : Type 0 where
   unchanged : Refusal → Outcome
-  runs : Call → ℕ → Order → Phase → Outcome
-  ends : Call → ℕ → Answer Byte → Outcome
+  runs : Call → Order → Phase → Outcome
+  ends : Call → Answer Byte → Outcome
 
-abbrev pub outcome : Call → ℕ → CallResult → Outcome
-outcome c n unfit = unchanged OutOfTurn
-outcome c n (pending x phase) = runs c (counted x n) x phase
-outcome c n (ended a) = ends c n a
+abbrev pub outcome : Call → CallResult → Outcome
+outcome c unfit = unchanged OutOfTurn
+outcome c (pending x phase) = runs c x phase
+outcome c (ended a) = ends c a
 
 -- the engine's buffer, at least; a packet, at most
 abbrev pub bufferNeed : ℕ
@@ -140,42 +164,55 @@ packetLength e = onRead 0 length 0 0 0 e
 abbrev pub admitted : Event → ℕ → Outcome → Outcome
 admitted e room o = withRoom room (cond (ltb packetLimit (packetLength e)) (unchanged OverLong) o)
 
-abbrev pub eventOutcome : Call → ℕ → Event → ℕ → CallResult → Outcome
-eventOutcome c n e room unfit = unchanged OutOfTurn
-eventOutcome c n e room (pending x phase) = admitted e room (outcome c n (pending x phase))
-eventOutcome c n e room (ended a) = admitted e room (outcome c n (ended a))
-
--- the count that a call starts from: an opening begins it anew
-abbrev pub countFrom : Bool → ℕ → ℕ
-countFrom true n = 0
-countFrom false n = n
+abbrev pub eventOutcome : Call → Event → ℕ → CallResult → Outcome
+eventOutcome c e room unfit = unchanged OutOfTurn
+eventOutcome c e room (pending x phase) = admitted e room (outcome c (pending x phase))
+eventOutcome c e room (ended a) = admitted e room (outcome c (ended a))
 
 -- a call: 1, 2, then its own refusals
-abbrev pub started : Call → ℕ → Start → Outcome
-started c n (refuses r) = unchanged r
-started c n (starts s) = outcome c (countFrom (isOpening c) n) (begin (isOpening c) s)
+abbrev pub started : Call → Start → Outcome
+started c (refuses r) = unchanged r
+started c (starts s) = outcome c (begin (isOpening c) s)
 
-abbrev pub callOutcome : Bool → Call → ℕ → ℕ → Outcome
-callOutcome isOpen c n room = cond (isOpen || isOpening c) (withRoom room (started c n (startOf c))) (unchanged OutOfTurn)
+abbrev pub callOutcome : Bool → Call → ℕ → Outcome
+callOutcome isAdmitted c room = cond isAdmitted (withRoom room (started c (startOf c))) (unchanged OutOfTurn)
 
-abbrev pub outcomeOf : Activity → ℕ → Entry → Outcome
-outcomeOf (idle isOpen) n (call c room) = callOutcome isOpen c n room
-outcomeOf (idle isOpen) n (event e room) = unchanged OutOfTurn
-outcomeOf (busy c phase) n (call d room) = unchanged OutOfTurn
-outcomeOf (busy c phase) n (event e room) = eventOutcome c n e room (progress phase e)
+abbrev pub outcomeOf : Running → Books → Entry → Outcome
+outcomeOf idle b (call c room) = callOutcome (admits b c) c room
+outcomeOf idle b (event e room) = unchanged OutOfTurn
+outcomeOf (busy c phase) b (call d room) = unchanged OutOfTurn
+outcomeOf (busy c phase) b (event e room) = eventOutcome c e room (progress phase e)
 
-abbrev pub after : Session → Outcome → Session
-after s (unchanged r) = s
-after s (runs c n x phase) = record { activity = busy c phase; count = n }
-after s (ends c n a) = record { activity = idle (openAfter c a); count = n }
+-- the running call after it, and the books
+abbrev pub runningAfter : Running → Outcome → Running
+runningAfter p (unchanged r) = p
+runningAfter p (runs c x phase) = busy c phase
+runningAfter p (ends c a) = idle
+
+abbrev pub booksOf : Entry → Books → Books
+booksOf (call c room) b = booksFor c b
+booksOf (event e room) b = b
+
+abbrev pub bookOutcome : Outcome → Books → Books
+bookOutcome (unchanged r) b = b
+bookOutcome (runs c x phase) b = bookOrder x b
+bookOutcome (ends c a) b = bookAnswer c a b
+
+abbrev pub booksAfter : Books → Entry → Outcome → Books
+booksAfter b e (unchanged r) = b
+booksAfter b e (runs c x phase) = bookOutcome (runs c x phase) (booksOf e b)
+booksAfter b e (ends c a) = bookOutcome (ends c a) (booksOf e b)
+
+abbrev pub after : Session → Entry → Outcome → Session
+after s e o = record { running = runningAfter (s .running) o; books = booksAfter (s .books) e o }
 
 abbrev pub given : Outcome → Output Byte
-given (unchanged r) = answers (refused r)
-given (runs c n x phase) = orders x
-given (ends c n a) = answers a
+given (unchanged r) = rejects r
+given (runs c x phase) = orders x
+given (ends c a) = answers a
 
 abbrev pub step : Session → Entry → Session × Output Byte
-step s e = (after s (outcomeOf (s .activity) (s .count) e), given (outcomeOf (s .activity) (s .count) e))
+step s e = (after s e (outcomeOf (s .running) (s .books) e), given (outcomeOf (s .running) (s .books) e))
 
 -- what a list gives out, and the session after it
 abbrev pub outputs : Session → List Entry → List (Output Byte)

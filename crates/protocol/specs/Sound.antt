@@ -1,4 +1,4 @@
--- Sound scripts: no path has too many commands, every card byte is at its place, and no accepted call ends with 1, 2 or 3.
+-- Sound scripts: no path has too many commands, and the answer has the call's form, every card byte at its place.
 -- Rules by which `search` proves a script sound.
 use mathlib.Core.Path.{_≡_, refl}
 use mathlib.Core.Bool.{Bool, true, false, not, cond}
@@ -10,15 +10,18 @@ use native.Mathlib.Nat.{le-of-suc-le-suc, not-suc-le-zero}
 use native.Mathlib.Omega.{arith}
 use lib.Dec.{T, eqb, leb, leb→le, ltb, ltb→lt, nltb→le}
 use lib.ListN.{length, getD, getElem?}
-use Rattle.errors.specs.declared.Refusal.{Refusal}
+use Rattle.errors.specs.Refusals.{byStatus}
+use Rattle.errors.specs.declared.Fault.{Fault}
+use Rattle.errors.specs.declared.Fault.the-variants.{Transport, TimeOut, FalseStart, BrokenFrame, Length, FrameKind, Identifier, Code, Status, ShortResponse, NoCard, CrcA, Rate}
 use Rattle.targets.specs.Bitrates.{Choice, chosen, noCode}
 use Rattle.targets.specs.declared.Bitrate.{Bitrate}
-use Rattle.exchange.specs.Packets.{Reply, response, failed}
+use Rattle.exchange.specs.Packets.{isEmpty, Reply, response, failed}
 use Rattle.protocol.specs.Scripts.{Byte, own, card, Answer, done, type1, nothing, refused}
-use Rattle.protocol.specs.Scripts.{Script, finish, command, reset, fieldPause, either, ifElse, part, rest}
-use Rattle.protocol.specs.Calls.{Start, refuses, starts, onCode, withBitrate}
-use Rattle.protocol.specs.Device.{hexDigit, hex}
-use Rattle.protocol.specs.Record.{accepts}
+use Rattle.protocol.specs.Scripts.{Script, finish, command, reset, fieldPause, either, ifElse, byteAt, part, rest}
+use Rattle.protocol.specs.Calls.{Start, refuses, starts, onCode, withBitrate, rateBytes}
+use Rattle.protocol.specs.Chipset.{versionBytes, rate, sendIndex, receiveIndex}
+use Rattle.protocol.specs.Device.{hexDigit, hex, chipsetName}
+use Rattle.protocol.specs.Own.{Cards, Owns, CardsAndFlag, CardAndRates, DepAndCards, Form, versionAndName, HasForm}
 
 -- on no path more than n command frames
 abbrev pub Within : Script → ℕ → Type 0
@@ -44,51 +47,47 @@ pub data Placed (rs : List (List ℕ)) : List Byte → Type 0 where
   own-byte : {b : ℕ} {bs : List Byte} → Placed rs bs → Placed rs (own b ∷ bs)
   card-byte : {k p b : ℕ} {bs : List Byte} → getElem? (responseTo rs k) p ≡ some b → Placed rs bs → Placed rs (card k p b ∷ bs)
 
--- none of 1, 2 and 3
-abbrev pub Ends : Refusal → Type 0
-Ends r = T (accepts (refused r))
+-- b is the byte at position p of the response to command k
+abbrev pub Stands : List (List ℕ) → ℕ → ℕ → ℕ → Type 0
+Stands rs k p b = getElem? (responseTo rs k) p ≡ some b
 
-abbrev pub Final : List (List ℕ) → Answer Byte → Type 0
-Final rs (done bs) = Placed rs bs
-Final rs (type1 bs) = Placed rs bs
-Final rs nothing = Unit {0}
-Final rs (refused r) = Ends r
-
-abbrev pub Possible : Reply → Type 0
-Possible (response bs) = Unit {0}
-Possible (failed r) = Ends r
+abbrev pub Final : Form → List (List ℕ) → Answer Byte → Type 0
+Final o rs (done bs) = Placed rs bs × HasForm (Stands rs) o bs
+Final o rs (type1 bs) = Placed rs bs × HasForm (Stands rs) o bs
+Final o rs nothing = Unit {0}
+Final o rs (refused r) = Unit {0}
 
 -- every path ends rightly
-abbrev pub Correct : Script → List (List ℕ) → Type 0
-Correct (finish a) rs = Final rs a
-Correct (command code clock bytes k) rs = (r : Reply) → Possible r → Correct (k r) (responseIn r ∷ rs)
-Correct (reset s) rs = (bs : List ℕ) → Correct s (bs ∷ rs)
-Correct (fieldPause s) rs = Correct s rs
+abbrev pub Correct : Form → Script → List (List ℕ) → Type 0
+Correct o (finish a) rs = Final o rs a
+Correct o (command code clock bytes k) rs = (r : Reply) → Correct o (k r) (responseIn r ∷ rs)
+Correct o (reset s) rs = (bs : List ℕ) → Correct o s (bs ∷ rs)
+Correct o (fieldPause s) rs = Correct o s rs
 
-abbrev pub Sound : Start → ℕ → Type 0
-Sound (refuses r) n = Unit {0}
-Sound (starts s) n = Within s n × Correct s []
+abbrev pub Sound : Form → Start → ℕ → Type 0
+Sound o (refuses r) n = Unit {0}
+Sound o (starts s) n = Within s n × Correct o s []
 
 -- ---- rules
 
 -- arguments that are refused at once or start the script
-pub sound-if : (t : Bool) (x y : Start) (n : ℕ) → Sound x n → Sound y n → Sound (cond t x y) n
-sound-if true x y n h k = h
-sound-if false x y n h k = k
+pub sound-if : (o : Form) (t : Bool) (x y : Start) (n : ℕ) → Sound o x n → Sound o y n → Sound o (cond t x y) n
+sound-if o true x y n h k = h
+sound-if o false x y n h k = k
 
 -- a test that computes
 pub holds : Unit {0}
 holds = tt
 
-pub sound-bitrate : (c : Choice) (f : Bitrate → Start) (n : ℕ) → ((b : Bitrate) → Sound (f b) n) → Sound (withBitrate c f) n
-sound-bitrate (chosen b) f n h = h b
-sound-bitrate (noCode e) f n h = tt
+pub sound-bitrate : (o : Form) (c : Choice) (f : Bitrate → Start) (n : ℕ) → ((b : Bitrate) → Sound o (f b) n) → Sound o (withBitrate c f) n
+sound-bitrate o (chosen b) f n h = h b
+sound-bitrate o (noCode e) f n h = tt
 
-pub sound-code : (o : Option ℕ) (f : ℕ → Start) (n : ℕ) → ((code : ℕ) → Sound (f code) n) → Sound (onCode o f) n
-sound-code none f n h = tt
-sound-code (some code) f n h = h code
+pub sound-code : (o : Form) (code : Option ℕ) (f : ℕ → Start) (n : ℕ) → ((k : ℕ) → Sound o (f k) n) → Sound o (onCode code f) n
+sound-code o none f n h = tt
+sound-code o (some k) f n h = h k
 
-pub within-either : (f : List ℕ → Script) (g : Refusal → Script) (n : ℕ) → ((bs : List ℕ) → Within (f bs) n) → ((e : Refusal) → Within (g e) n)
+pub within-either : (f : List ℕ → Script) (g : Fault → Script) (n : ℕ) → ((bs : List ℕ) → Within (f bs) n) → ((e : Fault) → Within (g e) n)
     → (r : Reply) → Within (either f g r) n
 within-either f g n h k (response bs) = h bs
 within-either f g n h k (failed e) = k e
@@ -97,19 +96,41 @@ pub within-if : (b : Bool) (x y : Script) (n : ℕ) → Within x n → Within y 
 within-if true x y n h k = h
 within-if false x y n h k = k
 
-pub correct-either : (f : List ℕ → Script) (g : Refusal → Script) (rs : List (List ℕ)) → ((bs : List ℕ) → Correct (f bs) (bs ∷ rs))
-    → ((e : Refusal) → Ends e → Correct (g e) ([] ∷ rs)) → (r : Reply) → Possible r → Correct (either f g r) (responseIn r ∷ rs)
-correct-either f g rs h k (response bs) p = h bs
-correct-either f g rs h k (failed e) p = k e p
+-- a fault, by its status byte
+by-status : (P : Script → Type 0) (f : ℕ → Script) (a : Script) (r : Fault) → ((s : ℕ) → P (f s)) → P a → P (byStatus f a r)
+by-status P f a Transport h k = k
+by-status P f a TimeOut h k = k
+by-status P f a FalseStart h k = k
+by-status P f a BrokenFrame h k = k
+by-status P f a Length h k = k
+by-status P f a FrameKind h k = k
+by-status P f a Identifier h k = k
+by-status P f a Code h k = k
+by-status P f a (Status s) h k = h s
+by-status P f a ShortResponse h k = k
+by-status P f a NoCard h k = k
+by-status P f a CrcA h k = k
+by-status P f a Rate h k = k
 
-pub correct-if : (b : Bool) (x y : Script) (rs : List (List ℕ)) → (T b → Correct x rs) → (T (not b) → Correct y rs) → Correct (ifElse b x y) rs
-correct-if true x y rs h k = h tt
-correct-if false x y rs h k = k tt
+pub within-status : (f : ℕ → Script) (a : Script) (r : Fault) (n : ℕ) → ((s : ℕ) → Within (f s) n) → Within a n → Within (byStatus f a r) n
+within-status f a r n h k = by-status (λ s. Within s n) f a r h k
+
+pub correct-status : (o : Form) (f : ℕ → Script) (a : Script) (r : Fault) (rs : List (List ℕ)) → ((s : ℕ) → Correct o (f s) rs) → Correct o a rs → Correct o (byStatus f a r) rs
+correct-status o f a r rs h k = by-status (λ s. Correct o s rs) f a r h k
+
+pub correct-either : (o : Form) (f : List ℕ → Script) (g : Fault → Script) (rs : List (List ℕ)) → ((bs : List ℕ) → Correct o (f bs) (bs ∷ rs))
+    → ((e : Fault) → Correct o (g e) ([] ∷ rs)) → (r : Reply) → Correct o (either f g r) (responseIn r ∷ rs)
+correct-either o f g rs h k (response bs) = h bs
+correct-either o f g rs h k (failed e) = k e
+
+pub correct-if : (o : Form) (b : Bool) (x y : Script) (rs : List (List ℕ)) → (T b → Correct o x rs) → (T (not b) → Correct o y rs) → Correct o (ifElse b x y) rs
+correct-if o true x y rs h k = h tt
+correct-if o false x y rs h k = k tt
 
 -- a test of a length, with what it says
-pub correct-short : (bs : List ℕ) (m : ℕ) (x y : Script) (rs : List (List ℕ)) → (length bs < m → Correct x rs) → (m ≤ length bs → Correct y rs)
-    → Correct (ifElse (ltb (length bs) m) x y) rs
-correct-short bs m x y rs h k = correct-if (ltb (length bs) m) x y rs (λ t. h (ltb→lt (length bs) m t)) (λ t. k (nltb→le (length bs) m t))
+pub correct-short : (o : Form) (bs : List ℕ) (m : ℕ) (x y : Script) (rs : List (List ℕ)) → (length bs < m → Correct o x rs) → (m ≤ length bs → Correct o y rs)
+    → Correct o (ifElse (ltb (length bs) m) x y) rs
+correct-short o bs m x y rs h k = correct-if o (ltb (length bs) m) x y rs (λ t. h (ltb→lt (length bs) m t)) (λ t. k (nltb→le (length bs) m t))
 
 in-range : (bs : List ℕ) (p : ℕ) → p < length bs → getElem? bs p ≡ some (getD bs p 0)
 in-range [] p h = absurd (not-suc-le-zero h)
@@ -150,11 +171,86 @@ placed-append rs xs ys no-bytes q = q
 placed-append rs xs ys (own-byte p) q = own-byte (placed-append rs _ ys p q)
 placed-append rs xs ys (card-byte e p) q = card-byte e (placed-append rs _ ys p q)
 
-pub placed-hex : (rs : List (List ℕ)) (b : ℕ) → Placed rs (hex b)
+placed-hex : (rs : List (List ℕ)) (b : ℕ) → Placed rs (hex b)
 placed-hex rs b = go (ltb b 16)
   where
     go : (t : Bool) → Placed rs (cond t (own (hexDigit b) ∷ []) (own (hexDigit (b / 16)) ∷ own (hexDigit (b % 16)) ∷ []))
     go true = own-byte no-bytes
     go false = own-byte (own-byte no-bytes)
 
-pub ruleset sound-rules = (holds, sound-if, sound-bitrate, sound-code, within-either, within-if, correct-either, correct-short, correct-if, no-bytes, own-byte, card-byte, reach, placed-part, placed-inner, placed-rest, placed-append, placed-hex)
+-- ---- rules, for the form of an answer
+
+pub formed : (rs : List (List ℕ)) (bs : List Byte) (F : Type 0) → Placed rs bs → F → Placed rs bs × F
+formed rs bs F h k = (h, k)
+
+pub cards-part : (k : ℕ) (bs : List ℕ) (p n : ℕ) → Cards (part k bs p n)
+unfolding part
+cards-part k bs p zero = tt
+cards-part k bs p (suc n) = cards-part k bs (suc p) n
+
+pub cards-rest : (k : ℕ) (bs : List ℕ) (p : ℕ) → Cards (rest k bs p)
+unfolding rest
+cards-rest k bs p = cards-part k bs p (length bs - p)
+
+owns-append : (xs ys : List Byte) → Owns xs → Owns ys → Owns (xs ++ ys)
+owns-append [] ys h k = k
+owns-append (own b ∷ xs) ys h k = owns-append xs ys h k
+owns-append (card c p b ∷ xs) ys h k = absurd h
+
+owns-hex : (b : ℕ) → Owns (hex b)
+owns-hex b = go (ltb b 16)
+  where
+    go : (t : Bool) → Owns (cond t (own (hexDigit b) ∷ []) (own (hexDigit (b / 16)) ∷ own (hexDigit (b % 16)) ∷ []))
+    go true = tt
+    go false = tt
+
+-- the opening's answer, whose version is command 1
+pub version-name : (rs : List (List ℕ)) (bs : List ℕ) → responseTo rs 1 ≡ bs → 4 ≤ length bs
+    → Final versionAndName rs (done (versionBytes 1 (getD bs 0 0) (getD bs 1 0) (getD bs 2 0) ++ chipsetName (getD bs 1 0) (getD bs 2 0)))
+unfolding part
+version-name rs bs e h =
+    let ver : ℕ = getD bs 1 0 in
+    let rev : ℕ = getD bs 2 0 in
+    let name : Placed rs (chipsetName ver rev) = search (no-bytes, own-byte, placed-append, placed-hex) depth 30 in (
+      placed-append rs (part 1 bs 0 3) (chipsetName ver rev) (part-placed rs 1 bs 0 3 e (omega arith)) name,
+      record {
+        ic = getD bs 0 0;
+        ver = ver;
+        rev = rev;
+        form = refl;
+        ownName = owns-append (hex ver) (own 0x2E ∷ hex rev) (owns-hex ver) (owns-hex rev);
+      },
+    )
+
+pub first-byte : (bs : List ℕ) → T (not (isEmpty bs)) → getElem? bs 0 ≡ some (getD bs 0 0)
+first-byte [] h = absurd h
+first-byte (b ∷ bs) h = refl
+
+pub cards-flag : (rs : List (List ℕ)) (cards : List Byte) (status : ℕ) → Cards cards → Stands rs 0 0 status → CardsAndFlag (Stands rs) (cards ++ (own (status / 64 % 2) ∷ []))
+cards-flag rs cards status h k = record { cards = cards; status = status; form = refl; allCards = h; source = k }
+
+T→true : (t : Bool) → T t → t ≡ true
+T→true true h = refl
+T→true false h = absurd h
+
+not-true : (t : Bool) → T (not t) → t ≡ false
+not-true true h = absurd h
+not-true false h = refl
+
+pub rates-active : (bs : List ℕ) → T (eqb (getD bs 0 0) 1) → 2 ≤ length bs
+    → CardAndRates (Stands (bs ∷ [])) (byteAt 0 bs 0 ∷ (rateBytes (rate (sendIndex bs)) ++ rateBytes (rate (receiveIndex bs))))
+rates-active bs h k =
+    record { state = getD bs 0 0; indices = getD bs 1 0; form = rw (T→true (eqb (getD bs 0 0) 1) h) refl; source = in-range bs 1 k }
+
+pub rates-none : (bs : List ℕ) → T (not (eqb (getD bs 0 0) 1)) → 2 ≤ length bs
+    → CardAndRates (Stands (bs ∷ [])) (byteAt 0 bs 0 ∷ (rateBytes 0 ++ rateBytes 0))
+rates-none bs h k =
+    record { state = getD bs 0 0; indices = getD bs 1 0; form = rw (not-true (eqb (getD bs 0 0) 1) h) refl; source = in-range bs 1 k }
+
+pub dep-cards : (cards : List Byte) → Cards cards → DepAndCards (own 0xD5 ∷ own 0x01 ∷ cards)
+dep-cards cards h = record { cards = cards; form = refl; allCards = h }
+
+-- for a script whose answer has card bytes alone; for any
+pub ruleset correct-rules = (holds, correct-either, correct-status, correct-short, correct-if, formed, no-bytes, card-byte, reach, placed-rest, cards-rest)
+
+pub ruleset sound-rules = (correct-rules, sound-if, sound-bitrate, sound-code, within-either, within-if, within-status, own-byte, placed-part, placed-inner, placed-append, cards-part, version-name, first-byte, cards-flag, rates-active, rates-none, dep-cards)

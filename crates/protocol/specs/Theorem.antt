@@ -1,6 +1,6 @@
 -- The claims on every call hold after any list of entries.
 use mathlib.Core.Path.{_≡_, refl, _∙_}
-use mathlib.Core.Bool.{Bool, true, false, _||_}
+use mathlib.Core.Bool.{Bool, true, false}
 use mathlib.Core.List.{List, [], _∷_}
 use mathlib.Core.Option.{Option, none, some}
 use Prim.Native.Nat.{ℕ, suc, _≤_, _<_}
@@ -9,16 +9,17 @@ use lib.Dec.{ltb}
 use lib.ListN.{length}
 use Rattle.framing.specs.Frames.{ack}
 use Rattle.exchange.specs.Exchange.{write, Event, unfit, pending, ended}
-use Rattle.protocol.specs.Scripts.{Byte, Answer, done, type1, nothing, refused, Script}
+use Rattle.protocol.specs.Scripts.{Byte, Answer, Script}
 use Rattle.protocol.specs.Calls.{Call, Start, refuses, starts, startOf, isOpening, limit}
-use Rattle.protocol.specs.Session.{Phase, CallResult, begin, progress, Activity, idle, busy, Session, fresh, Entry, call, event}
-use Rattle.protocol.specs.Session.{Outcome, outcome, bufferNeed, packetLimit, withRoom, packetLength, admitted, eventOutcome, started, callOutcome, outcomeOf, after, given, step, outputs}
+use Rattle.protocol.specs.Session.{Phase, CallResult, begin, progress, Running, idle, busy, Books, admits, Session, fresh, Entry, call, event}
+use Rattle.protocol.specs.Session.{Outcome, outcome, bufferNeed, packetLimit, withRoom, packetLength, admitted, eventOutcome, started, callOutcome, outcomeOf, runningAfter, given, step, outputs}
 use Rattle.protocol.specs.Record.{Item, ordered, accepted, Record, Note, Observed, observed, addCall, addEvent, add, observe, recordOf, linesOf, frames, allowed}
-use Rattle.protocol.specs.Claim.{Running, Claim, Claims}
+use Rattle.protocol.specs.Claim.{Running as Claimed, CardByte, Claim, Claims}
+use Rattle.protocol.specs.Own.{formOf}
 use Rattle.protocol.specs.Sound.{Sound}
 use Rattle.protocol.specs.CallsSound.{sound}
 use Rattle.protocol.specs.Laws.{split, lines-own, lines-other}
-use Rattle.protocol.specs.Invariant.{phase-due, Left, Sourced, Invariant, Kept, later-card, later-sourced, bare, entered}
+use Rattle.protocol.specs.Invariant.{phase-due, Left, Sourced, Invariant, Kept, later-card, later-sourced, form-by, bare, entered}
 use Rattle.protocol.specs.Kept.{KeptBy, kept}
 
 -- ---- lines of a later call
@@ -40,6 +41,7 @@ claim-later l m n x c (some a) h k =
       framesWithin = rw e (k .framesWithin);
       eventsWithin = rw e (k .eventsWithin);
       cardBytes = λ i p b q. later-card n c (k .cardBytes i p b q);
+      form = form-by (CardByte l m) (CardByte ((n, x) ∷ l) m) (λ i p b q. later-card n c q) (formOf c) a (k .form);
     }
 
 claims-later : (l : Record) (n : ℕ) (x : Item) (ns : List Note) → length ns ≤ n → Claims l ns → Claims ((n, x) ∷ l) ns
@@ -56,27 +58,27 @@ pub record Current (c : Call) (phase : Phase) (l : Record) (y : Note) (n : ℕ) 
   pub ownLines : List Item
   pub invariant : Invariant n c l ownLines phase
 
-abbrev pub Agrees : Activity → Record → List Note → Type 0
-Agrees (idle b) l ns = Claims l ns × Unused l (length ns)
+abbrev pub Agrees : Running → Record → List Note → Type 0
+Agrees idle l ns = Claims l ns × Unused l (length ns)
 Agrees (busy c phase) l [] = ⊥
 Agrees (busy c phase) l (y ∷ ns) = Current c phase l y (length ns) × Claims l ns × Unused l (suc (length ns))
 
+abbrev AgreesAt : Running → Observed → Type 0
+AgreesAt p w = Agrees p (w .lines) (w .notes)
+
 abbrev pub AgreesWith : Session → Observed → Type 0
-AgreesWith s w = Agrees (s .activity) (w .lines) (w .notes)
+AgreesWith s w = AgreesAt (s .running) w
 
 -- a call begins
-begun : (s : Session) (l : Record) (ns : List Note) (c : Call) (k : ℕ) (r : CallResult) → Claims l ns → Unused l (length ns) → AgreesWith s (observed l ns)
-    → Kept (length ns) c l [] r → AgreesWith (after s (outcome c k r)) (addCall c l ns (given (outcome c k r)))
-begun s l ns c k unfit h u i q = i
-begun s l ns c k (pending x phase) h u i q = (
+begun : (l : Record) (ns : List Note) (c : Call) (r : CallResult) → Claims l ns → Unused l (length ns)
+    → Kept (length ns) c l [] r → AgreesAt (runningAfter idle (outcome c r)) (addCall c l ns (given (outcome c r)))
+begun l ns c unfit h u q = (h, u)
+begun l ns c (pending x phase) h u q = (
   record { sameCall = refl; unanswered = refl; ownLines = ordered x ∷ []; invariant = q },
   claims-later l (length ns) (ordered x) ns (omega arith) h,
   unused-later l (length ns) (ordered x) (λ m z. u m (omega arith)),
 )
-begun s l ns c k (ended (done bs)) h u i q = ((q .0, h), λ m z. u m (omega arith))
-begun s l ns c k (ended (type1 bs)) h u i q = ((q .0, h), λ m z. u m (omega arith))
-begun s l ns c k (ended nothing) h u i q = ((q .0, h), λ m z. u m (omega arith))
-begun s l ns c k (ended (refused r)) h u i q = (h, u)
+begun l ns c (ended a) h u q = ((q, h), λ m z. u m (omega arith))
 
 -- a call goes on or ends
 module _ (c : Call) (phase : Phase) (l : Record) (y : Note) (ns : List Note) (e : Event) (i : Agrees (busy c phase) l (y ∷ ns)) where
@@ -84,7 +86,7 @@ module _ (c : Call) (phase : Phase) (l : Record) (y : Note) (ns : List Note) (e 
   n = length ns
 
   abbrev Agreed : Outcome → Type 0
-  Agreed o = (k : ℕ) → AgreesWith (after (record { activity = busy c phase; count = k }) o) (addEvent e l (y ∷ ns) (given o))
+  Agreed o = AgreesAt (runningAfter (busy c phase) o) (addEvent e l (y ∷ ns) (given o))
 
   one-later : Claims ((n, accepted e) ∷ l) ns
   one-later = claims-later l n (accepted e) ns (omega arith) (i .1)
@@ -92,45 +94,45 @@ module _ (c : Call) (phase : Phase) (l : Record) (y : Note) (ns : List Note) (e 
   none-used : Unused ((n, accepted e) ∷ l) (suc n)
   none-used = unused-later l n (accepted e) (i .2)
 
-  result-agrees : (m : ℕ) (r : CallResult) → KeptBy n c l (i .0 .ownLines) e r → Agreed (outcome c m r)
-  result-agrees m unfit q k = i
-  result-agrees m (pending x new) q k = (
+  result-agrees : (r : CallResult) → KeptBy n c l (i .0 .ownLines) e r → Agreed (outcome c r)
+  result-agrees unfit q = i
+  result-agrees (pending x new) q = (
     record { sameCall = i .0 .sameCall; unanswered = i .0 .unanswered; ownLines = ordered x ∷ accepted e ∷ i .0 .ownLines; invariant = q },
     claims-later ((n, accepted e) ∷ l) n (ordered x) ns (omega arith) one-later,
     unused-later ((n, accepted e) ∷ l) n (ordered x) none-used,
   )
-  result-agrees m (ended a) q k = rw (q .1) ((rw (i .0 .sameCall) (q .0), one-later), none-used)
+  result-agrees (ended a) q = ((rw (i .0 .sameCall) q, one-later), none-used)
 
   -- refused with 2 or 3, nothing changes
   room-agrees : (room : ℕ) (o : Outcome) → Agreed o → Agreed (withRoom room o)
-  room-agrees room o h = split Agreed (ltb room bufferNeed) _ _ (λ _ k. i) (λ _. h)
+  room-agrees room o h = split Agreed (ltb room bufferNeed) _ _ (λ _. i) (λ _. h)
 
   admitted-agrees : (room : ℕ) (o : Outcome) → Agreed o → Agreed (admitted e room o)
-  admitted-agrees room o h = room-agrees room _ (split Agreed (ltb packetLimit (packetLength e)) _ _ (λ _ k. i) (λ _. h))
+  admitted-agrees room o h = room-agrees room _ (split Agreed (ltb packetLimit (packetLength e)) _ _ (λ _. i) (λ _. h))
 
-  event-result-agrees : (m room : ℕ) (r : CallResult) → KeptBy n c l (i .0 .ownLines) e r → Agreed (eventOutcome c m e room r)
-  event-result-agrees m room unfit q = λ k. i
-  event-result-agrees m room (pending x new) q = admitted-agrees room (outcome c m (pending x new)) (result-agrees m (pending x new) q)
-  event-result-agrees m room (ended a) q = admitted-agrees room (outcome c m (ended a)) (result-agrees m (ended a) q)
+  event-result-agrees : (room : ℕ) (r : CallResult) → KeptBy n c l (i .0 .ownLines) e r → Agreed (eventOutcome c e room r)
+  event-result-agrees room unfit q = i
+  event-result-agrees room (pending x new) q = admitted-agrees room (outcome c (pending x new)) (result-agrees (pending x new) q)
+  event-result-agrees room (ended a) q = admitted-agrees room (outcome c (ended a)) (result-agrees (ended a) q)
 
-event-agrees : (c : Call) (phase : Phase) (m : ℕ) (l : Record) (ns : List Note) (e : Event) (room : ℕ) → Agrees (busy c phase) l ns
-    → AgreesWith
-    (after (record { activity = busy c phase; count = m }) (eventOutcome c m e room (progress phase e)))
-    (addEvent e l ns (given (eventOutcome c m e room (progress phase e))))
-event-agrees c phase m l [] e room i = absurd i
-event-agrees c phase m l (y ∷ ns) e room i =
-    event-result-agrees c phase l y ns e i m room (progress phase e) (kept (length ns) c l (i .0 .ownLines) phase (i .0 .invariant) e) m
+event-agrees : (c : Call) (phase : Phase) (l : Record) (ns : List Note) (e : Event) (room : ℕ) → Agrees (busy c phase) l ns
+    → AgreesAt
+    (runningAfter (busy c phase) (eventOutcome c e room (progress phase e)))
+    (addEvent e l ns (given (eventOutcome c e room (progress phase e))))
+event-agrees c phase l [] e room i = absurd i
+event-agrees c phase l (y ∷ ns) e room i =
+    event-result-agrees c phase l y ns e i room (progress phase e) (kept (length ns) c l (i .0 .ownLines) phase (i .0 .invariant) e)
 
 -- ---- a call
 
-module _ (isOpen : Bool) (m : ℕ) (l : Record) (ns : List Note) (c : Call) (i : Agrees (idle isOpen) l ns) where
+module _ (l : Record) (ns : List Note) (c : Call) (i : Agrees idle l ns) where
   abbrev Starts : Outcome → Type 0
-  Starts o = AgreesWith (after (record { activity = idle isOpen; count = m }) o) (addCall c l ns (given o))
+  Starts o = AgreesAt (runningAfter idle o) (addCall c l ns (given o))
 
   no-source : Sourced (length ns) c l []
   no-source k p b e = absurd (let z : _≡_ {A = ℕ} 0 1 = cc in omega arith)
 
-  begin-kept : (b : Bool) (s : Script) → isOpening c ≡ b → Left s (limit c) [] → Kept (length ns) c l [] (begin b s)
+  begin-kept : (b : Bool) (s : Script) → isOpening c ≡ b → Left (formOf c) s (limit c) [] → Kept (length ns) c l [] (begin b s)
   begin-kept true s e h =
       let f : frames (ordered (write ack) ∷ []) ≡ 0 = bare (length ns) c [] in
       let a : 2 ≤ allowed c (ordered (write ack) ∷ []) = rw e (omega arith) in
@@ -147,47 +149,46 @@ module _ (isOpen : Bool) (m : ℕ) (l : Record) (ns : List Note) (c : Call) (i :
   begin-kept false s e h =
       entered (length ns) c l [] [] (i .1 (length ns) (omega arith)) s (limit c) (omega arith) (omega arith) h refl no-source
 
-  started-agrees : (s : Start) → Sound s (limit c) → Starts (started c m s)
+  started-agrees : (s : Start) → Sound (formOf c) s (limit c) → Starts (started c s)
   started-agrees (refuses r) h = i
-  started-agrees (starts s) h =
-      begun (record { activity = idle isOpen; count = m }) l ns c _ (begin (isOpening c) s) (i .0) (i .1) i (begin-kept (isOpening c) s refl h)
+  started-agrees (starts s) h = begun l ns c (begin (isOpening c) s) (i .0) (i .1) (begin-kept (isOpening c) s refl h)
 
-  call-agrees : (room : ℕ) → Starts (callOutcome isOpen c m room)
-  call-agrees room =
-      split Starts (isOpen || isOpening c) _ _
+  call-agrees : (isAdmitted : Bool) (room : ℕ) → Starts (callOutcome isAdmitted c room)
+  call-agrees isAdmitted room =
+      split Starts isAdmitted _ _
       (λ _. split Starts (ltb room bufferNeed) _ _ (λ _. i) (λ _. started-agrees (startOf c) (sound c)))
       (λ _. i)
 
 -- ---- any list
 
-step-agrees : (a : Activity) (m : ℕ) (l : Record) (ns : List Note) (e : Entry) → Agrees a l ns
-    → AgreesWith (after (record { activity = a; count = m }) (outcomeOf a m e)) (add (observed l ns) e (given (outcomeOf a m e)))
-step-agrees (idle b) m l ns (call c room) i = call-agrees b m l ns c i room
-step-agrees (idle b) m l [] (event e room) i = i
-step-agrees (idle b) m l (y ∷ ns) (event e room) i = i
-step-agrees (busy d phase) m l ns (call c room) i = i
-step-agrees (busy c phase) m l ns (event e room) i = event-agrees c phase m l ns e room i
+step-agrees : (p : Running) (b : Books) (l : Record) (ns : List Note) (e : Entry) → Agrees p l ns
+    → AgreesAt (runningAfter p (outcomeOf p b e)) (add (observed l ns) e (given (outcomeOf p b e)))
+step-agrees idle b l ns (call c room) i = call-agrees l ns c i (admits b c) room
+step-agrees idle b l [] (event e room) i = i
+step-agrees idle b l (y ∷ ns) (event e room) i = i
+step-agrees (busy d phase) b l ns (call c room) i = i
+step-agrees (busy c phase) b l ns (event e room) i = event-agrees c phase l ns e room i
 
 pub agrees : (s : Session) (w : Observed) (e : Entry) → AgreesWith s w → AgreesWith ((step s e) .0) (add w e ((step s e) .1))
-agrees s w e i = step-agrees (s .activity) (s .count) (w .lines) (w .notes) e i
+agrees s w e i = step-agrees (s .running) (s .books) (w .lines) (w .notes) e i
 
 -- what the invariant says of the running call
-running : (n : ℕ) (c : Call) (l : Record) (xs : List Item) (phase : Phase) → Invariant n c l xs phase → Running l n c
-running n c l xs phase g =
+still-runs : (n : ℕ) (c : Call) (l : Record) (xs : List Item) (phase : Phase) → Invariant n c l xs phase → Claimed l n c
+still-runs n c l xs phase g =
     let e : linesOf n l ≡ xs = g .lines in
     record { framesWithin = rw e (omega arith); eventsBelow = rw e (omega (arith, phase-due phase)) }
 
-claims : (a : Activity) (l : Record) (ns : List Note) → Agrees a l ns → Claims l ns
-claims (idle b) l ns i = i .0
+claims : (p : Running) (l : Record) (ns : List Note) → Agrees p l ns → Claims l ns
+claims idle l ns i = i .0
 claims (busy c phase) l [] i = absurd i
 claims (busy c phase) l (y ∷ ns) i =
-    let r : Running l (length ns) c = running (length ns) c l (i .0 .ownLines) phase (i .0 .invariant) in
-    let s : Running l (length ns) (y .call) = rw (i .0 .sameCall) r in
+    let r : Claimed l (length ns) c = still-runs (length ns) c l (i .0 .ownLines) phase (i .0 .invariant) in
+    let s : Claimed l (length ns) (y .call) = rw (i .0 .sameCall) r in
     (rw (i .0 .unanswered) s, i .1)
 
 claims-after : (s : Session) (w : Observed) (es : List Entry) → AgreesWith s w
     → Claims ((observe w es (outputs s es)) .lines) ((observe w es (outputs s es)) .notes)
-claims-after s w [] i = claims (s .activity) (w .lines) (w .notes) i
+claims-after s w [] i = claims (s .running) (w .lines) (w .notes) i
 claims-after s w (e ∷ es) i = claims-after ((step s e) .0) (add w e ((step s e) .1)) es (agrees s w e i)
 
 pub fresh-agrees : AgreesWith fresh (observed [] [])

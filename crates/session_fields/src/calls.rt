@@ -1,7 +1,7 @@
 // The call or the event that a seed draws.
 use super::draw;
 use bench_input::part;
-use discovery::search::Timeout;
+use engine::numbered;
 use engine::session::Session;
 use engine::session::Step;
 use exchange::Event;
@@ -20,63 +20,74 @@ fn count(seed: u64, k: u64) -> usize {
     }
 }
 
-// Calls of the chip itself.
-fn chip(session: Session, seed: u64, bytes: &[u8], buffer: &mut [u8]) -> Step {
-    let n = count(seed, 20);
-    match draw::number(seed, 21) % 10 {
-        0 => session.open(buffer),
-        1 => session.version(buffer),
-        2 => session.reset_mode(buffer),
-        3 => session.set_parameters(4, buffer),
-        4 => session.rf_configuration(1, part(bytes, 0, n), buffer),
-        5 => session.rf_field_off(buffer),
-        6 => session.read_register(part(bytes, 0, n), buffer),
-        7 => session.write_register(part(bytes, 0, n), buffer),
-        8 => session.read_single_register(25404, buffer),
-        _ => session.write_single_register(25404, 1, buffer),
+// The number of a call of the chip itself.
+fn chip_number(k: u64) -> u8 {
+    match k % 10 {
+        0 => numbered::OPEN,
+        1 => numbered::GET_FIRMWARE_VERSION,
+        2 => numbered::RESET_MODE,
+        3 => numbered::SET_PARAMETERS,
+        4 => numbered::RF_CONFIGURATION,
+        5 => numbered::RF_FIELD_OFF,
+        6 => numbered::READ_REGISTER,
+        7 => numbered::WRITE_REGISTER,
+        8 => numbered::READ_SINGLE_REGISTER,
+        _ => numbered::WRITE_SINGLE_REGISTER,
     }
 }
 
-// Calls of an initiator and of a target.
+fn chip(session: Session, seed: u64, bytes: &[u8], buffer: &mut [u8]) -> Step {
+    let number = chip_number(draw::number(seed, 21));
+    let rest = part(bytes, 0, count(seed, 20));
+    let none = part(bytes, 0, 0);
+    session.call(number, 0, 25404, 1, 0, rest, none, none, none, buffer)
+}
+
+// Calls of an initiator and of a target: their numbers follow each other.
 fn peer(session: Session, seed: u64, bytes: &[u8], buffer: &mut [u8]) -> Step {
-    let n = count(seed, 20);
-    let rest = part(bytes, 0, n);
+    let k = draw::number(seed, 21) % 9;
+    let number = std::num::wrapping_add_u8(numbered::IN_LIST_PASSIVE_TARGET, draw::byte(k));
+    let rest = part(bytes, 0, count(seed, 20));
     let none = part(bytes, 0, 0);
     let six = part(bytes, 0, 6);
     let ten = part(bytes, 0, 10);
     let eighteen = part(bytes, 0, 18);
-    match draw::number(seed, 21) % 9 {
-        0 => session.in_list_passive_target(1, 0, rest, buffer),
-        1 => session.in_data_exchange(rest, 100, buffer),
-        2 => session.in_communicate_thru(rest, 100, buffer),
-        3 => session.in_jump_for_dep(false, 1, none, ten, rest, buffer),
-        4 => session.tg_init_target(0, six, eighteen, ten, rest, 100, buffer),
-        5 => session.tg_set_general_bytes(rest, buffer),
-        6 => session.tg_get_initiator_command(100, buffer),
-        7 => session.tg_response_to_initiator(rest, buffer),
-        _ => session.tg_get_target_status(buffer),
+    match number {
+        numbered::IN_JUMP_FOR_DEP => {
+            session.call(number, 0, 0, 0, 1, none, ten, rest, none, buffer)
+        }
+        numbered::TG_INIT_TARGET => {
+            session.call(number, 100, 0, 0, 0, six, eighteen, ten, rest, buffer)
+        }
+        _ => session.call(number, 100, 0, 1, 0, rest, none, none, none, buffer),
     }
 }
 
-// Calls of the device.
+// The number of a call of the device.
+fn device_number(k: u64) -> u8 {
+    match k {
+        1 => numbered::DETECT_TYPE_B,
+        2 => numbered::DETECT_TYPE_F,
+        3 => numbered::DETECT_DEP,
+        5..=6 => numbered::TRANSCEIVE,
+        _ => numbered::DETECT_TYPE_A,
+    }
+}
+
 fn device(session: Session, seed: u64, bytes: &[u8], buffer: &mut [u8]) -> Step {
-    let n = count(seed, 20);
-    let rest = part(bytes, 0, n);
-    match draw::number(seed, 21) % 7 {
-        0 => session.detect_type_a(b"106A", rest, buffer),
-        1 => session.detect_type_b(b"106B", rest, buffer),
-        2 => session.detect_type_f(b"212F", 65535, 0, 0, buffer),
-        3 => session.detect_dep(b"424F", rest, buffer),
-        4 => session.detect_type_a(b"848A", rest, buffer),
-        5 => session.transceive(
-            b"106A",
-            part(bytes, 0, 1),
-            false,
-            rest,
-            Timeout::Standard,
-            buffer,
-        ),
-        _ => session.transceive(b"106A", rest, true, rest, Timeout::Ms(100), buffer),
+    let k = draw::number(seed, 21) % 7;
+    let number = device_number(k);
+    let rest = part(bytes, 0, count(seed, 20));
+    let none = part(bytes, 0, 0);
+    let one = part(bytes, 0, 1);
+    match k {
+        0 => session.call(number, 0, 0, 0, 0, b"106A", rest, none, none, buffer),
+        1 => session.call(number, 0, 0, 0, 0, b"106B", rest, none, none, buffer),
+        2 => session.call(number, 0, 65535, 0, 0, b"212F", none, none, none, buffer),
+        3 => session.call(number, 0, 0, 0, 0, b"424F", rest, none, none, buffer),
+        4 => session.call(number, 0, 0, 0, 0, b"848A", rest, none, none, buffer),
+        5 => session.call(number, 0, 0, 0, 0, b"106A", one, rest, none, buffer),
+        _ => session.call(number, 0, 100, 1, 1, b"106A", rest, rest, none, buffer),
     }
 }
 
@@ -124,7 +135,8 @@ fn response(code: u8, n: u8, status: u8) -> [u8; ROOM] {
 // Hands the session an event.
 fn event(session: Session, seed: u64, buffer: &mut [u8]) -> Step {
     let state = session.state;
-    let exchange = state.exchange;
+    let core = state.core;
+    let exchange = core.exchange;
     let n = draw::byte(draw::number(seed, 22));
     let x = draw::number(seed, 23);
     let event = kind(draw::number(seed, 24));

@@ -1,5 +1,7 @@
 // Numbers drawn from a seed, and sessions made of them.
+use engine::books::Books;
 use engine::call::Call;
+use engine::core::Core;
 use engine::session::Session;
 use engine::state::State;
 use exchange::Exchange;
@@ -87,18 +89,39 @@ fn exchange(seed: u64) -> Exchange {
     }
 }
 
-// A session with any fields, most of them in their ranges.
-pub(crate) fn session(seed: u64) -> Session {
+fn core(seed: u64) -> Core {
     let exchange = exchange(seed);
     let call = call(seed);
-    let state = State {
+    Core {
         command: filled(number(seed, 7), 512),
         found: filled(number(seed, 8), 1022),
         exchange,
         call,
-        opened: number(seed, 9) % 4 > 0,
+    }
+}
+
+// Open in most, not open in a quarter, out of range in few.
+fn opened(x: u64) -> u8 {
+    match x % 32 {
+        0 => 2,
+        1 => 255,
+        2..=9 => 0,
+        _ => 1,
+    }
+}
+
+fn books(seed: u64) -> Books {
+    Books {
+        opened: opened(number(seed, 9)),
         frames: wide(number(seed, 10)),
-    };
+    }
+}
+
+// A session with any fields, most of them in their ranges.
+pub(crate) fn session(seed: u64) -> Session {
+    let core = core(seed);
+    let books = books(seed);
+    let state = State { core, books };
     let command = byte(number(seed, 11));
     let found = byte(number(seed, 12));
     Session {

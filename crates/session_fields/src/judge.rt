@@ -1,6 +1,9 @@
 // The outcomes counted, and what an outcome must not be.
-use engine::state::Output;
+use engine::books::Books;
+use engine::core::Core;
+use engine::core::Output;
 use engine::state::State;
+use errors::Numbered;
 
 const OUTCOMES: usize = 272;
 
@@ -14,45 +17,49 @@ pub struct Tally {
     long: u64,
 }
 
+fn number(numbered: Numbered) -> usize {
+    numbered.number as usize
+}
+
 // An outcome's number: a refusal's is its number in document 01, others come behind them.
 fn kind(output: Output) -> usize {
     match output {
-        Output::Write(_) => 256,
+        Output::Ack => 256,
+        Output::Command(_) => 256,
         Output::Read(_) => 257,
         Output::Drain => 258,
         Output::Pause(_) => 259,
         Output::Done(_) => 260,
         Output::Type1(_) => 261,
         Output::Nothing => 262,
-        Output::Refused(refusal) => {
-            let numbered = refusal.numbered();
-            numbered.0 as usize
-        }
+        Output::Failed(fault) => number(fault.numbered()),
+        Output::Refused(refusal) => number(refusal.numbered()),
     }
 }
 
 // How many bytes of the buffer it tells of.
 fn told(output: Output) -> usize {
     match output {
-        Output::Write(n) => n,
+        Output::Ack => 6,
+        Output::Command(n) => n,
         Output::Read(_) => 0,
         Output::Drain => 0,
         Output::Pause(_) => 0,
         Output::Done(n) => n,
         Output::Type1(n) => n,
         Output::Nothing => 0,
+        Output::Failed(_) => 0,
         Output::Refused(_) => 0,
     }
 }
 
-// Every field of a session is in its range.
-fn in_range(state: State) -> bool {
-    let exchange = state.exchange;
-    let call = state.call;
-    if state.command > 512 {
+fn core_in_range(core: Core) -> bool {
+    let exchange = core.exchange;
+    let call = core.call;
+    if core.command > 512 {
         return false;
     }
-    if state.found > 1022 {
+    if core.found > 1022 {
         return false;
     }
     if exchange.phase > 6 {
@@ -67,12 +74,18 @@ fn in_range(state: State) -> bool {
     call.phase <= 5
 }
 
-fn same_bool(a: bool, b: bool) -> bool {
-    if a { b } else { !b }
+// Every field of a session is in its range.
+fn in_range(state: State) -> bool {
+    let core = state.core;
+    let books = state.books;
+    if books.opened > 1 {
+        return false;
+    }
+    core_in_range(core)
 }
 
 // The call and the exchange are the same.
-fn same_running(before: State, after: State) -> bool {
+fn same_running(before: Core, after: Core) -> bool {
     let a = before.call;
     let b = after.call;
     let x = before.exchange;
@@ -95,18 +108,26 @@ fn same_running(before: State, after: State) -> bool {
     x.clock == y.clock
 }
 
-fn same(before: State, after: State) -> bool {
+fn same_core(before: Core, after: Core) -> bool {
     if before.command != after.command {
         return false;
     }
     if before.found != after.found {
         return false;
     }
-    if before.frames != after.frames {
+    same_running(before, after)
+}
+
+fn same_books(before: Books, after: Books) -> bool {
+    if before.opened != after.opened {
         return false;
     }
-    if same_bool(before.opened, after.opened) {
-        same_running(before, after)
+    before.frames == after.frames
+}
+
+fn same(before: State, after: State) -> bool {
+    if same_books(before.books, after.books) {
+        same_core(before.core, after.core)
     } else {
         false
     }

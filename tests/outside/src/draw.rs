@@ -1,7 +1,7 @@
 //! What a case draws: a session, a call or an event, a buffer.
 
 use rcs956::BUFFER_SIZE;
-use rcs956::raw::{CallState, ExchangeState, RawSession, State, event};
+use rcs956::raw::{self, RawSession, event};
 
 /// A generator of numbers (splitmix64): a seed gives the same numbers in each run.
 pub struct Draw(u64);
@@ -75,18 +75,49 @@ impl Draw {
         }
     }
 
-    /// A session of a reader that is not open, with any other fields, most of them in their ranges.
-    pub fn session(&mut self) -> RawSession {
-        let exchange = ExchangeState { phase: self.small(6), code: self.code(), clock: self.number() as u32 };
-        let kind = if self.once(3) { 0 } else { self.small(20) };
-        let phase = if self.once(2) { 0 } else { self.small(5) };
-        let call = CallState { kind, stage: self.small(9), phase };
-        let frames = self.pick(&[0, 1, 77, u32::MAX - 1, u32::MAX, u32::MAX]);
-        let state = State { command: self.used(512), found: self.used(1022), exchange, call, opened: false, frames };
-        let mut session = RawSession { command: [0; 512], found: [0; 1024], state };
-        self.fill(&mut session.command);
-        self.fill(&mut session.found);
+    /// A fresh session, mostly as if the reader were open.
+    pub fn fresh(&mut self) -> Box<RawSession> {
+        let mut session = Box::new(raw::fresh());
+        session.state.books.opened = !self.once(8) as u8;
         session
+    }
+
+    /// A session with any bytes, also between its fields.
+    fn any_bytes(&mut self) -> Box<RawSession> {
+        let bytes = self.bytes(size_of::<RawSession>());
+        let mut session = Box::new(raw::fresh());
+        // SAFETY: a session has so many bytes, and its fields are numbers, which may have any.
+        unsafe { (&raw mut *session).cast::<u8>().copy_from_nonoverlapping(bytes.as_ptr(), bytes.len()) };
+        session
+    }
+
+    /// A session with any bytes; in most its numbers are drawn anew, most of them in their ranges.
+    pub fn session(&mut self) -> Box<RawSession> {
+        let mut session = self.any_bytes();
+        if self.once(16) {
+            return session;
+        }
+        let (core, books) = (&mut session.state.core, &mut session.state.books);
+        core.command = self.used(512);
+        core.found = self.used(1022);
+        core.exchange.phase = self.small(6);
+        core.exchange.code = self.code();
+        core.call.kind = if self.once(3) { 0 } else { self.small(20) };
+        core.call.stage = self.small(9);
+        core.call.phase = if self.once(2) { 0 } else { self.small(5) };
+        books.opened = self.opened();
+        books.frames = self.pick(&[0, 1, 77, u32::MAX - 1, u32::MAX, u32::MAX]);
+        session
+    }
+
+    /// Mostly 1; else 0, or any byte.
+    fn opened(&mut self) -> u8 {
+        let any = self.byte();
+        match self.below(16) {
+            0 => any,
+            1 | 2 => 0,
+            _ => 1,
+        }
     }
 
     /// A command's code, mostly of the chip's.
@@ -112,7 +143,7 @@ impl Draw {
         if self.once(10) {
             return if self.once(4) { self.byte() } else { self.below(8) as u8 };
         }
-        match (session.state.call.phase, session.state.exchange.phase) {
+        match (session.state.core.call.phase, session.state.core.exchange.phase) {
             (1 | 3, _) | (0, 0 | 3 | 4 | 5) => self.pick(&[event::OK, event::OK, event::OK, event::BAD]),
             (2 | 5, _) => event::SLEPT,
             _ if self.once(5) => self.pick(&[event::TIME, event::FAIL, event::LATE]),

@@ -1,6 +1,7 @@
 -- `read` meets its contract.
 use mathlib.Core.Path.{refl}
 use borrow.Author.Needs.{needs}
+use Rattle.bench_input.proofs.StandLaws.{unread, again}
 use borrow.Author.Tests.{le-ltb, eq-eqb, ne-eqb}
 use Rattle.framing.specs.Rules.{at-true, at-false, steps}
 use Rattle.bench_input.specs.Inputs.{inputOf, byWords}
@@ -24,9 +25,9 @@ returns-2 c =
     let at-count = c .before .before in
     let at-if1 = at-count .before in
     let start = at-if1 .before .before in
-    at-false _ _ _ _ (le-ltb _ _ (at-if1 .if1 .left))
+    again (c .one-word .ensures (start .args .bytes .now)) (at-false _ _ _ _ (le-ltb _ _ (at-if1 .if1 .left))
     (counted _ _ _ _ (at-count .count .ensures)
-    (at-true _ _ _ _ (eq-eqb _ _ (c .before .if2 .taken)) (c .one-word .ensures (start .args .bytes .now))))
+    (at-true _ _ _ _ (eq-eqb _ _ (c .before .if2 .taken)) ((c .one-word .ensures (start .args .bytes .now)) .says))))
 
 two-words-requires : tie.Need-two-words-requires
 two-words-requires c κs = search needs
@@ -38,10 +39,10 @@ returns-3 c =
     let at-if2 = at-if3 .before in
     let at-count = at-if2 .before in
     let at-if1 = at-count .before in
-    at-false _ _ _ _ (le-ltb _ _ (at-if1 .if1 .left))
+    again (c .two-words .ensures) (at-false _ _ _ _ (le-ltb _ _ (at-if1 .if1 .left))
     (counted _ _ _ _ (at-count .count .ensures)
     (at-false _ _ _ _ (ne-eqb _ _ (at-if2 .if2 .left))
-    (at-true _ _ _ _ (eq-eqb _ _ (at-if3 .if3 .taken)) (c .two-words .ensures))))
+    (at-true _ _ _ _ (eq-eqb _ _ (at-if3 .if3 .taken)) (c .two-words .ensures .says)))))
 
 three-words-requires : tie.Need-three-words-requires
 three-words-requires c κs = search needs
@@ -54,11 +55,11 @@ returns-4 c =
     let at-if2 = at-if3 .before in
     let at-count = at-if2 .before in
     let at-if1 = at-count .before in
-    at-false _ _ _ _ (le-ltb _ _ (at-if1 .if1 .left))
+    again (c .three-words .ensures) (at-false _ _ _ _ (le-ltb _ _ (at-if1 .if1 .left))
     (counted _ _ _ _ (at-count .count .ensures)
     (at-false _ _ _ _ (ne-eqb _ _ (at-if2 .if2 .left))
     (at-false _ _ _ _ (ne-eqb _ _ (at-if3 .if3 .left))
-    (at-true _ _ _ _ (eq-eqb _ _ (at-if4 .if4 .taken)) (c .three-words .ensures)))))
+    (at-true _ _ _ _ (eq-eqb _ _ (at-if4 .if4 .taken)) (c .three-words .ensures .says))))))
 
 four-words-requires : tie.Need-four-words-requires
 four-words-requires c κs = search needs
@@ -72,12 +73,12 @@ returns-5 c =
     let at-if2 = at-if3 .before in
     let at-count = at-if2 .before in
     let at-if1 = at-count .before in
-    at-false _ _ _ _ (le-ltb _ _ (at-if1 .if1 .left))
+    again (c .four-words .ensures) (at-false _ _ _ _ (le-ltb _ _ (at-if1 .if1 .left))
     (counted _ _ _ _ (at-count .count .ensures)
     (at-false _ _ _ _ (ne-eqb _ _ (at-if2 .if2 .left))
     (at-false _ _ _ _ (ne-eqb _ _ (at-if3 .if3 .left))
     (at-false _ _ _ _ (ne-eqb _ _ (at-if4 .if4 .left))
-    (at-true _ _ _ _ (eq-eqb _ _ (at-if5 .if5 .taken)) (c .four-words .ensures))))))
+    (at-true _ _ _ _ (eq-eqb _ _ (at-if5 .if5 .taken)) (c .four-words .ensures .says)))))))
 
 five-words-requires : tie.Need-five-words-requires
 five-words-requires c κs = search needs
@@ -92,13 +93,13 @@ returns-6 c =
     let at-if2 = at-if3 .before in
     let at-count = at-if2 .before in
     let at-if1 = at-count .before in
-    at-false _ _ _ _ (le-ltb _ _ (at-if1 .if1 .left))
+    again (c .five-words .ensures) (at-false _ _ _ _ (le-ltb _ _ (at-if1 .if1 .left))
     (counted _ _ _ _ (at-count .count .ensures)
     (at-false _ _ _ _ (ne-eqb _ _ (at-if2 .if2 .left))
     (at-false _ _ _ _ (ne-eqb _ _ (at-if3 .if3 .left))
     (at-false _ _ _ _ (ne-eqb _ _ (at-if4 .if4 .left))
     (at-false _ _ _ _ (ne-eqb _ _ (at-if5 .if5 .left))
-    (at-true _ _ _ _ (eq-eqb _ _ (at-if6 .if6 .taken)) (c .five-words .ensures)))))))
+    (at-true _ _ _ _ (eq-eqb _ _ (at-if6 .if6 .taken)) (c .five-words .ensures .says))))))))
 
 six-words-requires : tie.Need-six-words-requires
 six-words-requires c κs = search needs
@@ -114,14 +115,14 @@ returns-7 c =
     let at-if2 = at-if3 .before in
     let at-count = at-if2 .before in
     let at-if1 = at-count .before in
-    at-false _ _ _ _ (le-ltb _ _ (at-if1 .if1 .left))
+    again (c .six-words .ensures) (at-false _ _ _ _ (le-ltb _ _ (at-if1 .if1 .left))
     (counted _ _ _ _ (at-count .count .ensures)
     (at-false _ _ _ _ (ne-eqb _ _ (at-if2 .if2 .left))
     (at-false _ _ _ _ (ne-eqb _ _ (at-if3 .if3 .left))
     (at-false _ _ _ _ (ne-eqb _ _ (at-if4 .if4 .left))
     (at-false _ _ _ _ (ne-eqb _ _ (at-if5 .if5 .left))
     (at-false _ _ _ _ (ne-eqb _ _ (at-if6 .if6 .left))
-    (at-true _ _ _ _ (eq-eqb _ _ (at-if7 .if7 .taken)) (c .six-words .ensures))))))))
+    (at-true _ _ _ _ (eq-eqb _ _ (at-if7 .if7 .taken)) (c .six-words .ensures .says)))))))))
 
 seven-words-requires : tie.Need-seven-words-requires
 seven-words-requires c κs = search needs
@@ -138,7 +139,7 @@ returns-8 c =
     let at-if2 = at-if3 .before in
     let at-count = at-if2 .before in
     let at-if1 = at-count .before in
-    at-false _ _ _ _ (le-ltb _ _ (at-if1 .if1 .left))
+    again (c .seven-words .ensures) (at-false _ _ _ _ (le-ltb _ _ (at-if1 .if1 .left))
     (counted _ _ _ _ (at-count .count .ensures)
     (at-false _ _ _ _ (ne-eqb _ _ (at-if2 .if2 .left))
     (at-false _ _ _ _ (ne-eqb _ _ (at-if3 .if3 .left))
@@ -146,7 +147,7 @@ returns-8 c =
     (at-false _ _ _ _ (ne-eqb _ _ (at-if5 .if5 .left))
     (at-false _ _ _ _ (ne-eqb _ _ (at-if6 .if6 .left))
     (at-false _ _ _ _ (ne-eqb _ _ (at-if7 .if7 .left))
-    (at-true _ _ _ _ (eq-eqb _ _ (at-if8 .if8 .taken)) (c .seven-words .ensures)))))))))
+    (at-true _ _ _ _ (eq-eqb _ _ (at-if8 .if8 .taken)) (c .seven-words .ensures .says))))))))))
 
 returns-9 : tie.Need-returns-9
 unfolding inputOf byWords
@@ -158,7 +159,7 @@ returns-9 c =
     let at-if2 = at-if3 .before in
     let at-count = at-if2 .before in
     let at-if1 = at-count .before in
-    at-false _ _ _ _ (le-ltb _ _ (at-if1 .if1 .left))
+    unread (at-false _ _ _ _ (le-ltb _ _ (at-if1 .if1 .left))
     (counted _ _ _ _ (at-count .count .ensures)
     (at-false _ _ _ _ (ne-eqb _ _ (at-if2 .if2 .left))
     (at-false _ _ _ _ (ne-eqb _ _ (at-if3 .if3 .left))
@@ -166,7 +167,7 @@ returns-9 c =
     (at-false _ _ _ _ (ne-eqb _ _ (at-if5 .if5 .left))
     (at-false _ _ _ _ (ne-eqb _ _ (at-if6 .if6 .left))
     (at-false _ _ _ _ (ne-eqb _ _ (c .before .if7 .left))
-    (at-false _ _ _ _ (ne-eqb _ _ (c .if8 .left)) refl))))))))
+    (at-false _ _ _ _ (ne-eqb _ _ (c .if8 .left)) refl)))))))))
 
 pub read-spec : {M : Type 1} → statement M
 read-spec =

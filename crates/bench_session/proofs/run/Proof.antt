@@ -3,6 +3,7 @@ use mathlib.Core.Path.{_≡_, sym}
 use Prim.Native.Nat.{ℕ}
 use lib.ListN.{length, length-replicate}
 use borrow.Author.Needs.{needs}
+use Rattle.bench.specs.LineLaws.{gave-fits}
 use Rattle.bench_session.proofs.OutputLaws.{out-part}
 use Rattle.bench_session.proofs.run.Statement.{statement}
 use Rattle.bench_session.proofs.run.Tie as tie
@@ -38,7 +39,7 @@ slice-aggregate-reply : tie.Need-slice-aggregate-reply Inv-loop μ-loop
 slice-aggregate-reply c = search needs
 
 reply-requires : tie.Need-reply-requires Inv-loop μ-loop
-reply-requires c κs = search needs
+reply-requires c κs = search (gave-fits, needs)
 
 returns : tie.Need-returns Inv-loop μ-loop
 returns c = search needs

@@ -1,15 +1,16 @@
 -- `step` meets its contract.
 use borrow.Author.Needs.{needs}
+use Rattle.engine.specs.Numbers.{callOf}
 use Rattle.bench_session.specs.Answers.{stepOf}
-use Rattle.bench_session.proofs.AnswerLaws.{kept-is}
+use Rattle.bench_session.proofs.AnswerLaws.{kept-is, call-done}
 use Rattle.bench_session.proofs.step.Statement.{statement}
 use Rattle.bench_session.proofs.step.Tie as tie
 
 enum-told : tie.Need-enum-told
 enum-told c = search needs
 
-open-requires : tie.Need-open-requires
-open-requires c κs = search needs
+called-requires : tie.Need-called-requires
+called-requires c κs = search needs
 
 enum-known-input : tie.Need-enum-known-input
 enum-known-input c = search needs
@@ -17,23 +18,35 @@ enum-known-input c = search needs
 chip-requires : tie.Need-chip-requires
 chip-requires c κs = search needs
 
+called-requires-2 : tie.Need-called-requires-2
+called-requires-2 c κs = search needs
+
 enum-known-input-2 : tie.Need-enum-known-input-2
 enum-known-input-2 c = search needs
 
-in-call-requires : tie.Need-in-call-requires
-in-call-requires c κs = search needs
+initiator-requires : tie.Need-initiator-requires
+initiator-requires c κs = search needs
+
+called-requires-3 : tie.Need-called-requires-3
+called-requires-3 c κs = search needs
 
 enum-known-input-3 : tie.Need-enum-known-input-3
 enum-known-input-3 c = search needs
 
-tg-call-requires : tie.Need-tg-call-requires
-tg-call-requires c κs = search needs
+target-requires : tie.Need-target-requires
+target-requires c κs = search needs
+
+called-requires-4 : tie.Need-called-requires-4
+called-requires-4 c κs = search needs
 
 enum-known-input-4 : tie.Need-enum-known-input-4
 enum-known-input-4 c = search needs
 
-dev-call-requires : tie.Need-dev-call-requires
-dev-call-requires c κs = search needs
+device-requires : tie.Need-device-requires
+device-requires c κs = search needs
+
+called-requires-5 : tie.Need-called-requires-5
+called-requires-5 c κs = search needs
 
 enum-known-input-5 : tie.Need-enum-known-input-5
 enum-known-input-5 c = search needs
@@ -54,62 +67,39 @@ same-length : tie.Need-same-length
 same-length c = search needs
 
 returns : tie.Need-returns
-unfolding stepOf
-returns c =
-    let at-open = c .before .before in
-    let at-enum-told = at-open .before .before in
-    rw (at-enum-told .enum-told .given .1) (at-open .«open» .ensures)
+unfolding callOf stepOf
+returns c = rw (c .before .before .before .before .before .enum-told .given .1) (c .before .before .called .ensures)
 
 same-length-2 : tie.Need-same-length-2
 same-length-2 c = search needs
 
 returns-2 : tie.Need-returns-2
-unfolding stepOf
-returns-2 c =
-    let at-chip = c .before .before in
-    let at-input = at-chip .before .before .before .before in
-    rw (at-input .input .given .1) (at-chip .chip .ensures)
+returns-2 c = rw (c .before .before .before .before .before .before .before .input .given .1) (call-done _ _ _ _ _ (c .before .before .called2 .ensures) (c .before .before .before .before .before .chip .ensures _))
 
 same-length-3 : tie.Need-same-length-3
 same-length-3 c = search needs
 
 returns-3 : tie.Need-returns-3
-unfolding stepOf
-returns-3 c =
-    let at-in-call = c .before .before in
-    let at-input2 = at-in-call .before .before .before .before in
-    rw (at-input2 .input2 .given .1) (at-in-call .in-call .ensures)
+returns-3 c = rw (c .before .before .before .before .before .before .before .input2 .given .1) (call-done _ _ _ _ _ (c .before .before .called3 .ensures) (c .before .before .before .before .before .initiator .ensures _))
 
 same-length-4 : tie.Need-same-length-4
 same-length-4 c = search needs
 
 returns-4 : tie.Need-returns-4
-unfolding stepOf
-returns-4 c =
-    let at-tg-call = c .before .before in
-    let at-input3 = at-tg-call .before .before .before .before in
-    rw (at-input3 .input3 .given .1) (at-tg-call .tg-call .ensures)
+returns-4 c = rw (c .before .before .before .before .before .before .before .input3 .given .1) (call-done _ _ _ _ _ (c .before .before .called4 .ensures) (c .before .before .before .before .before .target .ensures _))
 
 same-length-5 : tie.Need-same-length-5
 same-length-5 c = search needs
 
 returns-5 : tie.Need-returns-5
-unfolding stepOf
-returns-5 c =
-    let at-dev-call = c .before .before in
-    let at-input4 = at-dev-call .before .before .before .before in
-    rw (at-input4 .input4 .given .1) (at-dev-call .dev-call .ensures)
+returns-5 c = rw (c .before .before .before .before .before .before .before .input4 .given .1) (call-done _ _ _ _ _ (c .before .before .called5 .ensures) (c .before .before .before .before .before .device .ensures _))
 
 same-length-6 : tie.Need-same-length-6
 same-length-6 c = search needs
 
 returns-6 : tie.Need-returns-6
 unfolding stepOf
-returns-6 c =
-    let at-event = c .before .before in
-    let at-part = at-event .before .before in
-    let at-input5 = at-part .before .before .before in
-    rw (at-input5 .input5 .given .1, ← at-part .part .ensures) (at-event .event .ensures)
+returns-6 c = rw (c .before .before .before .before .before .before .before .input5 .given .1, ← c .before .before .before .before .part .ensures) (c .before .before .event .ensures)
 
 returns-7 : tie.Need-returns-7
 unfolding stepOf
@@ -120,15 +110,19 @@ step-spec =
     tie.close
     (tie.spec
     enum-told
-    open-requires
+    called-requires
     enum-known-input
     chip-requires
+    called-requires-2
     enum-known-input-2
-    in-call-requires
+    initiator-requires
+    called-requires-3
     enum-known-input-3
-    tg-call-requires
+    target-requires
+    called-requires-4
     enum-known-input-4
-    dev-call-requires
+    device-requires
+    called-requires-5
     enum-known-input-5
     part-requires
     event-requires

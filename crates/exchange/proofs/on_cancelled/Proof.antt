@@ -1,4 +1,5 @@
 -- `exchange::on_cancelled` meets its contract.
+use mathlib.Core.Path.{refl}
 use borrow.Author.Needs.{needs}
 use Rattle.exchange.specs.Rules.{fails, stays}
 use Rattle.exchange.proofs.Tags.{not-written}
@@ -8,20 +9,14 @@ use Rattle.exchange.proofs.on_cancelled.Tie as tie
 enum-told : tie.Need-enum-told
 enum-told c = search needs
 
-failed-requires : tie.Need-failed-requires
-failed-requires c κs = search needs
-
 enum-told-2 : tie.Need-enum-told-2
 enum-told-2 c = search needs
 
-failed-requires-2 : tie.Need-failed-requires-2
-failed-requires-2 c κs = search needs
-
 returns : tie.Need-returns
-returns c x p = rw (c .before .enum-told .given .1) (search (fails, needs))
+returns c x p = rw (c .enum-told .given .1) (fails _ _ _ _ refl)
 
 returns-2 : tie.Need-returns-2
-returns-2 c x p = rw (c .before .enum-told2 .given .1) (search (fails, needs))
+returns-2 c x p = rw (c .enum-told2 .given .1) (fails _ _ _ _ refl)
 
 returns-3 : tie.Need-returns-3
 returns-3 c x p = stays _ _ _ (not-written _ _ _ (c .before .args .event) p (c .match .keys3))
@@ -29,4 +24,4 @@ returns-3 c x p = stays _ _ _ (not-written _ _ _ (c .before .args .event) p (c .
 pub on-cancelled-spec : {M : Type 1} → statement M
 on-cancelled-spec =
     tie.close
-    (tie.spec enum-told failed-requires enum-told-2 failed-requires-2 returns returns-2 returns-3)
+    (tie.spec enum-told enum-told-2 returns returns-2 returns-3)

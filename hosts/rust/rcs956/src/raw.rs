@@ -1,6 +1,6 @@
 //! The three functions of include/rcs956.h on slices, with numbers for calls, events and outcomes.
 //!
-//! They take any arguments: a session with fields out of range is refused, and so is a short buffer. Most hosts want
+//! They take any arguments: a session with a field out of range is refused, and so is a short buffer. Most hosts want
 //! [`crate::Reader`] instead.
 
 use crate::ffi;
@@ -47,18 +47,32 @@ pub struct CallState {
     pub phase: u8,
 }
 
+/// The numbers of the running call.
 #[repr(C)]
 #[derive(Clone, Debug, Default, PartialEq, Eq)]
-pub struct State {
-    /// The bytes in use of the two arrays.
+pub struct Core {
+    /// The bytes in use of the session's two arrays.
     pub command: usize,
     pub found: usize,
     pub exchange: ExchangeState,
     pub call: CallState,
-    /// The reader is open.
-    pub opened: bool,
+}
+
+/// The reader's books. An opening that is accepted begins them anew: both are 0.
+#[repr(C)]
+#[derive(Clone, Debug, Default, PartialEq, Eq)]
+pub struct Books {
+    /// 1 where the reader is open, else 0, also while an opening runs; any other value is out of range.
+    pub opened: u8,
     /// Command frames ordered since the last opening began.
     pub frames: u32,
+}
+
+#[repr(C)]
+#[derive(Clone, Debug, Default, PartialEq, Eq)]
+pub struct State {
+    pub core: Core,
+    pub books: Books,
 }
 
 /// One reader's session.

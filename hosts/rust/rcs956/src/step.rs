@@ -144,13 +144,14 @@ impl Reader {
         self.due.map(|outcome| self.step(outcome))
     }
 
+    /// The last opening has succeeded; false while one runs.
     pub fn is_open(&self) -> bool {
-        self.session.state.opened
+        self.session.state.books.opened == 1
     }
 
     /// Command frames ordered since the last opening began, up to 4,294,967,295.
     pub fn frames(&self) -> u32 {
-        self.session.state.frames
+        self.session.state.books.frames
     }
 
     fn event(&mut self, number: u8, packet: &[u8]) -> Step<'_> {

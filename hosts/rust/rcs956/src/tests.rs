@@ -1,4 +1,4 @@
-use crate::raw::{self, Arguments, Outcome, RawSession, State};
+use crate::raw::{self, Arguments, Books, Core, ExchangeState, Outcome, RawSession, State};
 use crate::*;
 use std::mem::{offset_of, size_of};
 
@@ -39,13 +39,17 @@ impl Transport for Scripted<'_> {
 
 #[test]
 fn layout() {
-    assert_eq!(size_of::<RawSession>(), 1568);
+    assert_eq!(size_of::<RawSession>(), 1576);
     assert_eq!(offset_of!(RawSession, found), 512);
     assert_eq!(offset_of!(RawSession, state), 1536);
-    assert_eq!(offset_of!(State, exchange), 16);
-    assert_eq!(offset_of!(State, call), 24);
-    assert_eq!(offset_of!(State, opened), 27);
-    assert_eq!(offset_of!(State, frames), 28);
+    assert_eq!(offset_of!(State, core), 0);
+    assert_eq!(offset_of!(State, books), 32);
+    assert_eq!(offset_of!(Core, found), 8);
+    assert_eq!(offset_of!(Core, exchange), 16);
+    assert_eq!(offset_of!(Core, call), 24);
+    assert_eq!(offset_of!(ExchangeState, clock), 4);
+    assert_eq!(offset_of!(Books, opened), 0);
+    assert_eq!(offset_of!(Books, frames), 4);
     assert_eq!(size_of::<Outcome>(), 16);
     assert_eq!(offset_of!(Outcome, time), 4);
     assert_eq!(offset_of!(Outcome, len), 8);
@@ -141,13 +145,48 @@ fn lines_of_ends() {
     assert_eq!(Step::None.to_string(), "none");
 }
 
+/// A session in which no call runs, with these books.
+fn session_with(opened: u8, frames: u32) -> RawSession {
+    let mut session = raw::fresh();
+    session.state.books = Books { opened, frames };
+    session
+}
+
+fn refused(number: u8) -> Outcome {
+    Outcome { kind: raw::kind::REFUSED, refusal: number, status: 0, time: 0, len: 0 }
+}
+
+#[test]
+fn opening_begins_the_books_anew() {
+    for opened in [0, 1] {
+        let mut session = session_with(opened, 77);
+        let outcome = raw::call(&mut session, &Call::Open.arguments(), &mut [0; 1024]);
+        assert_eq!((outcome.kind, session.state.books), (raw::kind::WRITE, Books::default()));
+    }
+}
+
+#[test]
+fn opened_out_of_range() {
+    for opened in 2..=255 {
+        let mut session = session_with(opened, 77);
+        assert_eq!(raw::call(&mut session, &Call::Open.arguments(), &mut [0; 1024]), refused(1));
+        assert_eq!(raw::call(&mut session, &Call::Version.arguments(), &mut [0; 1024]), refused(1));
+        assert_eq!(session, session_with(opened, 77));
+        // The opening waits for its ACK to be written.
+        let mut session = raw::fresh();
+        assert_eq!(raw::call(&mut session, &Call::Open.arguments(), &mut [0; 1024]).kind, raw::kind::WRITE);
+        session.state.books.opened = opened;
+        let before = session.clone();
+        assert_eq!(raw::event(&mut session, raw::event::OK, &[], &mut [0; 1024]), refused(1));
+        assert_eq!(session, before);
+    }
+}
+
 #[test]
 fn no_such_call_and_short_buffer() {
-    let mut session = raw::fresh();
-    session.state.opened = true;
+    let mut session = session_with(1, 0);
     let before = session.clone();
     let unknown = Arguments { number: 24, ..Arguments::default() };
-    let refused = |number| Outcome { kind: raw::kind::REFUSED, refusal: number, status: 0, time: 0, len: 0 };
     assert_eq!(raw::call(&mut session, &unknown, &mut [0; 1024]), refused(4));
     assert_eq!(raw::call(&mut session, &unknown, &mut [0; 1023]), refused(2));
     assert_eq!(raw::call(&mut session, &Call::Version.arguments(), &mut []), refused(2));

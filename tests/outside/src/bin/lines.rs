@@ -179,7 +179,7 @@ fn main() -> io::Result<()> {
         let text = line.strip_suffix(b"\n").unwrap_or(&line);
         let answer = answered(text, &mut session, &mut buffer);
         match frames {
-            true => writeln!(output, "{answer} frames {}", session.state.frames)?,
+            true => writeln!(output, "{answer} frames {}", session.state.books.frames)?,
             false => writeln!(output, "{answer}")?,
         }
         output.flush()?;

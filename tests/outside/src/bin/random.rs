@@ -1,6 +1,6 @@
 //! Random sessions, calls and events through the archive: `random SEED COUNT [FIRST]`.
 //!
-//! A case draws a session, three in four with any fields, and makes eight calls and events on it, each with its own buffer; on a
+//! A case draws a session, three in four with any bytes, and makes eight calls and events on it, each with its own buffer; on a
 //! fresh session sixty. What must hold of every step is in `outcome_faults` and `session_faults`. The first fault ends the program
 //! with 1; so does an outcome that a run of 20,000 cases or more never met.
 
@@ -55,12 +55,12 @@ fn drawn_call(draw: &mut Draw) -> Entry {
 
 impl Entry {
     fn drawn(draw: &mut Draw, session: &RawSession) -> Entry {
-        if session.state.call.kind == 0 && !draw.once(8) || draw.once(16) {
+        let core = &session.state.core;
+        if core.call.kind == 0 && !draw.once(8) || draw.once(16) {
             return drawn_call(draw);
         }
         let number = draw.event(session);
-        let packet =
-            if number == event::PACKET || draw.once(4) { draw.packet(session.state.exchange.code) } else { [].into() };
+        let packet = if number == event::PACKET || draw.once(4) { draw.packet(core.exchange.code) } else { [].into() };
         Entry::Event { number, packet }
     }
 
@@ -79,11 +79,29 @@ impl Entry {
     }
 }
 
+fn core_in_range(session: &RawSession) -> bool {
+    let core = &session.state.core;
+    let call = &core.call;
+    let lengths = core.command <= 512 && core.found <= 1022;
+    lengths && core.exchange.phase <= 6 && call.kind <= 20 && call.stage <= 9 && call.phase <= 5
+}
+
+fn books_in_range(session: &RawSession) -> bool {
+    session.state.books.opened <= 1
+}
+
 fn in_range(session: &RawSession) -> bool {
-    let state = &session.state;
-    let call = &state.call;
-    let lengths = state.command <= 512 && state.found <= 1022;
-    lengths && state.exchange.phase <= 6 && call.kind <= 20 && call.stage <= 9 && call.phase <= 5
+    core_in_range(session) && books_in_range(session)
+}
+
+/// Whether a step must be refused with 1, where the session's fields say it; of an event during a call they do not.
+fn out_of_turn(entry: &Entry, before: &RawSession) -> Option<bool> {
+    let runs = before.state.core.call.kind != 0;
+    match entry {
+        _ if !in_range(before) => Some(true),
+        Entry::Call { .. } => Some(runs || !entry.is_opening() && before.state.books.opened == 0),
+        Entry::Event { .. } => (!runs).then_some(true),
+    }
 }
 
 /// The frame count that must be behind a step.
@@ -95,19 +113,31 @@ fn frames_due(entry: &Entry, before: u32, outcome: Outcome) -> u32 {
     }
 }
 
+/// What `opened` must be behind a step that is not refused with 1 to 6: 0 once an opening has begun, and 1 once it is done.
+fn opened_due(entry: &Entry, before: &RawSession, outcome: Outcome) -> u8 {
+    let opening_runs = before.state.core.call.kind == 1;
+    match outcome.kind {
+        kind::WRITE if entry.is_opening() => 0,
+        kind::DONE if opening_runs => 1,
+        kind::DONE_TYPE1 | kind::NONE | kind::REFUSED if opening_runs => 0,
+        _ => before.state.books.opened,
+    }
+}
+
 /// What the session must be behind a step.
 fn session_faults(entry: &Entry, before: &RawSession, after: &RawSession, outcome: Outcome) -> Vec<&'static str> {
     let refused = outcome.kind == kind::REFUSED;
     let (early, ends) = (refused && outcome.refusal <= 6, outcome.kind >= kind::DONE);
-    let opening_ended = before.state.call.kind == 1 && ends && !early;
-    let opened = if opening_ended { outcome.kind == kind::DONE } else { before.state.opened };
+    let (running, books) = (after.state.core.call.kind != 0, &after.state.books);
+    let turn = out_of_turn(entry, before);
     let checks = [
         (!in_range(before) && outcome.refusal != 1, "a session out of range is not refused with 1"),
+        (turn.is_some_and(|due| due != (outcome.refusal == 1)), "a refusal 1 that is not due, or none where it is"),
         (early && before != after, "a refusal 1 to 6 has changed the session"),
-        (ends && !early && after.state.call.kind != 0, "a call has ended and still runs"),
-        (!ends && after.state.call.kind == 0, "an order, and no call runs"),
-        (after.state.frames != frames_due(entry, before.state.frames, outcome), "the frame count is wrong"),
-        (!early && after.state.opened != opened, "`opened` is wrong"),
+        (ends && !early && running, "a call has ended and still runs"),
+        (!ends && !running, "an order, and no call runs"),
+        (books.frames != frames_due(entry, before.state.books.frames, outcome), "the frame count is wrong"),
+        (!early && books.opened != opened_due(entry, before, outcome), "`opened` is wrong"),
     ];
     checks.iter().filter(|(fault, _)| *fault).map(|(_, text)| *text).collect()
 }
@@ -136,24 +166,28 @@ fn outcome_faults(outcome: Outcome, before: &[u8], after: &[u8]) -> Vec<&'static
     checks.iter().filter(|(fault, _)| *fault).map(|(_, text)| *text).collect()
 }
 
-/// The outcomes met: kinds 0 to 6, then refusals 1 to 19.
+/// The outcomes met: kinds 0 to 6, then refusals 1 to 19. Last, the steps in which `opened` alone was out of range.
 #[derive(Default)]
 struct Tally {
     steps: u64,
-    counts: [u64; 26],
+    counts: [u64; 27],
 }
 
 impl Tally {
-    fn add(&mut self, outcome: Outcome) {
+    fn add(&mut self, before: &RawSession, outcome: Outcome) {
         self.steps += 1;
         self.counts[(outcome.kind + outcome.refusal.saturating_sub(1)) as usize] += 1;
+        self.counts[26] += (core_in_range(before) && !books_in_range(before)) as u64;
     }
 
     fn print(&self) {
         let words = ["write", "read", "drain", "pause", "done", "done type1", "none"];
         for (k, count) in self.counts.iter().enumerate() {
-            let name = words.get(k).map_or_else(|| format!("refused {}", k - 6), |word| word.to_string());
-            println!("  {name}: {count}");
+            match (words.get(k), k) {
+                (Some(word), _) => println!("  {word}: {count}"),
+                (None, 26) => println!("  refused 1 for `opened` alone: {count}"),
+                (None, _) => println!("  refused {}: {count}", k - 6),
+            }
         }
     }
 }
@@ -162,8 +196,7 @@ impl Tally {
 fn case(seed: u64, number: u64, tally: &mut Tally) -> bool {
     let mut draw = Draw::new(seed, number);
     let fresh = draw.once(4);
-    let mut session = if fresh { raw::fresh() } else { draw.session() };
-    session.state.opened = !draw.once(8);
+    let mut session = if fresh { draw.fresh() } else { draw.session() };
     for step in 0..if fresh { 60 } else { 8 } {
         let entry = Entry::drawn(&mut draw, &session);
         let size = draw.buffer_len();
@@ -182,7 +215,7 @@ fn case(seed: u64, number: u64, tally: &mut Tally) -> bool {
             );
             return false;
         }
-        tally.add(outcome);
+        tally.add(&before, outcome);
     }
     true
 }

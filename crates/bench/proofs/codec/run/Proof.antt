@@ -3,6 +3,7 @@ use Prim.Native.Nat.{ℕ}
 use mathlib.Core.Path.{_≡_, sym}
 use lib.ListN.{length, length-replicate}
 use Rattle.bench.proofs.AnswerLaws.{reply-inside, reply-part, reply-keeps}
+use Rattle.bench.specs.LineLaws.{gave-fits}
 use borrow.Author.Needs.{needs}
 use Rattle.bench.proofs.codec.run.Statement.{statement}
 use Rattle.bench.proofs.codec.run.Tie as tie
@@ -35,7 +36,7 @@ slice-aggregate-reply : tie.Need-slice-aggregate-reply Inv-loop μ-loop
 slice-aggregate-reply c = search needs
 
 reply-requires : tie.Need-reply-requires Inv-loop μ-loop
-reply-requires c κs = search needs
+reply-requires c κs = search (gave-fits, needs)
 
 returns : tie.Need-returns Inv-loop μ-loop
 returns c = search needs

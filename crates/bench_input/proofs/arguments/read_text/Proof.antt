@@ -1,9 +1,9 @@
 -- `arguments::read_text` meets its contract.
-use mathlib.Core.Path.{sym, ap, _∙_}
+use mathlib.Core.Path.{refl, sym, ap, _∙_}
 use borrow.Author.Needs.{needs}
 use native.Mathlib.Omega.{arith}
 use lib.ListN.{length}
-use Rattle.bench_input.proofs.ReadLaws.{text-empty, text-dash, text-read}
+use Rattle.bench_input.proofs.ReadLaws.{text-empty, text-dash, text-read, text-behind}
 use Rattle.bench_input.proofs.WordsLaws.{text-room}
 use Rattle.bench_input.proofs.arguments.read_text.Statement.{statement}
 use Rattle.bench_input.proofs.arguments.read_text.Tie as tie
@@ -12,7 +12,7 @@ word-requires : tie.Need-word-requires
 word-requires c κs = search needs
 
 returns : tie.Need-returns
-returns c = (λ f. text-empty _ _ (c .before .word .ensures) f (c .if1 .taken), omega arith)
+returns c = (λ f. text-empty _ _ (c .before .word .ensures) f (c .if1 .taken), (omega arith, refl))
 
 slice-aggregate-is : tie.Need-slice-aggregate-is
 slice-aggregate-is c = search needs
@@ -24,7 +24,7 @@ returns-2 : tie.Need-returns-2
 returns-2 c =
     let at-if1 = c .before .before .before in
     let at-word = at-if1 .before in
-    (λ f. text-dash _ _ (at-word .word .ensures) f (at-if1 .if1 .left) (sym (c .before .is .ensures) ∙ c .if2 .taken), omega arith)
+    (λ f. text-dash _ _ (at-word .word .ensures) f (at-if1 .if1 .left) (sym (c .before .is .ensures) ∙ c .if2 .taken), (omega arith, refl))
 
 copy-requires : tie.Need-copy-requires
 copy-requires c κs =
@@ -42,7 +42,7 @@ returns-3 c =
     let at-is = at-if2 .before in
     let at-if1 = at-is .before .before in
     let at-word = at-if1 .before in
-    (λ f. text-read _ _ (at-word .word .ensures) f _ _ (at-if1 .if1 .left) (sym (at-is .is .ensures) ∙ at-if2 .if2 .left) (at-copy .copy .ensures .1), omega (arith, ap length (at-word .word .ensures)))
+    (λ f. text-read _ _ (at-word .word .ensures) f _ _ (at-if1 .if1 .left) (sym (at-is .is .ensures) ∙ at-if2 .if2 .left) (at-copy .copy .ensures .1), (omega (arith, ap length (at-word .word .ensures)), text-behind (at-word .word .result .now) (at-word .before .before .before .args .bytes .now) _ (at-copy .copy .ensures .1)))
 
 pub read-text-spec : {M : Type 1} → statement M
 read-text-spec =

@@ -1,5 +1,7 @@
 -- `arguments::read_three` meets its contract.
+use mathlib.Core.Path.{_∙_}
 use borrow.Author.Needs.{needs}
+use Rattle.bench_input.proofs.StandLaws.{drop-more}
 use native.Mathlib.Omega.{arith}
 use Rattle.bench_input.proofs.ArgumentLaws.{hex-value, hex-none, behind-at, three-read}
 use Rattle.bench_input.proofs.WordsLaws.{word-room, fourth-room, fifth-room}
@@ -95,7 +97,7 @@ returns-4 c =
     let one = behind-at _ _ _ _ _ _ (at-read-hex .read-hex .ensures .1) (at-first .first .given .1) in
     let two = behind-at _ _ _ _ _ _ (at-read-hex2 .read-hex2 .ensures .1) (at-second .second .given .1) in
     let three = behind-at _ _ _ _ _ _ (at-read-hex3 .read-hex3 .ensures .1) (c .before .third .given .1) in
-    (λ f. three-read _ _ _ _ _ _ _ _ _ _ _ _ (at-read-hex .read-hex .ensures .0) (at-read-hex2 .read-hex2 .ensures .0) (at-read-hex3 .read-hex3 .ensures .0) (at-first .first .given .1) (at-second .second .given .1) (c .before .third .given .1) (two .from) (two .kept) (three .kept) f, (two .from, three .from, omega (arith, one .short, two .short, three .short)))
+    (λ f. three-read _ _ _ _ _ _ _ _ _ _ _ _ (at-read-hex .read-hex .ensures .0) (at-read-hex2 .read-hex2 .ensures .0) (at-read-hex3 .read-hex3 .ensures .0) (at-first .first .given .1) (at-second .second .given .1) (c .before .third .given .1) (two .from) (two .kept) (three .kept) f, (two .from, three .from, omega (arith, one .short, two .short, three .short), three .behind ∙ drop-more _ _ _ _ (three .from) (two .behind ∙ drop-more _ _ _ _ (two .from) (one .behind))))
 
 pub read-three-spec : {M : Type 1} → statement M
 read-three-spec =

@@ -1,7 +1,10 @@
 -- `arguments::read_two` meets its contract.
+use mathlib.Core.Path.{_∙_}
 use borrow.Author.Needs.{needs}
+use native.Mathlib.Omega.{arith}
 use Rattle.bench_input.specs.Arguments.{hexArg}
 use Rattle.bench_input.proofs.ArgumentLaws.{hex-value, hex-none, behind-at, end-at, two-read}
+use Rattle.bench_input.proofs.StandLaws.{drop-more}
 use Rattle.bench_input.proofs.WordsLaws.{second-room}
 use Rattle.bench_input.proofs.arguments.read_two.Statement.{statement}
 use Rattle.bench_input.proofs.arguments.read_two.Tie as tie
@@ -19,9 +22,9 @@ same-length : tie.Need-same-length
 same-length c = search needs
 
 returns : tie.Need-returns
-returns c = λ f.
+returns c =
     let at-read-text = c .before .before .before .before in
-    hex-none _ _ _ _ (at-read-text .read-text .ensures .0) _ _ (c .enum-told .given .1)
+    (λ f. hex-none _ _ _ _ (at-read-text .read-text .ensures .0) _ _ (c .enum-told .given .1), tt)
 
 read-hex-requires : tie.Need-read-hex-requires
 read-hex-requires c κs =
@@ -29,7 +32,7 @@ read-hex-requires c κs =
     let at-read-text = at-first .before .before .before .before in
     let start = at-read-text .before .before .before .before in
     second-room (start .args .line .now) (at-read-text .read-text .last .1 .0) (start .pre .0) (search needs) _
-    (end-at _ _ _ _ (at-read-text .read-text .ensures .1) (at-first .first .given .1))
+    ((end-at _ _ _ _ _ _ (at-read-text .read-text .ensures .1) (at-first .first .given .1)) .0)
 
 enum-known-second : tie.Need-enum-known-second
 enum-known-second c = search needs
@@ -41,12 +44,14 @@ same-length-2 : tie.Need-same-length-2
 same-length-2 c = search needs
 
 returns-2 : tie.Need-returns-2
-returns-2 c = λ f.
+returns-2 c =
     let at-read-hex = c .before .before .before .before in
     let at-first = at-read-hex .before .before .before in
-    let at-read-text = at-first .before .before .before .before in
-    hex-value _ _ _ _ (at-read-text .read-text .ensures .0) _ _ _ (at-first .first .given .1)
-    (hex-none _ _ _ _ (at-read-hex .read-hex .ensures .0) _ _ (c .enum-told2 .given .1))
+    let at-read-text = at-first .before .before .before .before in (
+      λ f. hex-value _ _ _ _ (at-read-text .read-text .ensures .0) _ _ _ (at-first .first .given .1)
+          (hex-none _ _ _ _ (at-read-hex .read-hex .ensures .0) _ _ (c .enum-told2 .given .1)),
+      tt,
+    )
 
 same-length-3 : tie.Need-same-length-3
 same-length-3 c = search needs
@@ -57,7 +62,10 @@ returns-3 c =
     let at-first = at-read-hex .before .before .before in
     let at-read-text = at-first .before .before .before .before in
     let behind = behind-at _ _ _ _ _ _ (at-read-hex .read-hex .ensures .1) (c .before .second .given .1) in
-    λ f. two-read _ (hexArg _) _ _ _ _ _ _ (at-read-text .read-text .ensures .0) (at-read-hex .read-hex .ensures .0) (at-first .first .given .1) (c .before .second .given .1) (behind .kept) f
+    let end = end-at _ _ _ _ _ _ (at-read-text .read-text .ensures .1) (at-first .first .given .1) in (
+      λ f. two-read _ (hexArg _) _ _ _ _ _ _ (at-read-text .read-text .ensures .0) (at-read-hex .read-hex .ensures .0) (at-first .first .given .1) (c .before .second .given .1) (behind .kept) f,
+      (behind .from, omega (arith, behind .short, end .0), behind .behind ∙ drop-more _ _ _ _ (behind .from) (end .1)),
+    )
 
 pub read-two-spec : {M : Type 1} → statement M
 read-two-spec =

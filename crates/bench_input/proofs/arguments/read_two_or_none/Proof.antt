@@ -1,8 +1,10 @@
 -- `arguments::read_two_or_none` meets its contract.
+use mathlib.Core.Path.{_∙_}
 use borrow.Author.Needs.{needs}
 use native.Mathlib.Omega.{arith}
 use Rattle.bench_input.specs.Arguments.{hexOrNone}
 use Rattle.bench_input.proofs.ArgumentLaws.{hex-value, hex-none, behind-at, end-at, two-read}
+use Rattle.bench_input.proofs.StandLaws.{drop-more}
 use Rattle.bench_input.proofs.WordsLaws.{second-room}
 use Rattle.bench_input.proofs.arguments.read_two_or_none.Statement.{statement}
 use Rattle.bench_input.proofs.arguments.read_two_or_none.Tie as tie
@@ -30,7 +32,7 @@ read-hex-or-none-requires c κs =
     let at-read-text = at-first .before .before .before .before in
     let start = at-read-text .before .before .before .before in
     second-room (start .args .line .now) (at-read-text .read-text .last .1 .0) (start .pre .0) (search needs) _
-    (end-at _ _ _ _ (at-read-text .read-text .ensures .1) (at-first .first .given .1))
+    ((end-at _ _ _ _ _ _ (at-read-text .read-text .ensures .1) (at-first .first .given .1)) .0)
 
 enum-known-second : tie.Need-enum-known-second
 enum-known-second c = search needs
@@ -60,9 +62,9 @@ returns-3 c =
     let at-first = at-read-hex-or-none .before .before .before in
     let at-read-text = at-first .before .before .before .before in
     let behind = behind-at _ _ _ _ _ _ (at-read-hex-or-none .read-hex-or-none .ensures .1) (c .before .second .given .1) in
-    let end = end-at _ _ _ _ (at-read-text .read-text .ensures .1) (at-first .first .given .1) in (
+    let end = end-at _ _ _ _ _ _ (at-read-text .read-text .ensures .1) (at-first .first .given .1) in (
       λ f. two-read _ (hexOrNone _) _ _ _ _ _ _ (at-read-text .read-text .ensures .0) (at-read-hex-or-none .read-hex-or-none .ensures .0) (at-first .first .given .1) (c .before .second .given .1) (behind .kept) f,
-      (behind .from, omega (arith, behind .short, end)),
+      (behind .from, omega (arith, behind .short, end .0), behind .behind ∙ drop-more _ _ _ _ (behind .from) (end .1)),
     )
 
 pub read-two-or-none-spec : {M : Type 1} → statement M

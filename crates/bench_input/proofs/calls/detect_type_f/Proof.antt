@@ -1,8 +1,9 @@
 -- `calls::detect_type_f` meets its contract.
 use mathlib.Core.Path.{refl}
 use borrow.Author.Needs.{needs}
+use Rattle.bench_input.proofs.StandLaws.{unread, text-stands}
 use Rattle.bench_input.specs.Inputs.{detectTypeFLine}
-use Rattle.bench_input.proofs.ArgumentLaws.{hex-value, hex-none, word-value, word-none, byte-value, byte-none}
+use Rattle.bench_input.proofs.ArgumentLaws.{hex-value, hex-none, word-value, word-none, byte-value, byte-none, end-at}
 use Rattle.bench_input.proofs.calls.detect_type_f.Statement.{statement}
 use Rattle.bench_input.proofs.calls.detect_type_f.Tie as tie
 
@@ -22,7 +23,7 @@ returns : tie.Need-returns
 unfolding detectTypeFLine
 returns c =
     let at-read-text = c .before .before .before .before in
-    hex-none _ _ _ _ (at-read-text .read-text .ensures .0) _ _ (c .enum-told .given .1)
+    unread (hex-none _ _ _ _ (at-read-text .read-text .ensures .0) _ _ (c .enum-told .given .1))
 
 read-word-requires : tie.Need-read-word-requires
 read-word-requires c κs = search needs
@@ -42,8 +43,8 @@ returns-2 c =
     let at-read-word = c .before .before in
     let at-bitrate = at-read-word .before .before in
     let at-read-text = at-bitrate .before .before .before .before in
-    hex-value _ _ _ _ (at-read-text .read-text .ensures .0) _ _ _ (at-bitrate .bitrate .given .1)
-    (word-none _ _ (at-read-word .read-word .ensures) _ (c .enum-told2 .given .1))
+    unread (hex-value _ _ _ _ (at-read-text .read-text .ensures .0) _ _ _ (at-bitrate .bitrate .given .1)
+    (word-none _ _ (at-read-word .read-word .ensures) _ (c .enum-told2 .given .1)))
 
 read-byte-requires : tie.Need-read-byte-requires
 read-byte-requires c κs = search needs
@@ -65,9 +66,9 @@ returns-3 c =
     let at-read-word = at-system-code .before .before in
     let at-bitrate = at-read-word .before .before in
     let at-read-text = at-bitrate .before .before .before .before in
-    hex-value _ _ _ _ (at-read-text .read-text .ensures .0) _ _ _ (at-bitrate .bitrate .given .1)
+    unread (hex-value _ _ _ _ (at-read-text .read-text .ensures .0) _ _ _ (at-bitrate .bitrate .given .1)
     (word-value _ _ (at-read-word .read-word .ensures) _ _ _ (at-system-code .system-code .given .1)
-    (byte-none _ _ (at-read-byte .read-byte .ensures) _ (c .enum-told3 .given .1)))
+    (byte-none _ _ (at-read-byte .read-byte .ensures) _ (c .enum-told3 .given .1))))
 
 read-byte-requires-2 : tie.Need-read-byte-requires-2
 read-byte-requires-2 c κs = search needs
@@ -91,10 +92,10 @@ returns-4 c =
     let at-read-word = at-system-code .before .before in
     let at-bitrate = at-read-word .before .before in
     let at-read-text = at-bitrate .before .before .before .before in
-    hex-value _ _ _ _ (at-read-text .read-text .ensures .0) _ _ _ (at-bitrate .bitrate .given .1)
+    unread (hex-value _ _ _ _ (at-read-text .read-text .ensures .0) _ _ _ (at-bitrate .bitrate .given .1)
     (word-value _ _ (at-read-word .read-word .ensures) _ _ _ (at-system-code .system-code .given .1)
     (byte-value _ _ (at-read-byte .read-byte .ensures) _ _ _ (at-request-code .request-code .given .1)
-    (byte-none _ _ (at-read-byte2 .read-byte2 .ensures) _ (c .enum-told4 .given .1))))
+    (byte-none _ _ (at-read-byte2 .read-byte2 .ensures) _ (c .enum-told4 .given .1)))))
 
 same-length-5 : tie.Need-same-length-5
 same-length-5 c = search needs
@@ -109,10 +110,15 @@ returns-5 c =
     let at-read-word = at-system-code .before .before in
     let at-bitrate = at-read-word .before .before in
     let at-read-text = at-bitrate .before .before .before .before in
-    hex-value _ _ _ _ (at-read-text .read-text .ensures .0) _ _ _ (at-bitrate .bitrate .given .1)
-    (word-value _ _ (at-read-word .read-word .ensures) _ _ _ (at-system-code .system-code .given .1)
-    (byte-value _ _ (at-read-byte .read-byte .ensures) _ _ _ (at-request-code .request-code .given .1)
-    (byte-value _ _ (at-read-byte2 .read-byte2 .ensures) _ _ _ (c .before .time-slots .given .1) refl)))
+    let start = at-read-text .before .before .before .before in
+    let end = end-at _ _ _ _ _ _ (at-read-text .read-text .ensures .1) (at-bitrate .bitrate .given .1) in
+    record {
+      says = hex-value _ _ _ _ (at-read-text .read-text .ensures .0) _ _ _ (at-bitrate .bitrate .given .1)
+          (word-value _ _ (at-read-word .read-word .ensures) _ _ _ (at-system-code .system-code .given .1)
+          (byte-value _ _ (at-read-byte .read-byte .ensures) _ _ _ (at-request-code .request-code .given .1)
+          (byte-value _ _ (at-read-byte2 .read-byte2 .ensures) _ _ _ (c .before .time-slots .given .1) refl)));
+      stands = text-stands (start .args .line .now) _ _ (start .pre .0) _ (end .0) (end .1);
+    }
 
 pub detect-type-f-spec : {M : Type 1} → statement M
 detect-type-f-spec =

@@ -1,5 +1,6 @@
 -- `calls::hex` meets its contract.
 use borrow.Author.Needs.{needs}
+use Rattle.bench_input.proofs.StandLaws.{unread, again, one-stands}
 use Rattle.bench_input.specs.Inputs.{hexLine}
 use Rattle.bench_input.proofs.ArgumentLaws.{hex-value, hex-none, behind-at}
 use Rattle.bench_input.proofs.WordsLaws.{word-room, count-room}
@@ -24,7 +25,7 @@ returns : tie.Need-returns
 unfolding hexLine
 returns c =
     let at-read-hex = c .before .before .before .before in
-    hex-none _ _ _ _ (at-read-hex .read-hex .ensures .0) _ _ (c .enum-told .given .1)
+    unread (hex-none _ _ _ _ (at-read-hex .read-hex .ensures .0) _ _ (c .enum-told .given .1))
 
 hex-named-requires : tie.Need-hex-named-requires
 hex-named-requires c κs = search needs
@@ -38,7 +39,10 @@ returns-2 c =
     let at-n = c .before .before in
     let at-read-hex = at-n .before .before .before .before in
     let start = at-read-hex .before .before .before .before in
-    hex-value _ _ _ _ (at-read-hex .read-hex .ensures .0) _ _ _ (at-n .n .given .1) (c .hex-named .ensures _ (count-room (start .args .line .now) (at-read-hex .read-hex .last .1 .1 .0) (start .pre .0) (search needs) _ _ ((behind-at _ _ _ _ _ _ (at-read-hex .read-hex .ensures .1) (at-n .n .given .1)) .short)))
+    let behind = behind-at _ _ _ _ _ _ (at-read-hex .read-hex .ensures .1) (at-n .n .given .1) in
+    let room = count-room (start .args .line .now) (at-read-hex .read-hex .last .1 .1 .0) (start .pre .0) (search needs) _ _ (behind .short) in
+    let named = c .hex-named .ensures _ _ room (one-stands (start .args .line .now) _ _ (start .pre .0) _ _ behind) in
+    again named (hex-value _ _ _ _ (at-read-hex .read-hex .ensures .0) _ _ _ (at-n .n .given .1) (named .says))
 
 pub hex-spec : {M : Type 1} → statement M
 hex-spec =

@@ -14,7 +14,7 @@ named-requires c κs = search needs
 
 returns : tie.Need-returns
 unfolding hexNamed
-returns c = λ b h. search (steps, needs) depth 12
+returns c = λ b o h i. search (steps, needs) depth 12
 
 slice-aggregate-named-2 : tie.Need-slice-aggregate-named-2
 slice-aggregate-named-2 c = search needs
@@ -24,11 +24,11 @@ named-requires-2 c κs = search needs
 
 returns-2 : tie.Need-returns-2
 unfolding hexNamed
-returns-2 c = λ b h. search (steps, whole-yes, needs) depth 12
+returns-2 c = λ b o h i. search (steps, whole-yes, needs) depth 12
 
 returns-3 : tie.Need-returns-3
 unfolding hexNamed
-returns-3 c = λ b h. search (steps, whole-no, needs) depth 12
+returns-3 c = λ b o h i. search (steps, whole-no, needs) depth 12
 
 slice-aggregate-named-3 : tie.Need-slice-aggregate-named-3
 slice-aggregate-named-3 c = search needs
@@ -38,11 +38,11 @@ named-requires-3 c κs = search needs
 
 returns-4 : tie.Need-returns-4
 unfolding hexNamed
-returns-4 c = λ b h. search (steps, whole-yes, needs) depth 12
+returns-4 c = λ b o h i. search (steps, whole-yes, needs) depth 12
 
 returns-5 : tie.Need-returns-5
 unfolding hexNamed
-returns-5 c = λ b h. search (steps, whole-no, needs) depth 12
+returns-5 c = λ b o h i. search (steps, whole-no, needs) depth 12
 
 slice-aggregate-named-4 : tie.Need-slice-aggregate-named-4
 slice-aggregate-named-4 c = search needs
@@ -52,7 +52,7 @@ named-requires-4 c κs = search needs
 
 returns-6 : tie.Need-returns-6
 unfolding hexNamed
-returns-6 c = λ b h. search (steps, needs) depth 12
+returns-6 c = λ b o h i. search (steps, needs) depth 12
 
 slice-aggregate-named-5 : tie.Need-slice-aggregate-named-5
 slice-aggregate-named-5 c = search needs
@@ -62,11 +62,11 @@ named-requires-5 c κs = search needs
 
 returns-7 : tie.Need-returns-7
 unfolding hexNamed
-returns-7 c = λ b h. search (steps, needs) depth 12
+returns-7 c = λ b o h i. search (steps, needs) depth 12
 
 returns-8 : tie.Need-returns-8
 unfolding hexNamed
-returns-8 c = λ b h. search (steps, needs) depth 12
+returns-8 c = λ b o h i. search (steps, needs) depth 12
 
 pub hex-named-spec : {M : Type 1} → statement M
 hex-named-spec =

@@ -1,6 +1,7 @@
 -- `calls::in_jump_for_dep` meets its contract.
 use mathlib.Core.Path.{refl}
 use borrow.Author.Needs.{needs}
+use Rattle.bench_input.proofs.StandLaws.{unread, ends-at, three-stand}
 use borrow.Author.Tests.{lt-ltb, le-ltb}
 use Rattle.framing.specs.Rules.{at-true, at-false}
 use Rattle.bench_input.specs.Inputs.{inJumpForDepLine}
@@ -22,15 +23,15 @@ returns : tie.Need-returns
 unfolding inJumpForDepLine flagArg
 returns c =
     let at-read-byte = c .before .before in
-    byte-none _ _ (at-read-byte .read-byte .ensures) _ (c .enum-told .given .1)
+    unread (byte-none _ _ (at-read-byte .read-byte .ensures) _ (c .enum-told .given .1))
 
 returns-2 : tie.Need-returns-2
 unfolding inJumpForDepLine flagArg
 returns-2 c =
     let at-active = c .before .before in
     let at-read-byte = at-active .before .before in
-    byte-value _ _ (at-read-byte .read-byte .ensures) _ _ _ (at-active .active .given .1)
-    (at-true _ _ _ _ (lt-ltb _ _ (c .if1 .taken)) refl)
+    unread (byte-value _ _ (at-read-byte .read-byte .ensures) _ _ _ (at-active .active .given .1)
+    (at-true _ _ _ _ (lt-ltb _ _ (c .if1 .taken)) refl))
 
 read-byte-requires-2 : tie.Need-read-byte-requires-2
 read-byte-requires-2 c κs = search needs
@@ -48,9 +49,9 @@ returns-3 c =
     let at-if1 = at-read-byte2 .before in
     let at-active = at-if1 .before .before in
     let at-read-byte = at-active .before .before in
-    byte-value _ _ (at-read-byte .read-byte .ensures) _ _ _ (at-active .active .given .1)
+    unread (byte-value _ _ (at-read-byte .read-byte .ensures) _ _ _ (at-active .active .given .1)
     (at-false _ _ _ _ (le-ltb _ _ (at-if1 .if1 .left))
-    (byte-none _ _ (at-read-byte2 .read-byte2 .ensures) _ (c .enum-told2 .given .1)))
+    (byte-none _ _ (at-read-byte2 .read-byte2 .ensures) _ (c .enum-told2 .given .1))))
 
 read-three-requires : tie.Need-read-three-requires
 read-three-requires c κs = search needs
@@ -73,10 +74,10 @@ returns-4 c =
     let at-if1 = at-read-byte2 .before in
     let at-active = at-if1 .before .before in
     let at-read-byte = at-active .before .before in
-    byte-value _ _ (at-read-byte .read-byte .ensures) _ _ _ (at-active .active .given .1)
+    unread (byte-value _ _ (at-read-byte .read-byte .ensures) _ _ _ (at-active .active .given .1)
     (at-false _ _ _ _ (le-ltb _ _ (at-if1 .if1 .left))
     (byte-value _ _ (at-read-byte2 .read-byte2 .ensures) _ _ _ (at-br .br .given .1)
-    (ends-none _ _ _ _ _ (at-read-three .read-three .ensures .0) _ (c .enum-told3 .given .1))))
+    (ends-none _ _ _ _ _ (at-read-three .read-three .ensures .0) _ (c .enum-told3 .given .1)))))
 
 same-length-2 : tie.Need-same-length-2
 same-length-2 c = search needs
@@ -90,10 +91,14 @@ returns-5 c =
     let at-if1 = at-read-byte2 .before in
     let at-active = at-if1 .before .before in
     let at-read-byte = at-active .before .before in
-    byte-value _ _ (at-read-byte .read-byte .ensures) _ _ _ (at-active .active .given .1)
-    (at-false _ _ _ _ (le-ltb _ _ (at-if1 .if1 .left))
-    (byte-value _ _ (at-read-byte2 .read-byte2 .ensures) _ _ _ (at-br .br .given .1)
-    (ends-value _ _ _ _ _ (at-read-three .read-three .ensures .0) _ _ _ _ _ (c .before .passive .given .1) refl)))
+    let start = at-read-byte .before .before .before in
+    record {
+      says = byte-value _ _ (at-read-byte .read-byte .ensures) _ _ _ (at-active .active .given .1)
+          (at-false _ _ _ _ (le-ltb _ _ (at-if1 .if1 .left))
+          (byte-value _ _ (at-read-byte2 .read-byte2 .ensures) _ _ _ (at-br .br .given .1)
+          (ends-value _ _ _ _ _ (at-read-three .read-three .ensures .0) _ _ _ _ _ (c .before .passive .given .1) refl)));
+      stands = three-stand (start .args .line .now) _ _ (start .pre .0) _ _ _ (ends-at _ _ _ _ _ _ _ (at-read-three .read-three .ensures .1) (c .before .passive .given .1));
+    }
 
 pub in-jump-for-dep-spec : {M : Type 1} → statement M
 in-jump-for-dep-spec =

@@ -1,8 +1,9 @@
 -- `calls::in_list_passive_target` meets its contract.
 use mathlib.Core.Path.{refl}
 use borrow.Author.Needs.{needs}
+use Rattle.bench_input.proofs.StandLaws.{unread, one-stands}
 use Rattle.bench_input.specs.Inputs.{inListPassiveTargetLine}
-use Rattle.bench_input.proofs.ArgumentLaws.{byte-value, byte-none, hex-value, hex-none}
+use Rattle.bench_input.proofs.ArgumentLaws.{byte-value, byte-none, hex-value, hex-none, behind-at}
 use Rattle.bench_input.proofs.WordsLaws.{word-room}
 use Rattle.bench_input.proofs.calls.in_list_passive_target.Statement.{statement}
 use Rattle.bench_input.proofs.calls.in_list_passive_target.Tie as tie
@@ -20,7 +21,7 @@ returns : tie.Need-returns
 unfolding inListPassiveTargetLine
 returns c =
     let at-read-byte = c .before .before in
-    byte-none _ _ (at-read-byte .read-byte .ensures) _ (c .enum-told .given .1)
+    unread (byte-none _ _ (at-read-byte .read-byte .ensures) _ (c .enum-told .given .1))
 
 read-byte-requires-2 : tie.Need-read-byte-requires-2
 read-byte-requires-2 c κs = search needs
@@ -37,8 +38,8 @@ returns-2 c =
     let at-read-byte2 = c .before .before in
     let at-max-tg = at-read-byte2 .before .before in
     let at-read-byte = at-max-tg .before .before in
-    byte-value _ _ (at-read-byte .read-byte .ensures) _ _ _ (at-max-tg .max-tg .given .1)
-    (byte-none _ _ (at-read-byte2 .read-byte2 .ensures) _ (c .enum-told2 .given .1))
+    unread (byte-value _ _ (at-read-byte .read-byte .ensures) _ _ _ (at-max-tg .max-tg .given .1)
+    (byte-none _ _ (at-read-byte2 .read-byte2 .ensures) _ (c .enum-told2 .given .1)))
 
 read-hex-requires : tie.Need-read-hex-requires
 read-hex-requires c κs =
@@ -62,9 +63,9 @@ returns-3 c =
     let at-read-byte2 = at-bitrate .before .before in
     let at-max-tg = at-read-byte2 .before .before in
     let at-read-byte = at-max-tg .before .before in
-    byte-value _ _ (at-read-byte .read-byte .ensures) _ _ _ (at-max-tg .max-tg .given .1)
+    unread (byte-value _ _ (at-read-byte .read-byte .ensures) _ _ _ (at-max-tg .max-tg .given .1)
     (byte-value _ _ (at-read-byte2 .read-byte2 .ensures) _ _ _ (at-bitrate .bitrate .given .1)
-    (hex-none _ _ _ _ (at-read-hex .read-hex .ensures .0) _ _ (c .enum-told3 .given .1)))
+    (hex-none _ _ _ _ (at-read-hex .read-hex .ensures .0) _ _ (c .enum-told3 .given .1))))
 
 same-length-2 : tie.Need-same-length-2
 same-length-2 c = search needs
@@ -77,9 +78,13 @@ returns-4 c =
     let at-read-byte2 = at-bitrate .before .before in
     let at-max-tg = at-read-byte2 .before .before in
     let at-read-byte = at-max-tg .before .before in
-    byte-value _ _ (at-read-byte .read-byte .ensures) _ _ _ (at-max-tg .max-tg .given .1)
-    (byte-value _ _ (at-read-byte2 .read-byte2 .ensures) _ _ _ (at-bitrate .bitrate .given .1)
-    (hex-value _ _ _ _ (at-read-hex .read-hex .ensures .0) _ _ _ (c .before .n .given .1) (refl)))
+    let start = at-read-byte .before .before .before in
+    record {
+      says = byte-value _ _ (at-read-byte .read-byte .ensures) _ _ _ (at-max-tg .max-tg .given .1)
+          (byte-value _ _ (at-read-byte2 .read-byte2 .ensures) _ _ _ (at-bitrate .bitrate .given .1)
+          (hex-value _ _ _ _ (at-read-hex .read-hex .ensures .0) _ _ _ (c .before .n .given .1) (refl)));
+      stands = one-stands (start .args .line .now) _ _ (start .pre .0) _ _ (behind-at _ _ _ _ _ _ (at-read-hex .read-hex .ensures .1) (c .before .n .given .1));
+    }
 
 pub in-list-passive-target-spec : {M : Type 1} → statement M
 in-list-passive-target-spec =

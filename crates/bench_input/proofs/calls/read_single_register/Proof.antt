@@ -1,6 +1,7 @@
 -- `calls::read_single_register` meets its contract.
 use mathlib.Core.Path.{refl}
 use borrow.Author.Needs.{needs}
+use Rattle.bench_input.proofs.StandLaws.{unread, untouched}
 use Rattle.bench_input.specs.Inputs.{readSingleRegisterLine}
 use Rattle.bench_input.proofs.ArgumentLaws.{word-value, word-none}
 use Rattle.bench_input.proofs.calls.read_single_register.Statement.{statement}
@@ -19,13 +20,16 @@ returns : tie.Need-returns
 unfolding readSingleRegisterLine
 returns c = λ b.
     let at-read-word = c .before .before in
-    word-none _ _ (at-read-word .read-word .ensures) _ (c .enum-told .given .1)
+    unread (word-none _ _ (at-read-word .read-word .ensures) _ (c .enum-told .given .1))
 
 returns-2 : tie.Need-returns-2
 unfolding readSingleRegisterLine
 returns-2 c = λ b.
     let at-read-word = c .before .before .before in
-    word-value _ _ (at-read-word .read-word .ensures) _ _ _ (c .before .address .given .1) (refl)
+    record {
+      says = word-value _ _ (at-read-word .read-word .ensures) _ _ _ (c .before .address .given .1) (refl);
+      stands = untouched b;
+    }
 
 pub read-single-register-spec : {M : Type 1} → statement M
 read-single-register-spec =

@@ -1,8 +1,9 @@
 -- `calls::rf_configuration` meets its contract.
 use mathlib.Core.Path.{refl}
 use borrow.Author.Needs.{needs}
+use Rattle.bench_input.proofs.StandLaws.{unread, one-stands}
 use Rattle.bench_input.specs.Inputs.{rfConfigurationLine}
-use Rattle.bench_input.proofs.ArgumentLaws.{byte-value, byte-none, hex-value, hex-none}
+use Rattle.bench_input.proofs.ArgumentLaws.{byte-value, byte-none, hex-value, hex-none, behind-at}
 use Rattle.bench_input.proofs.WordsLaws.{word-room}
 use Rattle.bench_input.proofs.calls.rf_configuration.Statement.{statement}
 use Rattle.bench_input.proofs.calls.rf_configuration.Tie as tie
@@ -20,7 +21,7 @@ returns : tie.Need-returns
 unfolding rfConfigurationLine
 returns c =
     let at-read-byte = c .before .before in
-    byte-none _ _ (at-read-byte .read-byte .ensures) _ (c .enum-told .given .1)
+    unread (byte-none _ _ (at-read-byte .read-byte .ensures) _ (c .enum-told .given .1))
 
 read-hex-requires : tie.Need-read-hex-requires
 read-hex-requires c κs =
@@ -42,8 +43,8 @@ returns-2 c =
     let at-read-hex = c .before .before .before .before in
     let at-item = at-read-hex .before .before .before in
     let at-read-byte = at-item .before .before in
-    byte-value _ _ (at-read-byte .read-byte .ensures) _ _ _ (at-item .item .given .1)
-    (hex-none _ _ _ _ (at-read-hex .read-hex .ensures .0) _ _ (c .enum-told2 .given .1))
+    unread (byte-value _ _ (at-read-byte .read-byte .ensures) _ _ _ (at-item .item .given .1)
+    (hex-none _ _ _ _ (at-read-hex .read-hex .ensures .0) _ _ (c .enum-told2 .given .1)))
 
 same-length-2 : tie.Need-same-length-2
 same-length-2 c = search needs
@@ -54,8 +55,12 @@ returns-3 c =
     let at-read-hex = c .before .before .before .before .before in
     let at-item = at-read-hex .before .before .before in
     let at-read-byte = at-item .before .before in
-    byte-value _ _ (at-read-byte .read-byte .ensures) _ _ _ (at-item .item .given .1)
-    (hex-value _ _ _ _ (at-read-hex .read-hex .ensures .0) _ _ _ (c .before .n .given .1) (refl))
+    let start = at-read-byte .before .before .before in
+    record {
+      says = byte-value _ _ (at-read-byte .read-byte .ensures) _ _ _ (at-item .item .given .1)
+          (hex-value _ _ _ _ (at-read-hex .read-hex .ensures .0) _ _ _ (c .before .n .given .1) (refl));
+      stands = one-stands (start .args .line .now) _ _ (start .pre .0) _ _ (behind-at _ _ _ _ _ _ (at-read-hex .read-hex .ensures .1) (c .before .n .given .1));
+    }
 
 pub rf-configuration-spec : {M : Type 1} → statement M
 rf-configuration-spec =

@@ -1,6 +1,7 @@
 -- `calls::tg_get_initiator_command` meets its contract.
 use mathlib.Core.Path.{refl}
 use borrow.Author.Needs.{needs}
+use Rattle.bench_input.proofs.StandLaws.{unread, untouched}
 use Rattle.bench_input.specs.Inputs.{tgGetInitiatorCommandLine}
 use Rattle.bench_input.proofs.ArgumentLaws.{ms-value, ms-none}
 use Rattle.bench_input.proofs.calls.tg_get_initiator_command.Statement.{statement}
@@ -19,13 +20,16 @@ returns : tie.Need-returns
 unfolding tgGetInitiatorCommandLine
 returns c = λ b.
     let at-read-ms = c .before .before in
-    ms-none _ _ (at-read-ms .read-ms .ensures) _ (c .enum-told .given .1)
+    unread (ms-none _ _ (at-read-ms .read-ms .ensures) _ (c .enum-told .given .1))
 
 returns-2 : tie.Need-returns-2
 unfolding tgGetInitiatorCommandLine
 returns-2 c = λ b.
     let at-read-ms = c .before .before .before in
-    ms-value _ _ (at-read-ms .read-ms .ensures) _ _ _ (c .before .ms .given .1) (refl)
+    record {
+      says = ms-value _ _ (at-read-ms .read-ms .ensures) _ _ _ (c .before .ms .given .1) (refl);
+      stands = untouched b;
+    }
 
 pub tg-get-initiator-command-spec : {M : Type 1} → statement M
 tg-get-initiator-command-spec =

@@ -1,11 +1,9 @@
 -- `calls::tg_init_target` meets its contract.
-use mathlib.Core.Path.{subst}
 use borrow.Author.Needs.{needs}
+use Rattle.bench_input.proofs.StandLaws.{unread, ends-at, fourth-stands}
 use Rattle.bench_input.specs.Inputs.{tgInitTargetLine}
 use Rattle.bench_input.proofs.ArgumentLaws.{ms-value, ms-none, byte-value, byte-none, hex-none, behind-at, ends-value, ends-none, four-read}
 use Rattle.bench_input.proofs.WordsLaws.{sixth-room}
-use Rattle.bench_input.specs.Readings.{Ordered}
-use Rattle.bench_input.specs.declared.arguments.Ends.{Ends}
 use Rattle.bench_input.proofs.calls.tg_init_target.Statement.{statement}
 use Rattle.bench_input.proofs.calls.tg_init_target.Tie as tie
 
@@ -22,7 +20,7 @@ returns : tie.Need-returns
 unfolding tgInitTargetLine
 returns c =
     let at-read-ms = c .before .before in
-    ms-none _ _ (at-read-ms .read-ms .ensures) _ (c .enum-told .given .1)
+    unread (ms-none _ _ (at-read-ms .read-ms .ensures) _ (c .enum-told .given .1))
 
 read-byte-requires : tie.Need-read-byte-requires
 read-byte-requires c κs = search needs
@@ -39,8 +37,8 @@ returns-2 c =
     let at-read-byte = c .before .before in
     let at-ms = at-read-byte .before .before in
     let at-read-ms = at-ms .before .before in
-    ms-value _ _ (at-read-ms .read-ms .ensures) _ _ _ (at-ms .ms .given .1)
-    (byte-none _ _ (at-read-byte .read-byte .ensures) _ (c .enum-told2 .given .1))
+    unread (ms-value _ _ (at-read-ms .read-ms .ensures) _ _ _ (at-ms .ms .given .1)
+    (byte-none _ _ (at-read-byte .read-byte .ensures) _ (c .enum-told2 .given .1)))
 
 read-three-requires : tie.Need-read-three-requires
 read-three-requires c κs = search needs
@@ -62,16 +60,16 @@ returns-3 c =
     let at-read-byte = at-mode .before .before in
     let at-ms = at-read-byte .before .before in
     let at-read-ms = at-ms .before .before in
-    ms-value _ _ (at-read-ms .read-ms .ensures) _ _ _ (at-ms .ms .given .1)
+    unread (ms-value _ _ (at-read-ms .read-ms .ensures) _ _ _ (at-ms .ms .given .1)
     (byte-value _ _ (at-read-byte .read-byte .ensures) _ _ _ (at-mode .mode .given .1)
-    (ends-none _ _ _ _ _ (at-read-three .read-three .ensures .0) _ (c .enum-told3 .given .1)))
+    (ends-none _ _ _ _ _ (at-read-three .read-three .ensures .0) _ (c .enum-told3 .given .1))))
 
 read-hex-requires : tie.Need-read-hex-requires
 read-hex-requires c κs =
     let at-mifare = c .before .before in
     let at-read-three = at-mifare .before .before .before .before in
     let start = at-read-three .before .before .before .before .before .before .before .before .before .before .before .before in
-    sixth-room (start .args .line .now) (at-read-three .read-three .last .1 .0) (start .pre .0) (search needs) _ ((subst (λ (e : Ends). Ordered e (start .args .line .now)) (at-mifare .mifare .given .1) (at-read-three .read-three .ensures .1)) .2)
+    sixth-room (start .args .line .now) (at-read-three .read-three .last .1 .0) (start .pre .0) (search needs) _ ((ends-at _ _ _ _ _ _ _ (at-read-three .read-three .ensures .1) (at-mifare .mifare .given .1)) .2)
 
 enum-known-gt : tie.Need-enum-known-gt
 enum-known-gt c = search needs
@@ -92,10 +90,10 @@ returns-4 c =
     let at-read-byte = at-mode .before .before in
     let at-ms = at-read-byte .before .before in
     let at-read-ms = at-ms .before .before in
-    ms-value _ _ (at-read-ms .read-ms .ensures) _ _ _ (at-ms .ms .given .1)
+    unread (ms-value _ _ (at-read-ms .read-ms .ensures) _ _ _ (at-ms .ms .given .1)
     (byte-value _ _ (at-read-byte .read-byte .ensures) _ _ _ (at-mode .mode .given .1)
     (ends-value _ _ _ _ _ (at-read-three .read-three .ensures .0) _ _ _ _ _ (at-mifare .mifare .given .1)
-    (hex-none _ _ _ _ (at-read-hex .read-hex .ensures .0) _ _ (c .enum-told4 .given .1))))
+    (hex-none _ _ _ _ (at-read-hex .read-hex .ensures .0) _ _ (c .enum-told4 .given .1)))))
 
 same-length-3 : tie.Need-same-length-3
 same-length-3 c = search needs
@@ -111,8 +109,11 @@ returns-5 c =
     let at-ms = at-read-byte .before .before in
     let at-read-ms = at-ms .before .before in
     let start = at-read-ms .before .before .before in
-    ms-value _ _ (at-read-ms .read-ms .ensures) _ _ _ (at-ms .ms .given .1)
-    (byte-value _ _ (at-read-byte .read-byte .ensures) _ _ _ (at-mode .mode .given .1) (let o = subst (λ (e : Ends). Ordered e (start .args .line .now)) (at-mifare .mifare .given .1) (at-read-three .read-three .ensures .1) in four-read _ _ _ _ _ (at-read-three .read-three .ensures .0) _ _ _ _ _ _ _ (at-mifare .mifare .given .1) (o .0) (o .1) (at-read-hex .read-hex .ensures .0) (c .before .gt .given .1) ((behind-at _ _ _ _ _ _ (at-read-hex .read-hex .ensures .1) (c .before .gt .given .1)) .kept) _))
+    record {
+      says = ms-value _ _ (at-read-ms .read-ms .ensures) _ _ _ (at-ms .ms .given .1)
+          (byte-value _ _ (at-read-byte .read-byte .ensures) _ _ _ (at-mode .mode .given .1) (let o = ends-at _ _ _ _ _ _ _ (at-read-three .read-three .ensures .1) (at-mifare .mifare .given .1) in four-read _ _ _ _ _ (at-read-three .read-three .ensures .0) _ _ _ _ _ _ _ (at-mifare .mifare .given .1) (o .0) (o .1) (at-read-hex .read-hex .ensures .0) (c .before .gt .given .1) ((behind-at _ _ _ _ _ _ (at-read-hex .read-hex .ensures .1) (c .before .gt .given .1)) .kept) _));
+      stands = fourth-stands (start .args .line .now) _ _ (start .pre .0) _ _ _ _ _ (ends-at _ _ _ _ _ _ _ (at-read-three .read-three .ensures .1) (at-mifare .mifare .given .1)) (behind-at _ _ _ _ _ _ (at-read-hex .read-hex .ensures .1) (c .before .gt .given .1));
+    }
 
 pub tg-init-target-spec : {M : Type 1} → statement M
 tg-init-target-spec =

@@ -1,7 +1,8 @@
 -- `calls::timed` meets its contract.
 use borrow.Author.Needs.{needs}
+use Rattle.bench_input.proofs.StandLaws.{unread, again, one-stands}
 use Rattle.bench_input.specs.Inputs.{timedLine}
-use Rattle.bench_input.proofs.ArgumentLaws.{ms-value, ms-none, hex-value, hex-none}
+use Rattle.bench_input.proofs.ArgumentLaws.{ms-value, ms-none, hex-value, hex-none, behind-at}
 use Rattle.bench_input.proofs.WordsLaws.{word-room}
 use Rattle.bench_input.proofs.calls.timed.Statement.{statement}
 use Rattle.bench_input.proofs.calls.timed.Tie as tie
@@ -19,7 +20,7 @@ returns : tie.Need-returns
 unfolding timedLine
 returns c =
     let at-read-ms = c .before .before in
-    ms-none _ _ (at-read-ms .read-ms .ensures) _ (c .enum-told .given .1)
+    unread (ms-none _ _ (at-read-ms .read-ms .ensures) _ (c .enum-told .given .1))
 
 read-hex-requires : tie.Need-read-hex-requires
 read-hex-requires c κs =
@@ -41,8 +42,8 @@ returns-2 c =
     let at-read-hex = c .before .before .before .before in
     let at-ms = at-read-hex .before .before .before in
     let at-read-ms = at-ms .before .before in
-    ms-value _ _ (at-read-ms .read-ms .ensures) _ _ _ (at-ms .ms .given .1)
-    (hex-none _ _ _ _ (at-read-hex .read-hex .ensures .0) _ _ (c .enum-told2 .given .1))
+    unread (ms-value _ _ (at-read-ms .read-ms .ensures) _ _ _ (at-ms .ms .given .1)
+    (hex-none _ _ _ _ (at-read-hex .read-hex .ensures .0) _ _ (c .enum-told2 .given .1)))
 
 timed-named-requires : tie.Need-timed-named-requires
 timed-named-requires c κs = search needs
@@ -57,8 +58,10 @@ returns-3 c =
     let at-read-hex = at-n .before .before .before .before in
     let at-ms = at-read-hex .before .before .before in
     let at-read-ms = at-ms .before .before in
-    ms-value _ _ (at-read-ms .read-ms .ensures) _ _ _ (at-ms .ms .given .1)
-    (hex-value _ _ _ _ (at-read-hex .read-hex .ensures .0) _ _ _ (at-n .n .given .1) (c .timed-named .ensures _))
+    let start = at-read-ms .before .before .before in
+    let named = c .timed-named .ensures _ _ (one-stands (start .args .line .now) _ _ (start .pre .0) _ _ (behind-at _ _ _ _ _ _ (at-read-hex .read-hex .ensures .1) (at-n .n .given .1))) in
+    again named (ms-value _ _ (at-read-ms .read-ms .ensures) _ _ _ (at-ms .ms .given .1)
+    (hex-value _ _ _ _ (at-read-hex .read-hex .ensures .0) _ _ _ (at-n .n .given .1) (named .says)))
 
 pub timed-spec : {M : Type 1} → statement M
 timed-spec =

@@ -13,7 +13,7 @@ named-requires c κs = search needs
 
 returns : tie.Need-returns
 unfolding timedNamed
-returns c = λ b. search (steps, needs) depth 8
+returns c = λ b o i. search (steps, needs) depth 8
 
 slice-aggregate-named-2 : tie.Need-slice-aggregate-named-2
 slice-aggregate-named-2 c = search needs
@@ -23,11 +23,11 @@ named-requires-2 c κs = search needs
 
 returns-2 : tie.Need-returns-2
 unfolding timedNamed
-returns-2 c = λ b. search (steps, needs) depth 8
+returns-2 c = λ b o i. search (steps, needs) depth 8
 
 returns-3 : tie.Need-returns-3
 unfolding timedNamed
-returns-3 c = λ b. search (steps, needs) depth 8
+returns-3 c = λ b o i. search (steps, needs) depth 8
 
 pub timed-named-spec : {M : Type 1} → statement M
 timed-named-spec =

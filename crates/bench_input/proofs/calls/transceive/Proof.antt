@@ -1,10 +1,9 @@
 -- `calls::transceive` meets its contract.
-use mathlib.Core.Path.{refl, subst}
+use mathlib.Core.Path.{refl}
 use borrow.Author.Needs.{needs}
+use Rattle.bench_input.proofs.StandLaws.{unread, two-at, third-stands}
 use Rattle.bench_input.specs.Arguments.{hexOrNone}
 use Rattle.bench_input.specs.Inputs.{transceiveLine}
-use Rattle.bench_input.specs.Readings.{OrderedTwo}
-use Rattle.bench_input.specs.declared.arguments.Two.{Two}
 use Rattle.bench_input.proofs.ArgumentLaws.{presence-value, presence-none, wait-value, wait-none, hex-value, hex-none, behind-at, two-value, two-none, two-kept}
 use Rattle.bench_input.proofs.WordsLaws.{third-room}
 use Rattle.bench_input.proofs.calls.transceive.Statement.{statement}
@@ -26,7 +25,7 @@ returns : tie.Need-returns
 unfolding transceiveLine
 returns c =
     let at-read-two-or-none = c .before .before .before .before in
-    two-none _ (hexOrNone _) _ _ (at-read-two-or-none .read-two-or-none .ensures .0) _ (c .enum-told .given .1)
+    unread (two-none _ (hexOrNone _) _ _ (at-read-two-or-none .read-two-or-none .ensures .0) _ (c .enum-told .given .1))
 
 read-presence-requires : tie.Need-read-presence-requires
 read-presence-requires c κs = search needs
@@ -46,8 +45,8 @@ returns-2 c =
     let at-read-presence = c .before .before in
     let at-bitrate = at-read-presence .before .before in
     let at-read-two-or-none = at-bitrate .before .before .before .before in
-    two-value _ (hexOrNone _) _ _ (at-read-two-or-none .read-two-or-none .ensures .0) _ _ _ _ (at-bitrate .bitrate .given .1)
-    (presence-none _ _ (at-read-presence .read-presence .ensures) _ (c .enum-told2 .given .1))
+    unread (two-value _ (hexOrNone _) _ _ (at-read-two-or-none .read-two-or-none .ensures .0) _ _ _ _ (at-bitrate .bitrate .given .1)
+    (presence-none _ _ (at-read-presence .read-presence .ensures) _ (c .enum-told2 .given .1)))
 
 read-wait-requires : tie.Need-read-wait-requires
 read-wait-requires c κs = search needs
@@ -69,16 +68,16 @@ returns-3 c =
     let at-read-presence = at-rid-res .before .before in
     let at-bitrate = at-read-presence .before .before in
     let at-read-two-or-none = at-bitrate .before .before .before .before in
-    two-value _ (hexOrNone _) _ _ (at-read-two-or-none .read-two-or-none .ensures .0) _ _ _ _ (at-bitrate .bitrate .given .1)
+    unread (two-value _ (hexOrNone _) _ _ (at-read-two-or-none .read-two-or-none .ensures .0) _ _ _ _ (at-bitrate .bitrate .given .1)
     (presence-value _ _ (at-read-presence .read-presence .ensures) _ _ _ (at-rid-res .rid-res .given .1)
-    (wait-none _ _ (at-read-wait .read-wait .ensures) _ (c .enum-told3 .given .1)))
+    (wait-none _ _ (at-read-wait .read-wait .ensures) _ (c .enum-told3 .given .1))))
 
 read-hex-requires : tie.Need-read-hex-requires
 read-hex-requires c κs =
     let at-bitrate = c .before .before .before .before .before .before .before .before .before .before in
     let at-read-two-or-none = at-bitrate .before .before .before .before in
     let start = at-read-two-or-none .before .before .before .before in
-    third-room (start .args .line .now) (at-read-two-or-none .read-two-or-none .last .1 .0) (start .pre .0) (search needs) _ ((subst (λ (e : Two). OrderedTwo e (start .args .line .now)) (at-bitrate .bitrate .given .1) (at-read-two-or-none .read-two-or-none .ensures .1)) .1)
+    third-room (start .args .line .now) (at-read-two-or-none .read-two-or-none .last .1 .0) (start .pre .0) (search needs) _ ((two-at _ _ _ _ _ _ (at-read-two-or-none .read-two-or-none .ensures .1) (at-bitrate .bitrate .given .1)) .1)
 
 enum-known-n : tie.Need-enum-known-n
 enum-known-n c = search needs
@@ -99,10 +98,10 @@ returns-4 c =
     let at-read-presence = at-rid-res .before .before in
     let at-bitrate = at-read-presence .before .before in
     let at-read-two-or-none = at-bitrate .before .before .before .before in
-    two-value _ (hexOrNone _) _ _ (at-read-two-or-none .read-two-or-none .ensures .0) _ _ _ _ (at-bitrate .bitrate .given .1)
+    unread (two-value _ (hexOrNone _) _ _ (at-read-two-or-none .read-two-or-none .ensures .0) _ _ _ _ (at-bitrate .bitrate .given .1)
     (presence-value _ _ (at-read-presence .read-presence .ensures) _ _ _ (at-rid-res .rid-res .given .1)
     (wait-value _ _ (at-read-wait .read-wait .ensures) _ _ _ (at-wait .wait .given .1)
-    (hex-none _ _ _ _ (at-read-hex .read-hex .ensures .0) _ _ (c .enum-told4 .given .1))))
+    (hex-none _ _ _ _ (at-read-hex .read-hex .ensures .0) _ _ (c .enum-told4 .given .1)))))
 
 same-length-5 : tie.Need-same-length-5
 same-length-5 c = search needs
@@ -118,10 +117,13 @@ returns-5 c =
     let at-bitrate = at-read-presence .before .before in
     let at-read-two-or-none = at-bitrate .before .before .before .before in
     let start = at-read-two-or-none .before .before .before .before in
-    two-kept _ (hexOrNone _) _ _ (at-read-two-or-none .read-two-or-none .ensures .0) _ _ _ _ _ (at-bitrate .bitrate .given .1) ((subst (λ (e : Two). OrderedTwo e (start .args .line .now)) (at-bitrate .bitrate .given .1) (at-read-two-or-none .read-two-or-none .ensures .1)) .0) ((behind-at _ _ _ _ _ _ (at-read-hex .read-hex .ensures .1) (c .before .n .given .1)) .kept)
-    (presence-value _ _ (at-read-presence .read-presence .ensures) _ _ _ (at-rid-res .rid-res .given .1)
-    (wait-value _ _ (at-read-wait .read-wait .ensures) _ _ _ (at-wait .wait .given .1)
-    (hex-value _ _ _ _ (at-read-hex .read-hex .ensures .0) _ _ _ (c .before .n .given .1) refl)))
+    record {
+      says = two-kept _ (hexOrNone _) _ _ (at-read-two-or-none .read-two-or-none .ensures .0) _ _ _ _ _ (at-bitrate .bitrate .given .1) ((two-at _ _ _ _ _ _ (at-read-two-or-none .read-two-or-none .ensures .1) (at-bitrate .bitrate .given .1)) .0) ((behind-at _ _ _ _ _ _ (at-read-hex .read-hex .ensures .1) (c .before .n .given .1)) .kept)
+          (presence-value _ _ (at-read-presence .read-presence .ensures) _ _ _ (at-rid-res .rid-res .given .1)
+          (wait-value _ _ (at-read-wait .read-wait .ensures) _ _ _ (at-wait .wait .given .1)
+          (hex-value _ _ _ _ (at-read-hex .read-hex .ensures .0) _ _ _ (c .before .n .given .1) refl)));
+      stands = third-stands (start .args .line .now) _ _ (start .pre .0) _ _ _ _ (two-at _ _ _ _ _ _ (at-read-two-or-none .read-two-or-none .ensures .1) (at-bitrate .bitrate .given .1)) (behind-at _ _ _ _ _ _ (at-read-hex .read-hex .ensures .1) (c .before .n .given .1));
+    }
 
 pub transceive-spec : {M : Type 1} → statement M
 transceive-spec =

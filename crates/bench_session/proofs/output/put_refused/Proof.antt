@@ -4,9 +4,6 @@ use Rattle.bench_session.proofs.OutputLaws.{refused-15, refused-other, 
 use Rattle.bench_session.proofs.output.put_refused.Statement.{statement}
 use Rattle.bench_session.proofs.output.put_refused.Tie as tie
 
-numbered-requires : tie.Need-numbered-requires
-numbered-requires c κs = search needs
-
 slice-aggregate-put-number : tie.Need-slice-aggregate-put-number
 slice-aggregate-put-number c = search needs
 
@@ -44,7 +41,6 @@ pub put-refused-spec : {M : Type 1} → statement M
 put-refused-spec =
     tie.close
     (tie.spec
-    numbered-requires
     slice-aggregate-put-number
     cast-put-number
     put-number-requires

@@ -1,24 +1,24 @@
 -- `discovery::decision::jump_failed` meets its contract.
-use mathlib.Core.Path.{ap}
-use Rattle.discovery.specs.Decisions.{jumpFailure}
-use Rattle.discovery.specs.Laws.{decided, decides-true, decides-partner, number-is, number-not}
 use borrow.Author.Needs.{needs}
+use Rattle.discovery.specs.Decisions.{jumpFailure}
+use Rattle.discovery.specs.Laws.{decides-refused}
+use Rattle.discovery.proofs.Tags.{not-status}
 use Rattle.discovery.proofs.decision.jump_failed.Statement.{statement}
 use Rattle.discovery.proofs.decision.jump_failed.Tie as tie
 
-numbered-requires : tie.Need-numbered-requires
-numbered-requires c κs = search needs
+enum-known-fault : tie.Need-enum-known-fault
+enum-known-fault c = search needs
+
+returns : tie.Need-returns
+unfolding jumpFailure
+returns c = λ f b. rw (not-status _ _ (c .before .args .fault) (c .match .keys2)) (decides-refused _ _ _)
 
 no-partner-requires : tie.Need-no-partner-requires
 no-partner-requires c κs = search needs
 
-returns : tie.Need-returns
-unfolding jumpFailure
-returns c = λ f b. decides-true _ _ _ _ _ _ (search (number-is, needs)) (decides-partner _ _ _ _ _ (ap (λ n. n .1) (c .before .before .before .numbered .ensures)) (c .no-partner .ensures f b))
-
 returns-2 : tie.Need-returns-2
 unfolding jumpFailure
-returns-2 c = λ f b. search (number-is, number-not, decided, needs) depth 8
+returns-2 c = λ f b. rw (c .before .before .fault .given .1) (c .no-partner .ensures f b)
 
 pub jump-failed-spec : {M : Type 1} → statement M
-jump-failed-spec = tie.close (tie.spec numbered-requires no-partner-requires returns returns-2)
+jump-failed-spec = tie.close (tie.spec enum-known-fault returns no-partner-requires returns-2)

@@ -25,25 +25,25 @@ enum-told-7 : tie.Need-enum-told-7
 enum-told-7 c = search needs
 
 returns : tie.Need-returns
-returns c = λ p. rw (c .enum-told .given .1)
+returns c = λ code p. rw (c .enum-told .given .1)
 
 returns-2 : tie.Need-returns-2
-returns-2 c = λ p. rw (c .enum-told2 .given .1)
+returns-2 c = λ code p. rw (c .enum-told2 .given .1)
 
 returns-3 : tie.Need-returns-3
-returns-3 c = λ p. rw (c .enum-told3 .given .1)
+returns-3 c = λ code p. rw (c .enum-told3 .given .1)
 
 returns-4 : tie.Need-returns-4
-returns-4 c = λ p. rw (c .enum-told4 .given .1)
+returns-4 c = λ code p. rw (c .enum-told4 .given .1)
 
 returns-5 : tie.Need-returns-5
-returns-5 c = λ p. rw (c .enum-told5 .given .1)
+returns-5 c = λ code p. rw (c .enum-told5 .given .1)
 
 returns-6 : tie.Need-returns-6
-returns-6 c = λ p. rw (c .enum-told6 .given .1)
+returns-6 c = λ code p. rw (c .enum-told6 .given .1)
 
 returns-7 : tie.Need-returns-7
-returns-7 c = λ p. rw (c .enum-told7 .given .1)
+returns-7 c = λ code p. rw (c .enum-told7 .given .1)
 
 pub written-spec : {M : Type 1} → statement M
 written-spec =

@@ -2,7 +2,7 @@
 use mathlib.Core.Path.{_≡_}
 use borrow.Author.Needs.{needs}
 use Rattle.exchange.specs.Exchange.{draining}
-use Rattle.exchange.specs.Rules.{cases}
+use Rattle.exchange.specs.Rules.{in-phase, cases}
 use Rattle.exchange.specs.Steps.{stepOf}
 use Rattle.exchange.proofs.Exchange.advance.Statement.{statement}
 use Rattle.exchange.proofs.Exchange.advance.Tie as tie
@@ -30,35 +30,27 @@ on-drain-requires c κs = search needs
 
 returns : tie.Need-returns
 unfolding stepOf
-returns c =
-    let f = c .on-sent .ensures (c .before .before .before .args .packet .now) in
-    (rw (c .before .match .keys1) (f .result), f .kept)
+returns c = in-phase _ 0 _ _ _ (c .before .match .keys1) (c .on-sent .ensures (c .before .before .before .args .packet .now))
 
 returns-2 : tie.Need-returns-2
 unfolding stepOf
-returns-2 c = (rw (c .before .match .keys2) (c .on-first-read .ensures .result), c .on-first-read .ensures .kept)
+returns-2 c = in-phase _ 1 _ _ _ (c .before .match .keys2) (c .on-first-read .ensures)
 
 returns-3 : tie.Need-returns-3
 unfolding stepOf
-returns-3 c = (rw (c .before .match .keys3) (c .on-later-read .ensures .result), c .on-later-read .ensures .kept)
+returns-3 c = in-phase _ 2 _ _ _ (c .before .match .keys3) (c .on-later-read .ensures)
 
 returns-4 : tie.Need-returns-4
 unfolding stepOf
-returns-4 c =
-    let f = c .on-cancelled .ensures (c .before .before .before .args .self) (c .before .before .before .args .packet .now) in
-    (rw (c .before .match .keys4) (f .result), f .kept)
+returns-4 c = in-phase _ 3 _ _ _ (c .before .match .keys4) (c .on-cancelled .ensures (c .before .before .before .args .self) (c .before .before .before .args .packet .now))
 
 returns-5 : tie.Need-returns-5
 unfolding stepOf
-returns-5 c =
-    let f = c .on-cancelled2 .ensures (c .before .before .before .args .self) (c .before .before .before .args .packet .now) in
-    (rw (c .before .match .keys5) (f .result), f .kept)
+returns-5 c = in-phase _ 4 _ _ _ (c .before .match .keys5) (c .on-cancelled2 .ensures (c .before .before .before .args .self) (c .before .before .before .args .packet .now))
 
 returns-6 : tie.Need-returns-6
 unfolding stepOf
-returns-6 c =
-    let f = c .on-rejected .ensures (c .before .before .before .args .packet .now) in
-    (rw (c .before .match .keys6) (f .result), f .kept)
+returns-6 c = in-phase _ 5 _ _ _ (c .before .match .keys6) (c .on-rejected .ensures (c .before .before .before .args .packet .now))
 
 returns-7 : tie.Need-returns-7
 unfolding stepOf

@@ -1,4 +1,5 @@
 -- `exchange::Exchange::on_drain` meets its contract.
+use mathlib.Core.Path.{refl}
 use borrow.Author.Needs.{needs}
 use Rattle.exchange.specs.Rules.{goes-on, fails, stays}
 use Rattle.exchange.specs.Steps.{stepOf}
@@ -15,9 +16,6 @@ on-drained-requires c κs = search needs
 enum-told-2 : tie.Need-enum-told-2
 enum-told-2 c = search needs
 
-failed-requires : tie.Need-failed-requires
-failed-requires c κs = search needs
-
 enum-told-3 : tie.Need-enum-told-3
 enum-told-3 c = search needs
 
@@ -27,21 +25,18 @@ pending-requires c κs = search needs
 enum-told-4 : tie.Need-enum-told-4
 enum-told-4 c = search needs
 
-failed-requires-2 : tie.Need-failed-requires-2
-failed-requires-2 c κs = search needs
-
 returns : tie.Need-returns
 returns c = rw (c .before .enum-told .given .1) (c .on-drained .ensures)
 
 returns-2 : tie.Need-returns-2
-returns-2 c = rw (c .before .enum-told2 .given .1) (search (fails, needs))
+returns-2 c = rw (c .enum-told2 .given .1) (fails _ _ _ _ refl)
 
 returns-3 : tie.Need-returns-3
 unfolding stepOf
 returns-3 c = rw (c .before .enum-told3 .given .1) (search (goes-on, needs) depth 6)
 
 returns-4 : tie.Need-returns-4
-returns-4 c = rw (c .before .enum-told4 .given .1) (search (fails, needs))
+returns-4 c = rw (c .enum-told4 .given .1) (fails _ _ _ _ refl)
 
 returns-5 : tie.Need-returns-5
 returns-5 c = stays _ _ _ (not-read _ _ _ _ _ (c .before .before .args .event) _ (c .match .keys5))
@@ -53,11 +48,9 @@ on-drain-spec =
     enum-told
     on-drained-requires
     enum-told-2
-    failed-requires
     enum-told-3
     pending-requires
     enum-told-4
-    failed-requires-2
     returns
     returns-2
     returns-3

@@ -5,9 +5,6 @@ use Rattle.exchange.specs.Steps.{stepOf}
 use Rattle.exchange.proofs.Exchange.on_drained.Statement.{statement}
 use Rattle.exchange.proofs.Exchange.on_drained.Tie as tie
 
-failed-requires : tie.Need-failed-requires
-failed-requires c κs = search needs
-
 returns : tie.Need-returns
 unfolding stepOf
 returns c = search (follows, needs) depth 8
@@ -20,4 +17,4 @@ unfolding stepOf
 returns-2 c = search (follows, needs) depth 8
 
 pub on-drained-spec : {M : Type 1} → statement M
-on-drained-spec = tie.close (tie.spec failed-requires returns pending-requires returns-2)
+on-drained-spec = tie.close (tie.spec returns pending-requires returns-2)

@@ -6,9 +6,6 @@ use Rattle.exchange.specs.Steps.{stepOf}
 use Rattle.exchange.proofs.Exchange.on_first_packet.Statement.{statement}
 use Rattle.exchange.proofs.Exchange.on_first_packet.Tie as tie
 
-failed-requires : tie.Need-failed-requires
-failed-requires c κs = search needs
-
 returns : tie.Need-returns
 returns c = search (follows, needs) depth 8
 
@@ -33,7 +30,6 @@ pub on-first-packet-spec : {M : Type 1} → statement M
 on-first-packet-spec =
     tie.close
     (tie.spec
-    failed-requires
     returns
     has-sof-requires
     on-packet-requires

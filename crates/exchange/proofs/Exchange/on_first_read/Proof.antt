@@ -1,4 +1,5 @@
 -- `exchange::Exchange::on_first_read` meets its contract.
+use mathlib.Core.Path.{refl}
 use borrow.Author.Needs.{needs}
 use Rattle.exchange.specs.Rules.{fails, stays}
 use Rattle.exchange.proofs.Tags.{not-read-first}
@@ -14,23 +15,17 @@ on-first-packet-requires c κs = search needs
 enum-told-2 : tie.Need-enum-told-2
 enum-told-2 c = search needs
 
-failed-requires : tie.Need-failed-requires
-failed-requires c κs = search needs
-
 enum-told-3 : tie.Need-enum-told-3
 enum-told-3 c = search needs
-
-failed-requires-2 : tie.Need-failed-requires-2
-failed-requires-2 c κs = search needs
 
 returns : tie.Need-returns
 returns c = rw (c .before .enum-told .given .1) (c .on-first-packet .ensures)
 
 returns-2 : tie.Need-returns-2
-returns-2 c = rw (c .before .enum-told2 .given .1) (search (fails, needs))
+returns-2 c = rw (c .enum-told2 .given .1) (fails _ _ _ _ refl)
 
 returns-3 : tie.Need-returns-3
-returns-3 c = rw (c .before .enum-told3 .given .1) (search (fails, needs))
+returns-3 c = rw (c .enum-told3 .given .1) (fails _ _ _ _ refl)
 
 returns-4 : tie.Need-returns-4
 returns-4 c = stays _ _ _ (not-read-first _ _ _ _ (c .before .before .args .event) _ (c .match .keys4))
@@ -42,9 +37,7 @@ on-first-read-spec =
     enum-told
     on-first-packet-requires
     enum-told-2
-    failed-requires
     enum-told-3
-    failed-requires-2
     returns
     returns-2
     returns-3

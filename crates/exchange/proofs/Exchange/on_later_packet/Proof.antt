@@ -4,9 +4,6 @@ use Rattle.exchange.specs.Rules.{follows}
 use Rattle.exchange.proofs.Exchange.on_later_packet.Statement.{statement}
 use Rattle.exchange.proofs.Exchange.on_later_packet.Tie as tie
 
-failed-requires : tie.Need-failed-requires
-failed-requires c κs = search needs
-
 returns : tie.Need-returns
 returns c = search (follows, needs) depth 8
 
@@ -17,4 +14,4 @@ returns-2 : tie.Need-returns-2
 returns-2 c = search (follows, needs) depth 8
 
 pub on-later-packet-spec : {M : Type 1} → statement M
-on-later-packet-spec = tie.close (tie.spec failed-requires returns on-packet-requires returns-2)
+on-later-packet-spec = tie.close (tie.spec returns on-packet-requires returns-2)

@@ -22,9 +22,6 @@ returns c = search (follows, needs) depth 8
 pending-requires-2 : tie.Need-pending-requires-2
 pending-requires-2 c κs = search needs
 
-reply-to-requires : tie.Need-reply-to-requires
-reply-to-requires c κs = search needs
-
 returns-2 : tie.Need-returns-2
 unfolding stepOf ackLed
 returns-2 c = search (follows, needs) depth 8
@@ -42,6 +39,5 @@ on-packet-spec =
     pending-requires
     returns
     pending-requires-2
-    reply-to-requires
     returns-2
     returns-3)

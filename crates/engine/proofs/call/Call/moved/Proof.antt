@@ -31,20 +31,20 @@ returns c = moves-exchange _ _ _ _ (c .before .match .keys1) (c .on-exchange .en
 
 returns-2 : tie.Need-returns-2
 unfolding moveOf pick
-returns-2 c = rw (c .before .match .keys2) (c .on-reset-ack .ensures _)
+returns-2 c = rw (c .before .match .keys2) (c .on-reset-ack .ensures _ _)
 
 returns-3 : tie.Need-returns-3
-returns-3 c = moves-pause _ _ _ _ (c .before .match .keys3) (c .on-reset-pause .ensures _)
+returns-3 c = moves-pause _ _ _ _ (c .before .match .keys3) (c .on-reset-pause .ensures _ _)
 
 returns-4 : tie.Need-returns-4
 unfolding moveOf pick
-returns-4 c = rw (c .before .match .keys4) (c .on-opening-ack .ensures _)
+returns-4 c = rw (c .before .match .keys4) (c .on-opening-ack .ensures _ _)
 
 returns-5 : tie.Need-returns-5
-returns-5 c = moves-reads _ _ _ _ (c .before .match .keys5) (c .on-opening-reads .ensures _)
+returns-5 c = moves-reads _ _ _ _ (c .before .match .keys5) (c .on-opening-reads .ensures _ _)
 
 returns-6 : tie.Need-returns-6
-returns-6 c = moves-field _ _ _ _ (c .before .match .keys6) (c .on-field-pause .ensures _)
+returns-6 c = moves-field _ _ _ _ (c .before .match .keys6) (c .on-field-pause .ensures _ _)
 
 returns-7 : tie.Need-returns-7
 unfolding moveOf

@@ -10,7 +10,7 @@ slept-requires : tie.Need-slept-requires
 slept-requires c κs = search needs
 
 returns : tie.Need-returns
-returns c = λ p. rw (← c .before .following .ensures) (c .slept .ensures p)
+returns c = λ code p. rw (← c .before .following .ensures) (c .slept .ensures code p)
 
 pub on-field-pause-spec : {M : Type 1} → statement M
 on-field-pause-spec = tie.close (tie.spec following-requires slept-requires returns)

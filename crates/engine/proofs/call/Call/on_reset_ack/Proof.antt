@@ -10,7 +10,7 @@ written-requires : tie.Need-written-requires
 written-requires c κs = search needs
 
 returns : tie.Need-returns
-returns c = λ p. rw (← c .before .at .ensures) (c .written .ensures p)
+returns c = λ code p. rw (← c .before .at .ensures) (c .written .ensures code p)
 
 pub on-reset-ack-spec : {M : Type 1} → statement M
 on-reset-ack-spec = tie.close (tie.spec at-requires written-requires returns)

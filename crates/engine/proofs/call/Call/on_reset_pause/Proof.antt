@@ -10,7 +10,7 @@ slept-requires : tie.Need-slept-requires
 slept-requires c κs = search needs
 
 returns : tie.Need-returns
-returns c = λ p. rw (← c .before .rested .ensures p) (c .slept .ensures p)
+returns c = λ code p. rw (← c .before .rested .ensures code p) (c .slept .ensures code p)
 
 pub on-reset-pause-spec : {M : Type 1} → statement M
 on-reset-pause-spec = tie.close (tie.spec rested-requires slept-requires returns)

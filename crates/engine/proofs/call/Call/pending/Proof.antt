@@ -13,13 +13,13 @@ enum-told-2 : tie.Need-enum-told-2
 enum-told-2 c = search needs
 
 returns : tie.Need-returns
-returns c = λ p. rw (c .enum-told .given .1)
+returns c = λ code p. rw (c .enum-told .given .1)
 
 returns-2 : tie.Need-returns-2
-returns-2 c = λ p. rw (c .before .next .given .1)
+returns-2 c = λ code p. rw (c .before .next .given .1)
 
 returns-3 : tie.Need-returns-3
-returns-3 c = λ p. rw (c .enum-told2 .given .1)
+returns-3 c = λ code p. rw (c .enum-told2 .given .1)
 
 pub pending-spec : {M : Type 1} → statement M
 pending-spec =

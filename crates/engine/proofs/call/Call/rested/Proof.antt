@@ -12,11 +12,11 @@ following-requires c κs = search needs
 
 returns : tie.Need-returns
 unfolding restedMove
-returns c = λ p. at-true _ _ _ _ (eq-eqb _ _ (c .if1 .taken)) (λ _. finishes)
+returns c = λ code p. at-true _ _ _ _ (eq-eqb _ _ (c .if1 .taken)) (λ _. finishes)
 
 returns-2 : tie.Need-returns-2
 unfolding restedMove
-returns-2 c = λ p. at-false _ _ _ _ (ne-eqb _ _ (c .before .if1 .left)) (ap enters (c .following .ensures))
+returns-2 c = λ code p. at-false _ _ _ _ (ne-eqb _ _ (c .before .if1 .left)) (ap enters (c .following .ensures))
 
 pub rested-spec : {M : Type 1} → statement M
 rested-spec = tie.close (tie.spec following-requires returns returns-2)

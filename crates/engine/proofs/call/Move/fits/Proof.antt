@@ -1,5 +1,8 @@
 -- `engine::call::Move::fits` meets its contract.
 use borrow.Author.Needs.{needs}
+use mathlib.Core.Path.{sym}
+use Rattle.exchange.specs.Packets.{replyOf}
+use Rattle.engine.specs.Moves.{reply-fits}
 use Rattle.engine.proofs.call.Move.fits.Statement.{statement}
 use Rattle.engine.proofs.call.Move.fits.Tie as tie
 
@@ -22,22 +25,22 @@ enum-told-6 : tie.Need-enum-told-6
 enum-told-6 c = search needs
 
 returns : tie.Need-returns
-returns c = λ p. rw (c .enum-told .given .1)
+returns c = λ code p. rw (c .enum-told .given .1)
 
 returns-2 : tie.Need-returns-2
-returns-2 c = λ p. rw (c .enum-told2 .given .1)
+returns-2 c = λ code p. rw (c .enum-told2 .given .1)
 
 returns-3 : tie.Need-returns-3
-returns-3 c = λ p. rw (c .enum-told3 .given .1)
+returns-3 c = λ code p. rw (c .enum-told3 .given .1)
 
 returns-4 : tie.Need-returns-4
-returns-4 c = λ p. rw (c .enum-told4 .given .1)
+returns-4 c = λ code p. rw (c .enum-told4 .given .1)
 
 returns-5 : tie.Need-returns-5
-returns-5 c = λ p. rw (c .enum-told5 .given .1)
+returns-5 c = λ code p. rw (c .enum-told5 .given .1) (sym (reply-fits (replyOf code p)))
 
 returns-6 : tie.Need-returns-6
-returns-6 c = λ p. rw (c .enum-told6 .given .1)
+returns-6 c = λ code p. rw (c .enum-told6 .given .1)
 
 pub fits-spec : {M : Type 1} → statement M
 fits-spec =

@@ -1,18 +1,17 @@
--- `engine::session::Session::call` meets its contract.
 use borrow.Author.Needs.{needs}
 use mathlib.Core.Path.{ap}
 use Rattle.engine.specs.Sessions.{sessionAfter}
 use Rattle.engine.proofs.session.Session.call.Statement.{statement}
 use Rattle.engine.proofs.session.Session.call.Tie as tie
 
-requested-requires : tie.Need-requested-requires
-requested-requires c κs = search needs
+call-requires : tie.Need-call-requires
+call-requires c κs = search needs
 
 same-length : tie.Need-same-length
 same-length c = search needs
 
 returns : tie.Need-returns
-returns c = ap sessionAfter (c .before .before .before .requested .ensures _)
+returns c = ap sessionAfter (c .before .before .before .call .ensures _)
 
 pub call-spec : {M : Type 1} → statement M
-call-spec = tie.close (tie.spec requested-requires same-length returns)
+call-spec = tie.close (tie.spec call-requires same-length returns)

@@ -1,6 +1,5 @@
--- `engine::state::State::is_free` meets its contract.
-use Rattle.framing.specs.Rules.{steps}
 use borrow.Author.Needs.{needs}
+use Rattle.framing.specs.Rules.{steps}
 use Rattle.engine.proofs.state.State.is_free.Statement.{statement}
 use Rattle.engine.proofs.state.State.is_free.Tie as tie
 

@@ -1,9 +1,14 @@
--- `engine::state::State::is_valid` meets its contract.
-use Rattle.framing.specs.Rules.{steps}
-use Rattle.engine.specs.Sessions.{isValid}
 use borrow.Author.Needs.{needs}
+use Rattle.engine.specs.Sessions.{isValid}
+use Rattle.framing.specs.Rules.{steps}
 use Rattle.engine.proofs.state.State.is_valid.Statement.{statement}
 use Rattle.engine.proofs.state.State.is_valid.Tie as tie
+
+is-valid-requires : tie.Need-is-valid-requires
+is-valid-requires c κs = search needs
+
+is-in-range-requires : tie.Need-is-in-range-requires
+is-in-range-requires c κs = search needs
 
 returns : tie.Need-returns
 unfolding isValid
@@ -13,16 +18,5 @@ returns-2 : tie.Need-returns-2
 unfolding isValid
 returns-2 c = search (steps, needs) depth 10
 
-returns-3 : tie.Need-returns-3
-unfolding isValid
-returns-3 c = search (steps, needs) depth 10
-
-is-valid-requires : tie.Need-is-valid-requires
-is-valid-requires c κs = search needs
-
-returns-4 : tie.Need-returns-4
-unfolding isValid
-returns-4 c = search (steps, needs) depth 10
-
 pub is-valid-spec : {M : Type 1} → statement M
-is-valid-spec = tie.close (tie.spec returns returns-2 returns-3 is-valid-requires returns-4)
+is-valid-spec = tie.close (tie.spec is-valid-requires is-in-range-requires returns returns-2)

@@ -1,8 +1,9 @@
 use borrow.Author.Needs.{needs}
-use mathlib.Core.Path.{sym, _∙_}
+use Rattle.engine.specs.Sessions.{bookedAfter, openAfter}
 use borrow.Author.Tests.{lt-ltb, le-ltb}
+use mathlib.Core.Bool.{true}
+use mathlib.Core.Path.{sym, ap₂, _∙_}
 use Rattle.framing.specs.Rules.{at-true, at-false}
-use Rattle.engine.specs.Sessions.{openAfter}
 use Rattle.engine.proofs.state.State.open.Statement.{statement}
 use Rattle.engine.proofs.state.State.open.Tie as tie
 
@@ -16,11 +17,14 @@ returns : tie.Need-returns
 unfolding openAfter
 returns c = λ f. at-true _ _ _ _ (sym (c .before .before .before .is-free .ensures) ∙ c .before .before .if1 .taken) (at-true _ _ _ _ (lt-ltb _ _ (c .before .if2 .taken)) (c .refused .ensures _ _))
 
-uncounted-requires : tie.Need-uncounted-requires
-uncounted-requires c κs = search needs
+open-requires : tie.Need-open-requires
+open-requires c κs = search needs
 
-ordered-requires : tie.Need-ordered-requires
-ordered-requires c κs = search needs
+none-requires : tie.Need-none-requires
+none-requires c κs = search needs
+
+booked-requires : tie.Need-booked-requires
+booked-requires c κs = search needs
 
 refused-requires-2 : tie.Need-refused-requires-2
 refused-requires-2 c κs = search needs
@@ -31,8 +35,8 @@ same-length c = search needs
 returns-2 : tie.Need-returns-2
 unfolding openAfter
 returns-2 c = λ f.
-    at-true _ _ _ _ (sym (c .before .before .before .before .before .before .before .before .is-free .ensures) ∙ c .before .before .before .before .before .before .before .if1 .taken)
-    (at-false _ _ _ _ (le-ltb _ _ (c .before .before .before .before .before .before .if2 .left)) (rw (c .before .before .before .before .uncounted .ensures) at (c .before .before .ordered .ensures f)))
+    at-true _ _ _ _ (sym (c .before .before .before .before .before .before .before .before .before .is-free .ensures) ∙ c .before .before .before .before .before .before .before .before .if1 .taken)
+    (at-false _ _ _ _ (le-ltb _ _ (c .before .before .before .before .before .before .before .if2 .left)) (c .booked .ensures f _ ∙ ap₂ (bookedAfter true) (c .before .none .ensures) (c .before .before .before .before .«open» .ensures f)))
 
 returns-3 : tie.Need-returns-3
 unfolding openAfter
@@ -45,8 +49,9 @@ open-spec =
     is-free-requires
     refused-requires
     returns
-    uncounted-requires
-    ordered-requires
+    open-requires
+    none-requires
+    booked-requires
     refused-requires-2
     same-length
     returns-2

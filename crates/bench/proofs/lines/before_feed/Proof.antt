@@ -1,0 +1,14 @@
+-- `lines::before_feed` meets its contract.
+use Rattle.bench.specs.LineLaws.{found-feed, room-counts}
+use borrow.Author.Needs.{needs}
+use Rattle.bench.proofs.lines.before_feed.Statement.{statement}
+use Rattle.bench.proofs.lines.before_feed.Tie as tie
+
+find-requires : tie.Need-find-requires
+find-requires c κs = search needs
+
+returns : tie.Need-returns
+returns c = (search (found-feed, needs), (search needs, search (room-counts, needs)))
+
+pub before-feed-spec : {M : Type 1} → statement M
+before-feed-spec = tie.close (tie.spec find-requires returns)

@@ -1,0 +1,49 @@
+-- `discovery::type_a::listed_a` meets its contract.
+use native.Mathlib.Omega.{arith}
+use Rattle.discovery.specs.Decisions.{withLength, listedA}
+use Rattle.discovery.specs.Laws.{decided, decides-false, not-kept}
+use borrow.Author.Needs.{needs}
+use Rattle.discovery.proofs.type_a.listed_a.Statement.{statement}
+use Rattle.discovery.proofs.type_a.listed_a.Tie as tie
+
+byte-or-requires : tie.Need-byte-or-requires
+byte-or-requires c κs = search needs
+
+returns : tie.Need-returns
+unfolding listedA withLength
+returns c = λ f. search (decided, needs) depth 8
+
+returns-2 : tie.Need-returns-2
+unfolding listedA withLength
+returns-2 c = λ f. search (decided, needs) depth 8
+
+returns-3 : tie.Need-returns-3
+unfolding listedA withLength
+returns-3 c = λ f. search (decided, needs) depth 8
+
+shared-slice-read-if4 : tie.Need-shared-slice-read-if4
+shared-slice-read-if4 c = search needs
+
+card-requires : tie.Need-card-requires
+card-requires c κs = search needs
+
+returns-4 : tie.Need-returns-4
+unfolding listedA withLength
+returns-4 c = λ f. search (decided, needs) depth 8
+
+returns-5 : tie.Need-returns-5
+unfolding listedA withLength
+returns-5 c = λ f. decides-false _ _ _ _ _ _ (search (decided, needs)) (decides-false _ _ _ _ _ _ (search (decided, needs)) (decides-false _ _ _ _ _ _ (search (decided, needs)) (decides-false _ _ _ _ _ _ (search (decided, needs)) (c .card .ensures f _ (not-kept f _) (λ e. omega arith)))))
+
+pub listed-a-spec : {M : Type 1} → statement M
+listed-a-spec =
+    tie.close
+    (tie.spec
+    byte-or-requires
+    returns
+    returns-2
+    returns-3
+    shared-slice-read-if4
+    card-requires
+    returns-4
+    returns-5)

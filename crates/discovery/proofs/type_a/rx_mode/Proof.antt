@@ -1,0 +1,21 @@
+-- `discovery::type_a::rx_mode` meets its contract.
+use Rattle.discovery.specs.Decisions.{withLength}
+use Rattle.discovery.specs.Decided.{rxModeRead}
+use Rattle.discovery.specs.Laws.{decided}
+use borrow.Author.Needs.{needs}
+use Rattle.discovery.proofs.type_a.rx_mode.Statement.{statement}
+use Rattle.discovery.proofs.type_a.rx_mode.Tie as tie
+
+shared-slice-read-t7 : tie.Need-shared-slice-read-t7
+shared-slice-read-t7 c = search needs
+
+returns : tie.Need-returns
+unfolding rxModeRead withLength
+returns c = λ f. search (decided, needs) depth 8
+
+returns-2 : tie.Need-returns-2
+unfolding rxModeRead withLength
+returns-2 c = λ f. search (decided, needs) depth 8
+
+pub rx-mode-spec : {M : Type 1} → statement M
+rx-mode-spec = tie.close (tie.spec shared-slice-read-t7 returns returns-2)

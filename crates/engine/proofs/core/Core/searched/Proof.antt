@@ -1,0 +1,81 @@
+use borrow.Author.Needs.{needs}
+use mathlib.Core.Path.{_≡_, sym, ap, _∙_}
+use Prim.Native.Nat.{_≤_}
+use native.Mathlib.Omega.{arith}
+use lib.ListN.{length, take, length-take}
+use lib.Seq.{length-take-le}
+use Rattle.errors.specs.Choice.{pick}
+use Rattle.chipset.specs.Launches.{cmd}
+use Rattle.engine.specs.Core.{held, sendsOf}
+use Rattle.engine.proofs.core.Core.searched.Statement.{statement}
+use Rattle.engine.proofs.core.Core.searched.Tie as tie
+
+command-requires : tie.Need-command-requires
+command-requires c κs = search needs
+
+slice-aggregate-sent : tie.Need-slice-aggregate-sent
+slice-aggregate-sent c = sym (length-take-le (c .before .before .before .before .before .args .self .command) (c .before .before .before .before .before .args .command .now) (omega (arith, c .before .before .before .before .before .pre .0, c .before .before .before .before .before .pre .1)))
+
+sent-requires : tie.Need-sent-requires
+sent-requires c κs = (omega (arith, length-take (c .before .before .before .before .before .before .args .self .command) (c .before .before .before .before .before .before .args .command .now), c .before .before .before .before .before .before .pre .0), c .before .before .before .before .before .before .pre .2)
+
+array-share-prefix-bytes : tie.Need-array-share-prefix-bytes
+array-share-prefix-bytes c =
+    let l = c .before .before .command .result .3 in
+    let eight : length l ≡ 8 = search needs in
+    let n : c .before .before .command .result .4 ≤ 8 = c .before .before .command .ensures .1 in
+    omega arith
+
+slice-aggregate-sent-2 : tie.Need-slice-aggregate-sent-2
+slice-aggregate-sent-2 c =
+    let l = c .before .before .before .command .result .3 in
+    let eight : length l ≡ 8 = search needs in
+    let n : c .before .before .before .command .result .4 ≤ 8 = c .before .before .before .command .ensures .1 in
+    sym (length-take-le (c .before .before .before .command .result .4) l (omega arith))
+
+sent-requires-2 : tie.Need-sent-requires-2
+sent-requires-2 c κs =
+    let l = c .before .before .before .before .command .result .3 in
+    let n : c .before .before .before .before .command .result .4 ≤ 8 = c .before .before .before .before .command .ensures .1 in
+    (omega (arith, length-take (c .before .before .before .before .command .result .4) l), c .before .before .before .before .before .before .before .pre .2)
+
+same-length : tie.Need-same-length
+same-length c = search needs
+
+returns : tie.Need-returns
+unfolding pick
+returns c = λ f.
+    let a = c .before .before .before .before .before .before .before .before .before .args in
+    let p = c .before .before .before .before .before .before .command .result in
+    let later = take (a .self .command) (a .command .now) in
+    c .before .before .sent .ensures (held (a .command .now) f)
+    ∙ ap (λ m. sendsOf (a .self) (held (a .command .now) f) (a .call) m (a .buffer .now))
+    (sym (ap (λ t. cmd (p .0) (p .1) (pick t later (take (p .4) (p .3)))) (c .before .before .before .before .before .if1 .taken)) ∙ c .before .before .before .before .before .before .command .ensures .0 later)
+
+same-length-2 : tie.Need-same-length-2
+same-length-2 c = search needs
+
+returns-2 : tie.Need-returns-2
+unfolding pick
+returns-2 c = λ f.
+    let a = c .before .before .before .before .before .before .before .before .before .before .args in
+    let p = c .before .before .before .before .before .before .before .command .result in
+    let later = take (a .self .command) (a .command .now) in
+    c .before .before .sent2 .ensures (held (a .command .now) f)
+    ∙ ap (λ m. sendsOf (a .self) (held (a .command .now) f) (a .call) m (a .buffer .now))
+    (sym (ap (λ t. cmd (p .0) (p .1) (pick t later (take (p .4) (p .3)))) (c .before .before .before .before .before .before .if1 .left)) ∙ c .before .before .before .before .before .before .before .command .ensures .0 later)
+
+pub searched-spec : {M : Type 1} → statement M
+searched-spec =
+    tie.close
+    (tie.spec
+    command-requires
+    slice-aggregate-sent
+    sent-requires
+    array-share-prefix-bytes
+    slice-aggregate-sent-2
+    sent-requires-2
+    same-length
+    returns
+    same-length-2
+    returns-2)

@@ -1,0 +1,358 @@
+// One running call: its numbers, and what a call or an event does to them, to the arrays and to the buffer.
+use super::call::Call;
+use super::call::EXCHANGE;
+use super::call::Move;
+use super::call::NO_CALL;
+use super::call::OPEN;
+use super::call::OPENING_ACK;
+use super::call::Order;
+use super::device;
+use chipset::command::Launch;
+use discovery::decision;
+use errors::Fault;
+use errors::Refusal;
+use exchange::Event;
+use exchange::Exchange;
+use framing::ACK_BYTES;
+use framing::Built;
+use framing::frame::build_command;
+ghost use mathlib.Core.Bool.{true};
+ghost use mathlib.Core.List.{List};
+ghost use mathlib.Core.Path.{_≡_};
+ghost use Prim.Native.Nat.{ℕ, _≤_, _<_};
+ghost use lib.ListN.{length};
+ghost use Rattle.exchange.specs.Steps.{eventOf};
+ghost use Rattle.chipset.specs.Launches.{cmd};
+ghost use Rattle.chipset.specs.Starts.{launchWith, fits};
+ghost use Rattle.discovery.specs.Decisions.{commandOf};
+ghost use Rattle.engine.specs.Moves.{orderOf, moveIn, packetLength, replyLength};
+ghost use Rattle.engine.specs.Core.{noCore, isValid, Held, held, pendingOf, running, unchanged, withFound, withCommand, progressed, ordersOf, sendsOf, entersOf, endsOf, movedOf, isLong, admittedOf, eventCore, openCore, launchOn};
+
+// How much of each array is in use, the exchange, and the call.
+#[repr(C)]
+pub struct Core {
+    pub command: usize,
+    pub found: usize,
+    pub exchange: Exchange,
+    pub call: Call,
+}
+
+// An order or an answer. The bytes of a write order (ACK has six) and of an answer stand at the buffer's start, so many of them.
+pub enum Output {
+    Ack,
+    Command(usize),
+    Read(u32),
+    Drain,
+    Pause(u32),
+    Done(usize),
+    Type1(usize),
+    Nothing,
+    Failed(Fault),
+    Refused(Refusal),
+}
+
+// The new numbers, and what is given out.
+pub struct Progress {
+    pub core: Core,
+    pub output: Output,
+}
+
+// A packet over the limit.
+fn is_long(event: Event, packet: &[u8]) -> bool
+    ensures { λ r. ⌜ r ≡ isLong (eventOf event (now (packet .entry))) ⌝ }
+{
+    match event {
+        Event::Packet => 1024 < packet.len(),
+        Event::Ok => false,
+        Event::Bad => false,
+        Event::Time => false,
+        Event::Fail => false,
+        Event::Late => false,
+        Event::Slept => false,
+    }
+}
+
+impl Core {
+    // No call runs, and nothing is put by.
+    pub fn none() -> Core
+        ensures { λ r. ⌜ r ≡ noCore ⌝ }
+    {
+        let exchange = Exchange::start(0, 0);
+        let call = Call::none();
+        Core {
+            command: 0,
+            found: 0,
+            exchange,
+            call,
+        }
+    }
+
+    // Every field is in its range.
+    pub fn is_valid(self) -> bool
+        ensures { λ r. ⌜ r ≡ isValid self ⌝ }
+    {
+        let exchange = self.exchange;
+        let call = self.call;
+        if self.command > 512 {
+            return false;
+        }
+        if self.found > 1022 {
+            return false;
+        }
+        if exchange.phase > 6 {
+            return false;
+        }
+        call.is_valid()
+    }
+
+    fn running(self, call: Call, exchange: Exchange) -> Core
+        ensures { λ r. ⌜ r ≡ running self call exchange ⌝ }
+    {
+        Core {
+            command: self.command,
+            found: self.found,
+            exchange,
+            call,
+        }
+    }
+
+    pub(crate) fn with_found(self, found: usize) -> Core
+        ensures { λ r. ⌜ r ≡ withFound self found ⌝ }
+    {
+        let exchange = self.exchange;
+        let call = self.call;
+        Core {
+            command: self.command,
+            found,
+            exchange,
+            call,
+        }
+    }
+
+    pub(crate) fn with_command(self, command: usize) -> Core
+        ensures { λ r. ⌜ r ≡ withCommand self command ⌝ }
+    {
+        let exchange = self.exchange;
+        let call = self.call;
+        Core {
+            command,
+            found: self.found,
+            exchange,
+            call,
+        }
+    }
+
+    // An order that writes no command.
+    pub(crate) fn ordered(
+        self,
+        order: Order,
+        call: Call,
+        exchange: Exchange,
+        buffer: &mut [u8],
+    ) -> Progress
+        requires { ⌜ 1024 ≤ length (now buffer) ⌝ }
+        ensures { λ r. ⌜ ((f : Held) → progressed r f (now (buffer .exit)) ≡ ordersOf self f (orderOf order) call exchange (now (buffer .entry))) ⌝ }
+    {
+        let core = self.running(call, exchange);
+        match order {
+            Order::Ack => {
+                bytes::copy(&ACK_BYTES, buffer);
+                let output = Output::Ack;
+                Progress { core, output }
+            }
+            Order::Read(ms) => {
+                let output = Output::Read(ms);
+                Progress { core, output }
+            }
+            Order::Drain => {
+                let output = Output::Drain;
+                Progress { core, output }
+            }
+            Order::Pause(us) => {
+                let output = Output::Pause(us);
+                Progress { core, output }
+            }
+        }
+    }
+
+    // A command is ordered. What cannot be framed is refused.
+    pub(crate) fn sent(
+        self,
+        call: Call,
+        code: u8,
+        clock: u32,
+        bytes: &[u8],
+        buffer: &mut [u8],
+    ) -> Progress
+        requires { ⌜ (length (now bytes) ≤ 512) × (1024 ≤ length (now buffer)) ⌝ }
+        ensures { λ r. ⌜ ((f : Held) → progressed r f (now (buffer .exit)) ≡ sendsOf self f call (cmd code clock (now (bytes .entry))) (now (buffer .entry))) ⌝ }
+    {
+        match build_command(code, bytes, buffer) {
+            Built::Frame(len) => {
+                let core = self.running(call, Exchange::start(code, clock));
+                let output = Output::Command(len);
+                Progress { core, output }
+            }
+            Built::Refused(refusal) => self.refused(refusal),
+        }
+    }
+
+    // The command of a discovery's stage is ordered, which may be the pending one.
+    fn searched(self, call: Call, command: &[u8], buffer: &mut [u8]) -> Progress
+        requires { ⌜ (self .command ≤ 512) × (length (now command) ≡ 512) × (1024 ≤ length (now buffer)) ⌝ }
+        ensures { λ r. ⌜ ((f : List ℕ) → progressed r (held (now (command .entry)) f) (now (buffer .exit)) ≡ sendsOf self (held (now (command .entry)) f) call (commandOf (call .kind) (call .stage) (pendingOf self (held (now (command .entry)) f))) (now (buffer .entry))) ⌝ }
+    {
+        let plan = decision::command(call.kind, call.stage);
+        if plan.2 {
+            let n = self.command;
+            self.sent(call, plan.0, plan.1, &command[..n], buffer)
+        } else {
+            let bytes = plan.3;
+            let n = plan.4;
+            self.sent(call, plan.0, plan.1, &bytes[..n], buffer)
+        }
+    }
+
+    // The command of a call's stage is ordered.
+    pub(crate) fn entered(self, call: Call, command: &[u8], buffer: &mut [u8]) -> Progress
+        requires { ⌜ (self .command ≤ 512) × (length (now command) ≡ 512) × (1024 ≤ length (now buffer)) ⌝ }
+        ensures { λ r. ⌜ ((f : List ℕ) → progressed r (held (now (command .entry)) f) (now (buffer .exit)) ≡ entersOf self (held (now (command .entry)) f) call (now (buffer .entry))) ⌝ }
+    {
+        if call.kind == OPEN {
+            let plan = device::opening(call.stage);
+            let bytes = plan.2;
+            let n = plan.3;
+            self.sent(call, plan.0, plan.1, &bytes[..n], buffer)
+        } else {
+            self.searched(call, command, buffer)
+        }
+    }
+
+    // The call ends.
+    pub(crate) fn ended(self, output: Output) -> Progress
+        ensures { λ r. ⌜ ((f : Held) (b : List ℕ) → progressed r f b ≡ endsOf self f output b) ⌝ }
+    {
+        let exchange = self.exchange;
+        let core = self.running(Call::none(), exchange);
+        Progress { core, output }
+    }
+
+    // Refused, and nothing changes.
+    pub(crate) fn refused(self, refusal: Refusal) -> Progress
+        ensures { λ r. ⌜ ((f : Held) (b : List ℕ) → progressed r f b ≡ unchanged self f refusal b) ⌝ }
+    {
+        let output = Output::Refused(refusal);
+        Progress { core: self, output }
+    }
+
+    fn moved(
+        self,
+        moved: Move,
+        packet: &[u8],
+        command: &mut [u8],
+        found: &mut [u8],
+        buffer: &mut [u8],
+    ) -> Progress
+        requires { ⌜ (replyLength (moveIn (self .exchange .code) (now packet) moved) ≤ 1024) × (self .found ≤ 1022) × (self .command ≤ 512) × (length (now command) ≡ 512) × (length (now found) ≡ 1024) × (1024 ≤ length (now buffer)) × (self .call .stage < 255) ⌝ }
+        ensures { λ r. ⌜ progressed r (held (now (command .exit)) (now (found .exit))) (now (buffer .exit)) ≡ movedOf self (held (now (command .entry)) (now (found .entry))) (moveIn (self .exchange .code) (now (packet .entry)) moved) (now (buffer .entry)) ⌝ }
+    {
+        match moved {
+            Move::Unfit => self.refused(Refusal::OutOfTurn),
+            Move::Orders(order, call, exchange) => self.ordered(order, call, exchange, buffer),
+            Move::Enters(call) => self.entered(call, command, buffer),
+            Move::Finishes => self.ended(Output::Done(0)),
+            Move::Arrives => self.arrived(packet, command, found, buffer),
+            Move::Fails(fault) => self.failed(fault, command, found, buffer),
+        }
+    }
+
+    // An event that fits the order: short buffer and over-long packet are refused, then it is taken.
+    fn admitted(
+        self,
+        moved: Move,
+        event: Event,
+        packet: &[u8],
+        command: &mut [u8],
+        found: &mut [u8],
+        buffer: &mut [u8],
+    ) -> Progress
+        requires { ⌜ (replyLength (moveIn (self .exchange .code) (now packet) moved) ≤ packetLength (eventOf event (now packet))) × (self .found ≤ 1022) × (self .command ≤ 512) × (length (now command) ≡ 512) × (length (now found) ≡ 1024) × (self .call .stage < 255) ⌝ }
+        ensures { λ r. ⌜ progressed r (held (now (command .exit)) (now (found .exit))) (now (buffer .exit)) ≡ admittedOf self (held (now (command .entry)) (now (found .entry))) (moveIn (self .exchange .code) (now (packet .entry)) moved) (eventOf event (now (packet .entry))) (now (buffer .entry)) ⌝ }
+    {
+        if moved.fits() {
+            if buffer.len() < 1024 {
+                return self.refused(Refusal::ShortBuffer);
+            }
+            if is_long(event, packet) {
+                return self.refused(Refusal::OverLong);
+            }
+            self.moved(moved, packet, command, found, buffer)
+        } else {
+            self.refused(Refusal::OutOfTurn)
+        }
+    }
+
+    // What the host returns for an order.
+    pub(crate) fn event(
+        self,
+        event: Event,
+        packet: &[u8],
+        command: &mut [u8],
+        found: &mut [u8],
+        buffer: &mut [u8],
+    ) -> Progress
+        requires { ⌜ (isValid self ≡ true) × (length (now command) ≡ 512) × (length (now found) ≡ 1024) ⌝ }
+        ensures { λ r. ⌜ progressed r (held (now (command .exit)) (now (found .exit))) (now (buffer .exit)) ≡ eventCore self (held (now (command .entry)) (now (found .entry))) (eventOf event (now (packet .entry))) (now (buffer .entry)) ⌝ }
+    {
+        let call = self.call;
+        let exchange = self.exchange;
+        if call.kind == NO_CALL {
+            return self.refused(Refusal::OutOfTurn);
+        }
+        let moved = call.moved(exchange, event, packet);
+        self.admitted(moved, event, packet, command, found, buffer)
+    }
+
+    // `Chipset::new` begins: ACK is written.
+    pub(crate) fn open(self, buffer: &mut [u8]) -> Progress
+        requires { ⌜ 1024 ≤ length (now buffer) ⌝ }
+        ensures { λ r. ⌜ ((f : Held) → progressed r f (now (buffer .exit)) ≡ openCore self f (now (buffer .entry))) ⌝ }
+    {
+        let exchange = self.exchange;
+        let call = Call {
+            kind: OPEN,
+            stage: 0,
+            phase: OPENING_ACK,
+        };
+        self.with_found(0)
+            .ordered(Order::Ack, call, exchange, buffer)
+    }
+
+    // Its arguments are refused, or its first command is ordered.
+    pub(crate) fn sent_by(
+        self,
+        launch: Launch,
+        bytes: &[u8],
+        pending: &[u8],
+        command: &mut [u8],
+        buffer: &mut [u8],
+    ) -> Progress
+        requires { ⌜ fits launch × (length (now bytes) ≡ 512) × (length (now pending) ≤ length (now command)) × (1024 ≤ length (now buffer)) ⌝ }
+        ensures { λ r. ⌜ ((f : List ℕ) → progressed r (held (now (command .exit)) f) (now (buffer .exit)) ≡ launchOn self (held (now (command .entry)) f) (launchWith (now (bytes .entry)) launch) (now (pending .entry)) (now (buffer .entry))) ⌝ }
+    {
+        match launch {
+            Launch::Sends(first) => {
+                let call = Call {
+                    kind: first.rule,
+                    stage: 0,
+                    phase: EXCHANGE,
+                };
+                let n = first.len;
+                let count = bytes::copy(pending, command);
+                self.with_command(count)
+                    .sent(call, first.code, first.clock, &bytes[..n], buffer)
+            }
+            Launch::Refused(refusal) => self.refused(refusal),
+        }
+    }
+}

@@ -1,0 +1,117 @@
+-- Which bytes of an answer are the engine's own, and what they are worked out from. Document 01 names them: DEP's D5 01, the chip's
+-- name, the more flag and rates. All other bytes are card bytes. A new call adds its line.
+use mathlib.Core.Path.{_≡_}
+use mathlib.Core.Bool.{Bool, cond}
+use mathlib.Core.List.{List, [], _∷_, _++_}
+use Prim.Native.Nat.{ℕ, _/_, _%_}
+use lib.Dec.{eqb}
+use Rattle.protocol.specs.Scripts.{Byte, own, card, Answer, done, type1, nothing, refused}
+use Rattle.protocol.specs.Chipset.{rate}
+use Rattle.protocol.specs.Device.{chipsetName}
+use Rattle.protocol.specs.Calls.{Request, version, resetMode, setParameters, rfConfiguration, rfFieldOff, readRegister, writeRegister, readSingleRegister, writeSingleRegister, inListPassiveTarget, inDataExchange, inCommunicateThru, inJumpForDep, tgInitTarget, tgSetGeneralBytes, tgGetInitiatorCommand, tgResponseToInitiator, tgGetTargetStatus}
+use Rattle.protocol.specs.Calls.{DeviceCall, detectTypeA, detectTypeB, detectTypeF, detectDep, transceive}
+use Rattle.protocol.specs.Calls.{Call, opening, reader, request, device, rateBytes}
+
+-- ---- the forms of an answer
+
+-- card bytes alone, or no bytes
+abbrev pub Cards : List Byte → Type 0
+Cards [] = Unit {0}
+Cards (own b ∷ bytes) = ⊥
+Cards (card k p b ∷ bytes) = Cards bytes
+
+-- bytes of the engine's own alone
+abbrev pub Owns : List Byte → Type 0
+Owns [] = Unit {0}
+Owns (own b ∷ bytes) = Owns bytes
+Owns (card k p b ∷ bytes) = ⊥
+
+-- IC, version and revision are card bytes; behind them stands the chip's name, made of this version and this revision
+pub record VersionAndName (bytes : List Byte) : Type 0 where
+  pub ic : ℕ
+  pub ver : ℕ
+  pub rev : ℕ
+  pub form : bytes ≡ card 1 0 ic ∷ card 1 1 ver ∷ card 1 2 rev ∷ chipsetName ver rev
+  pub ownName : Owns (chipsetName ver rev)
+
+-- D5 01, then card bytes
+pub record DepAndCards (bytes : List Byte) : Type 0 where
+  pub cards : List Byte
+  pub form : bytes ≡ own 0xD5 ∷ own 0x01 ∷ cards
+  pub allCards : Cards cards
+
+-- a rate by its index, 0 for none
+abbrev pub rateIf : Bool → ℕ → ℕ
+rateIf isActive index = cond isActive (rate index) 0
+
+-- `At k p b`: b is the byte at position p of the response to the call's command k.
+module _ (At : ℕ → ℕ → ℕ → Type 0) where
+  -- card bytes, then the more flag: bit 6 of the status
+  pub record CardsAndFlag (bytes : List Byte) : Type 0 where
+    pub cards : List Byte
+    pub status : ℕ
+    pub form : bytes ≡ cards ++ (own (status / 64 % 2) ∷ [])
+    pub allCards : Cards cards
+    pub source : At 0 0 status
+
+  -- the state, a card byte, then two rates, the high byte of each first: by bits 4 to 6 and 0 to 2 of the next byte in state 1, else 0
+  pub record CardAndRates (bytes : List Byte) : Type 0 where
+    pub state : ℕ
+    pub indices : ℕ
+    pub form : bytes ≡ card 0 0 state ∷ (rateBytes (rateIf (eqb state 1) (indices / 16 % 8)) ++ rateBytes (rateIf (eqb state 1) (indices % 8)))
+    pub source : At 0 1 indices
+
+pub data Form : Type 0 where
+  onlyCards : Form
+  versionAndName : Form
+  cardsAndFlag : Form
+  cardAndRates : Form
+  depAndCards : Form
+
+-- of an answer's bytes, and of an answer: `none` and refusals have no bytes
+abbrev pub HasForm : (ℕ → ℕ → ℕ → Type 0) → Form → List Byte → Type 0
+HasForm At onlyCards bytes = Cards bytes
+HasForm At versionAndName bytes = VersionAndName bytes
+HasForm At cardsAndFlag bytes = CardsAndFlag At bytes
+HasForm At cardAndRates bytes = CardAndRates At bytes
+HasForm At depAndCards bytes = DepAndCards bytes
+
+abbrev pub Formed : (ℕ → ℕ → ℕ → Type 0) → Form → Answer Byte → Type 0
+Formed At f (done bytes) = HasForm At f bytes
+Formed At f (type1 bytes) = HasForm At f bytes
+Formed At f nothing = Unit {0}
+Formed At f (refused r) = Unit {0}
+
+-- ---- the form of each call's answer
+
+abbrev pub requestForm : Request → Form
+requestForm version = onlyCards
+requestForm resetMode = onlyCards
+requestForm (setParameters flags) = onlyCards
+requestForm (rfConfiguration item settings) = onlyCards
+requestForm rfFieldOff = onlyCards
+requestForm (readRegister addresses) = onlyCards
+requestForm (writeRegister values) = onlyCards
+requestForm (readSingleRegister address) = onlyCards
+requestForm (writeSingleRegister address v) = onlyCards
+requestForm (inListPassiveTarget maxTg bitrate initiator) = onlyCards
+requestForm (inDataExchange sent ms) = cardsAndFlag
+requestForm (inCommunicateThru sent ms) = onlyCards
+requestForm (inJumpForDep active br passive nfcid3 gi) = onlyCards
+requestForm (tgInitTarget mode mifare felica nfcid3t gt ms) = onlyCards
+requestForm (tgSetGeneralBytes gb) = onlyCards
+requestForm (tgGetInitiatorCommand ms) = onlyCards
+requestForm (tgResponseToInitiator sent) = onlyCards
+requestForm tgGetTargetStatus = cardAndRates
+
+abbrev pub deviceForm : DeviceCall → Form
+deviceForm (detectTypeA text uid) = onlyCards
+deviceForm (detectTypeB text sensbReq) = onlyCards
+deviceForm (detectTypeF text systemCode requestCode timeSlots) = onlyCards
+deviceForm (detectDep text atrReq) = depAndCards
+deviceForm (transceive text selRes ridRes sent ms) = onlyCards
+
+abbrev pub formOf : Call → Form
+formOf opening = versionAndName
+formOf (reader (request r)) = requestForm r
+formOf (reader (device d)) = deviceForm d
