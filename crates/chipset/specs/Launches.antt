@@ -10,15 +10,7 @@ use Rattle.errors.specs.declared.Refusal.the-variants.{OverLong, BadArgument}
 use Rattle.protocol.specs.Chipset.{word, jumpData, initData}
 use Rattle.protocol.specs.Calls.{Request, version, resetMode, setParameters, rfConfiguration, rfFieldOff, readRegister, writeRegister, readSingleRegister, writeSingleRegister, inListPassiveTarget, inDataExchange, inCommunicateThru, inJumpForDep, tgInitTarget, tgSetGeneralBytes, tgGetInitiatorCommand, tgResponseToInitiator, tgGetTargetStatus}
 use Rattle.protocol.specs.Calls.{registers, initFits, activeByte}
-
--- code, clock in ms, data
-pub record Command : Type 0 where
-  pub code : ℕ
-  pub clock : ℕ
-  pub bytes : List ℕ
-
-abbrev pub cmd : ℕ → ℕ → List ℕ → Command
-cmd code clock bytes = record { code = code; clock = clock; bytes = bytes }
+use Rattle.stages.specs.Stages.{Command, cmd}
 
 -- the rule by which the response is judged (Verdicts), and the command
 pub data Launch : Type 0 where

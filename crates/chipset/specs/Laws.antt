@@ -1,5 +1,5 @@
 -- Laws of what the functions answer.
-use mathlib.Core.Path.{_≡_, refl, sym, ap, _∙_}
+use mathlib.Core.Path.{_≡_, refl, sym, ap, _∙_, subst}
 use mathlib.Core.Bool.{Bool, true, false}
 use mathlib.Core.List.{List, [], _∷_, _++_, append-nil, append-assoc}
 use Prim.Native.Nat.{ℕ, _+_, _*_, _-_, _/_, _%_, _≤_, _<_}
@@ -12,23 +12,23 @@ use lib.ListN.{length, take, drop, getD, length-append, length-drop, drop-of-len
 use lib.Seq.{drop-cons, take-all, take-at}
 use Rattle.crc.specs.Crc.{typeA as crcA, checks}
 use Rattle.errors.specs.Choice.{pick}
-use Rattle.errors.specs.declared.Fault.{Fault}
-use Rattle.errors.specs.declared.Fault.the-variants.{Status}
 use Rattle.errors.specs.declared.Refusal.the-variants.{OverLong, BadArgument}
 use Rattle.framing.specs.Copied.{copied}
 use Rattle.framing.specs.Valid.{both-right}
 use Rattle.protocol.specs.Calls.{registers}
 use Rattle.protocol.specs.Chipset.{anyNonzero, word, bit}
-use Rattle.protocol.specs.Scripts.{Answer, done, nothing, refused}
-use Rattle.chipset.specs.Answers.{Comes, tailBytes}
-use Rattle.chipset.specs.Launches.{Command, cmd, sends, refuses, limited, asserted}
+use Rattle.protocol.specs.Scripts.{done}
+use Rattle.stages.specs.Stages.{Command, cmd}
+use Rattle.stages.specs.Decided.{Lays, Comes}
+use Rattle.stages.specs.Laws.{comes-done}
+use Rattle.stages.specs.declared.Decision.{Decision}
+use Rattle.stages.specs.declared.Decision.the-variants.{Done}
+use Rattle.stages.specs.declared.Layout.{Layout}
+use Rattle.chipset.specs.Launches.{sends, refuses, limited, asserted}
 use Rattle.chipset.specs.Launches as launches
 use Rattle.chipset.specs.Starts.{launchIn, LaunchFits, Starts, Holds}
 use Rattle.chipset.specs.declared.command.Launch.the-variants as launch
 use Rattle.chipset.specs.declared.command.Launched.{Launched}
-use Rattle.chipset.specs.declared.response.Tail.{Tail}
-use Rattle.chipset.specs.declared.response.Verdict.{Verdict}
-use Rattle.chipset.specs.declared.response.Verdict.the-variants.{Done, Nothing, Refused}
 
 -- ---- a loop that looks for a byte other than 0
 
@@ -57,60 +57,23 @@ pub has-first : (l : List ℕ) (r : ℕ) → r ≡ getD l 0 255 → r ≡ 0 → 
 has-first [] r e f = omega arith
 has-first (x ∷ l) r e f = omega arith
 
--- ---- a verdict follows the tests of its definition
-
-module _ (bs : List ℕ) (r : Verdict) (a b : Answer ℕ) (t : Bool) where
-  pub comes-true : t ≡ true → Comes bs r a → Comes bs r (pick t a b)
-  unfolding pick
-  comes-true h e = rw h e
-
-  pub comes-false : t ≡ false → Comes bs r b → Comes bs r (pick t a b)
-  unfolding pick
-  comes-false h e = rw h e
-
--- a test on a number that a call answered
-pub is-eqb : (r x k : ℕ) → r ≡ x → r ≡ k → eqb x k ≡ true
-is-eqb r x k e f = eq-eqb x k (sym e ∙ f)
-
-pub not-eqb : (r x k : ℕ) → r ≡ x → (r ≡ k → ⊥) → eqb x k ≡ false
-not-eqb r x k e f = ne-eqb x k (λ g. f (e ∙ g))
+-- ---- answers
 
 module _ (bs : List ℕ) where
-  pub comes-nothing : Comes bs Nothing nothing
-  comes-nothing = record { is = refl; fits = tt }
-
-  pub comes-refused : (x : Fault) → Comes bs (Refused x) (refused x)
-  comes-refused x = record { is = refl; fits = tt }
-
-  pub comes-status : (s x : ℕ) → s ≡ x → Comes bs (Refused (Status s)) (refused (Status x))
-  comes-status s x e = record { is = ap (λ y. refused (Status y)) e; fits = tt }
-
-  -- a part of the response
-  pub comes-part : (s n : ℕ) (t : Tail) → s + n ≤ length bs
-      → Comes bs (Done (record { start = s; len = n; tail = t; count = 0 })) (done (take n (drop s bs)))
-  comes-part s n t h = record { is = ap done (append-nil (take n (drop s bs))); fits = (h, omega arith, λ k p q. omega arith) }
-
-  -- the response from a place on
-  pub comes-rest : (r : Verdict) (s : ℕ) → s ≤ length bs → Comes bs r (done (take (length bs - s) (drop s bs))) → Comes bs r (done (drop s bs))
-  comes-rest r s h e =
-      let l : length (drop s bs) ≤ length bs - s = rw (length-drop s bs) (omega arith) in
-      rw (take-all (length bs - s) (drop s bs) l) at e
-
   -- the data, and the more flag behind it
-  pub comes-flagged : (m : ℕ) (t : Tail) → 1 ≤ length bs → t .0 ≡ m
-      → Comes bs (Done (record { start = 1; len = length bs - 1; tail = t; count = 1 })) (done (drop 1 bs ++ (m ∷ [])))
-  comes-flagged m t h e =
+  pub flagged : (r : Layout) (m : ℕ) → 1 ≤ length bs → ((f : List ℕ) → Lays f bs r (take (length bs - 1) (drop 1 bs) ++ (m ∷ []))) → Comes bs (Done r) (done (drop 1 bs ++ (m ∷ [])))
+  flagged r m h k =
       let l : length (drop 1 bs) ≤ length bs - 1 = rw (length-drop 1 bs) (omega arith) in
-      record { is = rw (take-all (length bs - 1) (drop 1 bs) l, e); fits = (omega arith, omega arith, λ k p q. omega arith) }
+      comes-done bs r _ (λ f. rw (take-all (length bs - 1) (drop 1 bs) l) at (k f))
 
   -- the first byte, and two words behind it
-  pub comes-words : (m n : ℕ) (t : Tail) → 1 ≤ length bs → tailBytes t ≡ word m ++ word n
-      → Comes bs (Done (record { start = 0; len = 1; tail = t; count = 4 })) (done (getD bs 0 0 ∷ (word m ++ word n)))
-  comes-words m n t h e =
-      record { is = rw (drop-cons bs 0 0) (ap (λ l. done (getD bs 0 0 ∷ l)) e); fits = (h, omega arith, λ k p q. omega arith) }
+  pub with-words : (r : Layout) (m n : ℕ) → 1 ≤ length bs → ((f : List ℕ) → Lays f bs r (take 1 bs ++ (word m ++ word n))) → Comes bs (Done r) (done (getD bs 0 0 ∷ (word m ++ word n)))
+  with-words r m n h k =
+      let first : take 1 bs ≡ getD bs 0 0 ∷ [] = ap (take 1) (drop-cons bs 0 0 h) in
+      comes-done bs r _ (λ f. subst (λ l. Lays f bs r (l ++ (word m ++ word n))) first (k f))
 
   -- the rates as their indexes give them
-  pub comes-rates : (r : Verdict) (m n m′ n′ : ℕ) → m ≡ m′ → n ≡ n′ → Comes bs r (done (getD bs 0 0 ∷ (word m ++ word n)))
+  pub comes-rates : (r : Decision) (m n m′ n′ : ℕ) → m ≡ m′ → n ≡ n′ → Comes bs r (done (getD bs 0 0 ∷ (word m ++ word n)))
       → Comes bs r (done (getD bs 0 0 ∷ (word m′ ++ word n′)))
   comes-rates r m n m′ n′ e f h = rw (← e, ← f) h
 
@@ -119,8 +82,6 @@ pub check-told : (bs : List ℕ) (r t : Bool) → r ≡ checks crcA (take (lengt
 check-told bs r t e f =
     let l : length (drop 1 bs) ≤ length bs - 1 = rw (length-drop 1 bs) (omega arith) in
     ap (checks crcA) (sym (take-all (length bs - 1) (drop 1 bs) l)) ∙ sym e ∙ f
-
-pub ruleset verdicts = (comes-true, comes-false, comes-nothing, comes-refused, comes-status, is-eqb, not-eqb, eq-eqb, ne-eqb, lt-ltb, le-ltb)
 
 -- ---- the data of a command, put together of its parts
 

@@ -1,6 +1,5 @@
 -- Definitions of the commands, and of what their responses come to; laws of them.
 pub mod Launches
 pub mod Verdicts
-pub mod Answers
 pub mod Starts
 pub mod Laws

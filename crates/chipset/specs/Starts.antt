@@ -3,7 +3,8 @@ use mathlib.Core.Path.{_≡_}
 use mathlib.Core.List.{List}
 use Prim.Native.Nat.{ℕ, _≤_}
 use lib.ListN.{length, take}
-use Rattle.chipset.specs.Launches.{cmd, sends, refuses}
+use Rattle.stages.specs.Stages.{cmd}
+use Rattle.chipset.specs.Launches.{sends, refuses}
 use Rattle.chipset.specs.Launches as launches
 use Rattle.chipset.specs.declared.command.Launch.{Launch}
 use Rattle.chipset.specs.declared.command.Launch.the-variants.{Sends, Refused}

@@ -7,6 +7,7 @@ use Rattle.errors.specs.Choice.{pick}
 use Rattle.errors.specs.declared.Fault.the-variants.{Status, ShortResponse, CrcA, Rate}
 use Rattle.crc.specs.Crc.{typeA as crcA, checks}
 use Rattle.protocol.specs.Scripts.{Answer, done, nothing, refused}
+use Rattle.stages.specs.Stages.{Decision, ends, refuse}
 use Rattle.protocol.specs.Chipset.{anyNonzero, statusByte, maskedStatus, moreFlag, sendIndex, receiveIndex, rate, word}
 
 -- at least n bytes, else 16; a status of 0, else 15
@@ -22,6 +23,10 @@ versionAnswer bs = withLength bs 4 (done (take 3 bs))
 
 unfoldable pub writeAnswer : List ℕ → Answer ℕ
 writeAnswer bs = pick (anyNonzero bs) (refused (Status 0xFE)) (done [])
+
+-- the last command of a call: the answer is what was found
+unfoldable pub foundWritten : List ℕ → List ℕ → Decision
+foundWritten found bs = pick (anyNonzero bs) (refuse (Status 0xFE)) (ends (done found))
 
 unfoldable pub firstAnswer : List ℕ → Answer ℕ
 firstAnswer bs = withLength bs 1 (done (take 1 bs))
@@ -73,3 +78,14 @@ judgeOf rule bs =
     (pick (eqb rule 14) (targetAnswer bs)
     (pick (eqb rule 15) (type2Answer bs)
     (pick (eqb rule 16) (type1Answer bs) (done [])))))))))))))
+
+-- the rules from 10 on
+unfoldable pub laterJudge : ℕ → List ℕ → Answer ℕ
+laterJudge rule bs =
+    pick (eqb rule 10) (withStatus bs (done (drop 1 bs)))
+    (pick (eqb rule 11) (jumpAnswer bs)
+    (pick (eqb rule 12) (withStatus bs (done []))
+    (pick (eqb rule 13) (initiatorAnswer bs)
+    (pick (eqb rule 14) (targetAnswer bs)
+    (pick (eqb rule 15) (type2Answer bs)
+    (pick (eqb rule 16) (type1Answer bs) (done [])))))))

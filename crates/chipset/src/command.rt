@@ -23,7 +23,8 @@ ghost use Rattle.framing.specs.Lists.{both};
 ghost use Rattle.protocol.specs.Chipset.{bit as bitOf};
 ghost use Rattle.protocol.specs.Calls.{version, resetMode, setParameters, rfConfiguration, rfFieldOff, readRegister, writeRegister, readSingleRegister, writeSingleRegister, inListPassiveTarget, inDataExchange, inCommunicateThru, inJumpForDep, tgInitTarget, tgSetGeneralBytes, tgGetInitiatorCommand, tgResponseToInitiator, tgGetTargetStatus};
 ghost use Rattle.protocol.specs.Calls.{registers as registersOf, initFits, activeByte};
-ghost use Rattle.chipset.specs.Launches.{launchOf, limited, cmd as commandOf, sends, refuses};
+ghost use Rattle.stages.specs.Stages.{cmd as commandOf};
+ghost use Rattle.chipset.specs.Launches.{launchOf, limited, sends, refuses};
 ghost use Rattle.errors.specs.declared.Refusal.the-variants.{BadArgument};
 ghost use Rattle.chipset.specs.Starts.{launchIn, LaunchFits, Starts, Holds};
 

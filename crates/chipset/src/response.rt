@@ -13,33 +13,17 @@ use super::TYPE_1;
 use super::TYPE_2;
 use super::VERSION;
 use errors::Fault;
+use stages::Decision;
+use stages::Layout;
+use stages::Tail;
 ghost use mathlib.Core.List.{List, [], _∷_, _++_};
 ghost use mathlib.Core.Path.{_≡_};
 ghost use Prim.Native.Nat.{ℕ, _+_, _≤_};
 ghost use lib.ListN.{length, take, drop, getD};
 ghost use Rattle.protocol.specs.Chipset.{anyNonzero, rate as rateOf, word};
 ghost use Rattle.protocol.specs.Scripts.{done};
-ghost use Rattle.chipset.specs.Verdicts.{judgeOf, withStatus, versionAnswer, writeAnswer, firstAnswer, listAnswer, exchangeAnswer, jumpAnswer, initiatorAnswer, targetAnswer, type2Answer, type1Answer};
-ghost use Rattle.chipset.specs.Answers.{verdictIn, Fits, Comes, laterJudge};
-
-// Bytes of the engine's own. An enum cannot hold an array.
-pub struct Tail(pub u8, pub u8, pub u8, pub u8);
-
-// The answer: the part of the response from `start`, `len` bytes of it, and behind it the first `count` bytes of `tail`.
-// The contracts fix the answer's bytes. How they divide into part and tail is free, and so are bytes of `tail` behind `count`, which
-// nothing reads.
-pub struct Answer {
-    pub start: usize,
-    pub len: usize,
-    pub tail: Tail,
-    pub count: usize,
-}
-
-pub enum Verdict {
-    Done(Answer),
-    Nothing,
-    Refused(Fault),
-}
+ghost use Rattle.stages.specs.Decided.{Decides, Comes};
+ghost use Rattle.chipset.specs.Verdicts.{judgeOf, foundWritten, laterJudge, withStatus, versionAnswer, writeAnswer, firstAnswer, listAnswer, exchangeAnswer, jumpAnswer, initiatorAnswer, targetAnswer, type2Answer, type1Answer};
 
 // The first byte, `other` where there is none.
 fn first_or(bytes: &[u8], other: u8) -> u8
@@ -63,143 +47,142 @@ pub fn any_nonzero(bytes: &[u8]) -> bool
 }
 
 // A part of the response and nothing behind it.
-fn part(start: usize, len: usize) -> Verdict
+fn part(start: usize, len: usize) -> Decision
     ensures { λ r. ⌜ ((bs : List ℕ) → start + len ≤ length bs → Comes bs r (done (take len (drop start bs)))) ⌝ }
 {
-    let answer = Answer {
-        start,
-        len,
-        tail: Tail(0, 0, 0, 0),
-        count: 0,
-    };
-    Verdict::Done(answer)
+    Decision::Done(Layout::part(start, len))
 }
 
 // The response from `start` on.
-fn from(response: &[u8], start: usize) -> Verdict
-    requires { ⌜ start ≤ length (now response) ⌝ }
+fn from(response: &[u8], start: usize) -> Decision
     ensures { λ r. ⌜ Comes (now (response .entry)) r (done (drop start (now (response .entry)))) ⌝ }
 {
-    part(start, response.len() - start)
+    Decision::Done(Layout::rest(response, start))
 }
 
 // get_firmware_version.
-fn version(response: &[u8]) -> Verdict
+fn version(response: &[u8]) -> Decision
     ensures { λ r. ⌜ Comes (now (response .entry)) r (versionAnswer (now (response .entry))) ⌝ }
 {
     if response.len() < 4 {
-        Verdict::Refused(Fault::ShortResponse)
+        Decision::Refused(Fault::ShortResponse)
     } else {
         part(0, 3)
     }
 }
 
 // write_register: a register was not written.
-fn written(response: &[u8]) -> Verdict
+fn written(response: &[u8]) -> Decision
     ensures { λ r. ⌜ Comes (now (response .entry)) r (writeAnswer (now (response .entry))) ⌝ }
 {
     if any_nonzero(response) {
-        Verdict::Refused(Fault::Status(0xFE))
+        Decision::Refused(Fault::Status(0xFE))
     } else {
         part(0, 0)
     }
 }
 
+// A register was written, the last command of a call: the answer is what was found.
+pub fn found_written(found: &[u8], response: &[u8]) -> Decision
+    ensures { λ r. ⌜ Decides (now (found .entry)) (now (response .entry)) r (foundWritten (now (found .entry)) (now (response .entry))) ⌝ }
+{
+    if any_nonzero(response) {
+        Decision::Refused(Fault::Status(0xFE))
+    } else {
+        Decision::Done(Layout::found(found))
+    }
+}
+
 // read_single_register.
-fn first(response: &[u8]) -> Verdict
+fn first(response: &[u8]) -> Decision
     ensures { λ r. ⌜ Comes (now (response .entry)) r (firstAnswer (now (response .entry))) ⌝ }
 {
     if response.len() < 1 {
-        Verdict::Refused(Fault::ShortResponse)
+        Decision::Refused(Fault::ShortResponse)
     } else {
         part(0, 1)
     }
 }
 
 // in_list_passive_target: NbTg and Tg are left out.
-fn listed(response: &[u8]) -> Verdict
+fn listed(response: &[u8]) -> Decision
     ensures { λ r. ⌜ Comes (now (response .entry)) r (listAnswer (now (response .entry))) ⌝ }
 {
     if first_or(response, 0) == 0 {
-        return Verdict::Nothing;
+        return Decision::Nothing;
     }
     if response.len() < 2 {
-        Verdict::Refused(Fault::ShortResponse)
+        Decision::Refused(Fault::ShortResponse)
     } else {
         from(response, 2)
     }
 }
 
 // in_data_exchange: the status is masked, and the more flag stands behind the data.
-fn exchanged(response: &[u8]) -> Verdict
+fn exchanged(response: &[u8]) -> Decision
     ensures { λ r. ⌜ Comes (now (response .entry)) r (exchangeAnswer (now (response .entry))) ⌝ }
 {
     if response.len() == 0 {
-        return Verdict::Refused(Fault::Status(0xFF));
+        return Decision::Refused(Fault::Status(0xFF));
     }
     let status = response[0] % 64;
     if status == 0 {
         let more = response[0] / 64 % 2;
-        let answer = Answer {
-            start: 1,
-            len: response.len() - 1,
-            tail: Tail(more, 0, 0, 0),
-            count: 1,
-        };
-        Verdict::Done(answer)
+        let tail = Tail(more, 0, 0, 0, 0, 0, 0, 0, 0, 0, 0, 0);
+        Decision::Done(Layout::tailed(1, response.len() - 1, tail, 1))
     } else {
-        Verdict::Refused(Fault::Status(status))
+        Decision::Refused(Fault::Status(status))
     }
 }
 
 // in_communicate_thru.
-fn thru(response: &[u8]) -> Verdict
+fn thru(response: &[u8]) -> Decision
     ensures { λ r. ⌜ Comes (now (response .entry)) r (withStatus (now (response .entry)) (done (drop 1 (now (response .entry))))) ⌝ }
 {
     let status = first_or(response, 0xFF); // not masked
     if status == 0 {
         from(response, 1)
     } else {
-        Verdict::Refused(Fault::Status(status))
+        Decision::Refused(Fault::Status(status))
     }
 }
 
 // in_jump_for_dep: status and Tg are left out.
-fn jumped(response: &[u8]) -> Verdict
+fn jumped(response: &[u8]) -> Decision
     ensures { λ r. ⌜ Comes (now (response .entry)) r (jumpAnswer (now (response .entry))) ⌝ }
 {
     let status = first_or(response, 0xFF);
     if status == 0 {
         if response.len() < 2 {
-            Verdict::Refused(Fault::ShortResponse)
+            Decision::Refused(Fault::ShortResponse)
         } else {
             from(response, 2)
         }
     } else {
-        Verdict::Refused(Fault::Status(status))
+        Decision::Refused(Fault::Status(status))
     }
 }
 
 // tg_set_general_bytes and tg_response_to_initiator.
-fn status(response: &[u8]) -> Verdict
+fn status(response: &[u8]) -> Decision
     ensures { λ r. ⌜ Comes (now (response .entry)) r (withStatus (now (response .entry)) (done [])) ⌝ }
 {
     let status = first_or(response, 0xFF);
     if status == 0 {
         part(0, 0)
     } else {
-        Verdict::Refused(Fault::Status(status))
+        Decision::Refused(Fault::Status(status))
     }
 }
 
 // tg_get_initiator_command.
-fn initiator(response: &[u8]) -> Verdict
+fn initiator(response: &[u8]) -> Decision
     ensures { λ r. ⌜ Comes (now (response .entry)) r (initiatorAnswer (now (response .entry))) ⌝ }
 {
     if first_or(response, 0xFF) == 0 {
         from(response, 1)
     } else {
-        Verdict::Nothing
+        Decision::Nothing
     }
 }
 
@@ -214,7 +197,7 @@ fn rate(index: u8) -> u16
 }
 
 // The state and the two rates, high byte first.
-fn with_rates(send: u16, receive: u16) -> Verdict
+fn with_rates(send: u16, receive: u16) -> Decision
     ensures { λ r. ⌜ ((bs : List ℕ) → 1 ≤ length bs → Comes bs r (done (getD bs 0 0 ∷ (word send ++ word receive)))) ⌝ }
 {
     let tail = Tail(
@@ -222,31 +205,33 @@ fn with_rates(send: u16, receive: u16) -> Verdict
         (send % 256) as u8,
         (receive / 256) as u8,
         (receive % 256) as u8,
+        0,
+        0,
+        0,
+        0,
+        0,
+        0,
+        0,
+        0,
     );
-    let answer = Answer {
-        start: 0,
-        len: 1,
-        tail,
-        count: 4,
-    };
-    Verdict::Done(answer)
+    Decision::Done(Layout::tailed(0, 1, tail, 4))
 }
 
 // tg_get_target_status.
-fn target(response: &[u8]) -> Verdict
+fn target(response: &[u8]) -> Decision
     ensures { λ r. ⌜ Comes (now (response .entry)) r (targetAnswer (now (response .entry))) ⌝ }
 {
     if response.len() < 2 {
-        return Verdict::Refused(Fault::ShortResponse);
+        return Decision::Refused(Fault::ShortResponse);
     }
     if response[0] == 1 {
         let send = response[1] / 16 % 8;
         let receive = response[1] % 8;
         if 2 < send {
-            return Verdict::Refused(Fault::Rate);
+            return Decision::Refused(Fault::Rate);
         }
         if 2 < receive {
-            return Verdict::Refused(Fault::Rate);
+            return Decision::Refused(Fault::Rate);
         }
         with_rates(rate(send), rate(receive))
     } else {
@@ -255,7 +240,7 @@ fn target(response: &[u8]) -> Verdict
 }
 
 // transceive of Type 2: a reply over 2 bytes must pass CRC_A and loses two bytes.
-fn type2(response: &[u8]) -> Verdict
+fn type2(response: &[u8]) -> Decision
     ensures { λ r. ⌜ Comes (now (response .entry)) r (type2Answer (now (response .entry))) ⌝ }
 {
     let status = first_or(response, 0xFF);
@@ -264,35 +249,34 @@ fn type2(response: &[u8]) -> Verdict
             if crc::check_crc_a(&response[1..]) {
                 part(1, response.len() - 3)
             } else {
-                Verdict::Refused(Fault::CrcA)
+                Decision::Refused(Fault::CrcA)
             }
         } else {
             from(response, 1)
         }
     } else {
-        Verdict::Refused(Fault::Status(status))
+        Decision::Refused(Fault::Status(status))
     }
 }
 
 // transceive of Type 1: the more flag is left out.
-fn type1(response: &[u8]) -> Verdict
+fn type1(response: &[u8]) -> Decision
     ensures { λ r. ⌜ Comes (now (response .entry)) r (type1Answer (now (response .entry))) ⌝ }
 {
     if response.len() == 0 {
-        return Verdict::Refused(Fault::Status(0xFF));
+        return Decision::Refused(Fault::Status(0xFF));
     }
     let status = response[0] % 64;
     if status == 0 {
         from(response, 1)
     } else {
-        Verdict::Refused(Fault::Status(status))
+        Decision::Refused(Fault::Status(status))
     }
 }
 
 // What a response comes to.
-pub fn judged(rule: u8, response: &[u8]) -> Verdict
-    ensures { λ r. ⌜ verdictIn (now (response .entry)) r ≡ judgeOf rule (now (response .entry)) ⌝ }
-    ensures { λ r. ⌜ Fits (now (response .entry)) r ⌝ }
+pub fn decided(rule: u8, response: &[u8]) -> Decision
+    ensures { λ r. ⌜ Comes (now (response .entry)) r (judgeOf rule (now (response .entry))) ⌝ }
 {
     match rule {
         VERSION => version(response),
@@ -301,12 +285,12 @@ pub fn judged(rule: u8, response: &[u8]) -> Verdict
         FIRST_BYTE => first(response),
         LISTED_TARGET => listed(response),
         EXCHANGED_DATA => exchanged(response),
-        _ => judged_by_status(rule, response),
+        _ => decided_by_status(rule, response),
     }
 }
 
 // The rules from 10 on; any other number gives no bytes.
-fn judged_by_status(rule: u8, response: &[u8]) -> Verdict
+fn decided_by_status(rule: u8, response: &[u8]) -> Decision
     ensures { λ r. ⌜ Comes (now (response .entry)) r (laterJudge rule (now (response .entry))) ⌝ }
 {
     match rule {

@@ -2,6 +2,5 @@
 pub mod Searches
 pub mod Decisions
 pub mod Starts
-pub mod Decided
 pub mod Laws
 pub mod SearchLaws

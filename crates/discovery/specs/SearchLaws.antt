@@ -20,7 +20,8 @@ use Rattle.targets.specs.declared.Coded.the-variants as targets
 use Rattle.protocol.specs.Chipset.{bit, jumpData}
 use Rattle.protocol.specs.Calls.{type2SelRes}
 use Rattle.protocol.specs.Discovery.{cascaded}
-use Rattle.chipset.specs.Launches.{Command, cmd, limited}
+use Rattle.stages.specs.Stages.{Command, cmd}
+use Rattle.chipset.specs.Launches.{limited}
 use Rattle.chipset.specs.Launches as launches
 use Rattle.chipset.specs.Laws.{bit-none, bit-some}
 use Rattle.chipset.specs.Starts.{Starts, Holds}

@@ -15,7 +15,8 @@ use Rattle.protocol.specs.Chipset.{word, jumpData}
 use Rattle.protocol.specs.Discovery.{cascaded, sensfReq}
 use Rattle.protocol.specs.Calls.{DeviceCall, detectTypeA, detectTypeB, detectTypeF, detectDep, transceive}
 use Rattle.protocol.specs.Calls.{typeACode, typeBCode, typeFCode, depCode, is106A, type2SelRes, isSendable, clockOf}
-use Rattle.chipset.specs.Launches.{Launch, refuses, sends, cmd, limited}
+use Rattle.stages.specs.Stages.{cmd}
+use Rattle.chipset.specs.Launches.{Launch, refuses, sends, limited}
 
 pub record Search : Type 0 where
   pub launch : Launch

@@ -9,7 +9,8 @@ use Rattle.errors.specs.Choice.{pick}
 use Rattle.errors.specs.declared.Refusal.the-variants.{NotSendable}
 use Rattle.targets.specs.declared.Bitrate.{Bitrate}
 use Rattle.protocol.specs.Calls.{is106A, type2SelRes, isSendable}
-use Rattle.chipset.specs.Launches.{cmd, limited}
+use Rattle.stages.specs.Stages.{cmd}
+use Rattle.chipset.specs.Launches.{limited}
 use Rattle.chipset.specs.Starts.{launchIn, LaunchFits}
 use Rattle.discovery.specs.Searches.{starting, refusing}
 use Rattle.discovery.specs.Searches as searches

@@ -1,7 +1,9 @@
 // Discovery and transceive (discovery.rs, device.rs): the first command of a call, and what follows each reply.
-pub mod decision;
+pub mod dep;
 pub mod search;
-mod type_a;
+pub mod type_a;
+pub mod type_b;
+pub mod type_f;
 
 // The discoveries, by the numbers that follow those of chipset's rules.
 pub const TYPE_A: u8 = 17;

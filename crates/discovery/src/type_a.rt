@@ -1,47 +1,76 @@
-// Type A: what follows each reply, and the command of each stage.
-use super::decision::Arranged;
-use super::decision::Decision;
-use super::decision::Head;
-use super::decision::Plan;
-use super::decision::byte_or;
-use super::decision::within;
+// detect_type_a: the command of each stage, and what follows each reply.
 use chipset::cmd;
+use chipset::response;
 use errors::Fault;
-ghost use mathlib.Core.Bool.{false};
+use stages::Command;
+use stages::Decision;
+use stages::Head;
+use stages::Layout;
+use stages::byte_or;
 ghost use mathlib.Core.List.{List};
 ghost use mathlib.Core.Path.{_≡_};
 ghost use Prim.Native.Nat.{ℕ, _≤_};
 ghost use lib.ListN.{length};
-ghost use Rattle.errors.specs.Choice.{pick};
-ghost use Rattle.protocol.specs.Scripts.{done};
-ghost use Rattle.discovery.specs.Decisions.{cardBytes, ends, typeACommand, listedA, listedType1, ridOf, typeADecision, ridFailure, typeAFailure};
-ghost use Rattle.discovery.specs.Decided.{Decides, Always, Plans, fifoRead, rxModeRead, rxModeWritten};
+ghost use Rattle.stages.specs.Decided.{Lays, Decides, Always, Commands};
+ghost use Rattle.discovery.specs.Decisions.{cardBytes, sensRes, typeACommand, listedA, fifoRead, listedType1, ridOf, rxModeRead, typeADecision, ridFailure, typeAFailure};
 
-// SENS_RES in the other order, SEL_RES and SDD_RES of a list.
-fn card(list: &[u8], kept: bool) -> Decision
-    ensures { λ r. ⌜ ((f b : List ℕ) → pick kept f b ≡ now (list .entry) → (kept ≡ false → 2 ≤ length b) → Decides f b r (ends (done (cardBytes (now (list .entry)))))) ⌝ }
+// The command of a stage; that of stage 0 is the call's first.
+pub fn command(stage: u8) -> Command
+    ensures { λ r. ⌜ Commands r (typeACommand stage) ⌝ }
 {
-    let head = Head(
-        byte_or(list, 3, 0),
-        byte_or(list, 2, 0),
-        byte_or(list, 4, 0),
-    );
-    let answer = Arranged {
-        head,
-        count: 3,
-        kept,
-        start: within(list, 6),
-        type1: false,
-    };
-    Decision::Done(answer)
+    match stage {
+        1 => Command {
+            code: cmd::READ_REGISTER,
+            clock: 250,
+            is_pending: false,
+            bytes: [0x63, 0x39, 0, 0, 0, 0, 0, 0, 0, 0, 0, 0],
+            len: 2,
+        },
+        2 => Command {
+            code: cmd::IN_LIST_PASSIVE_TARGET,
+            clock: 1000,
+            is_pending: false,
+            bytes: [0x01, 0x04, 0, 0, 0, 0, 0, 0, 0, 0, 0, 0],
+            len: 2,
+        },
+        3 => Command {
+            code: cmd::IN_DATA_EXCHANGE,
+            clock: 100,
+            is_pending: false,
+            bytes: [0x01, 0x78, 0, 0, 0, 0, 0, 0, 0, 0, 0, 0],
+            len: 8,
+        },
+        4 => Command {
+            code: cmd::READ_REGISTER,
+            clock: 250,
+            is_pending: false,
+            bytes: [0x63, 0x03, 0, 0, 0, 0, 0, 0, 0, 0, 0, 0],
+            len: 2,
+        },
+        _ => Command {
+            code: cmd::WRITE_REGISTER,
+            clock: 250,
+            is_pending: true,
+            bytes: [0; 12],
+            len: 0,
+        },
+    }
 }
 
-// detect_type_a: a target was listed, or none.
+// SENS_RES in the other order, SEL_RES and SDD_RES of a list.
+fn card(list: &[u8]) -> Layout
+    requires { ⌜ 6 ≤ length (now list) ⌝ }
+    ensures { λ r. ⌜ ((f : List ℕ) → Lays f (now (list .entry)) r (cardBytes (now (list .entry)))) ⌝ }
+{
+    Layout::headed(Head(list[3], list[2], list[4]), 3, list, 6)
+}
+
+// detect_type_a: a target was listed, or none. Of a Type 2 tag the RX mode is set before it is handed out.
 fn listed_a(response: &[u8]) -> Decision
     ensures { λ r. ⌜ ((f : List ℕ) → Decides f (now (response .entry)) r (listedA (now (response .entry)))) ⌝ }
 {
     if byte_or(response, 0, 0) == 0 {
-        return Decision::Goes(1);
+        return Decision::Send(1);
     }
     if response.len() < 2 {
         return Decision::Refused(Fault::ShortResponse);
@@ -50,9 +79,9 @@ fn listed_a(response: &[u8]) -> Decision
         return Decision::Nothing;
     }
     if response[4] / 32 % 4 == 0 {
-        Decision::Keeps(4) // Type 2
+        Decision::Keep(4, card(response))
     } else {
-        card(response, false)
+        Decision::Done(card(response))
     }
 }
 
@@ -63,7 +92,18 @@ fn fifo(response: &[u8]) -> Decision
     if byte_or(response, 0, 0) == 0x26 {
         Decision::Nothing
     } else {
-        Decision::Goes(2)
+        Decision::Send(2)
+    }
+}
+
+// SENS_RES of a Type 1 tag in the other order, nothing of a list that is too short for it.
+fn sens_res(list: &[u8]) -> Layout
+    ensures { λ r. ⌜ ((f : List ℕ) → Lays f (now (list .entry)) r (sensRes (now (list .entry)))) ⌝ }
+{
+    if list.len() < 4 {
+        Layout::part(0, 0)
+    } else {
+        Layout::headed(Head(list[3], list[2], 0), 2, list, list.len())
     }
 }
 
@@ -77,7 +117,7 @@ fn listed_type1(response: &[u8]) -> Decision
     if response.len() < 2 {
         Decision::Refused(Fault::ShortResponse)
     } else {
-        Decision::Keeps(3)
+        Decision::Keep(3, sens_res(response))
     }
 }
 
@@ -91,17 +131,10 @@ fn rid(found: &[u8], response: &[u8]) -> Decision
     if response[0] % 64 != 0 {
         return Decision::Nothing;
     }
-    if found.len() < 4 {
+    if found.len() < 2 {
         return Decision::Refused(Fault::ShortResponse);
     }
-    let answer = Arranged {
-        head: Head(found[3], found[2], 0),
-        count: 2,
-        kept: false,
-        start: 1,
-        type1: true,
-    };
-    Decision::Done(answer)
+    Decision::Type1(Layout::behind(2, 1, response.len() - 1))
 }
 
 // The RX mode of a Type 2 tag has the CRC check switched off.
@@ -111,22 +144,12 @@ fn rx_mode(response: &[u8]) -> Decision
     if response.len() < 1 {
         Decision::Refused(Fault::ShortResponse)
     } else {
-        Decision::Sets(5, response[0] % 128)
+        Decision::Put(5, Head(0x63, 0x03, response[0] % 128))
     }
 }
 
-// The answer is in the list that was kept.
-fn rx_mode_written(found: &[u8], response: &[u8]) -> Decision
-    ensures { λ r. ⌜ Decides (now (found .entry)) (now (response .entry)) r (rxModeWritten (now (found .entry)) (now (response .entry))) ⌝ }
-{
-    if chipset::response::any_nonzero(response) {
-        Decision::Refused(Fault::Status(0xFE))
-    } else {
-        card(found, true)
-    }
-}
-
-pub(crate) fn type_a(stage: u8, found: &[u8], response: &[u8]) -> Decision
+// What follows a response; `found` are the bytes that were kept of an earlier one.
+pub fn decided(stage: u8, found: &[u8], response: &[u8]) -> Decision
     ensures { λ r. ⌜ Decides (now (found .entry)) (now (response .entry)) r (typeADecision stage (now (found .entry)) (now (response .entry))) ⌝ }
 {
     match stage {
@@ -135,7 +158,7 @@ pub(crate) fn type_a(stage: u8, found: &[u8], response: &[u8]) -> Decision
         2 => listed_type1(response),
         3 => rid(found, response),
         4 => rx_mode(response),
-        _ => rx_mode_written(found, response),
+        _ => response::found_written(found, response),
     }
 }
 
@@ -149,48 +172,13 @@ fn rid_failed(fault: Fault) -> Decision
     Decision::Nothing
 }
 
-pub(crate) fn type_a_failed(stage: u8, fault: Fault) -> Decision
+// What follows a command that failed.
+pub fn failed(stage: u8, fault: Fault) -> Decision
     ensures { λ r. ⌜ Always r (typeAFailure stage fault) ⌝ }
 {
     match stage {
-        1 => Decision::Goes(2),
+        1 => Decision::Send(2),
         3 => rid_failed(fault),
         _ => Decision::Refused(fault),
-    }
-}
-
-pub(crate) fn type_a_command(stage: u8) -> Plan
-    ensures { λ r. ⌜ Plans r (typeACommand stage) ⌝ }
-{
-    match stage {
-        1 => Plan(
-            cmd::READ_REGISTER,
-            250,
-            false,
-            [0x63, 0x39, 0, 0, 0, 0, 0, 0],
-            2,
-        ),
-        2 => Plan(
-            cmd::IN_LIST_PASSIVE_TARGET,
-            1000,
-            false,
-            [0x01, 0x04, 0, 0, 0, 0, 0, 0],
-            2,
-        ),
-        3 => Plan(
-            cmd::IN_DATA_EXCHANGE,
-            100,
-            false,
-            [0x01, 0x78, 0, 0, 0, 0, 0, 0],
-            8,
-        ),
-        4 => Plan(
-            cmd::READ_REGISTER,
-            250,
-            false,
-            [0x63, 0x03, 0, 0, 0, 0, 0, 0],
-            2,
-        ),
-        _ => Plan(cmd::WRITE_REGISTER, 250, true, [0; 8], 0),
     }
 }

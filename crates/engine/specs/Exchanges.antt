@@ -14,7 +14,8 @@ use Rattle.exchange.specs.Steps.{stepOf, exchangeAt}
 use Rattle.exchange.specs.Responses.{response-short}
 use Rattle.exchange.specs.declared.Exchange.{Exchange}
 use Rattle.protocol.specs.Laws.{split, by-write, by-read, by-pause}
-use Rattle.engine.specs.Moves.{phaseOf, packetLength, replyLength, Moved, unfitting, isReset, replyMove, overMove, exchangeMove, restedMove, moveOf}
+use Rattle.calls.specs.Tables.{isResetOf}
+use Rattle.engine.specs.Moves.{phaseOf, packetLength, replyLength, Moved, unfitting, replyMove, overMove, exchangeMove, moveOf}
 use Rattle.engine.specs.declared.call.Call.{Call}
 
 -- an order that writes no command: a write is ACK's
@@ -82,18 +83,18 @@ exchange-short : (n : ℕ) (c : Call) (x : Exchange) (r : ExchangeResult) → Go
 unfolding exchangeMove overMove
 exchange-short n c x unfit h = omega arith
 exchange-short n c x (pending o to) h = omega arith
-exchange-short n c x (ended r) h = by-pick (λ m. replyLength m ≤ n) (isReset c) _ _ (omega arith) h
+exchange-short n c x (ended r) h = by-pick (λ m. replyLength m ≤ n) (isResetOf (c .kind) (c .stage)) _ _ (omega arith) h
 
 -- a response is shorter than the packet
 pub reply-short : (c : Call) (x : Exchange) (e : Event) → replyLength (moveOf c x e) ≤ packetLength e
-unfolding moveOf restedMove
+unfolding moveOf
 reply-short c x e =
     let L : Moved → Type 0 = λ m. replyLength m ≤ packetLength e in
     let P : Event → Moved → Type 0 = λ d m. replyLength m ≤ packetLength d in
     let none : (d : Event) → P d unfitting = λ d. omega arith in
     by-pick L (eqb (c .phase) 0) _ _ (exchange-short (packetLength e) c x (advance (stepOf x) e) (good x e))
     (by-pick L (eqb (c .phase) 1) _ _ (by-write P unfitting none _ _ (omega arith) (omega arith) e)
-    (by-pick L (eqb (c .phase) 2) _ _ (by-pause P unfitting none _ (by-pick (λ m. replyLength m ≤ 0) (eqb (c .kind) 3) _ _ (omega arith) (omega arith)) e)
+    (by-pick L (eqb (c .phase) 2) _ _ (by-pause P unfitting none _ (omega arith) e)
     (by-pick L (eqb (c .phase) 3) _ _ (by-write P unfitting none _ _ (omega arith) (omega arith) e)
     (by-pick L (eqb (c .phase) 4) _ _ (by-read P unfitting none _ _ _ _ (λ _. omega arith) (omega arith) (omega arith) (omega arith) e)
     (by-pick L (eqb (c .phase) 5) _ _ (by-pause P unfitting none _ (omega arith) e) (omega arith))))))

@@ -5,7 +5,7 @@ use mathlib.Core.List.{List}
 use Prim.Native.Nat.{ℕ, _≤_}
 use native.Mathlib.Omega.{arith}
 use lib.Dec.{eqb, ltb}
-use lib.ListN.{length, replicate, length-replicate}
+use lib.ListN.{length, replicate}
 use Rattle.errors.specs.Choice.{pick}
 use Rattle.errors.specs.declared.Refusal.{Refusal}
 use Rattle.errors.specs.declared.Refusal.the-variants.{OutOfTurn, ShortBuffer}
@@ -21,9 +21,9 @@ use Rattle.engine.specs.Core.{isValid as validCore}
 use Rattle.engine.specs.Moves.{noCall, validCall}
 use Rattle.engine.specs.Sessions.{state, isValid, bookedAfter, sessionAfter, eventAfter, openAfter, launchAfter, heldIn, freshSession}
 use Rattle.engine.specs.Inputs.{Input, opens, asks, tells, entryOf, outputOf, afterInput, act}
-use Rattle.engine.specs.Places.{Place, callAt, Fields, coreWith, heldAt, Agrees, coreAt, runningAt, Represents, free, runs, Means}
-use Rattle.engine.specs.Simulation.{Tied}
-use Rattle.engine.specs.Tie.{call-fits, not-free, kind-opening, event-tied, open-tied, call-tied}
+use Rattle.engine.specs.Relation.{Place, Wait, callAt, Fields, coreWith, heldAt, Agrees, coreAt, runningAt, Represents, free, runs, Means}
+use Rattle.engine.specs.Simulation.{Simulates}
+use Rattle.engine.specs.Events.{call-fits, event-sims, open-sims, call-sims}
 use Rattle.engine.specs.declared.call.Call.{Call as CallNumbers}
 use Rattle.engine.specs.declared.core.Core.{Core}
 use Rattle.engine.specs.declared.state.State.{State}
@@ -45,24 +45,24 @@ module _ (m : Running) (b : Meant.Books) (few : b .count ≤ ceiling) where
   refused-refines e r buffer h = record { means = record { call = h; booked = refl; few = few }; told = refl }
 
   -- an event, and a call, whose books begin as the definitions have it
-  event-refines : (t : Bool) (room : ℕ) (e : Event) (a : After Core) (o : Outcome) → Tied t m a o
+  event-refines : (t : Bool) (room : ℕ) (e : Event) (a : After Core) (o : Outcome) → Simulates t m a o
       → Refines meant (event e room) (bookedAfter t (bookNumbers b) a) o
-  event-refines t room e a (unchangedOf r) h = record { means = record { call = h .means; booked = h .booked b few; few = few }; told = h .told }
+  event-refines t room e a (unchangedOf r) h = record { means = record { call = h .represents; booked = h .booked b few; few = few }; told = h .output }
   event-refines t room e a (runsOf c x phase) h =
-      record { means = record { call = h .means; booked = h .booked b few; few = few-booked (runsOf c x phase) b few }; told = h .told }
-  event-refines t room e a (ends c d) h = record { means = record { call = h .means; booked = h .booked b few; few = few }; told = h .told }
+      record { means = record { call = h .represents; booked = h .booked b few; few = few-booked (runsOf c x phase) b few }; told = h .output }
+  event-refines t room e a (ends c d) h = record { means = record { call = h .represents; booked = h .booked b few; few = few }; told = h .output }
 
-  opening-refines : (room : ℕ) (a : After Core) (x : Order) (phase : Meant.Phase) → Tied true m a (runsOf opening x phase)
+  opening-refines : (room : ℕ) (a : After Core) (x : Order) (phase : Meant.Phase) → Simulates true m a (runsOf opening x phase)
       → Refines meant (call opening room) (bookedAfter true (bookNumbers noBooks) a) (runsOf opening x phase)
   opening-refines room a x phase h =
-      record { means = record { call = h .means; booked = h .booked noBooks (omega arith); few = few-booked (runsOf opening x phase) noBooks (omega arith) }; told = h .told }
+      record { means = record { call = h .represents; booked = h .booked noBooks (omega arith); few = few-booked (runsOf opening x phase) noBooks (omega arith) }; told = h .output }
 
-  call-refines : (q : ReaderCall) (room : ℕ) (a : After Core) (o : Outcome) → Tied false m a o
+  call-refines : (q : ReaderCall) (room : ℕ) (a : After Core) (o : Outcome) → Simulates false m a o
       → Refines meant (call (reader q) room) (bookedAfter false (bookNumbers b) a) o
-  call-refines q room a (unchangedOf r) h = record { means = record { call = h .means; booked = h .booked b few; few = few }; told = h .told }
+  call-refines q room a (unchangedOf r) h = record { means = record { call = h .represents; booked = h .booked b few; few = few }; told = h .output }
   call-refines q room a (runsOf c x phase) h =
-      record { means = record { call = h .means; booked = h .booked b few; few = few-booked (runsOf c x phase) b few }; told = h .told }
-  call-refines q room a (ends c d) h = record { means = record { call = h .means; booked = h .booked b few; few = few }; told = h .told }
+      record { means = record { call = h .represents; booked = h .booked b few; few = few-booked (runsOf c x phase) b few }; told = h .output }
+  call-refines q room a (ends c d) h = record { means = record { call = h .represents; booked = h .booked b few; few = few }; told = h .output }
 
 refines-if : {m : Meant.Session} {e : Entry} (t : Bool) {x y : After State} {u w : Outcome} → (t ≡ true → Refines m e x u) → (t ≡ false → Refines m e y w)
     → Refines m e (pick t x y) (cond t u w)
@@ -77,19 +77,19 @@ in-range : (v : Fields) (c : CallNumbers) (b : Meant.Books) → validCall c ≡ 
 unfolding isValid validCore
 in-range v c b h = rw (v .pendingFits, v .keptFits, v .phaseFits, h) (books-in-range b)
 
-running-refines : (p : Place) (v : Fields) → Agrees p v → (b : Meant.Books) (few : b .count ≤ ceiling) (i : Input)
-    → Refines (meant (runningAt p v) b few) (entryOf i) (afterInput (state (coreAt p v) (bookNumbers b)) (heldAt v) i) (outcomeOf (runningAt p v) b (entryOf i))
+running-refines : (p : Place) (w : Wait p) (v : Fields) → Agrees p v → (b : Meant.Books) (few : b .count ≤ ceiling) (i : Input)
+    → Refines (meant (runningAt p w v) b few) (entryOf i) (afterInput (state (coreAt p w v) (bookNumbers b)) (heldAt v) i) (outcomeOf (runningAt p w v) b (entryOf i))
 unfolding openAfter launchAfter eventAfter pick
-running-refines p v agrees b few i = go i (in-range v (callAt p) b (call-fits p)) (not-free p)
+running-refines p w v agrees b few i = go i (in-range v (callAt p w) b (call-fits p w)) (p .running)
   where
-    here : Represents (coreAt p v) (heldAt v) (runningAt p v)
-    here = runs p v agrees refl refl refl
+    here : Represents (coreAt p w v) (heldAt v) (runningAt p w v)
+    here = runs p w v agrees refl refl refl
 
-    go : (i : Input) → isValid (state (coreAt p v) (bookNumbers b)) ≡ true → eqb (callAt p .kind) 0 ≡ false
-        → Refines (meant (runningAt p v) b few) (entryOf i) (afterInput (state (coreAt p v) (bookNumbers b)) (heldAt v) i) (outcomeOf (runningAt p v) b (entryOf i))
-    go (opens buffer) h k = rw (h, k) (refused-refines (runningAt p v) b few _ OutOfTurn buffer here)
-    go (asks q buffer) h k = rw (h, k) (refused-refines (runningAt p v) b few _ OutOfTurn buffer here)
-    go (tells e buffer) h k = rw (h, kind-opening p) (event-refines (runningAt p v) b few _ (length buffer) e _ _ (event-tied p v agrees e buffer))
+    go : (i : Input) → isValid (state (coreAt p w v) (bookNumbers b)) ≡ true → eqb (p .kind) 0 ≡ false
+        → Refines (meant (runningAt p w v) b few) (entryOf i) (afterInput (state (coreAt p w v) (bookNumbers b)) (heldAt v) i) (outcomeOf (runningAt p w v) b (entryOf i))
+    go (opens buffer) h k = rw (h, k) (refused-refines (runningAt p w v) b few _ OutOfTurn buffer here)
+    go (asks q buffer) h k = rw (h, k) (refused-refines (runningAt p w v) b few _ OutOfTurn buffer here)
+    go (tells e buffer) h k = rw (h, p .opens) (event-refines (runningAt p w v) b few _ (length buffer) e _ _ (event-sims p w v agrees e buffer))
 
 or-true : (t : Bool) → (t || true) ≡ true
 or-true true = refl
@@ -114,11 +114,11 @@ free-refines v b few i = go i (in-range v noCall b refl)
         → Refines (meant idle b few) (entryOf i) (afterInput (state (coreWith v noCall) (bookNumbers b)) (heldAt v) i) (outcomeOf idle b (entryOf i))
     go (opens buffer) h =
         rw (h, or-true (b .opened))
-        (refines-if (ltb (length buffer) 1024) (λ _. stays _ ShortBuffer buffer) (λ _. opening-refines idle b few (length buffer) _ _ _ (open-tied v buffer)))
+        (refines-if (ltb (length buffer) 1024) (λ _. stays _ ShortBuffer buffer) (λ _. opening-refines idle b few (length buffer) _ _ _ (open-sims v buffer)))
     go (asks q buffer) h =
         rw (h, open-flag b, or-false (b .opened))
         (refines-if (b .opened)
-        (λ _. refines-if (ltb (length buffer) 1024) (λ _. stays _ ShortBuffer buffer) (λ _. call-refines idle b few q (length buffer) _ _ (call-tied v q buffer)))
+        (λ _. refines-if (ltb (length buffer) 1024) (λ _. stays _ ShortBuffer buffer) (λ _. call-refines idle b few q (length buffer) _ _ (call-sims v q buffer)))
         (λ _. stays _ OutOfTurn buffer))
     go (tells e buffer) h = rw h (stays _ OutOfTurn buffer)
 
@@ -133,7 +133,7 @@ by-input i s m h = (h .means, h .told)
 parts-refine : (s : Core) (f : Held) (r : Running) (b : Meant.Books) (few : b .count ≤ ceiling) (i : Input) → Represents s f r
     → Refines (meant r b few) (entryOf i) (afterInput (state s (bookNumbers b)) f i) (outcomeOf r b (entryOf i))
 parts-refine s f r b few i (free v p q e) = rw (p, q, e) (free-refines v b few i)
-parts-refine s f r b few i (runs p v a q e g) = rw (q, e, g) (running-refines p v a b few i)
+parts-refine s f r b few i (runs p w v a q e g) = rw (q, e, g) (running-refines p w v a b few i)
 
 pub follow : (s : Session) (m : Meant.Session) (i : Input) → Means s m → Follows i s m
 follow s m i h =
@@ -152,7 +152,6 @@ fresh-means =
       pending = 0;
       kept = 0;
       exchange = exchangeAt 0 0 0;
-      long = omega (arith, length-replicate {A = ℕ} 1024 0);
       pendingFits = refl;
       keptFits = refl;
       phaseFits = refl;

@@ -1,14 +1,13 @@
 -- The entries as the engine is given them, and what it does to each, as the host sees it.
-use mathlib.Core.List.{List, []}
+use mathlib.Core.List.{List}
 use Prim.Native.Nat.{ℕ}
 use lib.ListN.{length, take}
 use Rattle.exchange.specs.Exchange.{write, read, drain, pause, Event}
 use Rattle.protocol.specs.Scripts.{done, type1, nothing, refused}
-use Rattle.protocol.specs.Calls.{ReaderCall, opening, reader, request, device}
+use Rattle.protocol.specs.Calls.{ReaderCall, opening, reader}
 use Rattle.protocol.specs.Session.{Entry, call, event}
 use Rattle.protocol.specs.Session.{Output as Given, orders, answers, rejects}
-use Rattle.chipset.specs.Launches.{launchOf}
-use Rattle.discovery.specs.Searches.{Search, starting, searchOf}
+use Rattle.calls.specs.Starts.{launchFor}
 use Rattle.engine.specs.Core.{Held, After}
 use Rattle.engine.specs.Sessions.{heldIn, sessionAfter, eventAfter, Stepped}
 use Rattle.engine.specs.Sessions.{openAfter as openedAt, launchAfter}
@@ -45,11 +44,6 @@ abbrev pub entryOf : Input → Entry
 entryOf (opens b) = call opening (length b)
 entryOf (asks c b) = call (reader c) (length b)
 entryOf (tells e b) = event e (length b)
-
--- the first command of a call, or its refusal, and the command to send later
-abbrev pub launchFor : ReaderCall → Search
-launchFor (request q) = starting (launchOf q) []
-launchFor (device d) = searchOf d
 
 abbrev pub afterInput : State → Held → Input → After State
 afterInput s f (opens b) = openedAt s f b

@@ -1,5 +1,5 @@
 -- Laws of what the session's functions do.
-use mathlib.Core.Path.{_≡_, refl, sym, ap, ap₂, _∙_}
+use mathlib.Core.Path.{_≡_, refl, sym, ap, ap₂, _∙_, subst}
 use mathlib.Core.Bool.{Bool, true, false}
 use mathlib.Core.List.{List, [], _∷_, _++_, append-assoc}
 use Prim.Native.Nat.{ℕ, _+_, _-_, _≤_, _<_}
@@ -8,8 +8,8 @@ use native.Mathlib.Omega.{arith}
 use borrow.Rule.Slice.PartMut.{putMid}
 use borrow.Author.Tests.{le-ltb, leb-true}
 use lib.Dec.{leb}
-use lib.ListN.{length, take, drop, getD, length-append, length-drop}
-use lib.Seq.{drop-cons, take-length, take-append-seam, drop-append-add, drop-drop}
+use lib.ListN.{length, take, drop, getD, length-append, length-drop, take-append-drop, length-take}
+use lib.Seq.{drop-cons, take-length, take-append-seam, drop-append-add, drop-drop, length-take-le, take-take}
 use Rattle.errors.specs.Choice.{pick}
 use Rattle.errors.specs.Refusals.{answered, refused, numbered}
 use Rattle.errors.specs.declared.Refusal.{Refusal}
@@ -23,11 +23,9 @@ use Rattle.framing.specs.Valid.{both-left, both-right}
 use Rattle.exchange.specs.Packets.{commandFrame}
 use Rattle.exchange.specs.Steps.{exchangeAt}
 use Rattle.exchange.specs.declared.Exchange.{Exchange}
-use Rattle.chipset.specs.Launches.{Command}
+use Rattle.stages.specs.Stages.{Command}
 use Rattle.protocol.specs.Scripts.{type1}
-use Rattle.discovery.specs.Decided.{ArrangedFits}
-use Rattle.discovery.specs.declared.decision.Arranged.{Arranged}
-use Rattle.engine.specs.Core.{isValid, Held, put, After, endsOf, doneOf, answersOf, sendsOf, running, after}
+use Rattle.engine.specs.Core.{isValid, Held, put, Puts, After, endsOf, doneOf, answersOf, sendsOf, running, after}
 use Rattle.engine.specs.Moves.{validCall}
 use Rattle.engine.specs.declared.call.Call.{Call}
 use Rattle.engine.specs.declared.core.Core.{Core}
@@ -70,36 +68,42 @@ module _ (s : Core) (f : Held) (c : Call) (m : Command) (b b₁ : List ℕ) (h :
       let z : _≡_ {A = ℕ} 0 1 = cc in
       absurd (omega (arith, z))
 
--- the first three bytes of a list that has them
-pub first-three : (l : List ℕ) → 3 ≤ length l → getD l 0 0 ∷ getD l 1 0 ∷ getD l 2 0 ∷ [] ≡ take 3 l
-first-three l h =
-    sym
-    (ap (take 3) (drop-cons l 0 0 (omega arith)
-    ∙ ap (λ r. getD l 0 0 ∷ r) (drop-cons l 1 0 (omega arith)
-    ∙ ap (λ r. getD l 1 0 ∷ r) (drop-cons l 2 0 (omega arith)))))
+-- a part copied behind the bytes that stand at a list's start
+pub appended : (b part l c : List ℕ) (n : ℕ) (piece : List ℕ) → n + length part ≤ length b → Puts b n l c
+    → piece ≡ take (length part) part ++ drop (length part) (take (length b - n) (drop n b))
+    → Puts (putMid n (length b - n) b piece) (n + length part) (l ++ part) c
+appended b part l c n piece room h e =
+    let front : take n b ≡ l = ap₂ take (h .count) (h .is) ∙ take-append-seam l (drop (length l) c) in
+    let back : drop (n + length part) b ≡ drop (length l + length part) c
+    = ap₂ (λ k x. drop (k + length part) x) (h .count) (h .is) ∙ drop-append-add l (drop (length l) c) (length part) ∙ drop-drop (length part) (length l) c in
+    record {
+      count = ap (λ k. k + length part) (h .count) ∙ sym (length-append l part);
+      is =
+          copied b part n room piece e
+          ∙ ap₂ (λ x y. x ++ (part ++ y)) front back
+          ∙ sym (append-assoc l part (drop (length l + length part) c))
+          ∙ ap (λ k. l ++ part ++ drop k c) (sym (length-append l part));
+    }
 
--- a session in range has a stage that can be counted on
-pub valid-stage : (s : Core) → isValid s ≡ true → s .call .stage < 255
-unfolding isValid validCall
-valid-stage s h =
-    let c = both-right (leb (s .exchange .phase) 6) _ (both-right (leb (s .found) 1022) _ (both-right (leb (s .command) 512) _ h)) in
-    let k = leb-true (s .call .stage) 9 (both-left (leb (s .call .stage) 9) _ (both-right (leb (s .call .kind) 20) _ c)) in
-    omega arith
+-- four lists, one behind the other
+pub laid : (b c k h p q t : List ℕ) (n : ℕ) → p ≡ q → Puts b n (((k ++ h) ++ p) ++ t) c → Puts b n (k ++ (h ++ (q ++ t))) c
+laid b c k h p q t n e u =
+    subst (λ l. Puts b n l c) (ap (λ x. ((k ++ h) ++ x) ++ t) e ∙ append-assoc (k ++ h) q t ∙ append-assoc k h (q ++ t)) u
 
--- two lists, the second copied behind the first
-pub both-put : (b part tail b₁ piece : List ℕ) → length part + length tail ≤ length b → b₁ ≡ take (length part) part ++ drop (length part) b
-    → piece ≡ take (length tail) tail ++ drop (length tail) (take (length b₁ - length part) (drop (length part) b₁))
-    → putMid (length part) (length b₁ - length part) b₁ piece ≡ put (part ++ tail) b
-both-put b part tail b₁ piece room e p =
-    let first : b₁ ≡ part ++ drop (length part) b = e ∙ ap (λ l. l ++ drop (length part) b) (take-length part) in
-    let same : length b₁ ≡ length b = ap length first ∙ length-append part (drop (length part) b) ∙ ap (λ n. length part + n) (length-drop (length part) b) ∙ omega arith in
-    let front : take (length part) b₁ ≡ part = ap (take (length part)) first ∙ take-append-seam part (drop (length part) b) in
-    let back : drop (length part + length tail) b₁ ≡ drop (length part + length tail) b
-    = ap (drop (length part + length tail)) first ∙ drop-append-add part (drop (length part) b) (length tail) ∙ drop-drop (length tail) (length part) b in
-    copied b₁ tail (length part) (rw same room) piece p
-    ∙ ap₂ (λ f d. f ++ (tail ++ d)) front back
-    ∙ sym (append-assoc part tail (drop (length part + length tail) b))
-    ∙ ap (λ n. part ++ tail ++ drop n b) (sym (length-append part tail))
+-- nothing was put yet, or bytes that stand there already
+pub puts-none : (b : List ℕ) → Puts b 0 [] b
+puts-none b = record { count = refl; is = refl }
+
+pub puts-kept : (b : List ℕ) (k : ℕ) → k ≤ length b → Puts b k (take k b) b
+puts-kept b k h =
+    let n : length (take k b) ≡ k = length-take-le k b h in
+    record { count = sym n; is = sym (ap (λ j. take k b ++ drop j b) n ∙ take-append-drop k b) }
+
+-- the same of bytes that are kept of a part in use
+pub puts-found : (b : List ℕ) (n k : ℕ) → k ≤ length (take n b) → Puts b k (take k (take n b)) b
+puts-found b n k h =
+    let in-use : length (take n b) ≤ n = rw (length-take n b) (omega arith) in
+    rw (take-take k n b (omega arith)) (puts-kept b k (omega (arith, length-take n b)))
 
 -- bytes that were copied to the start of a list
 pub copied-start : (bytes b b₁ : List ℕ) → b₁ ≡ take (length bytes) bytes ++ drop (length bytes) b → b₁ ≡ put bytes b
@@ -108,15 +112,6 @@ copied-start bytes b b₁ e = e ∙ ap (λ l. l ++ drop (length bytes) b) (take-
 -- a call that is done with bytes at the buffer's start
 pub done-copied : (s : Core) (f : Held) (bytes b b₁ : List ℕ) (n : ℕ) (a : After Core) → n ≡ length bytes → b₁ ≡ put bytes b → a ≡ endsOf s f (Done n) b₁ → a ≡ doneOf s f bytes b
 done-copied s f bytes b b₁ n a p q e = e ∙ (λ i. endsOf s f (Done (p i)) (q i))
-
--- the answer of a discovery fits a buffer of 1,024 bytes
-pub arranged-room : (f b : List ℕ) (a : Arranged) → ArrangedFits f b a → length f ≤ 1022 → length b ≤ 1022 → a .count + (length (pick (a .kept) f b) - a .start) ≤ 1024
-unfolding pick
-arranged-room f b a h p q = go (a .kept) refl (h .1)
-  where
-    go : (t : Bool) → a .kept ≡ t → a .start ≤ length (pick t f b) → a .count + (length (pick t f b) - a .start) ≤ 1024
-    go true e k = elim (decLe 2 (length f)) [ yes r ↦ omega (arith, h .3 r) | no r ↦ omega (arith, h .0) ]
-    go false e k = omega (arith, h .2 e)
 
 -- the same of a Type 1 tag
 pub type1-copied : (s : Core) (f : Held) (bytes b b₁ : List ℕ) (n : ℕ) (a : After Core) → n ≡ length bytes → b₁ ≡ put bytes b → a ≡ endsOf s f (Type1 n) b₁
@@ -128,6 +123,6 @@ pub valid-command : (s : Core) → isValid s ≡ true → s .command ≤ 512
 unfolding isValid
 valid-command s h = leb-true (s .command) 512 (both-left (leb (s .command) 512) _ h)
 
-pub valid-found : (s : Core) → isValid s ≡ true → s .found ≤ 1022
+pub valid-found : (s : Core) → isValid s ≡ true → s .found ≤ 1024
 unfolding isValid
-valid-found s h = leb-true (s .found) 1022 (both-left (leb (s .found) 1022) _ (both-right (leb (s .command) 512) _ h))
+valid-found s h = leb-true (s .found) 1024 (both-left (leb (s .found) 1024) _ (both-right (leb (s .command) 512) _ h))

@@ -1,5 +1,3 @@
-pub mod Plans
-pub mod Names
 pub mod Moves
 pub mod Exchanges
 pub mod Books
@@ -10,10 +8,8 @@ pub mod Laws
 pub mod Inputs
 pub mod Numbers
 pub mod NumberLaws
-pub mod Judged
-pub mod Searched
-pub mod Places
+pub mod Relation
 pub mod Simulation
-pub mod Tie
+pub mod Events
 pub mod Follows
 pub mod Unchanged

@@ -21,28 +21,22 @@ use Rattle.exchange.specs.Steps.{orderOf as nextOrder}
 use Rattle.exchange.specs.declared.Advanced.{Advanced}
 use Rattle.exchange.specs.declared.Next.{Next}
 use Rattle.exchange.specs.declared.Exchange.{Exchange}
+use Rattle.calls.specs.Tables.{isResetOf}
 use Rattle.engine.specs.declared.call.Call.{Call}
 use Rattle.engine.specs.declared.call.Order.{Order}
 use Rattle.engine.specs.declared.call.Order.the-variants.{Ack, Read, Drain, Pause}
 use Rattle.engine.specs.declared.call.Move.{Move}
-use Rattle.engine.specs.declared.call.Move.the-variants.{Unfit, Orders, Enters, Finishes, Arrives, Fails}
+use Rattle.engine.specs.declared.call.Move.the-variants.{Unfit, Orders, Sends, ResetDone, Arrives, Fails}
 
 abbrev pub noCall : Call
 noCall = record { kind = 0; stage = 0; phase = 0 }
 
--- a call at another phase, at the command of a stage, and at its next command
+-- a call at another phase, and at the command of a stage
 abbrev pub at : Call → ℕ → Call
 at c phase = record { kind = c .kind; stage = c .stage; phase = phase }
 
 abbrev pub toStage : Call → ℕ → Call
 toStage c n = record { kind = c .kind; stage = n; phase = 0 }
-
-abbrev pub following : Call → Call
-following c = record { kind = c .kind; stage = c .stage + 1; phase = 0 }
-
--- the opening's commands 0 and 8 are resets, and reset_mode's
-unfoldable pub isReset : Call → Bool
-isReset c = pick (eqb (c .kind) 1) (pick (eqb (c .stage) 0) true (eqb (c .stage) 8)) (eqb (c .kind) 3)
 
 -- ACK is being written: after a failed write 3, at the deadline 4
 abbrev cancelPhase : Fault → ℕ
@@ -77,8 +71,8 @@ exchangeIn x step = exchangeAt (phaseOf step) (x .code) (x .clock)
 pub data Moved : Type 0 where
   unfitting : Moved
   orders : HostOrder → Call → Exchange → Moved
-  enters : Call → Moved
-  finishes : Moved
+  sends : Call → Moved  -- the command of the call's stage
+  resetDone : Moved
   replies : List ℕ → Moved
   refuses : Fault → Moved
 
@@ -97,14 +91,14 @@ replyMove (failed r) = refuses r
 abbrev pub moveIn : ℕ → List ℕ → Move → Moved
 moveIn code packet Unfit = unfitting
 moveIn code packet (Orders o c x) = orders (orderOf o) c x
-moveIn code packet (Enters c) = enters c
-moveIn code packet Finishes = finishes
+moveIn code packet (Sends c) = sends c
+moveIn code packet ResetDone = resetDone
 moveIn code packet Arrives = replyMove (replyOf code packet)
 moveIn code packet (Fails r) = refuses r
 
 -- a command's exchange is over: behind a reset's follows ACK, whatever came of it
 unfoldable pub overMove : Call → Exchange → Moved → Moved
-overMove c x m = pick (isReset c) (orders (write ack) (at c 1) x) m
+overMove c x m = pick (isResetOf (c .kind) (c .stage)) (orders (write ack) (at c 1) x) m
 
 abbrev pub endedMove : Call → Exchange → Reply → Moved
 endedMove c x r = overMove c x (replyMove r)
@@ -117,36 +111,32 @@ exchangeMove c x (ended r) = endedMove c x r
 abbrev pub resetAckMove : Call → Exchange → Event → Moved
 resetAckMove c x e = onWrite unfitting (orders (pause 10000) (at c 2) x) (refuses Transport) e
 
--- a reset is over
-unfoldable pub restedMove : Call → Moved
-restedMove c = pick (eqb (c .kind) 3) finishes (enters (following c))
-
-abbrev pub resetPauseMove : Call → Event → Moved
-resetPauseMove c e = onPause unfitting (restedMove c) e
+abbrev pub resetPauseMove : Event → Moved
+resetPauseMove e = onPause unfitting resetDone e
 
 abbrev pub openingAckMove : Call → Exchange → Event → Moved
 openingAckMove c x e = onWrite unfitting (orders (read 10) (at c 4) x) (refuses Transport) e
 
 abbrev pub openingReadsMove : Call → Exchange → Event → Moved
-openingReadsMove c x e = onRead unfitting (λ p. orders (read 10) c x) (enters (at c 0)) (enters (at c 0)) unfitting e
+openingReadsMove c x e = onRead unfitting (λ p. orders (read 10) c x) (sends (at c 0)) (sends (at c 0)) unfitting e
 
-abbrev pub fieldPauseMove : Call → Event → Moved
-fieldPauseMove c e = onPause unfitting (enters (following c)) e
+abbrev pub pauseMove : Call → Event → Moved
+pauseMove c e = onPause unfitting (sends (at c 0)) e
 
 unfoldable pub moveOf : Call → Exchange → Event → Moved
 moveOf c x e =
     pick (eqb (c .phase) 0) (exchangeMove c x (advance (stepOf x) e))
     (pick (eqb (c .phase) 1) (resetAckMove c x e)
-    (pick (eqb (c .phase) 2) (resetPauseMove c e)
+    (pick (eqb (c .phase) 2) (resetPauseMove e)
     (pick (eqb (c .phase) 3) (openingAckMove c x e)
     (pick (eqb (c .phase) 4) (openingReadsMove c x e)
-    (pick (eqb (c .phase) 5) (fieldPauseMove c e) unfitting)))))
+    (pick (eqb (c .phase) 5) (pauseMove c e) unfitting)))))
 
 abbrev pub fits : Moved → Bool
 fits unfitting = false
 fits (orders o c x) = true
-fits (enters c) = true
-fits finishes = true
+fits (sends c) = true
+fits resetDone = true
 fits (replies bytes) = true
 fits (refuses r) = true
 
@@ -162,8 +152,8 @@ packetLength e = onRead 0 length 0 0 0 e
 abbrev pub replyLength : Moved → ℕ
 replyLength unfitting = 0
 replyLength (orders o c x) = 0
-replyLength (enters c) = 0
-replyLength finishes = 0
+replyLength (sends c) = 0
+replyLength resetDone = 0
 replyLength (replies bytes) = length bytes + 2
 replyLength (refuses r) = 0
 
@@ -173,11 +163,11 @@ validCall c = both (leb (c .kind) 20) (both (leb (c .stage) 9) (leb (c .phase) 5
 
 -- ---- laws
 
-pub over-reset : (c k : Call) (x : Exchange) (m : Moved) → isReset c ≡ true → k ≡ at c 1 → orders (write ack) k x ≡ overMove c x m
+pub over-reset : (c k : Call) (x : Exchange) (m : Moved) → isResetOf (c .kind) (c .stage) ≡ true → k ≡ at c 1 → orders (write ack) k x ≡ overMove c x m
 unfolding overMove pick
 over-reset c k x m h e = rw h (ap (λ d. orders (write ack) d x) e)
 
-pub over-other : (c : Call) (x : Exchange) (m : Moved) → isReset c ≡ false → m ≡ overMove c x m
+pub over-other : (c : Call) (x : Exchange) (m : Moved) → isResetOf (c .kind) (c .stage) ≡ false → m ≡ overMove c x m
 unfolding overMove pick
 over-other c x m h = rw h
 
@@ -226,7 +216,7 @@ module _ (c : Call) (x : Exchange) (e : Event) (m : Moved) where
   unfolding moveOf
   moves-exchange h p = at-true m _ _ _ (eq-eqb (c .phase) 0 h) p
 
-  pub moves-pause : c .phase ≡ 2 → m ≡ resetPauseMove c e → m ≡ moveOf c x e
+  pub moves-pause : c .phase ≡ 2 → m ≡ resetPauseMove e → m ≡ moveOf c x e
   unfolding moveOf
   moves-pause h p =
       at-false m _ _ _ (other 2 h 0 refl) (at-false m _ _ _ (other 2 h 1 refl) (at-true m _ _ _ (eq-eqb (c .phase) 2 h) p))
@@ -237,8 +227,8 @@ module _ (c : Call) (x : Exchange) (e : Event) (m : Moved) where
       at-false m _ _ _ (other 4 h 0 refl) (at-false m _ _ _ (other 4 h 1 refl) (at-false m _ _ _ (other 4 h 2 refl) (at-false m _ _ _ (other 4 h 3 refl)
       (at-true m _ _ _ (eq-eqb (c .phase) 4 h) p))))
 
-  pub moves-field : c .phase ≡ 5 → m ≡ fieldPauseMove c e → m ≡ moveOf c x e
+  pub moves-awaited : c .phase ≡ 5 → m ≡ pauseMove c e → m ≡ moveOf c x e
   unfolding moveOf
-  moves-field h p =
+  moves-awaited h p =
       at-false m _ _ _ (other 5 h 0 refl) (at-false m _ _ _ (other 5 h 1 refl) (at-false m _ _ _ (other 5 h 2 refl) (at-false m _ _ _ (other 5 h 3 refl)
       (at-false m _ _ _ (other 5 h 4 refl) (at-true m _ _ _ (eq-eqb (c .phase) 5 h) p)))))

@@ -11,7 +11,8 @@ use Rattle.chipset.specs.Launches.{Launch, refuses, launchOf}
 use Rattle.discovery.specs.Searches.{Search, searchOf}
 use Rattle.engine.specs.Core.{Held, After}
 use Rattle.engine.specs.Sessions.{launchAfter, searchAfter}
-use Rattle.engine.specs.Inputs.{launchFor, afterInput}
+use Rattle.calls.specs.Starts.{launchFor}
+use Rattle.engine.specs.Inputs.{afterInput}
 use Rattle.engine.specs.Numbers.{calls, callOf, noCall, callInput}
 use Rattle.engine.specs.declared.state.State.{State}
 

@@ -1,11 +1,11 @@
--- What it is for the engine's step to do what the definitions say, and the ways in which an event leads on.
+-- What it is for the engine's step to do what the definitions say, and the ways in which a call goes on.
 use mathlib.Core.Path.{_≡_, refl, sym, ap, _∙_, subst}
 use mathlib.Core.Bool.{Bool, true, false, cond}
-use mathlib.Core.List.{List, map}
+use mathlib.Core.List.{List, [], map}
 use Prim.Native.Nat.{ℕ, _≤_}
 use native.Mathlib.Omega.{arith}
-use borrow.Author.Tests.{ltb-false}
-use lib.Dec.{leb, ltb}
+use borrow.Author.Tests.{ltb-false, le-leb}
+use lib.Dec.{eqb, leb, ltb}
 use lib.ListN.{length, take, drop}
 use lib.Seq.{take-append-seam}
 use Rattle.errors.specs.Choice.{pick}
@@ -13,23 +13,25 @@ use Rattle.errors.specs.declared.Refusal.{Refusal}
 use Rattle.errors.specs.declared.Refusal.the-variants.{OutOfTurn, ShortBuffer, OverLong}
 use Rattle.errors.specs.declared.Fault.{Fault}
 use Rattle.framing.specs.Frames.{ack}
-use Rattle.exchange.specs.Packets.{commandFrame, Reply}
-use Rattle.exchange.specs.Exchange.{Order, write, read, drain, pause, Event, ok, bad, pkt, time, fail, late, slept, unfit, pending, ended, onWrite, onRead, onPause, ExchangeResult}
+use Rattle.exchange.specs.Packets.{commandFrame, Reply, resetCode, resetData}
+use Rattle.exchange.specs.Exchange.{Order, write, read, drain, pause, Event, ok, bad, pkt, time, fail, late, slept, unfit, pending, ended, onWrite, onRead, onPause, ExchangeResult, sending}
 use Rattle.exchange.specs.Steps.{stepOf, exchangeAt}
 use Rattle.exchange.specs.declared.Exchange.{Exchange}
-use Rattle.protocol.specs.Scripts.{Byte, value, Answer, done, type1, nothing, refused}
-use Rattle.protocol.specs.Calls.{isOpening}
-use Rattle.protocol.specs.Session.{Phase, exchange, Rest, CallResult, afterReply, afterExchange, Running, busy, ceiling, bookAnswer, packetLength, admitted, eventOutcome, Outcome, bookOutcome, runningAfter}
+use Rattle.protocol.specs.Scripts.{Byte, value, Answer, done, type1, nothing, refused, Script, finish, command, reset, fieldPause}
+use Rattle.protocol.specs.Calls.{Call as CallOf, isOpening}
+use Rattle.protocol.specs.Session.{Phase, exchange, Rest, CallResult, enter, afterReply, afterExchange, Running, busy, ceiling, bookAnswer, packetLength, admitted, eventOutcome, Outcome, outcome, bookOutcome, runningAfter}
 use Rattle.protocol.specs.Session.{orders, answers, given, unchanged as unchangedOf, runs as runsOf, ends as endsIn}
 use Rattle.protocol.specs.Session as Meant
 use Rattle.protocol.specs.Follows.{plain, plainAnswer}
-use Rattle.chipset.specs.Launches.{cmd}
+use Rattle.stages.specs.Stages.{Command, cmd, Decision, send}
+use Rattle.calls.specs.Tables.{commandOf}
+use Rattle.calls.specs.Refines.{Leads, leads-end, leads-send, leads-reset, leads-keep, leads-put, leads-pause}
 use Rattle.engine.specs.Books.{booked as bookedBy}
 use Rattle.engine.specs.Booking.{bookNumbers, ack-booked, frame-booked, end-booked}
-use Rattle.engine.specs.Core.{Held, After, unchanged, running, ordersOf, sendsOf, endsOf, failedOf, doneOf, answersOf, admittedOf, isLong, movedOf, failsOf}
-use Rattle.engine.specs.Moves.{Moved, unfitting, orders as goesOn, refuses, fits, replyLength, endedMove, exchangeMove, exchangeIn}
+use Rattle.engine.specs.Core.{Held, After, unchanged, running, put, putFound, putCommand, ordersOf, sendsOf, stageOf, endsOf, doneOf, answersOf, followsOf, admittedOf, isLong, movedOf}
+use Rattle.engine.specs.Moves.{Moved, unfitting, orders as goesOn, fits, replyLength, endedMove, exchangeMove, exchangeIn}
 use Rattle.engine.specs.Inputs.{outputOf}
-use Rattle.engine.specs.Places.{Place, which, callAt, Fields, coreWith, heldAt, AgreesWith, Agrees, coreAt, phaseIn, runningAt, Represents, free, runs}
+use Rattle.engine.specs.Relation.{Place, Wait, reply, resetReply, pausing, callAt, phaseAt, Fields, coreWith, heldAt, Agrees, coreAt, runningAt, Represents, free, runs}
 use Rattle.engine.specs.Exchanges.{NoCommand, Good}
 use Rattle.engine.specs.declared.call.Call.{Call}
 use Rattle.engine.specs.declared.core.Core.{Core}
@@ -38,148 +40,217 @@ use Rattle.engine.specs.declared.core.Output.the-variants as out
 
 -- What an entry leaves, beside what the definitions say; the running call is m before it. What is booked of the output is what the
 -- definitions book of the outcome.
-pub record Tied (opens : Bool) (m : Running) (a : After Core) (o : Outcome) : Type 0 where
-  pub means : Represents (a .state) (a .held) (runningAfter m o)
-  pub told : outputOf (a .output) (a .buffer) ≡ plain (given o)
+pub record Simulates (opens : Bool) (m : Running) (a : After Core) (o : Outcome) : Type 0 where
+  pub represents : Represents (a .state) (a .held) (runningAfter m o)
+  pub output : outputOf (a .output) (a .buffer) ≡ plain (given o)
   pub booked : (b : Meant.Books) → b .count ≤ ceiling → bookedBy opens (a .output) (bookNumbers b) ≡ bookNumbers (bookOutcome o b)
 
 module _ {t : Bool} {m : Running} where
-  pub tied-unchanged : {s : Core} {f : Held} (r : Refusal) (b : List ℕ) → Represents s f m → Tied t m (unchanged s f r b) (unchangedOf r)
-  tied-unchanged r b h = record { means = h; told = refl; booked = λ b k. refl }
+  pub sim-unchanged : {s : Core} {f : Held} (r : Refusal) (b : List ℕ) → Represents s f m → Simulates t m (unchanged s f r b) (unchangedOf r)
+  sim-unchanged r b h = record { represents = h; output = refl; booked = λ b k. refl }
 
-  pub tied-pick : (u : Bool) {x y : After Core} {o w : Outcome} → Tied t m x o → (u ≡ false → Tied t m y w) → Tied t m (pick u x y) (cond u o w)
+  pub sim-pick : (u : Bool) {x y : After Core} {o w : Outcome} → Simulates t m x o → (u ≡ false → Simulates t m y w) → Simulates t m (pick u x y) (cond u o w)
   unfolding pick
-  tied-pick true h k = h
-  tied-pick false h k = k refl
+  sim-pick true h k = h
+  sim-pick false h k = k refl
 
--- the numbers have the fields v, whatever their call
+-- bytes put at the start of a list are the first of it
+pub take-put : (bytes l : List ℕ) → take (length bytes) (put bytes l) ≡ bytes
+take-put bytes l = take-append-seam bytes (drop (length bytes) l)
+
+-- ---- the call goes on, or ends, whatever the numbers of the call were
+
 module _ (v : Fields) (c : Call) (t : Bool) (m : Running) where
-  abbrev now : Core
-  now = coreWith v c
+  -- with an order that is no command
+  pub sim-orders : (p : Place) (w : Wait p) (x : Exchange) (o : Order) (b : List ℕ) → leb (x .phase) 6 ≡ true → Agrees p v → NoCommand o
+      → Simulates t m (ordersOf (coreWith v c) (heldAt v) o (callAt p w) x b) (runsOf (p .call) o (phaseAt w x))
+  sim-orders p w x o b small agrees e = go o e
+    where
+      here : Represents (running (coreWith v c) (callAt p w) x) (heldAt v) (busy (p .call) (phaseAt w x))
+      here =
+          let u : Fields = record {
+            command = v .command;
+            found = v .found;
+            pending = v .pending;
+            kept = v .kept;
+            exchange = x;
+            pendingFits = v .pendingFits;
+            keptFits = v .keptFits;
+            phaseFits = small;
+          } in
+          runs p w u record { pending = agrees .pending; found = agrees .found } refl refl refl
 
-  abbrev Ties : After Core → Outcome → Type 0
-  Ties = Tied t m
+      go : (o : Order) → NoCommand o → Simulates t m (ordersOf (coreWith v c) (heldAt v) o (callAt p w) x b) (runsOf (p .call) o (phaseAt w x))
+      go (write bytes) e = record {
+        represents = here;
+        output = rw e (ap (λ l. orders (write l)) (take-append-seam ack (drop 6 b)));
+        booked = λ k h. rw e (ack-booked t k);
+      }
+      go (read ms) e = record { represents = here; output = refl; booked = λ k h. refl }
+      go drain e = record { represents = here; output = refl; booked = λ k h. refl }
+      go (pause us) e = record { represents = here; output = refl; booked = λ k h. refl }
 
-  -- the call goes on with an order that is no command
-  at-place : (p : Place) (x : Exchange) → leb (x .phase) 6 ≡ true → Agrees p v → Represents (running now (callAt p) x) (heldAt v) (busy (which p) (phaseIn p x (v .found)))
-  at-place p x small agrees =
-      let w : Fields = record {
+  -- with a command
+  pub sim-sends : (p : Place) (w : Wait p) (code clock : ℕ) (bytes b : List ℕ) → Agrees p v
+      → Simulates t m (sendsOf (coreWith v c) (heldAt v) (callAt p w) (cmd code clock bytes) b)
+      (runsOf (p .call) (write (commandFrame code bytes)) (phaseAt w (exchangeAt 0 code clock)))
+  sim-sends p w code clock bytes b agrees =
+      let u : Fields = record {
         command = v .command;
         found = v .found;
         pending = v .pending;
         kept = v .kept;
-        exchange = x;
-        long = v .long;
+        exchange = exchangeAt 0 code clock;
         pendingFits = v .pendingFits;
         keptFits = v .keptFits;
-        phaseFits = small;
-      } in
-      runs p w agrees refl refl refl
-
-  pub tied-orders : (p : Place) (x : Exchange) (o : Order) (b : List ℕ) → leb (x .phase) 6 ≡ true → Agrees p v → NoCommand o
-      → Ties (ordersOf now (heldAt v) o (callAt p) x b) (runsOf (which p) o (phaseIn p x (v .found)))
-  tied-orders p x (write bytes) b small agrees e = record {
-    means = at-place p x small agrees;
-    told = rw e (ap (λ l. orders (write l)) (take-append-seam ack (drop 6 b)));
-    booked = λ k h. rw e (ack-booked t k);
-  }
-  tied-orders p x (read ms) b small agrees e = record { means = at-place p x small agrees; told = refl; booked = λ k h. refl }
-  tied-orders p x drain b small agrees e = record { means = at-place p x small agrees; told = refl; booked = λ k h. refl }
-  tied-orders p x (pause us) b small agrees e = record { means = at-place p x small agrees; told = refl; booked = λ k h. refl }
-
-  -- it orders a command
-  pub tied-sends : (p : Place) (pend kept : ℕ) (f : Held) (b : List ℕ) (code clock : ℕ) (bytes : List ℕ) (phase : Phase) → leb pend 512 ≡ true
-      → leb kept 1022 ≡ true → 3 ≤ length (f .found) → AgreesWith p (take pend (f .command)) (take kept (f .found))
-      → phaseIn p (exchangeAt 0 code clock) (f .found) ≡ phase
-      → Ties (sendsOf (record { command = pend; found = kept; exchange = v .exchange; call = c }) f (callAt p) (cmd code clock bytes) b)
-      (runsOf (which p) (write (commandFrame code bytes)) phase)
-  tied-sends p pend kept f b code clock bytes phase small fits long agrees is =
-      let w : Fields = record {
-        command = f .command;
-        found = f .found;
-        pending = pend;
-        kept = kept;
-        exchange = exchangeAt 0 code clock;
-        long = long;
-        pendingFits = small;
-        keptFits = fits;
         phaseFits = refl;
       } in
       record {
-        means = rw (← is) (runs p w agrees refl refl refl);
-        told = ap (λ l. orders (write l)) (take-append-seam (commandFrame code bytes) _);
+        represents = runs p w u record { pending = agrees .pending; found = agrees .found } refl refl refl;
+        output = ap (λ l. orders (write l)) (take-append-seam (commandFrame code bytes) _);
         booked = frame-booked t (length (commandFrame code bytes)) code bytes;
       }
 
+-- the call ends
+module _ (v : Fields) (c : Call) (q : CallOf) (m : Running) where
+  sim-ends : (a : Answer Byte) (o : Output) (b : List ℕ) → outputOf o b ≡ answers (plainAnswer a)
+      → ((k : Meant.Books) → bookedBy (isOpening q) o (bookNumbers k) ≡ bookNumbers (bookAnswer q a k))
+      → Simulates (isOpening q) m (endsOf (coreWith v c) (heldAt v) o b) (endsIn q a)
+  sim-ends a o b given k = record { represents = free v refl refl refl; output = given; booked = λ n h. k n }
+
+  pub sim-answer : (a : Answer ℕ) (d : Answer Byte) (b : List ℕ) → plainAnswer d ≡ a → Simulates (isOpening q) m (answersOf (coreWith v c) (heldAt v) a b) (endsIn q d)
+  sim-answer a d b e = subst (λ x. Simulates (isOpening q) m (answersOf (coreWith v c) (heldAt v) x b) (endsIn q d)) e (go d)
+    where
+      go : (d : Answer Byte) → Simulates (isOpening q) m (answersOf (coreWith v c) (heldAt v) (plainAnswer d) b) (endsIn q d)
+      go (done bytes) =
+          sim-ends (done bytes) (out.Done (length (map value bytes))) _ (ap (λ l. answers (done l)) (take-append-seam (map value bytes) _))
+          (end-booked q (done bytes))
+      go (type1 bytes) =
+          sim-ends (type1 bytes) (out.Type1 (length (map value bytes))) _ (ap (λ l. answers (type1 l)) (take-append-seam (map value bytes) _))
+          (end-booked q (type1 bytes))
+      go nothing = sim-ends nothing out.Nothing b refl (end-booked q nothing)
+      go (refused r) = sim-ends (refused r) (out.Failed r) b refl (end-booked q (refused r))
+
+-- ---- what a call decided leads to what its script has
+
+abbrev pub atStage : (p : Place) (stage : ℕ) (later found : List ℕ) → leb stage 9 ≡ true → Place
+atStage p stage later found h =
+    record {
+      call = p .call;
+      kind = p .kind;
+      stage = stage;
+      pending = later;
+      found = found;
+      running = p .running;
+      opens = p .opens;
+      kindFits = p .kindFits;
+      stageFits = h;
+    }
+
+abbrev with-found : (v : Fields) (l : List ℕ) → length l ≤ 1024 → Fields
+with-found v l h =
+    record {
+      command = v .command;
+      found = put l (v .found);
+      pending = v .pending;
+      kept = length l;
+      exchange = v .exchange;
+      pendingFits = v .pendingFits;
+      keptFits = le-leb (length l) 1024 h;
+      phaseFits = v .phaseFits;
+    }
+
+abbrev with-command : (v : Fields) (l : List ℕ) → length l ≤ 512 → Fields
+with-command v l h =
+    record {
+      command = put l (v .command);
+      found = v .found;
+      pending = length l;
+      kept = v .kept;
+      exchange = v .exchange;
+      pendingFits = le-leb (length l) 512 h;
+      keptFits = v .keptFits;
+      phaseFits = v .phaseFits;
+    }
+
+-- a call of the place's kind, at any of its stages
+abbrev callOf : Place → ℕ → ℕ → Call
+callOf p stage phase = record { kind = p .kind; stage = stage; phase = phase }
+
+module _ (p : Place) (m : Running) where
+  -- the command of a stage
+  stage-sims : (v : Fields) (later found : List ℕ) (n : ℕ) (h : leb n 9 ≡ true) (w : Wait (atStage p n later found h)) (stage phase code clock : ℕ) (bytes b : List ℕ)
+      → take (v .pending) (v .command) ≡ later → take (v .kept) (v .found) ≡ found → commandOf (p .kind) n later ≡ cmd code clock bytes → callAt _ w ≡ callOf p n 0
+      → Simulates (isOpening (p .call)) m (stageOf (coreWith v (callOf p stage phase)) (heldAt v) (callOf p n 0) b)
+      (runsOf (p .call) (write (commandFrame code bytes)) (phaseAt w (exchangeAt 0 code clock)))
+  unfolding stageOf
+  stage-sims v later found n h w stage phase code clock bytes b e f plan is =
+      let sent : commandOf (p .kind) n (take (v .pending) (v .command)) ≡ cmd code clock bytes = ap (commandOf (p .kind) n) e ∙ plan in
+      subst (λ k. Simulates (isOpening (p .call)) m (sendsOf (coreWith v (callOf p stage phase)) (heldAt v) k (commandOf (p .kind) n (take (v .pending) (v .command))) b)
+      (runsOf (p .call) (write (commandFrame code bytes)) (phaseAt w (exchangeAt 0 code clock)))) is
+      (rw sent (sim-sends v (callOf p stage phase) (isOpening (p .call)) m _ w code clock bytes b record { pending = e; found = f }))
+
+  pub lead-sims : {later found : List ℕ} (v : Fields) (stage phase : ℕ) (d : Decision) (s : Script) (b : List ℕ)
+      → take (v .pending) (v .command) ≡ later → take (v .kept) (v .found) ≡ found → Leads (p .kind) later found d s
+      → Simulates (isOpening (p .call)) m (followsOf (coreWith v (callOf p stage phase)) (heldAt v) d b) (outcome (p .call) (enter s))
+  unfolding followsOf stepOf
+  lead-sims v stage phase d s b e f (leads-end a c h) = sim-answer v (callOf p stage phase) (p .call) m c a b h
+  lead-sims v stage phase d s b e f (leads-send n code clock bytes k h q plan answered failing) =
+      stage-sims v _ _ n h (reply k q record { answered = answered; failing = failing }) stage phase code clock bytes b e f plan refl
+  lead-sims v stage phase d s b e f (leads-reset n r h q plan l) = stage-sims v _ _ n h (resetReply r q l) stage phase resetCode 100 resetData b e f plan refl
+  lead-sims v stage phase d s b e f (leads-keep n l s′ few k) = lead-sims (with-found v l few) stage phase (send n) s b e (take-put l (v .found)) k
+  lead-sims v stage phase d s b e f (leads-put n l s′ few k) = lead-sims (with-command v l few) stage phase (send n) s b (take-put l (v .command)) f k
+  lead-sims v stage phase d s b e f (leads-pause n r h k) =
+      sim-orders v (callOf p stage phase) (isOpening (p .call)) m (atStage p n _ _ h) (pausing r k) (v .exchange) (pause 20400) b (v .phaseFits)
+      record { pending = e; found = f } tt
+
 -- ---- an event that a running call meets
 
-module _ (p : Place) (v : Fields) where
-  abbrev pub TiedHere : After Core → Outcome → Type 0
-  TiedHere = Tied (isOpening (which p)) (runningAt p v)
+module _ (p : Place) (w : Wait p) (v : Fields) (agrees : Agrees p v) where
+  abbrev pub SimulatesHere : After Core → Outcome → Type 0
+  SimulatesHere = Simulates (isOpening (p .call)) (runningAt p w v)
 
   -- of an event with a packet that is long enough for the response
-  abbrev pub Moves : Moved → CallResult → Type 0
-  Moves mv r =
+  abbrev pub Advances : Moved → CallResult → Type 0
+  Advances mv r =
       (e : Event) (b : List ℕ) → replyLength mv ≤ packetLength e
-      → TiedHere (admittedOf (coreAt p v) (heldAt v) mv e b) (eventOutcome (which p) e (length b) r)
+      → SimulatesHere (admittedOf (coreAt p w v) (heldAt v) mv e b) (eventOutcome (p .call) e (length b) r)
 
-  pub stays : Agrees p v → (r : Refusal) (b : List ℕ) → TiedHere (unchanged (coreAt p v) (heldAt v) r b) (unchangedOf r)
-  stays agrees r b = tied-unchanged r b (runs p v agrees refl refl refl)
+  stays : (r : Refusal) (b : List ℕ) → SimulatesHere (unchanged (coreAt p w v) (heldAt v) r b) (unchangedOf r)
+  stays r b = sim-unchanged r b (runs p w v agrees refl refl refl)
 
-  pub moves-none : Agrees p v → Moves unfitting unfit
+  pub advances-none : Advances unfitting unfit
   unfolding admittedOf pick
-  moves-none agrees e b l = stays agrees OutOfTurn b
+  advances-none e b l = stays OutOfTurn b
 
-  pub moves-on : (mv : Moved) (o : Outcome) → Agrees p v → fits mv ≡ true → ((b : List ℕ) → replyLength mv ≤ 1024 → TiedHere (movedOf (coreAt p v) (heldAt v) mv b) o)
-      → (e : Event) (b : List ℕ) → replyLength mv ≤ packetLength e → TiedHere (admittedOf (coreAt p v) (heldAt v) mv e b) (admitted e (length b) o)
+  -- buffer and packet are looked at first
+  pub advances : (mv : Moved) (o : Outcome) → fits mv ≡ true → ((b : List ℕ) → replyLength mv ≤ 1024 → SimulatesHere (movedOf (coreAt p w v) (heldAt v) mv b) o)
+      → (e : Event) (b : List ℕ) → replyLength mv ≤ packetLength e → SimulatesHere (admittedOf (coreAt p w v) (heldAt v) mv e b) (admitted e (length b) o)
   unfolding admittedOf isLong pick
-  moves-on mv o agrees h k e b l =
+  advances mv o h k e b l =
       rw h
-      (tied-pick (ltb (length b) 1024) (stays agrees ShortBuffer b)
-      (λ _. tied-pick (ltb 1024 (packetLength e)) (stays agrees OverLong b) (λ n. k b (omega (arith, l, ltb-false 1024 (packetLength e) n)))))
+      (sim-pick (ltb (length b) 1024) (stays ShortBuffer b)
+      (λ _. sim-pick (ltb 1024 (packetLength e)) (stays OverLong b) (λ n. k b (omega (arith, l, ltb-false 1024 (packetLength e) n)))))
 
-  -- the call ends
-  tied-ends : (a : Answer Byte) (o : Output) (b : List ℕ) → outputOf o b ≡ answers (plainAnswer a)
-      → ((k : Meant.Books) → bookedBy (isOpening (which p)) o (bookNumbers k) ≡ bookNumbers (bookAnswer (which p) a k))
-      → TiedHere (endsOf (coreAt p v) (heldAt v) o b) (endsIn (which p) a)
-  tied-ends a o b out k = record { means = free v refl refl refl; told = out; booked = λ n h. k n }
-
-  pub tied-failed : (r : Fault) (b : List ℕ) → TiedHere (failedOf (coreAt p v) (heldAt v) r b) (endsIn (which p) (refused r))
-  tied-failed r b = tied-ends (refused r) (out.Failed r) b refl (end-booked (which p) (refused r))
-
-  pub tied-done : (bytes b : List ℕ) (a : List Byte) → bytes ≡ map value a → TiedHere (doneOf (coreAt p v) (heldAt v) bytes b) (endsIn (which p) (done a))
-  tied-done bytes b a e =
-      tied-ends (done a) (out.Done (length bytes)) _ (ap (λ l. answers (done l)) (take-append-seam bytes _ ∙ e)) (end-booked (which p) (done a))
-
-  pub tied-answer : (a : Answer ℕ) (d : Answer Byte) (b : List ℕ) → plainAnswer d ≡ a → TiedHere (answersOf (coreAt p v) (heldAt v) a b) (endsIn (which p) d)
-  tied-answer a d b e = subst (λ x. TiedHere (answersOf (coreAt p v) (heldAt v) x b) (endsIn (which p) d)) e (go d)
-    where
-      go : (d : Answer Byte) → TiedHere (answersOf (coreAt p v) (heldAt v) (plainAnswer d) b) (endsIn (which p) d)
-      go (done bytes) = tied-done (map value bytes) b bytes refl
-      go (type1 bytes) =
-          tied-ends (type1 bytes) (out.Type1 (length (map value bytes))) _ (ap (λ l. answers (type1 l)) (take-append-seam (map value bytes) _))
-          (end-booked (which p) (type1 bytes))
-      go nothing = tied-ends nothing out.Nothing b refl (end-booked (which p) nothing)
-      go (refused r) = tied-failed r b
-
-  -- where a failure ends the call
-  pub moves-failed : Agrees p v → (r : Fault) → ((b : List ℕ) → failsOf (coreAt p v) (heldAt v) r b ≡ failedOf (coreAt p v) (heldAt v) r b)
-      → Moves (refuses r) (ended (refused r))
-  unfolding movedOf
-  moves-failed agrees r is =
-      moves-on (refuses r) _ agrees refl (λ b _. subst (λ a. TiedHere a (endsIn (which p) (refused r))) (sym (is b)) (tied-failed r b))
+  -- a script is entered
+  pub advances-enter : (mv : Moved) (s : Script) → fits mv ≡ true → ((b : List ℕ) → replyLength mv ≤ 1024 → SimulatesHere (movedOf (coreAt p w v) (heldAt v) mv b) (outcome (p .call) (enter s)))
+      → Advances mv (enter s)
+  advances-enter mv (finish a) h k = advances mv _ h k
+  advances-enter mv (command code clock bytes n) h k = advances mv _ h k
+  advances-enter mv (reset s) h k = advances mv _ h k
+  advances-enter mv (fieldPause s) h k = advances mv _ h k
 
   -- the exchange goes on or ends
-  pub moves-exchange : (rest : Rest) → Agrees p v → ((x : Exchange) → phaseIn p x (v .found) ≡ exchange (stepOf x) rest)
-      → ((r : Reply) → Moves (endedMove (callAt p) (v .exchange) r) (afterReply rest r))
-      → (r : ExchangeResult) (n : ℕ) → Good n (v .exchange .code) (v .exchange .clock) r → Moves (exchangeMove (callAt p) (v .exchange) r) (afterExchange rest r)
+  pub advances-exchange : (rest : Rest) → ((x : Exchange) → phaseAt w x ≡ exchange (stepOf x) rest)
+      → ((r : Reply) → Advances (endedMove (callAt p w) (v .exchange) r) (afterReply rest r))
+      → (r : ExchangeResult) (n : ℕ) → Good n (v .exchange .code) (v .exchange .clock) r → Advances (exchangeMove (callAt p w) (v .exchange) r) (afterExchange rest r)
   unfolding exchangeMove movedOf
-  moves-exchange rest agrees is k unfit n g = moves-none agrees
-  moves-exchange rest agrees is k (pending o to) n g =
-      moves-on (goesOn o (callAt p) (exchangeIn (v .exchange) to)) _ agrees refl
+  advances-exchange rest is k unfit n g = advances-none
+  advances-exchange rest is k (pending o to) n g =
+      advances (goesOn o (callAt p w) (exchangeIn (v .exchange) to)) _ refl
       (λ b _. rw (sym (is (exchangeIn (v .exchange) to) ∙ ap (λ s. exchange s rest) (g .0)))
-      (tied-orders v (callAt p) _ _ p (exchangeIn (v .exchange) to) o b (g .1) agrees (g .2)))
-  moves-exchange rest agrees is k (ended r) n g = k r
+      (sim-orders v (callAt p w) _ _ p w (exchangeIn (v .exchange) to) o b (g .1) agrees (g .2)))
+  advances-exchange rest is k (ended r) n g = k r
 
 -- an event, by the kind of order that it answers, of two sides at once
 module _ {X Y : Type 0} (P : X → Y → Type 0) {u : X} {v : Y} (none : P u v) where

@@ -16,19 +16,17 @@ use Rattle.exchange.specs.Exchange.{Order, write, read, drain, pause, Event}
 use Rattle.exchange.specs.declared.Exchange.{Exchange}
 use Rattle.framing.specs.Valid.{both-left, both-right}
 use Rattle.protocol.specs.Scripts.{Answer, done, type1, nothing, refused}
-use Rattle.protocol.specs.Chipset.{anyNonzero}
 use Rattle.chipset.specs.Launches.{Launch, sends}
 use Rattle.chipset.specs.Launches.{refuses as refusesAtOnce}
-use Rattle.chipset.specs.Verdicts.{judgeOf}
-use Rattle.discovery.specs.Decisions.{Decision, goes, keeps, sets, pauses}
-use Rattle.discovery.specs.Decisions.{ends as endsDecision}
+use Rattle.stages.specs.Stages.{Decision, send, keep, put as putBy, pause as pauseFor, ends as endsDecision}
+use Rattle.calls.specs.Starts.{launchFor}
 use Rattle.engine.specs.Books.{isInRange, isOpen, ended}
 use Rattle.engine.specs.Booking.{ended-range}
-use Rattle.engine.specs.Core.{Held, After, after, unchanged, idle, ordersOf, entersOf, failedOf, answersOf, openingOf, versionOf, lastOf, judgedOf, followsOf, repliesOf, failsOf, movedOf, isLong, admittedOf, eventCore, openCore, launchOn}
+use Rattle.engine.specs.Core.{Held, After, after, unchanged, idle, ordersOf, stageOf, endsOf, answersOf, followsOf, repliesOf, failsOf, movedOf, isLong, admittedOf, eventCore, openCore, launchOn}
 use Rattle.engine.specs.Core.{isValid as validCore}
 use Rattle.engine.specs.Exchanges.{by-pick}
-use Rattle.engine.specs.Inputs.{Input, opens as opened, asks, tells, bufferOf, stepWith, launchFor, afterInput}
-use Rattle.engine.specs.Moves.{Moved, unfitting, orders, enters, finishes, replies, refuses, fits, moveOf, validCall}
+use Rattle.engine.specs.Inputs.{Input, opens as opened, asks, tells, bufferOf, stepWith, afterInput}
+use Rattle.engine.specs.Moves.{Moved, unfitting, orders, sends as sendsStage, resetDone, replies, refuses, fits, moveOf, validCall}
 use Rattle.engine.specs.Sessions.{state, isValid, isFree, bookedAfter, eventAfter, openAfter, launchAfter, heldIn, sessionAfter}
 use Rattle.engine.specs.declared.books.Books.{Books}
 use Rattle.engine.specs.declared.call.Call.{Call}
@@ -65,7 +63,7 @@ module _ (s : Core) (f : Held) (b : List ℕ) where
   same : (r : Refusal) → Keeps (unchanged s f r b)
   same r = record { early = λ q e. ap (λ o. after s f o b) e; late = λ q e. absurd (other-class e (λ z. omega (arith, z))) }
 
-  fails : (r : Fault) → Keeps (failedOf s f r b)
+  fails : (r : Fault) → Keeps (endsOf s f (Failed r) b)
   fails r = record { early = λ q e. absurd (other-class e (λ z. omega (arith, z))); late = λ q e. (refl, refl) }
 
   -- an order or an answer
@@ -81,9 +79,9 @@ module _ (s : Core) (f : Held) (b : List ℕ) where
   order t g drain c x = goes-on _ refl
   order t g (pause us) c x = goes-on _ refl
 
-  entering : (t : Core) (g : Held) (c : Call) → Keeps (entersOf t g c b)
-  unfolding entersOf
-  entering t g c = goes-on _ refl
+  stage : (t : Core) (g : Held) (c : Call) → Keeps (stageOf t g c b)
+  unfolding stageOf
+  stage t g c = goes-on _ refl
 
   answers : (a : Answer ℕ) → Keeps (answersOf s f a b)
   answers (done bytes) = goes-on _ refl
@@ -91,37 +89,28 @@ module _ (s : Core) (f : Held) (b : List ℕ) where
   answers nothing = goes-on _ refl
   answers (refused r) = fails r
 
-  opening : (bytes : List ℕ) → Keeps (openingOf s f bytes b)
-  unfolding openingOf versionOf lastOf
-  opening bytes =
-      by-pick Keeps (eqb (s .call .stage) 1) _ _
-      (by-pick Keeps (ltb (length bytes) 4) _ _ (fails _) (entering _ _ _))
-      (by-pick Keeps (eqb (s .call .stage) 9) _ _ (by-pick Keeps (anyNonzero bytes) _ _ (fails _) (goes-on _ refl)) (entering _ _ _))
-
-  decides : (bytes : List ℕ) (d : Decision) → Keeps (followsOf s f bytes d b)
+  decides : (d : Decision) → Keeps (followsOf s f d b)
   unfolding followsOf
-  decides bytes (goes n) = entering _ _ _
-  decides bytes (keeps n) = entering _ _ _
-  decides bytes (sets n v) = entering _ _ _
-  decides bytes pauses = goes-on _ refl
-  decides bytes (endsDecision a) = answers a
+  decides (send n) = stage _ _ _
+  decides (keep n bytes) = stage _ _ _
+  decides (putBy n bytes) = stage _ _ _
+  decides (pauseFor us n) = goes-on _ refl
+  decides (endsDecision a) = answers a
 
   reply : (bytes : List ℕ) → Keeps (repliesOf s f bytes b)
-  unfolding repliesOf judgedOf
-  reply bytes =
-      by-pick Keeps (eqb (s .call .kind) 1) _ _ (opening bytes)
-      (by-pick Keeps (ltb (s .call .kind) 17) _ _ (answers (judgeOf (s .call .kind) bytes)) (decides bytes _))
+  unfolding repliesOf
+  reply bytes = decides _
 
   failure : (r : Fault) → Keeps (failsOf s f r b)
   unfolding failsOf
-  failure r = by-pick Keeps (ltb (s .call .kind) 17) _ _ (fails r) (decides [] _)
+  failure r = decides _
 
   move : (m : Moved) → Keeps (movedOf s f m b)
   unfolding movedOf
   move unfitting = same OutOfTurn
   move (orders o c x) = order s f o c x
-  move (enters c) = entering s f c
-  move finishes = goes-on _ refl
+  move (sendsStage c) = stage s f c
+  move resetDone = reply []
   move (replies bytes) = reply bytes
   move (refuses r) = failure r
 
@@ -146,7 +135,7 @@ idle-free : (s : Core) (b : Books) → validCore s ≡ true → isInRange b ≡ 
 unfolding isValid validCore validCall
 idle-free s b h r =
     let k = both-right (leb (s .command) 512) _ h in
-    rw (both-left (leb (s .command) 512) _ h, both-left (leb (s .found) 1022) _ k, both-left (leb (s .exchange .phase) 6) _ (both-right (leb (s .found) 1022) _ k), r) refl
+    rw (both-left (leb (s .command) 512) _ h, both-left (leb (s .found) 1024) _ k, both-left (leb (s .exchange .phase) 6) _ (both-right (leb (s .found) 1024) _ k), r) refl
 
 by-test : (P : After State → Type 0) (t : Bool) (x y : After State) → (t ≡ true → P x) → P y → P (pick t x y)
 unfolding pick

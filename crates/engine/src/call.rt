@@ -1,5 +1,4 @@
 // A running call, as a few numbers: what an event does to it, apart from buffer and session.
-use chipset::RESET_MODE;
 use errors::Fault;
 use exchange::Advanced;
 use exchange::Event;
@@ -7,11 +6,11 @@ use exchange::Exchange;
 use exchange::Next;
 ghost use mathlib.Core.List.{List};
 ghost use mathlib.Core.Path.{_≡_};
-ghost use Prim.Native.Nat.{ℕ, _<_};
+ghost use Prim.Native.Nat.{ℕ};
 ghost use Rattle.errors.specs.declared.Fault.the-variants.{Transport};
 ghost use Rattle.exchange.specs.Exchange.{advance, onWrite, onPause};
 ghost use Rattle.exchange.specs.Steps.{eventOf, orderOf, stepOf};
-ghost use Rattle.engine.specs.Moves.{noCall, validCall, fits, at, toStage, following, isReset, moveIn, moveOf, overMove, exchangeMove, orders, resetAckMove, restedMove, resetPauseMove, openingAckMove, openingReadsMove, fieldPauseMove, unfitting, refuses};
+ghost use Rattle.engine.specs.Moves.{noCall, validCall, fits, at, toStage, moveIn, moveOf, overMove, exchangeMove, orders, resetAckMove, resetPauseMove, openingAckMove, openingReadsMove, pauseMove, unfitting, refuses};
 
 // What runs: no call, the opening, a call of one command by the number of the rule for its response, or a discovery.
 pub const NO_CALL: u8 = 0;
@@ -20,7 +19,7 @@ pub const OPEN: u8 = 1;
 
 pub const LAST: u8 = 20;
 
-// What a call waits for: its command's exchange, a reset's ACK or pause, the opening's ACK or reads, the field pause.
+// What a call waits for: its command's exchange, a reset's ACK or pause, the opening's ACK or reads, a pause.
 pub const EXCHANGE: u8 = 0;
 
 pub const RESET_ACK: u8 = 1;
@@ -31,7 +30,7 @@ pub const OPENING_ACK: u8 = 3;
 
 pub const OPENING_READS: u8 = 4;
 
-pub const FIELD_PAUSE: u8 = 5;
+pub const PAUSE: u8 = 5;
 
 // What runs, which of its commands is on or comes next, and what is awaited.
 #[repr(C)]
@@ -49,13 +48,13 @@ pub enum Order {
     Pause(u32),
 }
 
-// What an event does to a call: it does not fit, an order follows, a command comes next, the call is done with no bytes, the packet
+// What an event does to a call: it does not fit, an order follows, the command of the call's stage comes next, a reset is done, the packet
 // that ends a command's exchange is in, or the command failed.
 pub enum Move {
     Unfit,
     Orders(Order, Call, Exchange),
-    Enters(Call),
-    Finishes,
+    Sends(Call),
+    ResetDone,
     Arrives,
     Fails(Fault),
 }
@@ -117,21 +116,6 @@ impl Call {
         }
     }
 
-    // The command is a reset's.
-    fn is_reset(self) -> bool
-        ensures { λ r. ⌜ r ≡ isReset self ⌝ }
-    {
-        if self.kind == OPEN {
-            if self.stage == 0 {
-                true
-            } else {
-                self.stage == 8
-            }
-        } else {
-            self.kind == RESET_MODE
-        }
-    }
-
     pub(crate) fn at(self, phase: u8) -> Call
         ensures { λ r. ⌜ r ≡ at self phase ⌝ }
     {
@@ -153,18 +137,6 @@ impl Call {
         }
     }
 
-    // At its next command.
-    pub(crate) fn following(self) -> Call
-        requires { ⌜ self .stage < 255 ⌝ }
-        ensures { λ r. ⌜ r ≡ following self ⌝ }
-    {
-        Call {
-            kind: self.kind,
-            stage: self.stage + 1,
-            phase: EXCHANGE,
-        }
-    }
-
     fn pending(self, next: Next, exchange: Exchange) -> Move
         ensures { λ r. ⌜ ((code : ℕ) (p : List ℕ) → moveIn code p r ≡ orders (orderOf next) self exchange) ⌝ }
     {
@@ -179,7 +151,7 @@ impl Call {
     fn over(self, exchange: Exchange, next: Move) -> Move
         ensures { λ r. ⌜ ((p : List ℕ) → moveIn (exchange .code) p r ≡ overMove self exchange (moveIn (exchange .code) p next)) ⌝ }
     {
-        if self.is_reset() {
+        if calls::is_reset(self.kind, self.stage) {
             Move::Orders(Order::Ack, self.at(RESET_ACK), exchange)
         } else {
             next
@@ -204,23 +176,10 @@ impl Call {
         written(event, next)
     }
 
-    // A reset is over: reset_mode is done, the opening goes on.
-    fn rested(self) -> Move
-        requires { ⌜ self .stage < 255 ⌝ }
-        ensures { λ r. ⌜ ((code : ℕ) (p : List ℕ) → moveIn code p r ≡ restedMove self) ⌝ }
-    {
-        if self.kind == RESET_MODE {
-            Move::Finishes
-        } else {
-            Move::Enters(self.following())
-        }
-    }
-
     fn on_reset_pause(self, event: Event) -> Move
-        requires { ⌜ self .stage < 255 ⌝ }
-        ensures { λ r. ⌜ ((code : ℕ) (p : List ℕ) → moveIn code p r ≡ resetPauseMove self (eventOf event p)) ⌝ }
+        ensures { λ r. ⌜ ((code : ℕ) (p : List ℕ) → moveIn code p r ≡ resetPauseMove (eventOf event p)) ⌝ }
     {
-        slept(event, self.rested())
+        slept(event, Move::ResetDone)
     }
 
     fn on_opening_ack(self, exchange: Exchange, event: Event) -> Move
@@ -235,8 +194,8 @@ impl Call {
     {
         match event {
             Event::Packet => Move::Orders(Order::Read(10), self, exchange),
-            Event::Time => Move::Enters(self.at(EXCHANGE)),
-            Event::Fail => Move::Enters(self.at(EXCHANGE)),
+            Event::Time => Move::Sends(self.at(EXCHANGE)),
+            Event::Fail => Move::Sends(self.at(EXCHANGE)),
             Event::Ok => Move::Unfit,
             Event::Bad => Move::Unfit,
             Event::Late => Move::Unfit,
@@ -244,16 +203,14 @@ impl Call {
         }
     }
 
-    fn on_field_pause(self, event: Event) -> Move
-        requires { ⌜ self .stage < 255 ⌝ }
-        ensures { λ r. ⌜ ((code : ℕ) (p : List ℕ) → moveIn code p r ≡ fieldPauseMove self (eventOf event p)) ⌝ }
+    fn on_pause(self, event: Event) -> Move
+        ensures { λ r. ⌜ ((code : ℕ) (p : List ℕ) → moveIn code p r ≡ pauseMove self (eventOf event p)) ⌝ }
     {
-        slept(event, Move::Enters(self.following()))
+        slept(event, Move::Sends(self.at(EXCHANGE)))
     }
 
     // What an event does to the call.
     pub(crate) fn moved(self, exchange: Exchange, event: Event, packet: &[u8]) -> Move
-        requires { ⌜ self .stage < 255 ⌝ }
         ensures { λ r. ⌜ moveIn (exchange .code) (now (packet .entry)) r ≡ moveOf self exchange (eventOf event (now (packet .entry))) ⌝ }
     {
         let phase = self.phase;
@@ -263,7 +220,7 @@ impl Call {
             RESET_PAUSE => self.on_reset_pause(event),
             OPENING_ACK => self.on_opening_ack(exchange, event),
             OPENING_READS => self.on_opening_reads(exchange, event),
-            FIELD_PAUSE => self.on_field_pause(event),
+            PAUSE => self.on_pause(event),
             _ => Move::Unfit,
         }
     }
@@ -276,8 +233,8 @@ impl Move {
         match self {
             Move::Unfit => false,
             Move::Orders(_, _, _) => true,
-            Move::Enters(_) => true,
-            Move::Finishes => true,
+            Move::Sends(_) => true,
+            Move::ResetDone => true,
             Move::Arrives => true,
             Move::Fails(_) => true,
         }

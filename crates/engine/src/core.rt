@@ -6,9 +6,7 @@ use super::call::NO_CALL;
 use super::call::OPEN;
 use super::call::OPENING_ACK;
 use super::call::Order;
-use super::device;
 use chipset::command::Launch;
-use discovery::decision;
 use errors::Fault;
 use errors::Refusal;
 use exchange::Event;
@@ -19,14 +17,13 @@ use framing::frame::build_command;
 ghost use mathlib.Core.Bool.{true};
 ghost use mathlib.Core.List.{List};
 ghost use mathlib.Core.Path.{_≡_};
-ghost use Prim.Native.Nat.{ℕ, _≤_, _<_};
+ghost use Prim.Native.Nat.{ℕ, _≤_};
 ghost use lib.ListN.{length};
 ghost use Rattle.exchange.specs.Steps.{eventOf};
-ghost use Rattle.chipset.specs.Launches.{cmd};
+ghost use Rattle.stages.specs.Stages.{cmd};
 ghost use Rattle.chipset.specs.Starts.{launchWith, fits};
-ghost use Rattle.discovery.specs.Decisions.{commandOf};
 ghost use Rattle.engine.specs.Moves.{orderOf, moveIn, packetLength, replyLength};
-ghost use Rattle.engine.specs.Core.{noCore, isValid, Held, held, pendingOf, running, unchanged, withFound, withCommand, progressed, ordersOf, sendsOf, entersOf, endsOf, movedOf, isLong, admittedOf, eventCore, openCore, launchOn};
+ghost use Rattle.engine.specs.Core.{noCore, isValid, Held, held, running, unchanged, withFound, withCommand, progressed, ordersOf, sendsOf, stageOf, endsOf, movedOf, isLong, admittedOf, eventCore, openCore, launchOn};
 
 // How much of each array is in use, the exchange, and the call.
 #[repr(C)]
@@ -96,7 +93,7 @@ impl Core {
         if self.command > 512 {
             return false;
         }
-        if self.found > 1022 {
+        if self.found > 1024 {
             return false;
         }
         if exchange.phase > 6 {
@@ -197,34 +194,19 @@ impl Core {
         }
     }
 
-    // The command of a discovery's stage is ordered, which may be the pending one.
-    fn searched(self, call: Call, command: &[u8], buffer: &mut [u8]) -> Progress
+    // The command of the call's stage is ordered, which may be the pending one.
+    pub(crate) fn send(self, call: Call, command: &[u8], buffer: &mut [u8]) -> Progress
         requires { ⌜ (self .command ≤ 512) × (length (now command) ≡ 512) × (1024 ≤ length (now buffer)) ⌝ }
-        ensures { λ r. ⌜ ((f : List ℕ) → progressed r (held (now (command .entry)) f) (now (buffer .exit)) ≡ sendsOf self (held (now (command .entry)) f) call (commandOf (call .kind) (call .stage) (pendingOf self (held (now (command .entry)) f))) (now (buffer .entry))) ⌝ }
+        ensures { λ r. ⌜ ((f : List ℕ) → progressed r (held (now (command .entry)) f) (now (buffer .exit)) ≡ stageOf self (held (now (command .entry)) f) call (now (buffer .entry))) ⌝ }
     {
-        let plan = decision::command(call.kind, call.stage);
-        if plan.2 {
+        let next = calls::command(call.kind, call.stage);
+        if next.is_pending {
             let n = self.command;
-            self.sent(call, plan.0, plan.1, &command[..n], buffer)
+            self.sent(call, next.code, next.clock, &command[..n], buffer)
         } else {
-            let bytes = plan.3;
-            let n = plan.4;
-            self.sent(call, plan.0, plan.1, &bytes[..n], buffer)
-        }
-    }
-
-    // The command of a call's stage is ordered.
-    pub(crate) fn entered(self, call: Call, command: &[u8], buffer: &mut [u8]) -> Progress
-        requires { ⌜ (self .command ≤ 512) × (length (now command) ≡ 512) × (1024 ≤ length (now buffer)) ⌝ }
-        ensures { λ r. ⌜ ((f : List ℕ) → progressed r (held (now (command .entry)) f) (now (buffer .exit)) ≡ entersOf self (held (now (command .entry)) f) call (now (buffer .entry))) ⌝ }
-    {
-        if call.kind == OPEN {
-            let plan = device::opening(call.stage);
-            let bytes = plan.2;
-            let n = plan.3;
-            self.sent(call, plan.0, plan.1, &bytes[..n], buffer)
-        } else {
-            self.searched(call, command, buffer)
+            let bytes = next.bytes;
+            let n = next.len;
+            self.sent(call, next.code, next.clock, &bytes[..n], buffer)
         }
     }
 
@@ -253,14 +235,14 @@ impl Core {
         found: &mut [u8],
         buffer: &mut [u8],
     ) -> Progress
-        requires { ⌜ (replyLength (moveIn (self .exchange .code) (now packet) moved) ≤ 1024) × (self .found ≤ 1022) × (self .command ≤ 512) × (length (now command) ≡ 512) × (length (now found) ≡ 1024) × (1024 ≤ length (now buffer)) × (self .call .stage < 255) ⌝ }
+        requires { ⌜ (replyLength (moveIn (self .exchange .code) (now packet) moved) ≤ 1024) × (self .found ≤ 1024) × (self .command ≤ 512) × (length (now command) ≡ 512) × (length (now found) ≡ 1024) × (1024 ≤ length (now buffer)) ⌝ }
         ensures { λ r. ⌜ progressed r (held (now (command .exit)) (now (found .exit))) (now (buffer .exit)) ≡ movedOf self (held (now (command .entry)) (now (found .entry))) (moveIn (self .exchange .code) (now (packet .entry)) moved) (now (buffer .entry)) ⌝ }
     {
         match moved {
             Move::Unfit => self.refused(Refusal::OutOfTurn),
             Move::Orders(order, call, exchange) => self.ordered(order, call, exchange, buffer),
-            Move::Enters(call) => self.entered(call, command, buffer),
-            Move::Finishes => self.ended(Output::Done(0)),
+            Move::Sends(call) => self.send(call, command, buffer),
+            Move::ResetDone => self.replied(&[], command, found, buffer),
             Move::Arrives => self.arrived(packet, command, found, buffer),
             Move::Fails(fault) => self.failed(fault, command, found, buffer),
         }
@@ -276,7 +258,7 @@ impl Core {
         found: &mut [u8],
         buffer: &mut [u8],
     ) -> Progress
-        requires { ⌜ (replyLength (moveIn (self .exchange .code) (now packet) moved) ≤ packetLength (eventOf event (now packet))) × (self .found ≤ 1022) × (self .command ≤ 512) × (length (now command) ≡ 512) × (length (now found) ≡ 1024) × (self .call .stage < 255) ⌝ }
+        requires { ⌜ (replyLength (moveIn (self .exchange .code) (now packet) moved) ≤ packetLength (eventOf event (now packet))) × (self .found ≤ 1024) × (self .command ≤ 512) × (length (now command) ≡ 512) × (length (now found) ≡ 1024) ⌝ }
         ensures { λ r. ⌜ progressed r (held (now (command .exit)) (now (found .exit))) (now (buffer .exit)) ≡ admittedOf self (held (now (command .entry)) (now (found .entry))) (moveIn (self .exchange .code) (now (packet .entry)) moved) (eventOf event (now (packet .entry))) (now (buffer .entry)) ⌝ }
     {
         if moved.fits() {

@@ -2,7 +2,6 @@
 pub mod books;
 pub mod call;
 pub mod core;
-pub mod device;
 pub mod numbered;
 mod reply;
 pub mod session;

@@ -94,7 +94,7 @@ fn core(seed: u64) -> Core {
     let call = call(seed);
     Core {
         command: filled(number(seed, 7), 512),
-        found: filled(number(seed, 8), 1022),
+        found: filled(number(seed, 8), 1024),
         exchange,
         call,
     }

@@ -59,7 +59,7 @@ fn core_in_range(core: Core) -> bool {
     if core.command > 512 {
         return false;
     }
-    if core.found > 1022 {
+    if core.found > 1024 {
         return false;
     }
     if exchange.phase > 6 {

@@ -99,7 +99,7 @@ impl Draw {
         }
         let (core, books) = (&mut session.state.core, &mut session.state.books);
         core.command = self.used(512);
-        core.found = self.used(1022);
+        core.found = self.used(1024);
         core.exchange.phase = self.small(6);
         core.exchange.code = self.code();
         core.call.kind = if self.once(3) { 0 } else { self.small(20) };

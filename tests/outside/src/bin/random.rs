@@ -82,7 +82,7 @@ impl Entry {
 fn core_in_range(session: &RawSession) -> bool {
     let core = &session.state.core;
     let call = &core.call;
-    let lengths = core.command <= 512 && core.found <= 1022;
+    let lengths = core.command <= 512 && core.found <= 1024;
     lengths && core.exchange.phase <= 6 && call.kind <= 20 && call.stage <= 9 && call.phase <= 5
 }
 

@@ -1,6 +1,7 @@
 -- `chipset::response::initiator` meets its contract.
 use Rattle.chipset.specs.Verdicts.{initiatorAnswer}
-use Rattle.chipset.specs.Laws.{verdicts, has-first}
+use Rattle.stages.specs.Laws.{verdicts}
+use Rattle.chipset.specs.Laws.{has-first}
 use borrow.Author.Needs.{needs}
 use Rattle.chipset.proofs.response.initiator.Statement.{statement}
 use Rattle.chipset.proofs.response.initiator.Tie as tie

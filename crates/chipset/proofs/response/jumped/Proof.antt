@@ -1,6 +1,6 @@
 -- `chipset::response::jumped` meets its contract.
 use Rattle.chipset.specs.Verdicts.{withStatus, withLength, jumpAnswer}
-use Rattle.chipset.specs.Laws.{verdicts}
+use Rattle.stages.specs.Laws.{verdicts}
 use borrow.Author.Needs.{needs}
 use Rattle.chipset.proofs.response.jumped.Statement.{statement}
 use Rattle.chipset.proofs.response.jumped.Tie as tie

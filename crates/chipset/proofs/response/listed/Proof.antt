@@ -1,6 +1,6 @@
 -- `chipset::response::listed` meets its contract.
 use Rattle.chipset.specs.Verdicts.{withLength, listAnswer}
-use Rattle.chipset.specs.Laws.{verdicts}
+use Rattle.stages.specs.Laws.{verdicts}
 use borrow.Author.Needs.{needs}
 use Rattle.chipset.proofs.response.listed.Statement.{statement}
 use Rattle.chipset.proofs.response.listed.Tie as tie

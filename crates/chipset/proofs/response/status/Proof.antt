@@ -1,7 +1,7 @@
 -- `chipset::response::status` meets its contract.
 use native.Mathlib.Omega.{arith}
 use Rattle.chipset.specs.Verdicts.{withStatus}
-use Rattle.chipset.specs.Laws.{verdicts, comes-true}
+use Rattle.stages.specs.Laws.{verdicts, comes-true}
 use borrow.Author.Needs.{needs}
 use Rattle.chipset.proofs.response.status.Statement.{statement}
 use Rattle.chipset.proofs.response.status.Tie as tie

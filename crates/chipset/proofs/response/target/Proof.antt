@@ -1,6 +1,7 @@
 -- `chipset::response::target` meets its contract.
 use Rattle.chipset.specs.Verdicts.{withLength, targetAnswer}
-use Rattle.chipset.specs.Laws.{verdicts, comes-true, comes-false, comes-rates}
+use Rattle.stages.specs.Laws.{verdicts, comes-true, comes-false}
+use Rattle.chipset.specs.Laws.{comes-rates}
 use native.Mathlib.Omega.{arith}
 use borrow.Author.Needs.{needs}
 use Rattle.chipset.proofs.response.target.Statement.{statement}

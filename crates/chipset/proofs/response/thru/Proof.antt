@@ -1,6 +1,7 @@
 -- `chipset::response::thru` meets its contract.
 use Rattle.chipset.specs.Verdicts.{withStatus}
-use Rattle.chipset.specs.Laws.{verdicts, has-first}
+use Rattle.stages.specs.Laws.{verdicts}
+use Rattle.chipset.specs.Laws.{has-first}
 use borrow.Author.Needs.{needs}
 use Rattle.chipset.proofs.response.thru.Statement.{statement}
 use Rattle.chipset.proofs.response.thru.Tie as tie

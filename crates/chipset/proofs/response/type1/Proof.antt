@@ -1,6 +1,6 @@
 -- `chipset::response::type1` meets its contract.
 use Rattle.chipset.specs.Verdicts.{type1Answer}
-use Rattle.chipset.specs.Laws.{verdicts}
+use Rattle.stages.specs.Laws.{verdicts}
 use borrow.Author.Needs.{needs}
 use Rattle.chipset.proofs.response.type1.Statement.{statement}
 use Rattle.chipset.proofs.response.type1.Tie as tie

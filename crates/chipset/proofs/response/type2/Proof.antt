@@ -1,7 +1,8 @@
 -- `chipset::response::type2` meets its contract.
 use native.Mathlib.Omega.{arith}
 use Rattle.chipset.specs.Verdicts.{withStatus, type2Answer}
-use Rattle.chipset.specs.Laws.{verdicts, comes-true, check-told, has-first}
+use Rattle.stages.specs.Laws.{verdicts, comes-true}
+use Rattle.chipset.specs.Laws.{check-told, has-first}
 use borrow.Author.Needs.{needs}
 use Rattle.chipset.proofs.response.type2.Statement.{statement}
 use Rattle.chipset.proofs.response.type2.Tie as tie

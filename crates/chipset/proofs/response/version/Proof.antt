@@ -1,7 +1,7 @@
 -- `chipset::response::version` meets its contract.
 use native.Mathlib.Omega.{arith}
 use Rattle.chipset.specs.Verdicts.{withLength, versionAnswer}
-use Rattle.chipset.specs.Laws.{verdicts, comes-false}
+use Rattle.stages.specs.Laws.{verdicts, comes-false}
 use borrow.Author.Needs.{needs}
 use Rattle.chipset.proofs.response.version.Statement.{statement}
 use Rattle.chipset.proofs.response.version.Tie as tie

@@ -1,24 +1,27 @@
 -- `chipset::response::with_rates` meets its contract.
-use mathlib.Core.Path.{refl}
-use Rattle.chipset.specs.Laws.{comes-words}
+use native.Mathlib.Omega.{arith}
+use Rattle.chipset.specs.Laws.{with-words}
 use borrow.Author.Needs.{needs}
 use Rattle.chipset.proofs.response.with_rates.Statement.{statement}
 use Rattle.chipset.proofs.response.with_rates.Tie as tie
 
-cast-t6 : tie.Need-cast-t6
-cast-t6 c = search needs
+cast-t5 : tie.Need-cast-t5
+cast-t5 c = search needs
 
-cast-t8 : tie.Need-cast-t8
-cast-t8 c = search needs
+cast-t7 : tie.Need-cast-t7
+cast-t7 c = search needs
 
-cast-t10 : tie.Need-cast-t10
-cast-t10 c = search needs
+cast-t9 : tie.Need-cast-t9
+cast-t9 c = search needs
 
-cast-t12 : tie.Need-cast-t12
-cast-t12 c = search needs
+cast-t11 : tie.Need-cast-t11
+cast-t11 c = search needs
+
+tailed-requires : tie.Need-tailed-requires
+tailed-requires c κs = search needs
 
 returns : tie.Need-returns
-returns c = λ bs h. comes-words bs _ _ _ h refl
+returns c = λ bs h. with-words bs _ _ _ h (λ f. c .tailed .ensures f bs (omega arith) (omega arith) (λ k. omega arith))
 
 pub with-rates-spec : {M : Type 1} → statement M
-with-rates-spec = tie.close (tie.spec cast-t6 cast-t8 cast-t10 cast-t12 returns)
+with-rates-spec = tie.close (tie.spec cast-t5 cast-t7 cast-t9 cast-t11 tailed-requires returns)

@@ -2,7 +2,7 @@
 use native.Mathlib.Omega.{arith}
 use Rattle.framing.specs.Rules.{told}
 use Rattle.chipset.specs.Verdicts.{writeAnswer}
-use Rattle.chipset.specs.Laws.{verdicts, comes-false}
+use Rattle.stages.specs.Laws.{verdicts, comes-false}
 use borrow.Author.Needs.{needs}
 use Rattle.chipset.proofs.response.written.Statement.{statement}
 use Rattle.chipset.proofs.response.written.Tie as tie

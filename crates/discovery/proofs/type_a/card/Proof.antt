@@ -1,25 +1,29 @@
--- `discovery::type_a::card` meets its contract.
-use Rattle.discovery.specs.Laws.{decides-card}
+use native.Mathlib.Omega.{arith}
 use borrow.Author.Needs.{needs}
 use Rattle.discovery.proofs.type_a.card.Statement.{statement}
 use Rattle.discovery.proofs.type_a.card.Tie as tie
 
-byte-or-requires : tie.Need-byte-or-requires
-byte-or-requires c κs = search needs
+shared-slice-read-t3 : tie.Need-shared-slice-read-t3
+shared-slice-read-t3 c = search needs
 
-byte-or-requires-2 : tie.Need-byte-or-requires-2
-byte-or-requires-2 c κs = search needs
+shared-slice-read-t5 : tie.Need-shared-slice-read-t5
+shared-slice-read-t5 c = search needs
 
-byte-or-requires-3 : tie.Need-byte-or-requires-3
-byte-or-requires-3 c κs = search needs
+shared-slice-read-t7 : tie.Need-shared-slice-read-t7
+shared-slice-read-t7 c = search needs
 
-within-requires : tie.Need-within-requires
-within-requires c κs = search needs
+headed-requires : tie.Need-headed-requires
+headed-requires c κs = search needs
 
 returns : tie.Need-returns
-returns c = λ f b e h. decides-card f b _ _ _ _ (c .before .before .before .byte-or .ensures) (c .before .before .byte-or2 .ensures) (c .before .byte-or3 .ensures) (c .within .ensures) e h
+returns c = λ f. c .headed .ensures f (omega arith) (omega arith) (omega arith)
 
 pub card-spec : {M : Type 1} → statement M
 card-spec =
     tie.close
-    (tie.spec byte-or-requires byte-or-requires-2 byte-or-requires-3 within-requires returns)
+    (tie.spec
+    shared-slice-read-t3
+    shared-slice-read-t5
+    shared-slice-read-t7
+    headed-requires
+    returns)

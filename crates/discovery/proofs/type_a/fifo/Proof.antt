@@ -1,6 +1,6 @@
 -- `discovery::type_a::fifo` meets its contract.
-use Rattle.discovery.specs.Decided.{fifoRead}
-use Rattle.discovery.specs.Laws.{decided}
+use Rattle.discovery.specs.Decisions.{fifoRead}
+use Rattle.stages.specs.Laws.{decided}
 use borrow.Author.Needs.{needs}
 use Rattle.discovery.proofs.type_a.fifo.Statement.{statement}
 use Rattle.discovery.proofs.type_a.fifo.Tie as tie

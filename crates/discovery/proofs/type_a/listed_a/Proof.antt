@@ -1,7 +1,6 @@
--- `discovery::type_a::listed_a` meets its contract.
-use native.Mathlib.Omega.{arith}
-use Rattle.discovery.specs.Decisions.{withLength, listedA}
-use Rattle.discovery.specs.Laws.{decided, decides-false, not-kept}
+use Rattle.stages.specs.Stages.{withLength}
+use Rattle.stages.specs.Laws.{decided, decides-true, decides-false, decides-keep, decides-done}
+use Rattle.discovery.specs.Decisions.{listedA}
 use borrow.Author.Needs.{needs}
 use Rattle.discovery.proofs.type_a.listed_a.Statement.{statement}
 use Rattle.discovery.proofs.type_a.listed_a.Tie as tie
@@ -27,13 +26,16 @@ shared-slice-read-if4 c = search needs
 card-requires : tie.Need-card-requires
 card-requires c κs = search needs
 
+card-requires-2 : tie.Need-card-requires-2
+card-requires-2 c κs = search needs
+
 returns-4 : tie.Need-returns-4
 unfolding listedA withLength
-returns-4 c = λ f. search (decided, needs) depth 8
+returns-4 c = λ f. decides-false _ _ _ _ _ _ (search (decided, needs)) (decides-false _ _ _ _ _ _ (search (decided, needs)) (decides-false _ _ _ _ _ _ (search (decided, needs)) (decides-true _ _ _ _ _ _ (search (decided, needs)) (decides-keep _ _ _ _ _ (c .card .ensures f)))))
 
 returns-5 : tie.Need-returns-5
 unfolding listedA withLength
-returns-5 c = λ f. decides-false _ _ _ _ _ _ (search (decided, needs)) (decides-false _ _ _ _ _ _ (search (decided, needs)) (decides-false _ _ _ _ _ _ (search (decided, needs)) (decides-false _ _ _ _ _ _ (search (decided, needs)) (c .card .ensures f _ (not-kept f _) (λ e. omega arith)))))
+returns-5 c = λ f. decides-false _ _ _ _ _ _ (search (decided, needs)) (decides-false _ _ _ _ _ _ (search (decided, needs)) (decides-false _ _ _ _ _ _ (search (decided, needs)) (decides-false _ _ _ _ _ _ (search (decided, needs)) (decides-done _ _ _ _ (c .card2 .ensures f)))))
 
 pub listed-a-spec : {M : Type 1} → statement M
 listed-a-spec =
@@ -45,5 +47,6 @@ listed-a-spec =
     returns-3
     shared-slice-read-if4
     card-requires
+    card-requires-2
     returns-4
     returns-5)

@@ -1,8 +1,8 @@
--- `discovery::type_a::rid` meets its contract.
 use native.Mathlib.Omega.{arith}
-use mathlib.Core.Path.{refl}
-use Rattle.discovery.specs.Decisions.{withLength, ridOf}
-use Rattle.discovery.specs.Laws.{decided, decides-true, decides-false, decides-rid}
+use Rattle.stages.specs.Stages.{withLength}
+use Rattle.stages.specs.Laws.{decided, decides-true, decides-false, decides-type1}
+use Rattle.discovery.specs.Laws.{lays-rid}
+use Rattle.discovery.specs.Decisions.{ridOf}
 use borrow.Author.Needs.{needs}
 use Rattle.discovery.proofs.type_a.rid.Statement.{statement}
 use Rattle.discovery.proofs.type_a.rid.Tie as tie
@@ -22,15 +22,15 @@ returns-3 : tie.Need-returns-3
 unfolding ridOf withLength
 returns-3 c = search (decided, needs) depth 8
 
-shared-slice-read-t8 : tie.Need-shared-slice-read-t8
-shared-slice-read-t8 c = search needs
+sub-behind : tie.Need-sub-behind
+sub-behind c = search needs
 
-shared-slice-read-t7 : tie.Need-shared-slice-read-t7
-shared-slice-read-t7 c = search needs
+behind-requires : tie.Need-behind-requires
+behind-requires c κs = search needs
 
 returns-4 : tie.Need-returns-4
 unfolding ridOf withLength
-returns-4 c = decides-false _ _ _ _ _ _ (search (decided, needs)) (decides-true _ _ _ _ _ _ (search (decided, needs)) (decides-false _ _ _ _ _ _ (search (decided, needs)) (decides-rid _ _ _ _ _ refl refl (omega arith))))
+returns-4 c = decides-false _ _ _ _ _ _ (search (decided, needs)) (decides-true _ _ _ _ _ _ (search (decided, needs)) (decides-false _ _ _ _ _ _ (search (decided, needs)) (decides-type1 _ _ _ _ (lays-rid _ _ _ (c .behind .ensures _ _ (omega arith) (omega arith) (λ u v. omega arith))))))
 
 pub rid-spec : {M : Type 1} → statement M
 rid-spec =
@@ -40,6 +40,6 @@ rid-spec =
     shared-slice-read-if2
     returns-2
     returns-3
-    shared-slice-read-t8
-    shared-slice-read-t7
+    sub-behind
+    behind-requires
     returns-4)

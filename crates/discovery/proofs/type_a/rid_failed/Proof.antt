@@ -1,7 +1,7 @@
 -- `discovery::type_a::rid_failed` meets its contract.
 use borrow.Author.Needs.{needs}
 use Rattle.discovery.specs.Decisions.{ridFailure}
-use Rattle.discovery.specs.Laws.{decides-nothing, decides-refused}
+use Rattle.stages.specs.Laws.{decides-nothing, decides-refused}
 use Rattle.discovery.proofs.Tags.{not-status}
 use Rattle.discovery.proofs.type_a.rid_failed.Statement.{statement}
 use Rattle.discovery.proofs.type_a.rid_failed.Tie as tie

@@ -1,7 +1,7 @@
 -- `discovery::type_a::rx_mode` meets its contract.
-use Rattle.discovery.specs.Decisions.{withLength}
-use Rattle.discovery.specs.Decided.{rxModeRead}
-use Rattle.discovery.specs.Laws.{decided}
+use Rattle.stages.specs.Stages.{withLength}
+use Rattle.discovery.specs.Decisions.{rxModeRead}
+use Rattle.stages.specs.Laws.{decided}
 use borrow.Author.Needs.{needs}
 use Rattle.discovery.proofs.type_a.rx_mode.Statement.{statement}
 use Rattle.discovery.proofs.type_a.rx_mode.Tie as tie

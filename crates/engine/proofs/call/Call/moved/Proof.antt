@@ -1,5 +1,5 @@
 -- `engine::call::Call::moved` meets its contract.
-use Rattle.engine.specs.Moves.{moves-pause, moves-field}
+use Rattle.engine.specs.Moves.{moves-pause, moves-awaited}
 use Rattle.engine.specs.Moves.{moves-exchange, moves-reads}
 use Rattle.engine.specs.Moves.{moveOf}
 use Rattle.errors.specs.Choice.{pick}
@@ -23,8 +23,8 @@ on-opening-ack-requires c κs = search needs
 on-opening-reads-requires : tie.Need-on-opening-reads-requires
 on-opening-reads-requires c κs = search needs
 
-on-field-pause-requires : tie.Need-on-field-pause-requires
-on-field-pause-requires c κs = search needs
+on-pause-requires : tie.Need-on-pause-requires
+on-pause-requires c κs = search needs
 
 returns : tie.Need-returns
 returns c = moves-exchange _ _ _ _ (c .before .match .keys1) (c .on-exchange .ensures)
@@ -44,7 +44,7 @@ returns-5 : tie.Need-returns-5
 returns-5 c = moves-reads _ _ _ _ (c .before .match .keys5) (c .on-opening-reads .ensures _ _)
 
 returns-6 : tie.Need-returns-6
-returns-6 c = moves-field _ _ _ _ (c .before .match .keys6) (c .on-field-pause .ensures _ _)
+returns-6 c = moves-awaited _ _ _ _ (c .before .match .keys6) (c .on-pause .ensures _ _)
 
 returns-7 : tie.Need-returns-7
 unfolding moveOf
@@ -59,7 +59,7 @@ moved-spec =
     on-reset-pause-requires
     on-opening-ack-requires
     on-opening-reads-requires
-    on-field-pause-requires
+    on-pause-requires
     returns
     returns-2
     returns-3

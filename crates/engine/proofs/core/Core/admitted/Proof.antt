@@ -1,4 +1,3 @@
-use borrow.Author.Needs.{needs}
 use mathlib.Core.Path.{sym, _∙_}
 use native.Mathlib.Omega.{arith}
 use borrow.Author.Tests.{lt-ltb, le-ltb, ltb-false}
@@ -6,6 +5,7 @@ use Rattle.framing.specs.Rules.{at-true, at-false}
 use Rattle.exchange.specs.Steps.{eventOf}
 use Rattle.engine.specs.Moves.{packetLength}
 use Rattle.engine.specs.Core.{admittedOf, isLong}
+use borrow.Author.Needs.{needs}
 use Rattle.engine.proofs.core.Core.admitted.Statement.{statement}
 use Rattle.engine.proofs.core.Core.admitted.Tie as tie
 
@@ -27,22 +27,11 @@ refused-requires-2 c κs = search needs
 
 returns-2 : tie.Need-returns-2
 unfolding admittedOf
-returns-2 c =
-    at-true _ _ _ _ (sym (c .before .before .before .before .before .fits2 .ensures _ _) ∙ c .before .before .before .before .if1 .taken)
-    (at-false _ _ _ _ (le-ltb _ _ (c .before .before .before .if2 .left)) (at-true _ _ _ _ (sym (c .before .before .is-long .ensures) ∙ c .before .if3 .taken) (c .refused2 .ensures _ _)))
+returns-2 c = at-true _ _ _ _ (sym (c .before .before .before .before .before .fits2 .ensures _ _) ∙ c .before .before .before .before .if1 .taken) (at-false _ _ _ _ (le-ltb _ _ (c .before .before .before .if2 .left)) (at-true _ _ _ _ (sym (c .before .before .is-long .ensures) ∙ c .before .if3 .taken) (c .refused2 .ensures _ _)))
 
 moved-requires : tie.Need-moved-requires
 unfolding isLong
-moved-requires c κs =
-    let a = c .before .before .before .before .before .before .before .before .before .before .before .before .args in (
-      omega (arith, ltb-false 1024 (packetLength (eventOf (a .event) (a .packet .now))) (sym (c .before .before .before .before .is-long .ensures) ∙ c .before .before .before .if3 .left), c .before .before .before .before .before .before .before .before .before .before .before .before .pre .0),
-      c .before .before .before .before .before .before .before .before .before .before .before .before .pre .1,
-      c .before .before .before .before .before .before .before .before .before .before .before .before .pre .2,
-      c .before .before .before .before .before .before .before .before .before .before .before .before .pre .3,
-      c .before .before .before .before .before .before .before .before .before .before .before .before .pre .4,
-      search needs,
-      c .before .before .before .before .before .before .before .before .before .before .before .before .pre .5,
-    )
+moved-requires c κs = let a = c .before .before .before .before .before .before .before .before .before .before .before .before .args in let p = c .before .before .before .before .before .before .before .before .before .before .before .before .pre in (omega (arith, ltb-false 1024 (packetLength (eventOf (a .event) (a .packet .now))) (sym (c .before .before .before .before .is-long .ensures) ∙ c .before .before .before .if3 .left), p .0), p .1, p .2, p .3, p .4, search needs)
 
 refused-requires-3 : tie.Need-refused-requires-3
 refused-requires-3 c κs = search needs
@@ -58,9 +47,7 @@ same-length-3 c = search needs
 
 returns-3 : tie.Need-returns-3
 unfolding admittedOf
-returns-3 c =
-    at-true _ _ _ _ (sym (c .before .before .before .before .before .before .before .before .before .before .before .before .before .before .fits2 .ensures _ _) ∙ c .before .before .before .before .before .before .before .before .before .before .before .before .before .if1 .taken)
-    (at-false _ _ _ _ (le-ltb _ _ (c .before .before .before .before .before .before .before .before .before .before .before .before .if2 .left)) (at-false _ _ _ _ (sym (c .before .before .before .before .before .before .before .before .before .before .before .is-long .ensures) ∙ c .before .before .before .before .before .before .before .before .before .before .if3 .left) (c .before .before .before .before .before .before .moved .ensures)))
+returns-3 c = at-true _ _ _ _ (sym (c .before .before .before .before .before .before .before .before .before .before .before .before .before .before .fits2 .ensures _ _) ∙ c .before .before .before .before .before .before .before .before .before .before .before .before .before .if1 .taken) (at-false _ _ _ _ (le-ltb _ _ (c .before .before .before .before .before .before .before .before .before .before .before .before .if2 .left)) (at-false _ _ _ _ (sym (c .before .before .before .before .before .before .before .before .before .before .before .is-long .ensures) ∙ c .before .before .before .before .before .before .before .before .before .before .if3 .left) (c .before .before .before .before .before .before .moved .ensures)))
 
 returns-4 : tie.Need-returns-4
 unfolding admittedOf

@@ -1,10 +1,10 @@
-use borrow.Author.Needs.{needs}
 use mathlib.Core.Path.{subst}
 use Prim.Native.Nat.{_≤_}
+use native.Mathlib.Omega.{arith}
 use Rattle.engine.specs.Moves.{replyMove, replyLength}
 use Rattle.engine.specs.Core.{movedOf}
 use Rattle.exchange.specs.Responses.{no-response, its-response}
-use native.Mathlib.Omega.{arith}
+use borrow.Author.Needs.{needs}
 use Rattle.engine.proofs.core.Core.arrived.Statement.{statement}
 use Rattle.engine.proofs.core.Core.arrived.Tie as tie
 
@@ -31,9 +31,7 @@ same-length-3 c = search needs
 
 returns : tie.Need-returns
 unfolding movedOf
-returns c =
-    let r = c .before .before .before .before .before .before .before .before .before .before .before .before .response-payload in
-    rw (no-response _ _ _ (r .ensures) (c .before .before .before .before .before .before .before .before .before .before .before .if1 .taken)) (rw (c .before .before .before .before .before .before .before .before .before .before .fault .ensures) at (c .before .before .before .before .before .before .failed .ensures))
+returns c = rw (no-response _ _ _ (c .before .before .before .before .before .before .before .before .before .before .before .before .response-payload .ensures) (c .before .before .before .before .before .before .before .before .before .before .before .if1 .taken)) (rw (c .before .before .before .before .before .before .before .before .before .before .fault .ensures) at (c .before .before .before .before .before .before .failed .ensures))
 
 sub-replied : tie.Need-sub-replied
 sub-replied c = let two = its-response _ _ _ (c .before .response-payload .ensures) (c .if1 .left) .long in omega (arith, two)
@@ -45,11 +43,7 @@ part-replied-end : tie.Need-part-replied-end
 part-replied-end c = search needs
 
 replied-requires : tie.Need-replied-requires
-replied-requires c κs =
-    let p = c .before .before .before .before .before .before .before .before .before .before .before .before .pre in
-    let a = its-response _ _ _ (c .before .before .before .before .before .response-payload .ensures) (c .before .before .before .before .if1 .left) in
-    let n = subst (λ r. replyLength (replyMove r) ≤ 1024) (a .rest) (p .0) in
-    (omega (arith, n), p .1, p .2, p .3, p .4, p .5, p .6)
+replied-requires c κs = let p = c .before .before .before .before .before .before .before .before .before .before .before .before .pre in let a = its-response _ _ _ (c .before .before .before .before .before .response-payload .ensures) (c .before .before .before .before .if1 .left) in let n = subst (λ r. replyLength (replyMove r) ≤ 1024) (a .rest) (p .0) in (omega (arith, n), p .1, p .2, p .3, p .4, p .5)
 
 same-length-4 : tie.Need-same-length-4
 same-length-4 c = search needs

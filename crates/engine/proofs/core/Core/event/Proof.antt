@@ -1,13 +1,13 @@
-use borrow.Author.Needs.{needs}
-use Rattle.engine.specs.Core.{eventCore}
-use Rattle.engine.specs.Exchanges.{reply-short}
-use Rattle.engine.specs.Laws.{valid-stage, valid-command, valid-found}
-use Rattle.engine.specs.Moves.{packetLength, replyLength}
-use Rattle.exchange.specs.Steps.{eventOf}
-use borrow.Author.Tests.{eq-eqb, ne-eqb}
-use Prim.Native.Nat.{_≤_}
 use mathlib.Core.Path.{sym, subst}
+use Prim.Native.Nat.{_≤_}
+use borrow.Author.Tests.{eq-eqb, ne-eqb}
 use Rattle.framing.specs.Rules.{at-true, at-false}
+use Rattle.exchange.specs.Steps.{eventOf}
+use Rattle.engine.specs.Moves.{packetLength, replyLength}
+use Rattle.engine.specs.Exchanges.{reply-short}
+use Rattle.engine.specs.Core.{eventCore}
+use Rattle.engine.specs.Laws.{valid-command, valid-found}
+use borrow.Author.Needs.{needs}
 use Rattle.engine.proofs.core.Core.event.Statement.{statement}
 use Rattle.engine.proofs.core.Core.event.Tie as tie
 
@@ -19,19 +19,10 @@ unfolding eventCore
 returns c = at-true _ _ _ _ (eq-eqb _ _ (c .before .if1 .taken)) (c .refused .ensures _ _)
 
 moved-requires : tie.Need-moved-requires
-moved-requires c κs = valid-stage _ (c .before .before .before .before .before .before .before .before .pre .0)
+moved-requires c κs = search needs
 
 admitted-requires : tie.Need-admitted-requires
-admitted-requires c κs =
-    let a = c .before .before .before .before .before .before .before .before .before .before .before .before .args in
-    let p = c .before .before .before .before .before .before .before .before .before .before .before .before .pre in (
-      subst (λ m. replyLength m ≤ packetLength (eventOf (a .event) (a .packet .now))) (sym (c .before .before .before .moved .ensures)) (reply-short _ _ _),
-      valid-found _ (p .0),
-      valid-command _ (p .0),
-      p .1,
-      p .2,
-      valid-stage _ (p .0),
-    )
+admitted-requires c κs = let a = c .before .before .before .before .before .before .before .before .before .before .before .before .args in let p = c .before .before .before .before .before .before .before .before .before .before .before .before .pre in (subst (λ m. replyLength m ≤ packetLength (eventOf (a .event) (a .packet .now))) (sym (c .before .before .before .moved .ensures)) (reply-short _ _ _), valid-found _ (p .0), valid-command _ (p .0), p .1, p .2)
 
 same-length : tie.Need-same-length
 same-length c = search needs

@@ -1,9 +1,14 @@
-use borrow.Author.Needs.{needs}
-use mathlib.Core.Path.{ap, _∙_, subst}
-use Rattle.discovery.specs.Decided.{DecisionFits}
-use Rattle.engine.specs.Core.{held, entersOf, ordersOf, followsOf}
+use mathlib.Core.Path.{_≡_, sym, ap, _∙_, subst}
+use Prim.Native.Nat.{_≤_}
+use native.Mathlib.Omega.{arith}
+use lib.ListN.{length, take, length-take}
+use lib.Seq.{length-take-le}
 use Rattle.exchange.specs.Exchange.{pause}
-use lib.ListN.{take}
+use Rattle.stages.specs.Decided.{layoutBytes, DecisionFits}
+use Rattle.engine.specs.Core.{held, stageOf, ordersOf, followsOf}
+use Rattle.engine.specs.Laws.{done-copied, type1-copied}
+use Rattle.engine.specs.Moves.{at}
+use borrow.Author.Needs.{needs}
 use Rattle.engine.proofs.core.Core.followed.Statement.{statement}
 use Rattle.engine.proofs.core.Core.followed.Tie as tie
 
@@ -13,54 +18,74 @@ enum-known-decision c = search needs
 to-stage-requires : tie.Need-to-stage-requires
 to-stage-requires c κs = search needs
 
-entered-requires : tie.Need-entered-requires
-entered-requires c κs = (c .before .before .before .before .before .before .before .before .before .before .before .before .pre .2, c .before .before .before .before .before .before .before .before .before .before .before .before .pre .3, c .before .before .before .before .before .before .before .before .before .before .before .before .pre .5)
+send-requires : tie.Need-send-requires
+send-requires c κs = (c .before .before .before .before .before .before .before .before .before .before .before .before .pre .2, c .before .before .before .before .before .before .before .before .before .before .before .before .pre .3, c .before .before .before .before .before .before .before .before .before .before .before .before .pre .5)
 
 enum-known-decision-2 : tie.Need-enum-known-decision-2
 enum-known-decision-2 c = search needs
 
 kept-requires : tie.Need-kept-requires
-kept-requires c κs = (c .before .before .before .before .before .before .before .before .before .before .before .before .pre .0, c .before .before .before .before .before .before .before .before .before .before .before .before .pre .2, c .before .before .before .before .before .before .before .before .before .before .before .before .pre .3, c .before .before .before .before .before .before .before .before .before .before .before .before .pre .4, c .before .before .before .before .before .before .before .before .before .before .before .before .pre .5)
+kept-requires c κs = let a = c .before .before .before .before .before .before .before .before .before .before .before .before .args in (c .before .before .before .before .before .before .before .before .before .before .before .before .pre .0, c .before .before .before .before .before .before .before .before .before .before .before .before .pre .1, c .before .before .before .before .before .before .before .before .before .before .before .before .pre .2, c .before .before .before .before .before .before .before .before .before .before .before .before .pre .3, c .before .before .before .before .before .before .before .before .before .before .before .before .pre .4, c .before .before .before .before .before .before .before .before .before .before .before .before .pre .5, subst (λ x. DecisionFits (take (a .self .found) (a .found .now)) (a .response .now) x) (c .before .before .before .before .decision2 .given .1) (c .before .before .before .before .before .before .before .before .before .before .before .before .pre .6))
 
 enum-known-decision-3 : tie.Need-enum-known-decision-3
 enum-known-decision-3 c = search needs
 
-set-requires : tie.Need-set-requires
-set-requires c κs = (c .before .before .before .before .before .before .before .before .before .before .before .pre .3, c .before .before .before .before .before .before .before .before .before .before .before .pre .5)
+put-by-requires : tie.Need-put-by-requires
+put-by-requires c κs = (c .before .before .before .before .before .before .before .before .before .before .before .pre .3, c .before .before .before .before .before .before .before .before .before .before .before .pre .5)
 
-enum-told : tie.Need-enum-told
-enum-told c = search needs
+enum-known-decision-4 : tie.Need-enum-known-decision-4
+enum-known-decision-4 c = search needs
+
+to-stage-requires-2 : tie.Need-to-stage-requires-2
+to-stage-requires-2 c κs = search needs
 
 at-requires : tie.Need-at-requires
 at-requires c κs = search needs
 
 ordered-requires : tie.Need-ordered-requires
-ordered-requires c κs = c .before .before .before .before .before .before .before .before .before .before .pre .5
-
-enum-known-decision-4 : tie.Need-enum-known-decision-4
-enum-known-decision-4 c = search needs
-
-found-card-requires : tie.Need-found-card-requires
-found-card-requires c κs =
-    let a = c .before .before .before .before .before .before .before .before .before .before .before .args in (
-      c .before .before .before .before .before .before .before .before .before .before .before .pre .0,
-      c .before .before .before .before .before .before .before .before .before .before .before .pre .1,
-      c .before .before .before .before .before .before .before .before .before .before .before .pre .4,
-      c .before .before .before .before .before .before .before .before .before .before .before .pre .5,
-      subst (DecisionFits (take (a .self .found) (a .found .now)) (a .response .now)) (c .before .before .before .decision4 .given .1) (c .before .before .before .before .before .before .before .before .before .before .before .pre .6),
-    )
-
-enum-told-2 : tie.Need-enum-told-2
-enum-told-2 c = search needs
-
-ended-requires : tie.Need-ended-requires
-ended-requires c κs = search needs
+ordered-requires c κs = c .before .before .before .before .before .before .before .before .before .before .before .before .pre .5
 
 enum-known-decision-5 : tie.Need-enum-known-decision-5
 enum-known-decision-5 c = search needs
 
+slice-reshare-prefix-answer : tie.Need-slice-reshare-prefix-answer
+slice-reshare-prefix-answer c = omega (arith, c .before .before .before .before .before .before .before .before .before .pre .1, c .before .before .before .before .before .before .before .before .before .pre .4)
+
+slice-aggregate-answer : tie.Need-slice-aggregate-answer
+slice-aggregate-answer c = sym (length-take-le (c .before .before .before .before .before .before .before .before .before .before .args .self .found) (c .before .before .before .before .before .before .before .before .before .before .args .found .now) (omega (arith, c .before .before .before .before .before .before .before .before .before .before .pre .1, c .before .before .before .before .before .before .before .before .before .before .pre .4)))
+
+answer-requires : tie.Need-answer-requires
+answer-requires c κs = let a = c .before .before .before .before .before .before .before .before .before .before .before .args in let n : length (take (a .self .found) (a .found .now)) ≤ 1024 = omega (arith, length-take (a .self .found) (a .found .now), c .before .before .before .before .before .before .before .before .before .before .before .pre .4) in let f = subst (λ x. DecisionFits (take (a .self .found) (a .found .now)) (a .response .now) x) (c .before .before .before .decision5 .given .1) (c .before .before .before .before .before .before .before .before .before .before .before .pre .6) in (f, omega (arith, f .room n (c .before .before .before .before .before .before .before .before .before .before .before .pre .0), c .before .before .before .before .before .before .before .before .before .before .before .pre .5))
+
+ended-requires : tie.Need-ended-requires
+ended-requires c κs = search needs
+
+enum-known-decision-6 : tie.Need-enum-known-decision-6
+enum-known-decision-6 c = search needs
+
+slice-reshare-prefix-answer-2 : tie.Need-slice-reshare-prefix-answer-2
+slice-reshare-prefix-answer-2 c = omega (arith, c .before .before .before .before .before .before .before .before .before .pre .1, c .before .before .before .before .before .before .before .before .before .pre .4)
+
+slice-aggregate-answer-2 : tie.Need-slice-aggregate-answer-2
+slice-aggregate-answer-2 c = sym (length-take-le (c .before .before .before .before .before .before .before .before .before .before .args .self .found) (c .before .before .before .before .before .before .before .before .before .before .args .found .now) (omega (arith, c .before .before .before .before .before .before .before .before .before .before .pre .1, c .before .before .before .before .before .before .before .before .before .before .pre .4)))
+
+answer-requires-2 : tie.Need-answer-requires-2
+answer-requires-2 c κs = let a = c .before .before .before .before .before .before .before .before .before .before .before .args in let n : length (take (a .self .found) (a .found .now)) ≤ 1024 = omega (arith, length-take (a .self .found) (a .found .now), c .before .before .before .before .before .before .before .before .before .before .before .pre .4) in let f = subst (λ x. DecisionFits (take (a .self .found) (a .found .now)) (a .response .now) x) (c .before .before .before .decision6 .given .1) (c .before .before .before .before .before .before .before .before .before .before .before .pre .6) in (f, omega (arith, f .room n (c .before .before .before .before .before .before .before .before .before .before .before .pre .0), c .before .before .before .before .before .before .before .before .before .before .before .pre .5))
+
 ended-requires-2 : tie.Need-ended-requires-2
 ended-requires-2 c κs = search needs
+
+enum-told : tie.Need-enum-told
+enum-told c = search needs
+
+ended-requires-3 : tie.Need-ended-requires-3
+ended-requires-3 c κs = search needs
+
+enum-known-decision-7 : tie.Need-enum-known-decision-7
+enum-known-decision-7 c = search needs
+
+ended-requires-4 : tie.Need-ended-requires-4
+ended-requires-4 c κs = search needs
 
 same-length : tie.Need-same-length
 same-length c = search needs
@@ -70,10 +95,7 @@ same-length-2 c = search needs
 
 returns : tie.Need-returns
 unfolding followsOf
-returns c =
-    let a = c .before .before .before .before .before .before .before .before .before .before .before .before .before .before .before .args in
-    rw (c .before .before .before .before .before .before .before .decision .given .1)
-    (c .before .before .entered .ensures _ ∙ ap (λ d. entersOf (a .self) (held (a .command .now) (a .found .now)) d (a .buffer .now)) (c .before .before .before .before .before .to-stage .ensures))
+returns c = let a = c .before .before .before .before .before .before .before .before .before .before .before .before .before .before .before .args in rw (c .before .before .before .before .before .before .before .decision .given .1) (c .before .before .send .ensures _ ∙ ap (λ d. stageOf (a .self) (held (a .command .now) (a .found .now)) d (a .buffer .now)) (c .before .before .before .before .before .to-stage .ensures))
 
 same-length-3 : tie.Need-same-length-3
 same-length-3 c = search needs
@@ -94,17 +116,14 @@ same-length-7 : tie.Need-same-length-7
 same-length-7 c = search needs
 
 returns-3 : tie.Need-returns-3
-returns-3 c = rw (c .before .before .before .before .before .before .before .before .decision3 .given .1) (c .before .before .before .before .set .ensures _ _)
+returns-3 c = rw (c .before .before .before .before .before .before .before .before .decision3 .given .1) (c .before .before .before .before .put-by .ensures _)
 
 same-length-8 : tie.Need-same-length-8
 same-length-8 c = search needs
 
 returns-4 : tie.Need-returns-4
 unfolding followsOf
-returns-4 c =
-    let a = c .before .before .before .before .before .before .before .before .before .before .before .before .before .args in
-    rw (c .before .before .before .before .before .enum-told .given .1)
-    (c .before .before .ordered .ensures _ ∙ ap (λ d. ordersOf (a .self) (held (a .command .now) (a .found .now)) (pause 20400) d (a .self .exchange) (a .buffer .now)) (c .before .before .before .before .at .ensures))
+returns-4 c = let a = c .before .before .before .before .before .before .before .before .before .before .before .before .before .before .before .args in rw (c .before .before .before .before .before .before .before .decision4 .given .1) (c .before .before .ordered .ensures _ ∙ ap (λ d. ordersOf (a .self) (held (a .command .now) (a .found .now)) (pause (c .before .before .before .before .before .before .before .decision4 .given .0 .0)) d (a .self .exchange) (a .buffer .now)) (c .before .before .before .before .at .ensures ∙ ap (λ k. at k 5) (c .before .before .before .before .before .to-stage2 .ensures)))
 
 same-length-9 : tie.Need-same-length-9
 same-length-9 c = search needs
@@ -114,15 +133,25 @@ same-length-10 c = search needs
 
 returns-5 : tie.Need-returns-5
 unfolding followsOf
-returns-5 c = rw (c .before .before .before .before .before .before .decision4 .given .1) (c .before .before .found-card .ensures _)
+returns-5 c = let a = c .before .before .before .before .before .before .before .before .before .before .before .before .before .before .before .args in rw (c .before .before .before .before .before .before .before .decision5 .given .1) (done-copied (a .self) _ (layoutBytes (take (a .self .found) (a .found .now)) (a .response .now) (c .before .before .before .before .before .before .before .decision5 .given .0 .0)) (a .buffer .now) _ _ _ (c .before .before .before .answer .ensures .0) (c .before .before .before .answer .ensures .1) (c .ended .ensures _ _))
+
+same-length-11 : tie.Need-same-length-11
+same-length-11 c = search needs
+
+same-length-12 : tie.Need-same-length-12
+same-length-12 c = search needs
 
 returns-6 : tie.Need-returns-6
 unfolding followsOf
-returns-6 c = rw (c .before .enum-told2 .given .1) (c .ended .ensures _ _)
+returns-6 c = let a = c .before .before .before .before .before .before .before .before .before .before .before .before .before .before .before .args in rw (c .before .before .before .before .before .before .before .decision6 .given .1) (type1-copied (a .self) _ (layoutBytes (take (a .self .found) (a .found .now)) (a .response .now) (c .before .before .before .before .before .before .before .decision6 .given .0 .0)) (a .buffer .now) _ _ _ (c .before .before .before .answer2 .ensures .0) (c .before .before .before .answer2 .ensures .1) (c .ended2 .ensures _ _))
 
 returns-7 : tie.Need-returns-7
 unfolding followsOf
-returns-7 c = rw (c .before .before .decision5 .given .1) (c .ended2 .ensures _ _)
+returns-7 c = rw (c .before .enum-told .given .1) (c .ended3 .ensures _ _)
+
+returns-8 : tie.Need-returns-8
+unfolding followsOf
+returns-8 c = rw (c .before .before .decision7 .given .1) (c .ended4 .ensures _ _)
 
 pub followed-spec : {M : Type 1} → statement M
 followed-spec =
@@ -130,20 +159,29 @@ followed-spec =
     (tie.spec
     enum-known-decision
     to-stage-requires
-    entered-requires
+    send-requires
     enum-known-decision-2
     kept-requires
     enum-known-decision-3
-    set-requires
-    enum-told
+    put-by-requires
+    enum-known-decision-4
+    to-stage-requires-2
     at-requires
     ordered-requires
-    enum-known-decision-4
-    found-card-requires
-    enum-told-2
-    ended-requires
     enum-known-decision-5
+    slice-reshare-prefix-answer
+    slice-aggregate-answer
+    answer-requires
+    ended-requires
+    enum-known-decision-6
+    slice-reshare-prefix-answer-2
+    slice-aggregate-answer-2
+    answer-requires-2
     ended-requires-2
+    enum-told
+    ended-requires-3
+    enum-known-decision-7
+    ended-requires-4
     same-length
     same-length-2
     returns
@@ -159,5 +197,8 @@ followed-spec =
     same-length-9
     same-length-10
     returns-5
+    same-length-11
+    same-length-12
     returns-6
-    returns-7)
+    returns-7
+    returns-8)

@@ -1,16 +1,17 @@
-use borrow.Author.Needs.{needs}
+use mathlib.Core.Path.{_≡_, sym, ap, _∙_, subst}
 use Prim.Native.Nat.{_≤_}
-use mathlib.Core.Path.{subst}
-use Rattle.engine.specs.declared.core.Core.{Core}
-use mathlib.Core.Path.{sym, ap, _∙_}
 use native.Mathlib.Omega.{arith}
-use Rattle.engine.specs.Laws.{copied-start}
-use Rattle.engine.specs.Core.{held, withFound, entersOf, followsOf}
+use lib.ListN.{length, take, length-take}
+use Rattle.stages.specs.Decided.{layoutBytes}
+use Rattle.engine.specs.declared.core.Core.{Core}
+use Rattle.engine.specs.Core.{held, stageOf, withFound, followsOf}
+use Rattle.engine.specs.Laws.{puts-found}
+use borrow.Author.Needs.{needs}
 use Rattle.engine.proofs.core.Core.kept.Statement.{statement}
 use Rattle.engine.proofs.core.Core.kept.Tie as tie
 
-copy-requires : tie.Need-copy-requires
-copy-requires c κs = omega (arith, c .before .before .before .before .before .before .pre .0, c .before .before .before .before .before .before .pre .3)
+lay-requires : tie.Need-lay-requires
+lay-requires c κs = let f = c .before .before .before .before .before .before .pre .6 in let a = c .before .before .before .before .before .before .args in let n : length (take (a .self .found) (a .found .now)) ≤ 1024 = omega (arith, length-take (a .self .found) (a .found .now), c .before .before .before .before .before .before .pre .4) in ((f .head, f .part, f .tail), omega (arith, f .room n (c .before .before .before .before .before .before .pre .0), c .before .before .before .before .before .before .pre .4))
 
 with-found-requires : tie.Need-with-found-requires
 with-found-requires c κs = search needs
@@ -18,8 +19,8 @@ with-found-requires c κs = search needs
 to-stage-requires : tie.Need-to-stage-requires
 to-stage-requires c κs = search needs
 
-entered-requires : tie.Need-entered-requires
-entered-requires c κs = (subst (λ (s : Core). s .command ≤ 512) (sym (c .before .before .with-found .ensures)) (c .before .before .before .before .before .before .before .before .before .before .before .before .pre .1), c .before .before .before .before .before .before .before .before .before .before .before .before .pre .2, c .before .before .before .before .before .before .before .before .before .before .before .before .pre .4)
+send-requires : tie.Need-send-requires
+send-requires c κs = (subst (λ (s : Core). s .command ≤ 512) (sym (c .before .before .with-found .ensures)) (c .before .before .before .before .before .before .before .before .before .before .before .before .pre .2), c .before .before .before .before .before .before .before .before .before .before .before .before .pre .3, c .before .before .before .before .before .before .before .before .before .before .before .before .pre .5)
 
 same-length : tie.Need-same-length
 same-length c = search needs
@@ -29,20 +30,16 @@ same-length-2 c = search needs
 
 returns : tie.Need-returns
 unfolding followsOf
-returns c =
-    let a = c .before .before .before .before .before .before .before .before .before .before .before .before .before .before .before .args in
-    let e = c .before .before .before .before .before .before .before .before .copy .ensures in
-    c .before .before .entered .ensures _
-    ∙ (λ i. entersOf ((c .before .before .before .before .before .with-found .ensures ∙ ap (withFound (a .self)) (e .0)) i) (held (a .command .now) (copied-start (a .response .now) (a .found .now) _ (e .1) i)) (c .before .before .before .before .to-stage .ensures i) (a .buffer .now))
+returns c = let a = c .before .before .before .before .before .before .before .before .before .before .before .before .before .before .before .args in let h = c .before .before .before .before .before .before .before .before .lay .ensures (take (a .self .found) (a .found .now)) (a .found .now) (puts-found (a .found .now) (a .self .found) (a .layout .kept) (c .before .before .before .before .before .before .before .before .before .before .before .before .before .before .before .pre .6 .kept)) in c .before .before .send .ensures _ ∙ (λ i. stageOf ((c .before .before .before .before .before .with-found .ensures ∙ ap (withFound (a .self)) (h .count)) i) (held (a .command .now) (h .is i)) (c .before .before .before .before .to-stage .ensures i) (a .buffer .now))
 
 pub kept-spec : {M : Type 1} → statement M
 kept-spec =
     tie.close
     (tie.spec
-    copy-requires
+    lay-requires
     with-found-requires
     to-stage-requires
-    entered-requires
+    send-requires
     same-length
     same-length-2
     returns)

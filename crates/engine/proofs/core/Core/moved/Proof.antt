@@ -1,8 +1,9 @@
-use borrow.Author.Needs.{needs}
+use mathlib.Core.Path.{subst}
+use Prim.Native.Nat.{_≤_}
+use native.Mathlib.Omega.{arith}
 use Rattle.engine.specs.Core.{movedOf}
 use Rattle.engine.specs.Moves.{moveIn, replyLength}
-use Prim.Native.Nat.{_≤_}
-use mathlib.Core.Path.{subst}
+use borrow.Author.Needs.{needs}
 use Rattle.engine.proofs.core.Core.moved.Statement.{statement}
 use Rattle.engine.proofs.core.Core.moved.Tie as tie
 
@@ -21,30 +22,29 @@ ordered-requires c κs = c .before .before .before .before .before .before .befo
 enum-known-moved-2 : tie.Need-enum-known-moved-2
 enum-known-moved-2 c = search needs
 
-entered-requires : tie.Need-entered-requires
-entered-requires c κs = (c .before .before .before .before .before .before .before .before .before .pre .2, c .before .before .before .before .before .before .before .before .before .pre .3, c .before .before .before .before .before .before .before .before .before .pre .5)
+send-requires : tie.Need-send-requires
+send-requires c κs = (c .before .before .before .before .before .before .before .before .before .pre .2, c .before .before .before .before .before .before .before .before .before .pre .3, c .before .before .before .before .before .before .before .before .before .pre .5)
 
 enum-told-2 : tie.Need-enum-told-2
 enum-told-2 c = search needs
 
-ended-requires : tie.Need-ended-requires
-ended-requires c κs = search needs
+slice-aggregate-replied : tie.Need-slice-aggregate-replied
+slice-aggregate-replied c = search needs
+
+replied-requires : tie.Need-replied-requires
+replied-requires c κs = (omega arith, c .before .before .before .before .before .before .before .before .before .before .pre .1, c .before .before .before .before .before .before .before .before .before .before .pre .2, c .before .before .before .before .before .before .before .before .before .before .pre .3, c .before .before .before .before .before .before .before .before .before .before .pre .4, c .before .before .before .before .before .before .before .before .before .before .pre .5)
 
 enum-told-3 : tie.Need-enum-told-3
 enum-told-3 c = search needs
 
 arrived-requires : tie.Need-arrived-requires
-arrived-requires c κs =
-    let p = c .before .before .before .before .before .before .before .before .before .pre in
-    let a = c .before .before .before .before .before .before .before .before .before .args in
-    let n = subst (λ m. replyLength (moveIn (a .self .exchange .code) (a .packet .now) m) ≤ 1024) (c .before .before .before .enum-told3 .given .1) (p .0) in
-    (n, p .1, p .2, p .3, p .4, p .5, p .6)
+arrived-requires c κs = let p = c .before .before .before .before .before .before .before .before .before .pre in let a = c .before .before .before .before .before .before .before .before .before .args in let n = subst (λ m. replyLength (moveIn (a .self .exchange .code) (a .packet .now) m) ≤ 1024) (c .before .before .before .enum-told3 .given .1) (p .0) in (n, p .1, p .2, p .3, p .4, p .5)
 
 enum-known-moved-3 : tie.Need-enum-known-moved-3
 enum-known-moved-3 c = search needs
 
 failed-requires : tie.Need-failed-requires
-failed-requires c κs = search needs
+failed-requires c κs = (c .before .before .before .before .before .before .before .before .before .before .pre .1, c .before .before .before .before .before .before .before .before .before .before .pre .2, c .before .before .before .before .before .before .before .before .before .before .pre .3, c .before .before .before .before .before .before .before .before .before .before .pre .4, c .before .before .before .before .before .before .before .before .before .before .pre .5)
 
 returns : tie.Need-returns
 unfolding movedOf
@@ -65,11 +65,7 @@ same-length-3 c = search needs
 
 returns-3 : tie.Need-returns-3
 unfolding movedOf
-returns-3 c = rw (c .before .before .before .before .before .before .moved2 .given .1) (c .before .before .entered .ensures _)
-
-returns-4 : tie.Need-returns-4
-unfolding movedOf
-returns-4 c = rw (c .before .enum-told2 .given .1) (c .ended .ensures _ _)
+returns-3 c = rw (c .before .before .before .before .before .before .moved2 .given .1) (c .before .before .send .ensures _)
 
 same-length-4 : tie.Need-same-length-4
 same-length-4 c = search needs
@@ -80,8 +76,9 @@ same-length-5 c = search needs
 same-length-6 : tie.Need-same-length-6
 same-length-6 c = search needs
 
-returns-5 : tie.Need-returns-5
-returns-5 c = rw (c .before .before .before .before .before .before .before .before .before .before .enum-told3 .given .1) (c .before .before .before .before .before .before .arrived .ensures)
+returns-4 : tie.Need-returns-4
+unfolding movedOf
+returns-4 c = rw (c .before .before .before .before .before .before .before .before .before .before .before .enum-told2 .given .1) (c .before .before .before .before .before .before .replied .ensures)
 
 same-length-7 : tie.Need-same-length-7
 same-length-7 c = search needs
@@ -91,6 +88,18 @@ same-length-8 c = search needs
 
 same-length-9 : tie.Need-same-length-9
 same-length-9 c = search needs
+
+returns-5 : tie.Need-returns-5
+returns-5 c = rw (c .before .before .before .before .before .before .before .before .before .before .enum-told3 .given .1) (c .before .before .before .before .before .before .arrived .ensures)
+
+same-length-10 : tie.Need-same-length-10
+same-length-10 c = search needs
+
+same-length-11 : tie.Need-same-length-11
+same-length-11 c = search needs
+
+same-length-12 : tie.Need-same-length-12
+same-length-12 c = search needs
 
 returns-6 : tie.Need-returns-6
 unfolding movedOf
@@ -105,9 +114,10 @@ moved-spec =
     enum-known-moved
     ordered-requires
     enum-known-moved-2
-    entered-requires
+    send-requires
     enum-told-2
-    ended-requires
+    slice-aggregate-replied
+    replied-requires
     enum-told-3
     arrived-requires
     enum-known-moved-3
@@ -118,12 +128,15 @@ moved-spec =
     same-length-2
     same-length-3
     returns-3
-    returns-4
     same-length-4
     same-length-5
     same-length-6
-    returns-5
+    returns-4
     same-length-7
     same-length-8
     same-length-9
+    returns-5
+    same-length-10
+    same-length-11
+    same-length-12
     returns-6)

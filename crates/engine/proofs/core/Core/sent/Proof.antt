@@ -1,5 +1,5 @@
 use borrow.Author.Needs.{needs}
-use Rattle.chipset.specs.Launches.{cmd}
+use Rattle.stages.specs.Stages.{cmd}
 use Rattle.engine.specs.Laws.{sent-frame, sent-refused}
 use Rattle.engine.proofs.core.Core.sent.Statement.{statement}
 use Rattle.engine.proofs.core.Core.sent.Tie as tie

@@ -3,7 +3,7 @@ use mathlib.Core.Path.{sym, ap, ap₂, _∙_, subst}
 use native.Mathlib.Omega.{arith}
 use lib.ListN.{take, length-take}
 use lib.Seq.{length-take-le}
-use Rattle.chipset.specs.Launches.{cmd}
+use Rattle.stages.specs.Stages.{cmd}
 use Rattle.chipset.specs.Starts.{fits}
 use Rattle.engine.specs.Laws.{copied-start}
 use Rattle.engine.specs.Core.{held, withCommand, sendsOf, launchOn}

@@ -1,0 +1,65 @@
+use Rattle.errors.specs.Choice.{pick}
+use borrow.Author.Tests.{ne-eqb}
+use Rattle.calls.specs.Tables.{decidedOf}
+use borrow.Author.Needs.{needs}
+use Rattle.calls.proofs.decided.Statement.{statement}
+use Rattle.calls.proofs.decided.Tie as tie
+
+decided-requires : tie.Need-decided-requires
+decided-requires c κs = search needs
+
+decided-requires-2 : tie.Need-decided-requires-2
+decided-requires-2 c κs = search needs
+
+decided-requires-3 : tie.Need-decided-requires-3
+decided-requires-3 c κs = search needs
+
+decided-requires-4 : tie.Need-decided-requires-4
+decided-requires-4 c κs = search needs
+
+decided-requires-5 : tie.Need-decided-requires-5
+decided-requires-5 c κs = search needs
+
+decided-requires-6 : tie.Need-decided-requires-6
+decided-requires-6 c κs = search needs
+
+returns : tie.Need-returns
+unfolding decidedOf pick
+returns c = rw (c .before .match .keys1) (c .decided .ensures)
+
+returns-2 : tie.Need-returns-2
+unfolding decidedOf pick
+returns-2 c = rw (c .before .match .keys2) (c .decided2 .ensures)
+
+returns-3 : tie.Need-returns-3
+unfolding decidedOf pick
+returns-3 c = rw (c .before .match .keys3) (c .decided3 .ensures _)
+
+returns-4 : tie.Need-returns-4
+unfolding decidedOf pick
+returns-4 c = rw (c .before .match .keys4) (c .decided4 .ensures _)
+
+returns-5 : tie.Need-returns-5
+unfolding decidedOf pick
+returns-5 c = rw (c .before .match .keys5) (c .decided5 .ensures)
+
+returns-6 : tie.Need-returns-6
+unfolding decidedOf pick
+returns-6 c = let r = c .before .match .rest in rw (ne-eqb _ 1 (r .0 .0 .0 .0 .1), ne-eqb _ 17 (r .0 .0 .0 .1), ne-eqb _ 18 (r .0 .0 .1), ne-eqb _ 19 (r .0 .1), ne-eqb _ 20 (r .1)) (c .decided6 .ensures .decides _)
+
+pub decided-spec : {M : Type 1} → statement M
+decided-spec =
+    tie.close
+    (tie.spec
+    decided-requires
+    decided-requires-2
+    decided-requires-3
+    decided-requires-4
+    decided-requires-5
+    decided-requires-6
+    returns
+    returns-2
+    returns-3
+    returns-4
+    returns-5
+    returns-6)

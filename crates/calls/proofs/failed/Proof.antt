@@ -1,0 +1,44 @@
+use Rattle.errors.specs.Choice.{pick}
+use borrow.Author.Tests.{ne-eqb}
+use Rattle.calls.specs.Tables.{failedOf}
+use Rattle.stages.specs.Laws.{decides-refused}
+use borrow.Author.Needs.{needs}
+use Rattle.calls.proofs.failed.Statement.{statement}
+use Rattle.calls.proofs.failed.Tie as tie
+
+failed-requires : tie.Need-failed-requires
+failed-requires c κs = search needs
+
+failed-requires-2 : tie.Need-failed-requires-2
+failed-requires-2 c κs = search needs
+
+failed-requires-3 : tie.Need-failed-requires-3
+failed-requires-3 c κs = search needs
+
+returns : tie.Need-returns
+unfolding failedOf pick
+returns c = λ f b. rw (c .before .match .keys1) (c .failed .ensures f b)
+
+returns-2 : tie.Need-returns-2
+unfolding failedOf pick
+returns-2 c = λ f b. rw (c .before .match .keys2) (c .failed2 .ensures f b)
+
+returns-3 : tie.Need-returns-3
+unfolding failedOf pick
+returns-3 c = λ f b. rw (c .before .match .keys3) (c .failed3 .ensures f b)
+
+returns-4 : tie.Need-returns-4
+unfolding failedOf pick
+returns-4 c = λ f b. let r = c .match .rest in rw (ne-eqb _ 17 (r .0 .0 .1), ne-eqb _ 18 (r .0 .1), ne-eqb _ 20 (r .1)) (decides-refused _ _ _)
+
+pub failed-spec : {M : Type 1} → statement M
+failed-spec =
+    tie.close
+    (tie.spec
+    failed-requires
+    failed-requires-2
+    failed-requires-3
+    returns
+    returns-2
+    returns-3
+    returns-4)

@@ -1,0 +1,159 @@
+-- The opening: what is decided at each of its stages is what its script has.
+use mathlib.Core.Path.{_≡_, refl, sym, ap, ap₂, _∙_}
+use mathlib.Core.Bool.{Bool, true, false, cond}
+use mathlib.Core.List.{List, [], _∷_, _++_, map, map-append}
+use Prim.Native.Nat.{ℕ, _+_, _/_, _%_, _≤_}
+use native.Mathlib.Omega.{arith}
+use borrow.Author.Tests.{eqb-true}
+use lib.Dec.{eqb, ltb}
+use lib.ListN.{length, getD, length-append}
+use Rattle.errors.specs.Choice.{pick}
+use Rattle.errors.specs.declared.Fault.{Fault}
+use Rattle.errors.specs.declared.Fault.the-variants.{ShortResponse, Status}
+use Rattle.exchange.specs.Packets.{Reply}
+use Rattle.protocol.specs.Scripts.{own, value, Script, finish, reset, either, refuse, ifElse, done, refused}
+use Rattle.protocol.specs.Chipset.{versionBytes, getFirmwareVersion, rfFieldOff, rfConfiguration, setParameters, writeRegister, anyNonzero}
+use Rattle.protocol.specs.Device.{deviceNew, chipsetName, hexDigit as hexDigitOf, hex as hexOf}
+use Rattle.stages.specs.Stages.{send, ends, withLength}
+use Rattle.chipset.specs.Verdicts.{foundWritten}
+use Rattle.device.specs.Names.{hexDigit, hex, dotted, nameBytes, openedBytes}
+use Rattle.device.specs.Opening.{openingCommand, settingsCommand, isResetStage, versionKept, openingDecision}
+use Rattle.calls.specs.Tables.{commandOf, isResetOf, decidedOf, failedOf}
+use Rattle.calls.specs.Refines.{Leads, leads-reset, leads-keep, Stands, leads-if, ending, refusal, by-length, go-on}
+
+-- ---- the answer
+
+digit-same : (n : ℕ) → hexDigit n ≡ hexDigitOf n
+unfolding hexDigit pick
+digit-same n = go (ltb n 10)
+  where
+    go : (t : Bool) → pick t (0x30 + n) (0x57 + n) ≡ cond t (0x30 + n) (0x57 + n)
+    go true = refl
+    go false = refl
+
+hex-same : (n : ℕ) → hex n ≡ map value (hexOf n)
+unfolding hex pick
+hex-same n = go (ltb n 16)
+  where
+    go : (t : Bool) → pick t (hexDigit n ∷ []) (hexDigit (n / 16) ∷ hexDigit (n % 16) ∷ [])
+        ≡ map value (cond t (own (hexDigitOf n) ∷ []) (own (hexDigitOf (n / 16)) ∷ own (hexDigitOf (n % 16)) ∷ []))
+    go true = rw (digit-same n)
+    go false = rw (digit-same (n / 16), digit-same (n % 16))
+
+opened-same : (a b c : ℕ) → map value (versionBytes 1 a b c ++ chipsetName b c) ≡ openedBytes a b c
+unfolding nameBytes dotted
+opened-same a b c =
+    sym
+    (ap (λ l. a ∷ b ∷ c ∷ 0x52 ∷ 0x43 ∷ 0x53 ∷ 0x39 ∷ 0x35 ∷ 0x36 ∷ 0x76 ∷ l)
+    (ap₂ (λ x y. x ++ (0x2E ∷ y)) (hex-same b) (hex-same c) ∙ sym (map-append value (hexOf b) (own 0x2E ∷ hexOf c))))
+
+hex-few : (n : ℕ) → length (hex n) ≤ 2
+unfolding hex pick
+hex-few n = go (ltb n 16)
+  where
+    go : (t : Bool) → length (pick t (hexDigit n ∷ []) (hexDigit (n / 16) ∷ hexDigit (n % 16) ∷ [])) ≤ 2
+    go true = omega arith
+    go false = omega arith
+
+opened-few : (a b c : ℕ) → length (openedBytes a b c) ≤ 1024
+unfolding nameBytes dotted
+opened-few a b c = omega (arith, length-append (hex b) (0x2E ∷ hex c), hex-few b, hex-few c)
+
+-- ---- the scripts left, by the version bytes
+
+module _ (a b c : ℕ) where
+  abbrev s9 : Script
+  s9 = writeRegister (0x03 ∷ 0x28 ∷ 0x59 ∷ []) (finish (done (versionBytes 1 a b c ++ chipsetName b c)))
+
+  abbrev s7 : Script
+  s7 = setParameters 0x08 (reset s9)
+
+  abbrev s6 : Script
+  s6 = rfConfiguration 0x0A (0x5A ∷ 0xF4 ∷ 0x3F ∷ 0x11 ∷ 0x4D ∷ 0x85 ∷ 0x61 ∷ 0x6F ∷ 0x26 ∷ 0x62 ∷ 0x87 ∷ []) s7
+
+  abbrev s5 : Script
+  s5 = rfConfiguration 0x05 (0x00 ∷ 0x00 ∷ 0x01 ∷ []) s6
+
+  abbrev s4 : Script
+  s4 = rfConfiguration 0x04 (0x00 ∷ []) s5
+
+  abbrev s3 : Script
+  s3 = rfConfiguration 0x02 (0x0B ∷ 0x0B ∷ 0x0A ∷ []) s4
+
+-- ---- a line for each stage
+
+module _ (pending : List ℕ) where
+  module _ (a b c : ℕ) where
+    abbrev answer : List ℕ
+    answer = openedBytes a b c
+
+    -- a command whose response is not looked at
+    passed : (n : ℕ) (s : Script) → ((cs : List ℕ) → decidedOf 1 n answer cs ≡ send (n + 1)) → ((r : Fault) → failedOf 1 n r ≡ ends (refused r))
+        → Leads 1 pending answer (send (n + 1)) s → Stands 1 n pending answer (either (λ _. s) refuse)
+    passed n s h k l = record { answered = λ cs _. rw (h cs) l; failing = λ r. rw (k r) (refusal r) }
+
+    stage-9 : Leads 1 pending answer (send 9) (s9 a b c)
+    unfolding commandOf isResetOf decidedOf failedOf openingCommand settingsCommand isResetStage openingDecision foundWritten pick
+    stage-9 =
+        go-on 9 0x08 250 _ refl refl refl
+        record {
+          answered = λ cs _. leads-if (anyNonzero cs) (λ _. refusal (Status 0xFE)) (λ _. ending _ (ap done (opened-same a b c)));
+          failing = λ r. refusal r;
+        }
+
+    stage-8 : Leads 1 pending answer (send 8) (reset (s9 a b c))
+    unfolding commandOf isResetOf decidedOf openingCommand settingsCommand isResetStage openingDecision pick
+    stage-8 = leads-reset 8 _ refl refl refl stage-9
+
+    stage-7 : Leads 1 pending answer (send 7) (s7 a b c)
+    unfolding commandOf isResetOf decidedOf failedOf openingCommand settingsCommand isResetStage openingDecision pick
+    stage-7 = go-on 7 0x12 100 _ refl refl refl (passed 7 _ (λ _. refl) (λ _. refl) stage-8)
+
+    stage-6 : Leads 1 pending answer (send 6) (s6 a b c)
+    unfolding commandOf isResetOf decidedOf failedOf openingCommand settingsCommand isResetStage openingDecision pick
+    stage-6 = go-on 6 0x32 100 _ refl refl refl (passed 6 _ (λ _. refl) (λ _. refl) stage-7)
+
+    stage-5 : Leads 1 pending answer (send 5) (s5 a b c)
+    unfolding commandOf isResetOf decidedOf failedOf openingCommand settingsCommand isResetStage openingDecision pick
+    stage-5 = go-on 5 0x32 100 _ refl refl refl (passed 5 _ (λ _. refl) (λ _. refl) stage-6)
+
+    stage-4 : Leads 1 pending answer (send 4) (s4 a b c)
+    unfolding commandOf isResetOf decidedOf failedOf openingCommand isResetStage openingDecision pick
+    stage-4 = go-on 4 0x32 100 _ refl refl refl (passed 4 _ (λ _. refl) (λ _. refl) stage-5)
+
+    stage-3 : Leads 1 pending answer (send 3) (s3 a b c)
+    unfolding commandOf isResetOf decidedOf failedOf openingCommand isResetStage openingDecision pick
+    stage-3 = go-on 3 0x32 100 _ refl refl refl (passed 3 _ (λ _. refl) (λ _. refl) stage-4)
+
+    stage-2 : Leads 1 pending answer (send 2) (rfFieldOff (s3 a b c))
+    unfolding commandOf isResetOf decidedOf failedOf openingCommand isResetStage openingDecision pick
+    stage-2 = go-on 2 0x32 100 _ refl refl refl (passed 2 _ (λ _. refl) (λ _. refl) stage-3)
+
+  stage-1 : (found : List ℕ) → Leads 1 pending found (send 1) (getFirmwareVersion (λ a b c. rfFieldOff (s3 a b c)))
+  unfolding commandOf isResetOf decidedOf failedOf openingCommand isResetStage openingDecision versionKept pick
+  stage-1 found =
+      go-on 1 0x02 100 _ refl refl refl
+      record {
+        answered = λ cs _.
+            by-length cs 4 (λ _. leads-keep 2 _ _ (opened-few (getD cs 0 0) (getD cs 1 0) (getD cs 2 0)) (stage-2 (getD cs 0 0) (getD cs 1 0) (getD cs 2 0)));
+        failing = λ r. refusal r;
+      }
+
+  -- `Device::new`
+  pub opening-leads : (found : List ℕ) → Leads 1 pending found (send 0) deviceNew
+  unfolding commandOf isResetOf decidedOf openingCommand isResetStage openingDecision pick
+  opening-leads found = leads-reset 0 _ refl refl refl (stage-1 found)
+
+-- ---- a failed write of ACK refuses
+
+pub opening-fails : (kind stage : ℕ) (r : Fault) → eqb kind 1 ≡ true → failedOf kind stage r ≡ ends (refused r)
+unfolding failedOf pick
+opening-fails kind stage r h = rw (eqb-true kind 1 h)
+
+pub reset-fails : (kind stage : ℕ) (r : Fault) → isResetOf kind stage ≡ true → failedOf kind stage r ≡ ends (refused r)
+unfolding isResetOf failedOf pick
+reset-fails kind stage r = go (eqb kind 1) refl
+  where
+    go : (t : Bool) → eqb kind 1 ≡ t → pick t (isResetStage stage) (eqb kind 3) ≡ true → failedOf kind stage r ≡ ends (refused r)
+    go true e h = opening-fails kind stage r e
+    go false e h = rw (eqb-true kind 3 h)

@@ -1,0 +1,39 @@
+-- The calls by the numbers of their kinds: 1 the opening, 2 to 16 a call of one command by the rule for its response, 17 to 20 a discovery.
+use mathlib.Core.Bool.{Bool}
+use mathlib.Core.List.{List}
+use Prim.Native.Nat.{ℕ}
+use lib.Dec.{eqb}
+use Rattle.errors.specs.Choice.{pick}
+use Rattle.errors.specs.declared.Fault.{Fault}
+use Rattle.stages.specs.Stages.{Command, Decision, ends, refuse}
+use Rattle.chipset.specs.Verdicts.{judgeOf}
+use Rattle.device.specs.Opening.{openingCommand, isResetStage, openingDecision}
+use Rattle.discovery.specs.Decisions.{typeACommand, typeADecision, typeAFailure, typeBCommand, typeBDecision, typeBFailure, typeFCommand, typeFDecision, depCommand, depDecision, depFailure}
+
+-- the command of a stage; `pending` is the pending command
+unfoldable pub commandOf : ℕ → ℕ → List ℕ → Command
+commandOf kind stage pending =
+    pick (eqb kind 1) (openingCommand stage pending)
+    (pick (eqb kind 17) (typeACommand stage pending)
+    (pick (eqb kind 18) (typeBCommand stage pending)
+    (pick (eqb kind 19) (typeFCommand stage pending) (depCommand stage pending))))
+
+-- the command of a stage is a reset's
+unfoldable pub isResetOf : ℕ → ℕ → Bool
+isResetOf kind stage = pick (eqb kind 1) (isResetStage stage) (eqb kind 3)
+
+-- what follows its response; `found` are the found bytes
+unfoldable pub decidedOf : ℕ → ℕ → List ℕ → List ℕ → Decision
+decidedOf kind stage found bs =
+    pick (eqb kind 1) (openingDecision stage found bs)
+    (pick (eqb kind 17) (typeADecision stage found bs)
+    (pick (eqb kind 18) (typeBDecision stage bs)
+    (pick (eqb kind 19) (typeFDecision stage bs)
+    (pick (eqb kind 20) (depDecision stage found bs) (ends (judgeOf kind bs))))))
+
+-- what follows its failure
+unfoldable pub failedOf : ℕ → ℕ → Fault → Decision
+failedOf kind stage fault =
+    pick (eqb kind 17) (typeAFailure stage fault)
+    (pick (eqb kind 18) (typeBFailure stage fault)
+    (pick (eqb kind 20) (depFailure stage fault) (refuse fault)))

@@ -1,0 +1,68 @@
+// The calls by their kinds: the command of each stage, and what follows each reply.
+use chipset::RESET_MODE;
+use chipset::response;
+use device::OPENING;
+use discovery::DEP;
+use discovery::TYPE_A;
+use discovery::TYPE_B;
+use discovery::TYPE_F;
+use discovery::dep;
+use discovery::type_a;
+use discovery::type_b;
+use discovery::type_f;
+use errors::Fault;
+use stages::Command;
+use stages::Decision;
+ghost use mathlib.Core.Path.{_≡_};
+ghost use Rattle.stages.specs.Decided.{Decides, Always, Commands};
+ghost use Rattle.calls.specs.Tables.{commandOf, isResetOf, decidedOf, failedOf};
+
+// The command of a stage.
+pub fn command(kind: u8, stage: u8) -> Command
+    ensures { λ r. ⌜ Commands r (commandOf kind stage) ⌝ }
+{
+    match kind {
+        OPENING => device::command(stage),
+        TYPE_A => type_a::command(stage),
+        TYPE_B => type_b::command(stage),
+        TYPE_F => type_f::command(stage),
+        _ => dep::command(stage),
+    }
+}
+
+// The command of a stage is a reset's: behind its exchange follow ACK and a pause, whatever came of it.
+pub fn is_reset(kind: u8, stage: u8) -> bool
+    ensures { λ r. ⌜ r ≡ isResetOf kind stage ⌝ }
+{
+    if kind == OPENING {
+        device::is_reset(stage)
+    } else {
+        kind == RESET_MODE
+    }
+}
+
+// What follows the response to a stage's command, or its reset; `found` are the bytes that were kept of an earlier one.
+pub fn decided(kind: u8, stage: u8, found: &[u8], response: &[u8]) -> Decision
+    ensures { λ r. ⌜ Decides (now (found .entry)) (now (response .entry)) r (decidedOf kind stage (now (found .entry)) (now (response .entry))) ⌝ }
+{
+    match kind {
+        OPENING => device::decided(stage, found, response),
+        TYPE_A => type_a::decided(stage, found, response),
+        TYPE_B => type_b::decided(stage, response),
+        TYPE_F => type_f::decided(stage, response),
+        DEP => dep::decided(stage, found, response),
+        _ => response::decided(kind, response),
+    }
+}
+
+// What follows a command that failed.
+pub fn failed(kind: u8, stage: u8, fault: Fault) -> Decision
+    ensures { λ r. ⌜ Always r (failedOf kind stage fault) ⌝ }
+{
+    match kind {
+        TYPE_A => type_a::failed(stage, fault),
+        TYPE_B => type_b::failed(stage, fault),
+        DEP => dep::failed(stage, fault),
+        _ => Decision::Refused(fault),
+    }
+}

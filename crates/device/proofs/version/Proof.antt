@@ -1,0 +1,39 @@
+use native.Mathlib.Omega.{arith}
+use Rattle.stages.specs.Stages.{withLength}
+use Rattle.stages.specs.Laws.{decided, decides-false, decides-keep}
+use Rattle.device.specs.Names.{lays-opened}
+use Rattle.device.specs.Opening.{versionKept}
+use borrow.Author.Needs.{needs}
+use Rattle.device.proofs.version.Statement.{statement}
+use Rattle.device.proofs.version.Tie as tie
+
+returns : tie.Need-returns
+unfolding versionKept withLength
+returns c = λ f. search (decided, needs) depth 8
+
+shared-slice-read-chipset-name : tie.Need-shared-slice-read-chipset-name
+shared-slice-read-chipset-name c = search needs
+
+shared-slice-read-chipset-name-2 : tie.Need-shared-slice-read-chipset-name-2
+shared-slice-read-chipset-name-2 c = search needs
+
+chipset-name-requires : tie.Need-chipset-name-requires
+chipset-name-requires c κs = search needs
+
+tailed-requires : tie.Need-tailed-requires
+tailed-requires c κs = search needs
+
+returns-2 : tie.Need-returns-2
+unfolding versionKept withLength
+returns-2 c = λ f. decides-false _ _ _ _ _ _ (search (decided, needs)) (decides-keep _ _ _ _ _ (lays-opened _ _ _ _ (omega arith) (c .before .before .chipset-name .ensures .0) (c .tailed .ensures f _ (omega arith) (omega arith) (λ h. omega arith))))
+
+pub version-spec : {M : Type 1} → statement M
+version-spec =
+    tie.close
+    (tie.spec
+    returns
+    shared-slice-read-chipset-name
+    shared-slice-read-chipset-name-2
+    chipset-name-requires
+    tailed-requires
+    returns-2)

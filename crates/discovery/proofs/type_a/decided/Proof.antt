@@ -1,0 +1,69 @@
+-- `discovery::type_a::decided` meets its contract.
+use Rattle.errors.specs.Choice.{pick}
+use Rattle.discovery.specs.Decisions.{typeADecision}
+use Rattle.discovery.specs.Decisions.{fifoRead, rxModeRead}
+use borrow.Author.Tests.{ne-eqb}
+use borrow.Author.Needs.{needs}
+use Rattle.discovery.proofs.type_a.decided.Statement.{statement}
+use Rattle.discovery.proofs.type_a.decided.Tie as tie
+
+listed-a-requires : tie.Need-listed-a-requires
+listed-a-requires c κs = search needs
+
+fifo-requires : tie.Need-fifo-requires
+fifo-requires c κs = search needs
+
+listed-type1-requires : tie.Need-listed-type1-requires
+listed-type1-requires c κs = search needs
+
+rid-requires : tie.Need-rid-requires
+rid-requires c κs = search needs
+
+rx-mode-requires : tie.Need-rx-mode-requires
+rx-mode-requires c κs = search needs
+
+found-written-requires : tie.Need-found-written-requires
+found-written-requires c κs = search needs
+
+returns : tie.Need-returns
+unfolding typeADecision fifoRead rxModeRead pick
+returns c = rw (c .before .match .keys1) (c .listed-a .ensures _)
+
+returns-2 : tie.Need-returns-2
+unfolding typeADecision fifoRead rxModeRead pick
+returns-2 c = rw (c .before .match .keys2) (c .fifo .ensures _)
+
+returns-3 : tie.Need-returns-3
+unfolding typeADecision fifoRead rxModeRead pick
+returns-3 c = rw (c .before .match .keys3) (c .listed-type1 .ensures _)
+
+returns-4 : tie.Need-returns-4
+unfolding typeADecision fifoRead rxModeRead pick
+returns-4 c = rw (c .before .match .keys4) (c .rid .ensures)
+
+returns-5 : tie.Need-returns-5
+unfolding typeADecision fifoRead rxModeRead pick
+returns-5 c = rw (c .before .match .keys5) (c .rx-mode .ensures _)
+
+returns-6 : tie.Need-returns-6
+unfolding typeADecision fifoRead rxModeRead pick
+returns-6 c =
+    let r = c .before .match .rest in
+    rw (ne-eqb _ 0 (r .0 .0 .0 .0 .1), ne-eqb _ 1 (r .0 .0 .0 .1), ne-eqb _ 2 (r .0 .0 .1), ne-eqb _ 3 (r .0 .1), ne-eqb _ 4 (r .1)) (c .found-written .ensures)
+
+pub decided-spec : {M : Type 1} → statement M
+decided-spec =
+    tie.close
+    (tie.spec
+    listed-a-requires
+    fifo-requires
+    listed-type1-requires
+    rid-requires
+    rx-mode-requires
+    found-written-requires
+    returns
+    returns-2
+    returns-3
+    returns-4
+    returns-5
+    returns-6)

@@ -1,0 +1,30 @@
+-- `discovery::type_f::polled` meets its contract.
+use native.Mathlib.Omega.{arith}
+use Rattle.stages.specs.Stages.{withLength}
+use Rattle.discovery.specs.Decisions.{polled}
+use Rattle.stages.specs.Laws.{decided, decides-false, decides-done}
+use Rattle.discovery.specs.Laws.{short-either, not-short}
+use borrow.Author.Needs.{needs}
+use Rattle.discovery.proofs.type_f.polled.Statement.{statement}
+use Rattle.discovery.proofs.type_f.polled.Tie as tie
+
+byte-or-requires : tie.Need-byte-or-requires
+byte-or-requires c κs = search needs
+
+returns : tie.Need-returns
+unfolding polled withLength
+returns c = λ f. search (decided, needs) depth 8
+
+rest-requires : tie.Need-rest-requires
+rest-requires c κs = search needs
+
+returns-2 : tie.Need-returns-2
+unfolding polled
+returns-2 c = λ f. decides-false _ _ _ _ _ _ (search (decided, needs)) (short-either _ _ _ _ (omega arith))
+
+returns-3 : tie.Need-returns-3
+unfolding polled withLength
+returns-3 c = λ f. decides-false _ _ _ _ _ _ (search (decided, needs)) (decides-false _ _ _ _ _ _ (search (not-short, needs)) (decides-false _ _ _ _ _ _ (search (decided, needs)) (decides-done _ _ _ _ (c .rest .ensures f))))
+
+pub polled-spec : {M : Type 1} → statement M
+polled-spec = tie.close (tie.spec byte-or-requires returns rest-requires returns-2 returns-3)

@@ -1,0 +1,199 @@
+-- Each event that a running call meets, and each call that begins: the engine does what the definitions say.
+use mathlib.Core.Path.{_≡_, refl, sym, ap, _∙_, subst}
+use mathlib.Core.Bool.{Bool, true, false}
+use mathlib.Core.List.{List, []}
+use Prim.Native.Nat.{ℕ, _≤_}
+use native.Mathlib.Omega.{arith}
+use lib.Dec.{eqb, leb}
+use lib.ListN.{length, take}
+use Rattle.errors.specs.Choice.{pick}
+use Rattle.errors.specs.declared.Fault.{Fault}
+use Rattle.errors.specs.declared.Fault.the-variants.{Transport}
+use Rattle.framing.specs.Frames.{ack}
+use Rattle.exchange.specs.Packets.{Reply, response, failed, resetCode, resetData}
+use Rattle.exchange.specs.Exchange.{Order, write, read, pause, Event, ended, advance}
+use Rattle.exchange.specs.Steps.{stepOf}
+use Rattle.protocol.specs.Scripts.{Script, refused}
+use Rattle.protocol.specs.Device.{deviceNew}
+use Rattle.protocol.specs.Calls.{ReaderCall, Start, starts, readerStart, opening, reader, isOpening}
+use Rattle.protocol.specs.Session.{byReply, ofReset, enter, afterReply, progress, Running, idle, packetLength, admitted, eventOutcome, outcome, started}
+use Rattle.protocol.specs.Session.{runs as runsOf}
+use Rattle.stages.specs.Stages.{cmd, Decision, send, refuse}
+use Rattle.chipset.specs.Launches.{Launch}
+use Rattle.discovery.specs.Searches.{Search}
+use Rattle.calls.specs.Tables.{isResetOf, decidedOf, failedOf}
+use Rattle.calls.specs.Refines.{Leads}
+use Rattle.calls.specs.Opening.{opening-leads, opening-fails, reset-fails}
+use Rattle.calls.specs.Starts.{launchFor, Kind, Starting, refusedNow, first, firstReset, reader-begins}
+use Rattle.engine.specs.Moves.{noCall, Moved, orders as goesOn, sends, resetDone, replies, refuses, fits, replyLength, moveOf, overMove, endedMove, validCall}
+use Rattle.engine.specs.Core.{stageOf, admittedOf, movedOf, followsOf, failsOf, repliesOf, eventCore, openCore, launchOn, putCommand}
+use Rattle.engine.specs.Relation.{Place, Wait, reply, resetReply, resetAck, resetPause, openingAck, openingReads, pausing, phaseNumber, callAt, phaseAt, Fields, coreWith, heldAt, Agrees, coreAt, runningAt, free}
+use Rattle.engine.specs.Exchanges.{NoCommand, good, reply-short}
+use Rattle.engine.specs.Simulation.{Simulates, sim-unchanged, take-put, sim-orders, sim-sends, sim-answer, lead-sims, SimulatesHere, Advances, advances-none, advances, advances-enter, advances-exchange, two-write, two-read, two-pause}
+
+-- ---- an event, by what the call waits for
+
+module _ (p : Place) (w : Wait p) (v : Fields) (agrees : Agrees p v) where
+  -- an order follows that is no command
+  advances-order : (u : Wait p) (o : Order) → NoCommand o
+      → (e : Event) (b : List ℕ) → replyLength (goesOn o (callAt p u) (v .exchange)) ≤ packetLength e
+      → SimulatesHere p w v agrees (admittedOf (coreAt p w v) (heldAt v) (goesOn o (callAt p u) (v .exchange)) e b)
+      (admitted e (length b) (runsOf (p .call) o (phaseAt u (v .exchange))))
+  unfolding movedOf
+  advances-order u o k =
+      advances p w v agrees (goesOn o (callAt p u) (v .exchange)) _ refl (λ b _. sim-orders v (callAt p w) _ _ p u (v .exchange) o b (v .phaseFits) agrees k)
+
+  -- what is decided leads to the script
+  advances-lead : (mv : Moved) (d : Decision) (s : Script) → fits mv ≡ true
+      → ((b : List ℕ) → movedOf (coreAt p w v) (heldAt v) mv b ≡ followsOf (coreAt p w v) (heldAt v) d b)
+      → (replyLength mv ≤ 1024 → Leads (p .kind) (p .pending) (p .found) d s) → Advances p w v agrees mv (enter s)
+  advances-lead mv d s h is l =
+      advances-enter p w v agrees mv s h (λ b few. rw (is b) (lead-sims p _ v (p .stage) _ d s b (agrees .pending) (agrees .found) (l few)))
+
+  -- the command of the call's stage follows
+  advances-send : (s : Script) → Leads (p .kind) (p .pending) (p .found) (send (p .stage)) s
+      → Advances p w v agrees (sends (record { kind = p .kind; stage = p .stage; phase = 0 })) (enter s)
+  unfolding movedOf followsOf
+  advances-send s l = advances-lead (sends _) (send (p .stage)) s refl (λ b. refl) (λ _. l)
+
+  -- a write failed, and the call ends
+  advances-failed : (r : Fault) → failedOf (p .kind) (p .stage) r ≡ refuse r → Advances p w v agrees (refuses r) (ended (refused r))
+  unfolding movedOf failsOf followsOf
+  advances-failed r h =
+      advances p w v agrees (refuses r) _ refl (λ b _. rw h (sim-answer v (callAt p w) (p .call) _ (refused r) (refused r) b refl))
+
+  -- the reply to a command
+  reply-ends : (k : Reply → Script) → isResetOf (p .kind) (p .stage) ≡ false
+      → ((cs : List ℕ) → length cs ≤ 1022 → Leads (p .kind) (p .pending) (p .found) (decidedOf (p .kind) (p .stage) (p .found) cs) (k (response cs)))
+      → ((r : Fault) → Leads (p .kind) (p .pending) (p .found) (failedOf (p .kind) (p .stage) r) (k (failed r)))
+      → (r : Reply) → Advances p w v agrees (endedMove (callAt p w) (v .exchange) r) (afterReply (byReply k) r)
+  unfolding overMove movedOf repliesOf failsOf pick
+  reply-ends k h answered failing (response cs) =
+      rw h (advances-lead (replies cs) (decidedOf (p .kind) (p .stage) (p .found) cs) _ refl (λ b. rw (agrees .found)) (λ few. answered cs (omega arith)))
+  reply-ends k h answered failing (failed r) =
+      rw h (advances-lead (refuses r) (failedOf (p .kind) (p .stage) r) _ refl (λ b. refl) (λ _. failing r))
+
+  -- a reset's exchange ends: ACK follows, whatever came of it
+  reset-ends : (s : Script) (u : Wait p) → isResetOf (p .kind) (p .stage) ≡ true → phaseAt u (v .exchange) ≡ Rattle.protocol.specs.Session.resetAck s → callAt p u ≡ record { kind = p .kind; stage = p .stage; phase = 1 }
+      → (r : Reply) → Advances p w v agrees (endedMove (callAt p w) (v .exchange) r) (afterReply (ofReset s) r)
+  unfolding overMove pick
+  reset-ends s u h is call r = rw h (rw (← is, ← call) (advances-order u (write ack) refl))
+
+event-advances : (p : Place) (w : Wait p) (v : Fields) (agrees : Agrees p v) (e : Event)
+    → Advances p w v agrees (moveOf (callAt p w) (v .exchange) e) (progress (phaseAt w (v .exchange)) e)
+unfolding moveOf movedOf repliesOf pick
+event-advances p (reply k h l) v agrees e =
+    let w = reply k h l in
+    advances-exchange p w v agrees _ (λ x. refl) (reply-ends p w v agrees k h (l .answered) (l .failing)) (advance (stepOf (v .exchange)) e) (packetLength e) (good (v .exchange) e)
+event-advances p (resetReply s h l) v agrees e =
+    let w = resetReply s h l in
+    advances-exchange p w v agrees _ (λ x. refl) (reset-ends p w v agrees s (resetAck s h l) h refl refl) (advance (stepOf (v .exchange)) e) (packetLength e) (good (v .exchange) e)
+event-advances p (resetAck s h l) v agrees e =
+    let w = resetAck s h l in
+    two-write (Advances p w v agrees) (advances-none p w v agrees) (advances-order p w v agrees (resetPause s l) (pause 10000) tt)
+    (advances-failed p w v agrees Transport (reset-fails (p .kind) (p .stage) Transport h)) e
+event-advances p (resetPause s l) v agrees e =
+    let w = resetPause s l in
+    two-pause (Advances p w v agrees) (advances-none p w v agrees)
+    (advances-lead p w v agrees resetDone (decidedOf (p .kind) (p .stage) (p .found) []) s refl (λ b. rw (agrees .found)) (λ _. l)) e
+event-advances p (openingAck s h l) v agrees e =
+    let w = openingAck s h l in
+    two-write (Advances p w v agrees) (advances-none p w v agrees) (advances-order p w v agrees (openingReads s l) (read 10) tt)
+    (advances-failed p w v agrees Transport (opening-fails (p .kind) (p .stage) Transport h)) e
+event-advances p (openingReads s l) v agrees e =
+    let w = openingReads s l in
+    two-read (Advances p w v agrees) (advances-none p w v agrees) (λ _. advances-order p w v agrees w (read 10) tt) (advances-send p w v agrees s l) (advances-send p w v agrees s l) e
+event-advances p (pausing s l) v agrees e =
+    let w = pausing s l in
+    two-pause (Advances p w v agrees) (advances-none p w v agrees) (advances-send p w v agrees s l) e
+
+-- ---- the entries
+
+phase-fits : {p : Place} (w : Wait p) → leb (phaseNumber w) 5 ≡ true
+phase-fits (reply k h l) = refl
+phase-fits (resetReply s h l) = refl
+phase-fits (resetAck s h l) = refl
+phase-fits (resetPause s l) = refl
+phase-fits (openingAck s h l) = refl
+phase-fits (openingReads s l) = refl
+phase-fits (pausing s l) = refl
+
+pub call-fits : (p : Place) (w : Wait p) → validCall (callAt p w) ≡ true
+unfolding validCall
+call-fits p w = rw (p .kindFits, p .stageFits, phase-fits w)
+
+pub event-sims : (p : Place) (w : Wait p) (v : Fields) (agrees : Agrees p v) (e : Event) (b : List ℕ)
+    → SimulatesHere p w v agrees (eventCore (coreAt p w v) (heldAt v) e b) (eventOutcome (p .call) e (length b) (progress (phaseAt w (v .exchange)) e))
+unfolding eventCore pick
+event-sims p w v agrees e b = rw (p .running) (event-advances p w v agrees e e b (reply-short (callAt p w) (v .exchange) e))
+
+-- ---- a call begins
+
+pub open-sims : (v : Fields) (b : List ℕ) → Simulates true idle (openCore (coreWith v noCall) (heldAt v) b) (started opening (starts deviceNew))
+unfolding openCore
+open-sims v b =
+    let u : Fields = record {
+      command = v .command;
+      found = v .found;
+      pending = v .pending;
+      kept = 0;
+      exchange = v .exchange;
+      pendingFits = v .pendingFits;
+      keptFits = refl;
+      phaseFits = v .phaseFits;
+    } in
+    let p : Place = record {
+      call = opening;
+      kind = 1;
+      stage = 0;
+      pending = take (v .pending) (v .command);
+      found = [];
+      running = refl;
+      opens = refl;
+      kindFits = refl;
+      stageFits = refl;
+    } in
+    sim-orders u noCall true idle p (openingAck deviceNew refl (opening-leads (take (v .pending) (v .command)) [])) (v .exchange) (write ack) b (v .phaseFits)
+    record { pending = refl; found = refl } refl
+
+abbrev pending-put : (v : Fields) (l : List ℕ) → leb (length l) 512 ≡ true → Fields
+pending-put v l h =
+    record {
+      command = putCommand l (heldAt v) .command;
+      found = v .found;
+      pending = length l;
+      kept = v .kept;
+      exchange = v .exchange;
+      pendingFits = h;
+      keptFits = v .keptFits;
+      phaseFits = v .phaseFits;
+    }
+
+abbrev first-place : (q : ReaderCall) (kind : ℕ) (pending found : List ℕ) → Kind kind → Place
+first-place q kind pending found h =
+    record {
+      call = reader q;
+      kind = kind;
+      stage = 0;
+      pending = pending;
+      found = found;
+      running = h .running;
+      opens = h .noOpening;
+      kindFits = h .within;
+      stageFits = refl;
+    }
+
+start-sims : (v : Fields) (q : ReaderCall) (b : List ℕ) (x : Start) (y : Search) → Starting x y
+    → Simulates false idle (launchOn (coreWith v noCall) (heldAt v) (y .launch) (y .pending) b) (started (reader q) x)
+unfolding launchOn stepOf
+start-sims v q b x y (refusedNow r) = sim-unchanged r b (free v refl refl refl)
+start-sims v q b x y (first kind code clock bytes later k isKind noReset small stands) =
+    sim-sends (pending-put v later small) noCall false idle (first-place q kind later (take (v .kept) (v .found)) isKind)
+    (reply k noReset (stands (take (v .kept) (v .found)))) code clock bytes b record { pending = take-put later (v .command); found = refl }
+start-sims v q b x y (firstReset kind later s isKind isReset small l) =
+    sim-sends (pending-put v later small) noCall false idle (first-place q kind later (take (v .kept) (v .found)) isKind)
+    (resetReply s isReset (l (take (v .kept) (v .found)))) resetCode 100 resetData b record { pending = take-put later (v .command); found = refl }
+
+pub call-sims : (v : Fields) (q : ReaderCall) (b : List ℕ)
+    → Simulates false idle (launchOn (coreWith v noCall) (heldAt v) (launchFor q .launch) (launchFor q .pending) b) (started (reader q) (readerStart q))
+call-sims v q b = start-sims v q b (readerStart q) (launchFor q) (reader-begins q)

@@ -1,0 +1,108 @@
+-- The state relation: which running call, and which session of the definitions, the engine's numbers and arrays represent.
+use mathlib.Core.Path.{_≡_}
+use mathlib.Core.Bool.{true, false}
+use mathlib.Core.List.{List, []}
+use Prim.Native.Nat.{ℕ, _≤_}
+use lib.Dec.{eqb, leb}
+use lib.ListN.{take}
+use Rattle.exchange.specs.Packets.{Reply}
+use Rattle.exchange.specs.Steps.{stepOf}
+use Rattle.exchange.specs.declared.Exchange.{Exchange}
+use Rattle.protocol.specs.Scripts.{Script}
+use Rattle.protocol.specs.Calls.{Call as CallOf, isOpening}
+use Rattle.protocol.specs.Session.{byReply, ofReset, Phase, exchange, Running, idle, busy, ceiling}
+use Rattle.protocol.specs.Session as Meant
+use Rattle.stages.specs.Stages.{send}
+use Rattle.calls.specs.Tables.{isResetOf, decidedOf}
+use Rattle.calls.specs.Refines.{Leads, Stands}
+use Rattle.engine.specs.Booking.{bookNumbers}
+use Rattle.engine.specs.Core.{Held, held}
+use Rattle.engine.specs.Moves.{noCall}
+use Rattle.engine.specs.Sessions.{heldIn}
+use Rattle.engine.specs.declared.call.Call.{Call}
+use Rattle.engine.specs.declared.core.Core.{Core}
+use Rattle.engine.specs.declared.session.Session.{Session}
+
+-- where a call stands: its kind and stage, its pending command and its found bytes
+pub record Place : Type 0 where
+  pub call : CallOf
+  pub kind : ℕ
+  pub stage : ℕ
+  pub pending : List ℕ
+  pub found : List ℕ
+  pub running : eqb kind 0 ≡ false
+  pub opens : eqb kind 1 ≡ isOpening call
+  pub kindFits : leb kind 20 ≡ true
+  pub stageFits : leb stage 9 ≡ true
+
+-- what it waits for, and the script that is left: a command's reply, a reset's exchange, ACK or pause, or what comes before the command of
+-- its stage, the opening's ACK or reads, or a pause
+pub data Wait (p : Place) : Type 0 where
+  reply : (k : Reply → Script) → isResetOf (p .kind) (p .stage) ≡ false → Stands (p .kind) (p .stage) (p .pending) (p .found) k → Wait p
+  resetReply : (s : Script) → isResetOf (p .kind) (p .stage) ≡ true → Leads (p .kind) (p .pending) (p .found) (decidedOf (p .kind) (p .stage) (p .found) []) s → Wait p
+  resetAck : (s : Script) → isResetOf (p .kind) (p .stage) ≡ true → Leads (p .kind) (p .pending) (p .found) (decidedOf (p .kind) (p .stage) (p .found) []) s → Wait p
+  resetPause : (s : Script) → Leads (p .kind) (p .pending) (p .found) (decidedOf (p .kind) (p .stage) (p .found) []) s → Wait p
+  openingAck : (s : Script) → eqb (p .kind) 1 ≡ true → Leads (p .kind) (p .pending) (p .found) (send (p .stage)) s → Wait p
+  openingReads : (s : Script) → Leads (p .kind) (p .pending) (p .found) (send (p .stage)) s → Wait p
+  pausing : (s : Script) → Leads (p .kind) (p .pending) (p .found) (send (p .stage)) s → Wait p
+
+abbrev pub phaseNumber : {p : Place} → Wait p → ℕ
+phaseNumber (reply k h l) = 0
+phaseNumber (resetReply s h l) = 0
+phaseNumber (resetAck s h l) = 1
+phaseNumber (resetPause s l) = 2
+phaseNumber (openingAck s h l) = 3
+phaseNumber (openingReads s l) = 4
+phaseNumber (pausing s l) = 5
+
+abbrev pub callAt : (p : Place) → Wait p → Call
+callAt p w = record { kind = p .kind; stage = p .stage; phase = phaseNumber w }
+
+abbrev pub phaseAt : {p : Place} → Wait p → Exchange → Phase
+phaseAt (reply k h l) x = exchange (stepOf x) (byReply k)
+phaseAt (resetReply s h l) x = exchange (stepOf x) (ofReset s)
+phaseAt (resetAck s h l) x = Meant.resetAck s
+phaseAt (resetPause s l) x = Meant.resetPause s
+phaseAt (openingAck s h l) x = Meant.openingAck s
+phaseAt (openingReads s l) x = Meant.openingReads s
+phaseAt (pausing s l) x = Meant.fieldPausing s
+
+-- ---- the other numbers, and the arrays
+
+pub record Fields : Type 0 where
+  pub command : List ℕ
+  pub found : List ℕ
+  pub pending : ℕ
+  pub kept : ℕ
+  pub exchange : Exchange
+  pub pendingFits : leb pending 512 ≡ true
+  pub keptFits : leb kept 1024 ≡ true
+  pub phaseFits : leb (exchange .phase) 6 ≡ true
+
+abbrev pub coreWith : Fields → Call → Core
+coreWith v c = record { command = v .pending; found = v .kept; exchange = v .exchange; call = c }
+
+abbrev pub heldAt : Fields → Held
+heldAt v = held (v .command) (v .found)
+
+-- the pending command and the found bytes are those of the place
+pub record Agrees (p : Place) (v : Fields) : Type 0 where
+  pub pending : take (v .pending) (v .command) ≡ p .pending
+  pub found : take (v .kept) (v .found) ≡ p .found
+
+abbrev pub coreAt : (p : Place) → Wait p → Fields → Core
+coreAt p w v = coreWith v (callAt p w)
+
+abbrev pub runningAt : (p : Place) → Wait p → Fields → Running
+runningAt p w v = busy (p .call) (phaseAt w (v .exchange))
+
+-- the running call of the definitions that the numbers and the arrays represent
+pub data Represents (s : Core) (f : Held) (m : Running) : Type 0 where
+  free : (v : Fields) → s ≡ coreWith v noCall → f ≡ heldAt v → m ≡ idle → Represents s f m
+  runs : (p : Place) (w : Wait p) (v : Fields) → Agrees p v → s ≡ coreAt p w v → f ≡ heldAt v → m ≡ runningAt p w v → Represents s f m
+
+-- the session of the definitions that a session's fields represent
+pub record Means (s : Session) (m : Meant.Session) : Type 0 where
+  pub call : Represents (s .state .core) (heldIn s) (m .running)
+  pub booked : s .state .books ≡ bookNumbers (m .books)
+  pub few : m .books .count ≤ ceiling

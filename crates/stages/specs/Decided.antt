@@ -1,0 +1,81 @@
+-- What the code's commands and decisions say.
+use mathlib.Core.Path.{_≡_}
+use mathlib.Core.List.{List, [], _∷_, _++_}
+use Prim.Native.Nat.{ℕ, _+_, _≤_}
+use lib.ListN.{length, take, drop}
+use Rattle.errors.specs.Choice.{pick}
+use Rattle.protocol.specs.Scripts.{Answer, done, type1, nothing, refused}
+use Rattle.stages.specs.Stages.{cmd, send, keep, put, pause, ends}
+use Rattle.stages.specs.Stages as stages
+use Rattle.stages.specs.declared.Command.{Command}
+use Rattle.stages.specs.declared.Decision.{Decision}
+use Rattle.stages.specs.declared.Decision.the-variants.{Send, Keep, Put, Pause, Done, Type1, Nothing, Refused}
+use Rattle.stages.specs.declared.Head.{Head}
+use Rattle.stages.specs.declared.Layout.{Layout}
+use Rattle.stages.specs.declared.Tail.{Tail}
+
+abbrev pub headBytes : Head → List ℕ
+headBytes h = h .0 ∷ h .1 ∷ h .2 ∷ []
+
+abbrev pub tailBytes : Tail → List ℕ
+tailBytes t = t .0 ∷ t .1 ∷ t .2 ∷ t .3 ∷ t .4 ∷ t .5 ∷ t .6 ∷ t .7 ∷ t .8 ∷ t .9 ∷ t .10 ∷ t .11 ∷ []
+
+-- the bytes of a layout, where f are the found bytes and b is the response
+abbrev pub layoutBytes : List ℕ → List ℕ → Layout → List ℕ
+layoutBytes f b l =
+    take (l .kept) f ++ (take (l .«head_len») (headBytes (l .head)) ++ (take (l .len) (drop (l .start) b) ++ take (l .«tail_len») (tailBytes (l .tail))))
+
+-- each part lies in its bytes, and a found array and a buffer of 1,024 bytes hold them all
+pub record Fitting (f b : List ℕ) (l : Layout) : Type 0 where
+  pub kept : l .kept ≤ length f
+  pub head : l .«head_len» ≤ 3
+  pub part : l .start + l .len ≤ length b
+  pub tail : l .«tail_len» ≤ 12
+  pub room : length f ≤ 1024 → length b ≤ 1022 → l .kept + (l .«head_len» + (l .len + l .«tail_len»)) ≤ 1024
+
+-- a layout of these bytes
+pub record Lays (f b : List ℕ) (r : Layout) (bytes : List ℕ) : Type 0 where
+  pub is : layoutBytes f b r ≡ bytes
+  pub fits : Fitting f b r
+
+abbrev pub decisionIn : List ℕ → List ℕ → Decision → stages.Decision
+decisionIn f b (Send n) = send n
+decisionIn f b (Keep n l) = keep n (layoutBytes f b l)
+decisionIn f b (Put n h) = put n (headBytes h)
+decisionIn f b (Pause us n) = pause us n
+decisionIn f b (Done l) = ends (done (layoutBytes f b l))
+decisionIn f b (Type1 l) = ends (type1 (layoutBytes f b l))
+decisionIn f b Nothing = ends nothing
+decisionIn f b (Refused fault) = ends (refused fault)
+
+abbrev pub DecisionFits : List ℕ → List ℕ → Decision → Type 0
+DecisionFits f b (Send n) = Unit
+DecisionFits f b (Keep n l) = Fitting f b l
+DecisionFits f b (Put n h) = Unit
+DecisionFits f b (Pause us n) = Unit
+DecisionFits f b (Done l) = Fitting f b l
+DecisionFits f b (Type1 l) = Fitting f b l
+DecisionFits f b Nothing = Unit
+DecisionFits f b (Refused fault) = Unit
+
+-- both
+pub record Decides (f b : List ℕ) (r : Decision) (d : stages.Decision) : Type 0 where
+  pub is : decisionIn f b r ≡ d
+  pub fits : DecisionFits f b r
+
+-- whatever the found bytes are
+pub record Comes (b : List ℕ) (r : Decision) (a : Answer ℕ) : Type 0 where
+  pub decides : (f : List ℕ) → Decides f b r (ends a)
+
+-- whatever the bytes are
+abbrev pub Always : Decision → stages.Decision → Type 0
+Always r d = (f b : List ℕ) → Decides f b r d
+
+-- a command, where `pending` is the pending one
+abbrev pub commandIn : Command → List ℕ → stages.Command
+commandIn c pending = cmd (c .code) (c .clock) (pick (c .«is_pending») pending (take (c .len) (c .bytes)))
+
+-- the same of a stage, and the data is within the bytes
+pub record Commands (c : Command) (f : List ℕ → stages.Command) : Type 0 where
+  pub is : (pending : List ℕ) → commandIn c pending ≡ f pending
+  pub fits : c .len ≤ 12

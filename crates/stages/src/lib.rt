@@ -1,0 +1,153 @@
+// A call as stages: the command of each stage, and what is decided on a reply. Every call is made of these.
+use errors::Fault;
+ghost use mathlib.Core.List.{List, [], _∷_, _++_};
+ghost use mathlib.Core.Path.{_≡_};
+ghost use Prim.Native.Nat.{ℕ, _+_, _≤_};
+ghost use lib.ListN.{length, take, drop, getD};
+ghost use Rattle.stages.specs.Decided.{Lays, headBytes, tailBytes};
+
+// The command of a stage: its code, its clock in ms, whether its data is the pending command, the bytes of any other data, and how many
+// they are. Bytes behind them are free, and so are all bytes and their number beside the pending command: nothing reads them.
+pub struct Command {
+    pub code: u8,
+    pub clock: u32,
+    pub is_pending: bool,
+    pub bytes: [u8; 12],
+    pub len: usize,
+}
+
+// Bytes of the engine's own, or in another order than they came. An enum cannot hold an array.
+pub struct Head(pub u8, pub u8, pub u8);
+
+pub struct Tail(
+    pub u8,
+    pub u8,
+    pub u8,
+    pub u8,
+    pub u8,
+    pub u8,
+    pub u8,
+    pub u8,
+    pub u8,
+    pub u8,
+    pub u8,
+    pub u8,
+);
+
+// Bytes put together: the first `kept` found bytes, the first `head_len` bytes of `head`, `len` bytes of the response from `start` on,
+// and the first `tail_len` bytes of `tail`. The contracts fix the bytes. How they divide is free, and so are the bytes of `head` and
+// `tail` behind their lengths, which nothing reads.
+pub struct Layout {
+    pub kept: usize,
+    pub head: Head,
+    pub head_len: usize,
+    pub start: usize,
+    pub len: usize,
+    pub tail: Tail,
+    pub tail_len: usize,
+}
+
+// What follows a reply or a failure: the command of a stage; the same, with bytes that become the found bytes, or three that become the
+// pending command; a pause in µs, and then the command of a stage; or the end of the call.
+pub enum Decision {
+    Send(u8),
+    Keep(u8, Layout),
+    Put(u8, Head),
+    Pause(u32, u8),
+    Done(Layout),
+    Type1(Layout),
+    Nothing,
+    Refused(Fault),
+}
+
+// The byte at a place, `other` where there is none.
+pub fn byte_or(bytes: &[u8], at: usize, other: u8) -> u8
+    ensures { λ r. ⌜ r ≡ getD (now (bytes .entry)) at other ⌝ }
+{
+    if at < bytes.len() { bytes[at] } else { other }
+}
+
+impl Layout {
+    // A part of the response.
+    pub fn part(start: usize, len: usize) -> Layout
+        ensures { λ r. ⌜ ((f b : List ℕ) → start + len ≤ length b → Lays f b r (take len (drop start b))) ⌝ }
+    {
+        Layout {
+            kept: 0,
+            head: Head(0, 0, 0),
+            head_len: 0,
+            start,
+            len,
+            tail: Tail(0, 0, 0, 0, 0, 0, 0, 0, 0, 0, 0, 0),
+            tail_len: 0,
+        }
+    }
+
+    // The response from a place on, or nothing of it.
+    pub fn rest(response: &[u8], start: usize) -> Layout
+        ensures { λ r. ⌜ ((f : List ℕ) → Lays f (now (response .entry)) r (drop start (now (response .entry)))) ⌝ }
+    {
+        if start <= response.len() {
+            Layout::part(start, response.len() - start)
+        } else {
+            Layout::part(0, 0)
+        }
+    }
+
+    // Some bytes, and the response from a place on.
+    pub fn headed(head: Head, head_len: usize, response: &[u8], start: usize) -> Layout
+        ensures { λ r. ⌜ ((f : List ℕ) → «head_len» ≤ 3 → «head_len» ≤ start + 2 → start ≤ length (now (response .entry)) → Lays f (now (response .entry)) r (take «head_len» (headBytes head) ++ drop start (now (response .entry)))) ⌝ }
+    {
+        let len = if start <= response.len() {
+            response.len() - start
+        } else {
+            0
+        };
+        Layout {
+            kept: 0,
+            head,
+            head_len,
+            start,
+            len,
+            tail: Tail(0, 0, 0, 0, 0, 0, 0, 0, 0, 0, 0, 0),
+            tail_len: 0,
+        }
+    }
+
+    // A part of the response, and some bytes behind it.
+    pub fn tailed(start: usize, len: usize, tail: Tail, tail_len: usize) -> Layout
+        ensures { λ r. ⌜ ((f b : List ℕ) → start + len ≤ length b → «tail_len» ≤ 12 → (length b ≤ 1022 → len + «tail_len» ≤ 1024) → Lays f b r (take len (drop start b) ++ take «tail_len» (tailBytes tail))) ⌝ }
+    {
+        Layout {
+            kept: 0,
+            head: Head(0, 0, 0),
+            head_len: 0,
+            start,
+            len,
+            tail,
+            tail_len,
+        }
+    }
+
+    // Found bytes, and a part of the response behind them.
+    pub fn behind(kept: usize, start: usize, len: usize) -> Layout
+        ensures { λ r. ⌜ ((f b : List ℕ) → kept ≤ length f → start + len ≤ length b → (length f ≤ 1024 → length b ≤ 1022 → kept + len ≤ 1024) → Lays f b r (take kept f ++ take len (drop start b))) ⌝ }
+    {
+        Layout {
+            kept,
+            head: Head(0, 0, 0),
+            head_len: 0,
+            start,
+            len,
+            tail: Tail(0, 0, 0, 0, 0, 0, 0, 0, 0, 0, 0, 0),
+            tail_len: 0,
+        }
+    }
+
+    // The found bytes.
+    pub fn found(found: &[u8]) -> Layout
+        ensures { λ r. ⌜ ((b : List ℕ) → Lays (now (found .entry)) b r (now (found .entry))) ⌝ }
+    {
+        Layout::behind(found.len(), 0, 0)
+    }
+}
