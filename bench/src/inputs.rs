@@ -61,11 +61,13 @@ pub fn call(name: &str) -> Option<Call> {
         "version" => Some(Call::Version),
         "detect_type_f" => Some(Call::DetectTypeF),
         "detect_dep" => Some(Call::DetectDep(bytes(32))),
-        _ => {
-            let length = name.strip_prefix("transceive_")?.parse().ok()?;
-            Some(Call::Transceive(bytes(length)))
-        }
+        _ => Some(Call::Transceive(bytes(length(name, "transceive_")?))),
     }
+}
+
+/// The number that stands behind the prefix in a call's name.
+pub fn length(name: &str, prefix: &str) -> Option<usize> {
+    name.strip_prefix(prefix)?.parse().ok()
 }
 
 /// The packets of a reader to the call. A transceive is answered with as many

@@ -35,10 +35,6 @@ impl Transport for &mut Wire {
 /// Makes a call of the codec `times` times, and once more for its result.
 pub fn codec(name: &str, times: u64) -> Vec<u8> {
     match name {
-        "checksum" => {
-            let data = bytes(255);
-            vec![repeat(times, || checksum(black_box(&data)))]
-        }
         "crc_a_check" => {
             let data = bytes_with_crc(1024, 0x6363, false);
             vec![repeat(times, || check_crc_a(black_box(&data))) as u8]
@@ -61,7 +57,11 @@ pub fn codec(name: &str, times: u64) -> Vec<u8> {
             let frame = repeat(times, || Frame::parse(black_box(&packet)));
             frame.unwrap().payload().unwrap().to_vec()
         }
-        _ => panic!("no such call: {name}"),
+        _ => {
+            let length = inputs::length(name, "checksum_").expect("a call of the codec");
+            let data = bytes(length);
+            vec![repeat(times, || checksum(black_box(&data)))]
+        }
     }
 }
 

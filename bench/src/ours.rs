@@ -68,10 +68,6 @@ fn parse(packet: &[u8]) -> (u8, usize, usize, usize) {
 pub fn codec(name: &str, times: u64) -> Vec<u8> {
     let mut buffer = [0u8; 2048];
     match name {
-        "checksum" => {
-            let data = bytes(255);
-            vec![repeat(times, || checksum(black_box(&data)))]
-        }
         "crc_a_check" => {
             let data = bytes_with_crc(1024, 0x6363, false);
             vec![repeat(times, || check_crc_a(black_box(&data))) as u8]
@@ -95,7 +91,11 @@ pub fn codec(name: &str, times: u64) -> Vec<u8> {
             let (_, start, length, _) = repeat(times, || parse(black_box(&packet)));
             packet[start..start + length].to_vec()
         }
-        _ => panic!("no such call: {name}"),
+        _ => {
+            let length = inputs::length(name, "checksum_").expect("a call of the codec");
+            let data = bytes(length);
+            vec![repeat(times, || checksum(black_box(&data)))]
+        }
     }
 }
 

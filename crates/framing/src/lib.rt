@@ -1,18 +1,24 @@
 // Frames on the host link of the PN532 family (framing.rs): checksums, the six settings, build and parse.
 pub mod frame;
 pub mod settings;
+mod sums;
 
 use errors::Refusal;
+pub use sums::checksum;
+pub use sums::checksum_matches;
+pub use sums::length_checksum;
+use sums::length_matches;
+use sums::pair_checksum;
 ghost use mathlib.Core.Path.{_≡_};
 ghost use mathlib.Core.Bool.{Bool};
 ghost use mathlib.Core.List.{[], _∷_, _++_};
-ghost use Prim.Native.Nat.{_+_, _-_, _≤_, _<_, _%_, _^_, min};
+ghost use Prim.Native.Nat.{_+_, _-_, _≤_, _<_, _^_, min};
 ghost use lib.ListN.{length, drop};
-ghost use Rattle.framing.specs.Frames.{total, checksumOf, sof, longest, normalHead, extendedHead, headOf, startOf};
+ghost use Rattle.framing.specs.Frames.{sof, longest, normalHead, extendedHead, headOf, startOf};
 ghost use Rattle.framing.specs.Lists.{starts, same};
 ghost use Rattle.framing.specs.Build.{outcome, left, buildOf, enclosed, placeOf};
 ghost use Rattle.framing.specs.Parse.{isError, normalOf, extendedOf, dataOf, parseOf, payloadOf};
-ghost use Rattle.framing.specs.Checks.{hasMarker, marked, pairLength, checked, matches};
+ghost use Rattle.framing.specs.Checks.{hasMarker, marked, pairLength, checked};
 
 pub const SOF: [u8; 3] = [0x00, 0x00, 0xFF];
 
@@ -58,38 +64,6 @@ pub enum FrameType {
         frame: usize,
     },
     Nothing,
-}
-
-// The sum of the bytes modulo 256.
-fn sum(bytes: &[u8]) -> usize
-    ensures { λ r. ⌜ r ≡ total (now (bytes .entry)) % 256 ⌝ }
-{
-    let mut sum = 0;
-    let mut i = 0;
-    while i < bytes.len() {
-        sum = (sum + bytes[i] as usize) % 256;
-        i += 1;
-    }
-    sum
-}
-
-// The byte that brings the sum of the bytes to a multiple of 256.
-pub fn checksum(bytes: &[u8]) -> u8
-    ensures { λ r. ⌜ r ≡ checksumOf (now (bytes .entry)) ⌝ }
-{
-    ((256 - sum(bytes)) % 256) as u8
-}
-
-pub fn length_checksum(len: u8) -> u8
-    ensures { λ r. ⌜ r ≡ checksumOf (len ∷ []) ⌝ }
-{
-    ((256 - len as usize) % 256) as u8
-}
-
-pub fn checksum_matches(bytes: &[u8], byte: u8) -> bool
-    ensures { λ r. ⌜ r ≡ matches (now (bytes .entry)) byte ⌝ }
-{
-    (sum(bytes) + byte as usize) % 256 == 0
 }
 
 // Whether the packet starts with the prefix.
@@ -183,7 +157,7 @@ fn validated(packet: &[u8], from: usize, start: usize, len: usize) -> bool
     if packet.len() < dcs + 2 {
         return false;
     }
-    if checksum_matches(&packet[from..lcs], packet[lcs]) {
+    if length_matches(&packet[from..lcs], packet[lcs]) {
         if checksum_matches(&packet[start..dcs], packet[dcs]) {
             packet[dcs + 1] == 0
         } else {
@@ -335,7 +309,6 @@ fn put_extended_head(buffer: &mut [u8], first: u8, second: u8)
     requires { ⌜ 8 ≤ length (now buffer) ⌝ }
     ensures { λ _. ⌜ now (buffer .exit) ≡ extendedHead (first ∷ second ∷ []) ++ drop 8 (now (buffer .entry)) ⌝ }
 {
-    let lens = [first, second];
     buffer[0] = 0x00;
     buffer[1] = 0x00;
     buffer[2] = 0xFF;
@@ -343,7 +316,7 @@ fn put_extended_head(buffer: &mut [u8], first: u8, second: u8)
     buffer[4] = 0xFF;
     buffer[5] = first;
     buffer[6] = second;
-    buffer[7] = checksum(&lens);
+    buffer[7] = pair_checksum(first, second);
 }
 
 // The head of a frame of n bytes of payload.

@@ -29,11 +29,8 @@ slice-write-buffer-6 c = simp length-set (omega arith)
 slice-write-buffer-7 : tie.Need-slice-write-buffer-7
 slice-write-buffer-7 c = simp length-set (omega arith)
 
-slice-aggregate-checksum : tie.Need-slice-aggregate-checksum
-slice-aggregate-checksum c = search needs
-
-checksum-requires : tie.Need-checksum-requires
-checksum-requires c κs = search needs
+pair-checksum-requires : tie.Need-pair-checksum-requires
+pair-checksum-requires c κs = search needs
 
 slice-write-buffer-8 : tie.Need-slice-write-buffer-8
 slice-write-buffer-8 c = simp length-set (omega arith)
@@ -43,8 +40,8 @@ same-length c = simp length-set
 
 returns : tie.Need-returns
 returns c =
-    let a = c .before .before .before .args in
-    rw (c .checksum .ensures) (sets-eq (extendedHead (a .first ∷ a .second ∷ [])) (a .buffer .now) 0 (omega arith))
+    let a = c .before .before .args in
+    rw (c .pair-checksum .ensures) (sets-eq (extendedHead (a .first ∷ a .second ∷ [])) (a .buffer .now) 0 (omega arith))
 
 pub put-extended-head-spec : {M : Type 1} → statement M
 put-extended-head-spec =
@@ -57,8 +54,7 @@ put-extended-head-spec =
     slice-write-buffer-5
     slice-write-buffer-6
     slice-write-buffer-7
-    slice-aggregate-checksum
-    checksum-requires
+    pair-checksum-requires
     slice-write-buffer-8
     same-length
     returns)

@@ -18,6 +18,21 @@ returns : tie.Need-returns
 unfolding checked
 returns c = search (steps, needs) depth 8
 
+sub-length-matches : tie.Need-sub-length-matches
+sub-length-matches c = search needs
+
+part-length-matches-start : tie.Need-part-length-matches-start
+part-length-matches-start c = search needs
+
+part-length-matches-end : tie.Need-part-length-matches-end
+part-length-matches-end c = search needs
+
+shared-slice-read-length-matches : tie.Need-shared-slice-read-length-matches
+shared-slice-read-length-matches c = search needs
+
+length-matches-requires : tie.Need-length-matches-requires
+length-matches-requires c κs = search needs
+
 sub-checksum-matches : tie.Need-sub-checksum-matches
 sub-checksum-matches c = search needs
 
@@ -32,21 +47,6 @@ shared-slice-read-checksum-matches c = search needs
 
 checksum-matches-requires : tie.Need-checksum-matches-requires
 checksum-matches-requires c κs = search needs
-
-sub-checksum-matches-2 : tie.Need-sub-checksum-matches-2
-sub-checksum-matches-2 c = search needs
-
-part-checksum-matches-start-2 : tie.Need-part-checksum-matches-start-2
-part-checksum-matches-start-2 c = search needs
-
-part-checksum-matches-end-2 : tie.Need-part-checksum-matches-end-2
-part-checksum-matches-end-2 c = search needs
-
-shared-slice-read-checksum-matches-2 : tie.Need-shared-slice-read-checksum-matches-2
-shared-slice-read-checksum-matches-2 c = search needs
-
-checksum-matches-requires-2 : tie.Need-checksum-matches-requires-2
-checksum-matches-requires-2 c κs = search needs
 
 add-result : tie.Need-add-result
 add-result c = search needs
@@ -74,16 +74,16 @@ validated-spec =
     add-dcs
     add-if1
     returns
+    sub-length-matches
+    part-length-matches-start
+    part-length-matches-end
+    shared-slice-read-length-matches
+    length-matches-requires
     sub-checksum-matches
     part-checksum-matches-start
     part-checksum-matches-end
     shared-slice-read-checksum-matches
     checksum-matches-requires
-    sub-checksum-matches-2
-    part-checksum-matches-start-2
-    part-checksum-matches-end-2
-    shared-slice-read-checksum-matches-2
-    checksum-matches-requires-2
     add-result
     shared-slice-read-result
     returns-2

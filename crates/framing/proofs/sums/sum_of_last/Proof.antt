@@ -1,0 +1,61 @@
+-- `framing::sums::sum_of_last` meets its contract.
+use mathlib.Core.Path.{_≡_, ap, _∙_}
+use mathlib.Core.List.{_++_}
+use Prim.Native.Nat.{_+_, _-_, _%_, _≤_}
+use native.Mathlib.Omega.{arith}
+use lib.ListN.{length, replicate}
+use lib.Seq.{take-length}
+use Rattle.framing.specs.Sums.{padded}
+use borrow.Author.Needs.{needs}
+use Rattle.framing.proofs.sums.sum_of_last.Statement.{statement}
+use Rattle.framing.proofs.sums.sum_of_last.Tie as tie
+
+slice-aggregate-copy : tie.Need-slice-aggregate-copy
+slice-aggregate-copy c = search needs
+
+copy-requires : tie.Need-copy-requires
+copy-requires c κs = search needs
+
+sub-from : tie.Need-sub-from
+sub-from c = search needs
+
+add-plain-sum : tie.Need-add-plain-sum
+add-plain-sum c = search needs
+
+sub-plain-sum : tie.Need-sub-plain-sum
+sub-plain-sum c = search needs
+
+part-plain-sum-start : tie.Need-part-plain-sum-start
+part-plain-sum-start c = search needs
+
+part-plain-sum-end : tie.Need-part-plain-sum-end
+part-plain-sum-end c = search needs
+
+plain-sum-requires : tie.Need-plain-sum-requires
+plain-sum-requires c κs = search needs
+
+returns : tie.Need-returns
+returns c =
+    let a = c .before .before .before .before .before .before .before .args in
+    let b = a .bytes .now in
+    let k = 32 - a .n in
+    let p = c .before .before .before .before .copy .last .1 .0 in
+    let long : length b ≡ 32 = search needs in
+    let inside : k ≤ length b = omega arith in
+    let part : k + 32 - k ≡ length b = omega arith in
+    let copied : p ≡ b ++ replicate 32 0 = rw (take-length b, long) at (c .before .before .before .before .copy .ensures .1) in
+    c .plain-sum .ensures ∙ ap (λ t. t % 256) (rw (part, copied) (padded b k 32 inside))
+
+pub sum-of-last-spec : {M : Type 1} → statement M
+sum-of-last-spec =
+    tie.close
+    (tie.spec
+    slice-aggregate-copy
+    copy-requires
+    sub-from
+    add-plain-sum
+    sub-plain-sum
+    part-plain-sum-start
+    part-plain-sum-end
+    plain-sum-requires
+    returns)
