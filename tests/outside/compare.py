@@ -4,7 +4,7 @@
     python3 compare.py ORACLE_FOLDER LINES [--seed 1] [--first 0] [--cases 5000] [--jobs 2]
 
 ORACLE_FOLDER has the Rust driver as a program of bench lines, `oracle` or `target/release/oracle`, and the generator fuzz.py. A
-script is made by talking to the oracle; every fourth one is of openings and versions alone (docs/session-compare.py). LINES gets
+script is made by talking to the oracle; every fourth one is of openings and versions alone (tools/session-compare.py). LINES gets
 the whole script, every tenth one line by line. The count expected behind a line is the number of write lines of the oracle, other
 than the bare ACK, since the last `open` that it accepted. The first difference is printed, and the end code is 1.
 """
@@ -23,12 +23,12 @@ sys.dont_write_bytecode = True
 
 @functools.cache
 def imports(folder):
-    """docs/session-compare.py, and fuzz.py of the folder."""
+    """tools/session-compare.py, and fuzz.py of the folder."""
     folder = os.path.abspath(folder)
     programs = [os.path.join(folder, name) for name in ("target/release/oracle", "oracle")]
     os.environ["ORACLE"] = next(filter(os.path.isfile, programs))
     sys.path.insert(0, folder)
-    spec = importlib.util.spec_from_file_location("session_compare", os.path.join(HERE, "../../docs/session-compare.py"))
+    spec = importlib.util.spec_from_file_location("session_compare", os.path.join(HERE, "../../tools/session-compare.py"))
     base = importlib.util.module_from_spec(spec)
     spec.loader.exec_module(base)
     import fuzz

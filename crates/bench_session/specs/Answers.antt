@@ -6,7 +6,8 @@ use lib.Seq.{slice}
 use Rattle.errors.specs.declared.Refusal.the-variants.{BadArgument}
 use Rattle.protocol.specs.Calls.{Call}
 use Rattle.engine.specs.Inputs.{tells, stepWith}
-use Rattle.engine.specs.Numbers.{callOf, callInput}
+use Rattle.calls.specs.Numbers.{callOf}
+use Rattle.engine.specs.Numbers.{callInput}
 use Rattle.engine.specs.Sessions.{Stepped}
 use Rattle.engine.specs.declared.core.Output.the-variants.{Refused}
 use Rattle.engine.specs.declared.session.Session.{Session}

@@ -1,5 +1,5 @@
 // The lines of the program `session`: a call or an event in, an order or an answer out.
-mod calls;
+mod numbers;
 pub mod output;
 mod text;
 
@@ -10,8 +10,8 @@ use bench_input::BYTES;
 use bench_input::Input;
 use bench_input::LINE;
 use bench_input::part;
+use calls::start::OPEN;
 use engine::core::Output;
-use engine::numbered::OPEN;
 use engine::session::Session;
 use engine::session::Step;
 use errors::Refusal;
@@ -47,7 +47,7 @@ fn unreadable(session: Session) -> Step
     }
 }
 
-// A call's number, its ms, word, x and y as `engine::numbered` takes them, and the places where its four byte strings end in the lent
+// A call's number, its ms, word, x and y as `State::call` takes them, and the places where its four byte strings end in the lent
 // array: each begins where the one before ends. What a call does not have is 0.
 struct Asked(u8, u32, u16, u8, u8, usize, usize, usize, usize);
 
@@ -69,10 +69,10 @@ fn step(session: Session, input: Input, bytes: &[u8; BYTES], buffer: &mut [u8]) 
 {
     match input {
         Input::Open => called(session, Asked(OPEN, 0, 0, 0, 0, 0, 0, 0, 0), bytes, buffer),
-        Input::Chip(call) => called(session, calls::chip(call), bytes, buffer),
-        Input::In(call) => called(session, calls::initiator(call), bytes, buffer),
-        Input::Tg(call) => called(session, calls::target(call), bytes, buffer),
-        Input::Dev(call) => called(session, calls::device(call), bytes, buffer),
+        Input::Chip(call) => called(session, numbers::chip(call), bytes, buffer),
+        Input::In(call) => called(session, numbers::initiator(call), bytes, buffer),
+        Input::Tg(call) => called(session, numbers::target(call), bytes, buffer),
+        Input::Dev(call) => called(session, numbers::device(call), bytes, buffer),
         Input::Happened(event, n) => session.event(event, part(bytes, 0, n), buffer),
         Input::Unreadable => unreadable(session),
     }

@@ -12,10 +12,10 @@ use Rattle.errors.specs.declared.Fault.the-variants.{Status, ShortResponse, NoC
 use Rattle.exchange.specs.Packets.{Reply, isEmpty}
 use Rattle.protocol.specs.Scripts.{Answer, own, done, type1, nothing, refused, Script, finish, command, fieldPause, either, refuse, ifElse, byteAt, rest}
 use Rattle.protocol.specs.Chipset.{anyNonzero, statusByte, maskedStatus, jumpData}
-use Rattle.protocol.specs.Discovery.{isType2, cardA, foundA, noneOnStatus, cardType1, tryType1, noTarget, wakeUp, foundB, poll, noPartner as noPartnerScript}
+use Rattle.protocol.specs.Discovery.{detectTypeA, detectTypeB, detectTypeF, detectDep, cascaded, isType2, cardA, foundA, noneOnStatus, cardType1, tryType1, noTarget, wakeUp, foundB, poll, noPartner as noPartnerScript}
 use Rattle.protocol.specs.Follows.{plainAnswer}
-use Rattle.stages.specs.Stages.{ends, withLength}
-use Rattle.chipset.specs.Verdicts.{foundWritten}
+use Rattle.stages.specs.Stages.{send, ends, withLength}
+use Rattle.chipset.specs.Responses.{foundWritten}
 use Rattle.discovery.specs.Decisions.{typeACommand, cardBytes, listedA, fifoRead, sensRes, listedType1, ridOf, rxModeRead, typeADecision, ridFailure, typeAFailure, typeBCommand, isoDep, listedB, wokenUp, typeBDecision, typeBFailure, typeFCommand, txControlRead, polled, typeFDecision, depCommand, noPartner, jumpedTo, depDecision, jumpFailure, depFailure}
 use Rattle.calls.specs.Tables.{commandOf, isResetOf, decidedOf, failedOf}
 use Rattle.calls.specs.Refines.{Leads, leads-keep, leads-put, leads-pause, Stands, leads-if, leads-status, ending, none-found, refusal, by-length, go-on}
@@ -100,7 +100,7 @@ typeA-1 pending found = record {
   failing = λ r. go-on 2 0x4A 1000 _ refl refl refl (typeA-2 pending found);
 }
 
-pub typeA-0 : (pending found : List ℕ)
+typeA-0 : (pending found : List ℕ)
     → Stands 17 0 pending found (either (λ list. ifElse (eqb (getD list 0 0) 0) noTarget (ifElse (ltb (length list) 2) (refuse ShortResponse) (foundA list))) refuse)
 unfolding decidedOf failedOf typeADecision typeAFailure listedA commandOf isResetOf typeACommand pick
 typeA-0 pending found = record {
@@ -133,16 +133,17 @@ module _ (afi : ℕ) where
     failing = λ r. go-on 2 0x42 500 _ refl refl refl (typeB-2 found);
   }
 
-  pub typeB-0 : (found : List ℕ)
-      → Stands 18 0 wakes found (either (λ list. ifElse (eqb (getD list 0 0) 0) (finish nothing) (ifElse (ltb (length list) 2) (refuse ShortResponse) (foundB afi list))) refuse)
+  typeB-0 : (code : ℕ) (found : List ℕ)
+      → Stands 18 0 (1 ∷ code ∷ afi ∷ []) found (either (λ list. ifElse (eqb (getD list 0 0) 0) (finish nothing) (ifElse (ltb (length list) 2) (refuse ShortResponse) (foundB afi list))) refuse)
   unfolding decidedOf failedOf typeBDecision typeBFailure listedB isoDep commandOf isResetOf typeBCommand pick
-  typeB-0 found = record {
+  typeB-0 code found = record {
     answered = λ cs few.
         leads-if (eqb (getD cs 0 0) 0) (λ _. none-found)
         (λ _. by-length cs 2
         (λ _. leads-if (ltb (length cs) 13) (λ _. none-found)
         (λ _. leads-if (eqb (getD cs 12 0 % 2) 1)
-        (λ _. leads-if (eqb (getD cs 12 0 / 8 % 2) 0) (λ _. go-on 1 0x42 500 _ refl refl refl (typeB-1 found)) (λ _. none-found))
+        (λ _. leads-if (eqb (getD cs 12 0 / 8 % 2) 0)
+        (λ _. leads-put 1 _ _ (omega arith) (go-on 1 0x42 500 _ refl refl refl (typeB-1 found))) (λ _. none-found))
         (λ _. none-found))));
     failing = λ r. refusal r;
   }
@@ -168,7 +169,7 @@ module _ (code : ℕ) (req : List ℕ) where
     failing = λ r. refusal r;
   }
 
-  pub typeF-0 : (found : List ℕ)
+  typeF-0 : (found : List ℕ)
       → Stands 19 0 (1 ∷ code ∷ req) found (either (λ bs. ifElse (ltb (length bs) 1) (refuse ShortResponse) (ifElse (eqb (getD bs 0 0 % 4) 0) (command 0x32 100 (0x01 ∷ 0x01 ∷ []) (either (λ _. fieldPause (poll 2 code req)) refuse)) (poll 1 code req))) refuse)
   unfolding decidedOf failedOf typeFDecision txControlRead commandOf isResetOf typeFCommand pick
   typeF-0 found = record {
@@ -201,10 +202,29 @@ dep-1 pending found = record {
   failing = λ r. leads-status r (λ k e. leads-if (eqb k 0x01 || eqb k 0x0A) (λ _. none-found) (λ _. ending (refused r) (ap refused e))) (refusal r);
 }
 
-pub dep-0 : (code : ℕ) (nfcid3 gi found : List ℕ)
+dep-0 : (code : ℕ) (nfcid3 gi found : List ℕ)
     → Stands 20 0 (jumpData 1 code [] nfcid3 gi) found (either (λ _. command 0x56 3000 (jumpData 1 code [] nfcid3 gi) (either (λ bs. ifElse (eqb (statusByte bs) 0) (ifElse (ltb (length bs) 2) (refuse ShortResponse) (command 0x08 250 (0x63 ∷ 0x01 ∷ 0x3B ∷ []) (modeWritten bs))) (noPartnerScript (Status (statusByte bs)))) noPartnerScript)) refuse)
 unfolding decidedOf failedOf depDecision depFailure commandOf isResetOf depCommand pick
 dep-0 code nfcid3 gi found = record {
   answered = λ cs few. go-on 1 0x56 3000 _ refl refl refl (dep-1 (jumpData 1 code [] nfcid3 gi) found);
   failing = λ r. refusal r;
 }
+
+-- ---- each from its first command on
+
+pub typeA-leads : (code : ℕ) (uid found : List ℕ) → Leads 17 (1 ∷ code ∷ cascaded uid) found (send 0) (detectTypeA code uid)
+unfolding commandOf isResetOf typeACommand pick
+typeA-leads code uid found = go-on 0 0x4A 1000 _ refl refl refl (typeA-0 _ found)
+
+pub typeB-leads : (code afi : ℕ) (found : List ℕ) → Leads 18 (1 ∷ code ∷ afi ∷ []) found (send 0) (detectTypeB code afi)
+unfolding commandOf isResetOf typeBCommand pick
+typeB-leads code afi found = go-on 0 0x4A 1000 _ refl refl refl (typeB-0 afi code found)
+
+pub typeF-leads : (code : ℕ) (req found : List ℕ) → Leads 19 (1 ∷ code ∷ req) found (send 0) (detectTypeF code req)
+unfolding commandOf isResetOf typeFCommand pick
+typeF-leads code req found = go-on 0 0x06 250 _ refl refl refl (typeF-0 code req found)
+
+pub dep-leads : (code : ℕ) (req found : List ℕ)
+    → Leads 20 (jumpData 1 code [] (take 10 (drop 2 req)) (drop 16 req)) found (send 0) (detectDep code req)
+unfolding commandOf isResetOf depCommand pick
+dep-leads code req found = go-on 0 0x32 100 _ refl refl refl (dep-0 code (take 10 (drop 2 req)) (drop 16 req) found)

@@ -1,4 +1,6 @@
--- The calls by their kinds, and that what is decided at each stage is what the scripts have.
+-- The calls by their numbers and kinds, and that what is decided at each stage is what the scripts have.
+pub mod Numbers
+pub mod Firsts
 pub mod Tables
 pub mod Refines
 pub mod Single

@@ -15,7 +15,7 @@ use Rattle.protocol.specs.Scripts.{own, value, Script, finish, reset, either, r
 use Rattle.protocol.specs.Chipset.{versionBytes, getFirmwareVersion, rfFieldOff, rfConfiguration, setParameters, writeRegister, anyNonzero}
 use Rattle.protocol.specs.Device.{deviceNew, chipsetName, hexDigit as hexDigitOf, hex as hexOf}
 use Rattle.stages.specs.Stages.{send, ends, withLength}
-use Rattle.chipset.specs.Verdicts.{foundWritten}
+use Rattle.chipset.specs.Responses.{foundWritten}
 use Rattle.device.specs.Names.{hexDigit, hex, dotted, nameBytes, openedBytes}
 use Rattle.device.specs.Opening.{openingCommand, settingsCommand, isResetStage, versionKept, openingDecision}
 use Rattle.calls.specs.Tables.{commandOf, isResetOf, decidedOf, failedOf}
@@ -88,7 +88,7 @@ module _ (pending : List ℕ) where
     answer = openedBytes a b c
 
     -- a command whose response is not looked at
-    passed : (n : ℕ) (s : Script) → ((cs : List ℕ) → decidedOf 1 n answer cs ≡ send (n + 1)) → ((r : Fault) → failedOf 1 n r ≡ ends (refused r))
+    passed : (n : ℕ) (s : Script) → ((cs : List ℕ) → decidedOf 1 n pending answer cs ≡ send (n + 1)) → ((r : Fault) → failedOf 1 n r ≡ ends (refused r))
         → Leads 1 pending answer (send (n + 1)) s → Stands 1 n pending answer (either (λ _. s) refuse)
     passed n s h k l = record { answered = λ cs _. rw (h cs) l; failing = λ r. rw (k r) (refusal r) }
 

@@ -22,12 +22,12 @@ pub data Leads (kind : ℕ) : List ℕ → List ℕ → Decision → Script → 
   leads-end : {pending found : List ℕ} (a : Answer Byte) (b : Answer ℕ) → plainAnswer a ≡ b → Leads kind pending found (ends b) (finish a)
   leads-send : {pending found : List ℕ} (n code clock : ℕ) (bytes : List ℕ) (k : Reply → Script) → leb n 9 ≡ true → isResetOf kind n ≡ false
       → commandOf kind n pending ≡ cmd code clock bytes
-      → ((cs : List ℕ) → length cs ≤ 1022 → Leads kind pending found (decidedOf kind n found cs) (k (response cs)))
+      → ((cs : List ℕ) → length cs ≤ 1022 → Leads kind pending found (decidedOf kind n pending found cs) (k (response cs)))
       → ((r : Fault) → Leads kind pending found (failedOf kind n r) (k (failed r)))
       → Leads kind pending found (send n) (command code clock bytes k)
   leads-reset : {pending found : List ℕ} (n : ℕ) (s : Script) → leb n 9 ≡ true → isResetOf kind n ≡ true
       → commandOf kind n pending ≡ cmd resetCode 100 resetData
-      → Leads kind pending found (decidedOf kind n found []) s → Leads kind pending found (send n) (reset s)
+      → Leads kind pending found (decidedOf kind n pending found []) s → Leads kind pending found (send n) (reset s)
   leads-keep : {pending found : List ℕ} (n : ℕ) (l : List ℕ) (s : Script) → length l ≤ 1024 → Leads kind pending l (send n) s
       → Leads kind pending found (keep n l) s
   leads-put : {pending found : List ℕ} (n : ℕ) (l : List ℕ) (s : Script) → length l ≤ 512 → Leads kind l found (send n) s
@@ -37,7 +37,7 @@ pub data Leads (kind : ℕ) : List ℕ → List ℕ → Decision → Script → 
 
 -- the command of a stage was sent: both its response and its failure lead on
 pub record Stands (kind stage : ℕ) (pending found : List ℕ) (k : Reply → Script) : Type 0 where
-  pub answered : (cs : List ℕ) → length cs ≤ 1022 → Leads kind pending found (decidedOf kind stage found cs) (k (response cs))
+  pub answered : (cs : List ℕ) → length cs ≤ 1022 → Leads kind pending found (decidedOf kind stage pending found cs) (k (response cs))
   pub failing : (r : Fault) → Leads kind pending found (failedOf kind stage r) (k (failed r))
 
 -- ---- rules

@@ -18,7 +18,8 @@ use Rattle.protocol.specs.Scripts.{Byte, own, value, Answer, done, nothing, ref
 use Rattle.protocol.specs.Chipset.{anyNonzero, statusByte, withStatus as statusThen, withLength as lengthThen, maskedStatus, moreFlag, sendIndex, receiveIndex, rate, versionBytes}
 use Rattle.protocol.specs.Calls.{finished, answer, rateBytes}
 use Rattle.protocol.specs.Follows.{plainAnswer}
-use Rattle.chipset.specs.Verdicts.{withLength, withStatus, versionAnswer, writeAnswer, firstAnswer, listAnswer, exchangeAnswer, jumpAnswer, initiatorAnswer, targetAnswer, type2Answer, type1Answer}
+use Rattle.chipset.specs.Responses.{withLength, withStatus, versionAnswer, writeAnswer, firstAnswer, listAnswer, exchangeAnswer, jumpAnswer, initiatorAnswer, targetAnswer}
+use Rattle.device.specs.Transceive.{type2Answer, type1Answer}
 use Rattle.stages.specs.Stages.{ends as endsWith}
 use Rattle.device.specs.Names.{first-three}
 use Rattle.calls.specs.Refines.{Leads, leads-end}

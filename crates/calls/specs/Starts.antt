@@ -5,40 +5,41 @@ use mathlib.Core.List.{List, [], _∷_}
 use mathlib.Core.Option.{Option, none, some}
 use Prim.Native.Nat.{ℕ, _≤_}
 use native.Mathlib.Omega.{arith}
-use borrow.Author.Tests.{le-leb, leb-true}
+use borrow.Author.Tests.{leb-true, ltb-false}
 use lib.Dec.{eqb, leb, ltb}
-use lib.ListN.{length, take, drop, getD, length-append, length-take, length-drop}
+use lib.ListN.{length, getD}
 use Rattle.errors.specs.Choice.{pick}
 use Rattle.errors.specs.declared.Refusal.{Refusal}
 use Rattle.errors.specs.declared.Refusal.the-variants.{OverLong, BadArgument, Bitrate as BadBitrate, NotSendable}
 use Rattle.errors.specs.declared.Fault.{Fault}
 use Rattle.framing.specs.Lists.{both}
 use Rattle.framing.specs.Valid.{both-right}
-use Rattle.exchange.specs.Packets.{Reply, resetCode, resetData}
+use Rattle.exchange.specs.Packets.{Reply}
 use Rattle.targets.specs.Bitrates.{Choice, chosen, noCode, choiceOf}
 use Rattle.targets.specs.declared.Bitrate.{Bitrate}
-use Rattle.protocol.specs.Scripts.{Script, command, reset, either, refuse}
+use Rattle.protocol.specs.Scripts.{Answer, Script, command, either, refuse}
 use Rattle.protocol.specs.Chipset.{jumpData, initData}
 use Rattle.protocol.specs.Discovery.{cascaded, sensfReq, detectTypeA as typeAScript, detectDep as depScript, transceiveType1, transceiveType2, transceiveThru}
 use Rattle.protocol.specs.Scripts.{ifElse}
 use Rattle.protocol.specs.Calls.{Request, version, resetMode, setParameters, rfConfiguration, rfFieldOff, readRegister, writeRegister, readSingleRegister, writeSingleRegister, inListPassiveTarget, inDataExchange, inCommunicateThru, inJumpForDep, tgInitTarget, tgSetGeneralBytes, tgGetInitiatorCommand, tgResponseToInitiator, tgGetTargetStatus}
 use Rattle.protocol.specs.Calls.{DeviceCall, detectTypeA, detectTypeB, detectTypeF, detectDep, transceive}
-use Rattle.protocol.specs.Calls.{ReaderCall, request, device, Start, starts, requestStart, deviceStart, readerStart, finished, registers, initFits, activeByte, typeACode, typeBCode, typeFCode, depCode, is106A, type2SelRes, isSendable, clockOf, transceiveStart}
+use Rattle.protocol.specs.Calls.{ReaderCall, request, device, unknown, Start, starts, requestStart, deviceStart, readerStart, finished, registers, initFits, activeByte, typeACode, typeBCode, typeFCode, depCode, is106A, type2SelRes, isSendable, clockOf, transceiveStart}
 use Rattle.protocol.specs.Calls.{refuses as refusesStart, limited as limitedStart, asserted as assertedStart, onCode as codeStart, withBitrate as bitrateStart}
-use Rattle.stages.specs.Stages.{cmd}
-use Rattle.stages.specs.Stages as stages
-use Rattle.chipset.specs.Launches.{Launch, refuses, sends, limited, asserted, launchOf}
-use Rattle.chipset.specs.Verdicts.{judgeOf}
-use Rattle.discovery.specs.Searches.{Search, starting, refusing, onCode, withBitrate, codeFor, typeASearch, typeBSearch, typeFSearch, depSearch, transceiveSearch, searchOf}
-use Rattle.calls.specs.Tables.{isResetOf, decidedOf, failedOf}
-use Rattle.calls.specs.Refines.{Leads, Stands, refusal}
+use Rattle.stages.specs.Stages.{cmd, send, ends, refuse as refuseWith}
+use Rattle.stages.specs.Starts.{refuses, sends, staged, limited, stagedLimited, asserted}
+use Rattle.stages.specs.Starts as stages
+use Rattle.stages.specs.Bitrates.{onCode, withBitrate, codeFor}
+use Rattle.chipset.specs.Commands.{firstOf}
+use Rattle.chipset.specs.Laws.{few-words, few-triples}
+use Rattle.chipset.specs.Responses.{answerOf}
+use Rattle.device.specs.Transceive.{type1First, thruFirst, transceiveFirst}
+use Rattle.discovery.specs.Firsts.{typeAFirst, typeBFirst, typeFFirst, depFirst, depAsserted}
+use Rattle.discovery.specs.FirstLaws.{jump-few}
+use Rattle.calls.specs.Firsts.{deviceFirst, startFor}
+use Rattle.calls.specs.Tables.{commandOf, isResetOf, decidedOf, failedOf}
+use Rattle.calls.specs.Refines.{Leads, leads-reset, Stands, refusal}
 use Rattle.calls.specs.Single.{Judged, leads, answers, empty, by-status, judged-version, judged-write, judged-first, judged-list, judged-exchange, judged-thru, judged-type2, judged-type1, judged-jump, judged-initiator, judged-target}
-use Rattle.calls.specs.Discoveries.{typeA-0, typeB-0, typeF-0, dep-0}
-
--- the first command of a call, or its refusal, and the command to send later
-abbrev pub launchFor : ReaderCall → Search
-launchFor (request q) = starting (launchOf q) []
-launchFor (device d) = searchOf d
+use Rattle.calls.specs.Discoveries.{typeA-leads, typeB-leads, typeF-leads, dep-leads}
 
 -- a kind of a call of an open reader
 pub record Kind (kind : ℕ) : Type 0 where
@@ -49,67 +50,73 @@ pub record Kind (kind : ℕ) : Type 0 where
 a-kind : {kind : ℕ} → eqb kind 0 ≡ false → eqb kind 1 ≡ false → leb kind 20 ≡ true → Kind kind
 a-kind p q r = record { running = p; noOpening = q; within = r }
 
--- both refuse, or the script's first command is the one sent
-pub data Starting : Start → Search → Type 0 where
-  refusedNow : (r : Refusal) → Starting (refusesStart r) (refusing r)
-  first : (kind code clock : ℕ) (bytes pending : List ℕ) (k : Reply → Script) → Kind kind → isResetOf kind 0 ≡ false → leb (length pending) 512 ≡ true
-      → ((found : List ℕ) → Stands kind 0 pending found k) → Starting (starts (command code clock bytes k)) (starting (sends kind (cmd code clock bytes)) pending)
-  firstReset : (kind : ℕ) (pending : List ℕ) (s : Script) → Kind kind → isResetOf kind 0 ≡ true → leb (length pending) 512 ≡ true
-      → ((found : List ℕ) → Leads kind pending found (decidedOf kind 0 found []) s) → Starting (starts (reset s)) (starting (sends kind (cmd resetCode 100 resetData)) pending)
+-- both refuse; the script's first command is the one sent; or the command of stage 0 leads to the script
+pub data Starting : Start → stages.Start → Type 0 where
+  refusedNow : (r : Refusal) → Starting (refusesStart r) (refuses r)
+  first : (kind code clock : ℕ) (bytes : List ℕ) (k : Reply → Script) → Kind kind → isResetOf kind 0 ≡ false → length bytes ≤ 512
+      → ((found : List ℕ) → Stands kind 0 bytes found k) → Starting (starts (command code clock bytes k)) (sends kind (cmd code clock bytes))
+  leading : (kind : ℕ) (pending : List ℕ) (s : Script) → Kind kind → length pending ≤ 512 → ((found : List ℕ) → Leads kind pending found (send 0) s)
+      → Starting (starts s) (staged kind pending)
 
 -- ---- a call of one command
 
-single : (rule code clock : ℕ) (bytes : List ℕ) (f : List ℕ → Script) → Kind rule → isResetOf rule 0 ≡ false
-    → ((found bs : List ℕ) → decidedOf rule 0 found bs ≡ stages.ends (judgeOf rule bs)) → ((r : Fault) → failedOf rule 0 r ≡ stages.refuse r)
-    → ((bs : List ℕ) → Judged (f bs) (judgeOf rule bs))
-    → Starting (starts (command code clock bytes (either f refuse))) (starting (sends rule (cmd code clock bytes)) [])
-single rule code clock bytes f h q p r k =
-    first rule code clock bytes [] (either f refuse) h q refl (λ found. record { answered = λ cs few. rw (p found cs) (leads (k cs)); failing = λ e. rw (r e) (refusal e) })
+-- the response leads to the answer a
+pub record Reads (kind : ℕ) (bytes : List ℕ) (f : List ℕ → Script) (a : List ℕ → Answer ℕ) : Type 0 where
+  decides : (found bs : List ℕ) → decidedOf kind 0 bytes found bs ≡ ends (a bs)
+  fails : (r : Fault) → failedOf kind 0 r ≡ refuseWith r
+  judged : (bs : List ℕ) → Judged (f bs) (a bs)
 
-single-limited : (rule code clock : ℕ) (bytes : List ℕ) (f : List ℕ → Script) → Kind rule → isResetOf rule 0 ≡ false
-    → ((found bs : List ℕ) → decidedOf rule 0 found bs ≡ stages.ends (judgeOf rule bs)) → ((r : Fault) → failedOf rule 0 r ≡ stages.refuse r)
-    → ((bs : List ℕ) → Judged (f bs) (judgeOf rule bs))
-    → Starting (limitedStart bytes (command code clock bytes (either f refuse))) (starting (limited rule (cmd code clock bytes)) [])
+reads : {kind : ℕ} {bytes : List ℕ} {f : List ℕ → Script} {a : List ℕ → Answer ℕ} → ((found bs : List ℕ) → decidedOf kind 0 bytes found bs ≡ ends (a bs))
+    → ((r : Fault) → failedOf kind 0 r ≡ refuseWith r) → ((bs : List ℕ) → Judged (f bs) (a bs)) → Reads kind bytes f a
+reads p q r = record { decides = p; fails = q; judged = r }
+
+single : (kind code clock : ℕ) (bytes : List ℕ) (f : List ℕ → Script) (a : List ℕ → Answer ℕ) → Kind kind → isResetOf kind 0 ≡ false → length bytes ≤ 512 → Reads kind bytes f a
+    → Starting (starts (command code clock bytes (either f refuse))) (sends kind (cmd code clock bytes))
+single kind code clock bytes f a h q few k =
+    first kind code clock bytes (either f refuse) h q few
+    (λ found. record { answered = λ cs _. rw (k .decides found cs) (leads (k .judged cs)); failing = λ e. rw (k .fails e) (refusal e) })
+
+single-limited : (kind code clock : ℕ) (bytes : List ℕ) (f : List ℕ → Script) (a : List ℕ → Answer ℕ) → Kind kind → isResetOf kind 0 ≡ false → Reads kind bytes f a
+    → Starting (limitedStart bytes (command code clock bytes (either f refuse))) (limited kind (cmd code clock bytes))
 unfolding limited pick
-single-limited rule code clock bytes f h q p r k = go (ltb 512 (length bytes))
+single-limited kind code clock bytes f a h q k = go (ltb 512 (length bytes)) refl
   where
-    go : (t : Bool)
-        → Starting (cond t (refusesStart OverLong) (starts (command code clock bytes (either f refuse)))) (starting (pick t (refuses OverLong) (sends rule (cmd code clock bytes))) [])
-    go true = refusedNow OverLong
-    go false = single rule code clock bytes f h q p r k
+    go : (t : Bool) → ltb 512 (length bytes) ≡ t
+        → Starting (cond t (refusesStart OverLong) (starts (command code clock bytes (either f refuse)))) (pick t (refuses OverLong) (sends kind (cmd code clock bytes)))
+    go true e = refusedNow OverLong
+    go false e = single kind code clock bytes f a h q (ltb-false 512 (length bytes) e) k
 
-begins-asserted : (t : Bool) {x : Start} {l : Launch} → Starting x (starting l []) → Starting (assertedStart t x) (starting (asserted t l) [])
+begins-asserted : (t : Bool) {x : Start} {l : stages.Start} → (t ≡ true → Starting x l) → Starting (assertedStart t x) (asserted t l)
 unfolding asserted pick
-begins-asserted true h = h
+begins-asserted true h = h refl
 begins-asserted false h = refusedNow BadArgument
 
 -- one line for each call
-request-begins : (q : Request) → Starting (requestStart q) (starting (launchOf q) [])
-unfolding launchOf judgeOf decidedOf failedOf isResetOf pick
-request-begins version = single 2 0x02 100 [] _ (a-kind refl refl refl) refl (λ _ _. refl) (λ _. refl) judged-version
-request-begins resetMode = firstReset 3 [] _ (a-kind refl refl refl) refl refl (λ found. leads empty)
-request-begins (setParameters flags) = single 4 0x12 100 _ _ (a-kind refl refl refl) refl (λ _ _. refl) (λ _. refl) (λ _. empty)
-request-begins (rfConfiguration item bytes) = single-limited 4 0x32 100 (item ∷ bytes) _ (a-kind refl refl refl) refl (λ _ _. refl) (λ _. refl) (λ _. empty)
-request-begins rfFieldOff = single 4 0x32 100 _ _ (a-kind refl refl refl) refl (λ _ _. refl) (λ _. refl) (λ _. empty)
-request-begins (readRegister addresses) = begins-asserted (registers 2 addresses) (single 5 0x06 250 addresses _ (a-kind refl refl refl) refl (λ _ _. refl) (λ _. refl) (answers 0))
-request-begins (writeRegister values) = begins-asserted (registers 3 values) (single 6 0x08 250 values _ (a-kind refl refl refl) refl (λ _ _. refl) (λ _. refl) judged-write)
-request-begins (readSingleRegister address) = single 7 0x06 250 _ _ (a-kind refl refl refl) refl (λ _ _. refl) (λ _. refl) judged-first
-request-begins (writeSingleRegister address value) = single 6 0x08 250 _ _ (a-kind refl refl refl) refl (λ _ _. refl) (λ _. refl) judged-write
-request-begins (inListPassiveTarget maxTg bitrate bytes) = single-limited 8 0x4A 1000 (maxTg ∷ bitrate ∷ bytes) _ (a-kind refl refl refl) refl (λ _ _. refl) (λ _. refl) judged-list
-request-begins (inDataExchange bytes ms) = single-limited 9 0x40 ms (0x01 ∷ bytes) _ (a-kind refl refl refl) refl (λ _ _. refl) (λ _. refl) judged-exchange
-request-begins (inCommunicateThru bytes ms) = single-limited 10 0x42 ms bytes _ (a-kind refl refl refl) refl (λ _ _. refl) (λ _. refl) judged-thru
-request-begins (inJumpForDep active br passive nfcid3 gi) = single-limited 11 0x56 3000 (jumpData (activeByte active) br passive nfcid3 gi) _ (a-kind refl refl refl) refl (λ _ _. refl) (λ _. refl) judged-jump
+request-begins : (q : Request) → Starting (requestStart q) (firstOf q)
+unfolding firstOf answerOf decidedOf failedOf isResetOf commandOf pick
+request-begins version = single 2 0x02 100 [] _ _ (a-kind refl refl refl) refl (omega arith) (reads (λ _ _. refl) (λ _. refl) judged-version)
+request-begins resetMode = leading 3 [] _ (a-kind refl refl refl) (omega arith) (λ found. leads-reset 0 _ refl refl refl (leads empty))
+request-begins (setParameters flags) = single 4 0x12 100 _ _ _ (a-kind refl refl refl) refl (omega arith) (reads (λ _ _. refl) (λ _. refl) (λ _. empty))
+request-begins (rfConfiguration item bytes) = single-limited 4 0x32 100 (item ∷ bytes) _ _ (a-kind refl refl refl) refl (reads (λ _ _. refl) (λ _. refl) (λ _. empty))
+request-begins rfFieldOff = single 4 0x32 100 _ _ _ (a-kind refl refl refl) refl (omega arith) (reads (λ _ _. refl) (λ _. refl) (λ _. empty))
+request-begins (readRegister addresses) = begins-asserted (registers 2 addresses) (λ h. single 5 0x06 250 addresses _ _ (a-kind refl refl refl) refl (few-words addresses h) (reads (λ _ _. refl) (λ _. refl) (answers 0)))
+request-begins (writeRegister values) = begins-asserted (registers 3 values) (λ h. single 6 0x08 250 values _ _ (a-kind refl refl refl) refl (few-triples values h) (reads (λ _ _. refl) (λ _. refl) judged-write))
+request-begins (readSingleRegister address) = single 7 0x06 250 _ _ _ (a-kind refl refl refl) refl (omega arith) (reads (λ _ _. refl) (λ _. refl) judged-first)
+request-begins (writeSingleRegister address value) = single 6 0x08 250 _ _ _ (a-kind refl refl refl) refl (omega arith) (reads (λ _ _. refl) (λ _. refl) judged-write)
+request-begins (inListPassiveTarget maxTg bitrate bytes) = single-limited 8 0x4A 1000 (maxTg ∷ bitrate ∷ bytes) _ _ (a-kind refl refl refl) refl (reads (λ _ _. refl) (λ _. refl) judged-list)
+request-begins (inDataExchange bytes ms) = single-limited 9 0x40 ms (0x01 ∷ bytes) _ _ (a-kind refl refl refl) refl (reads (λ _ _. refl) (λ _. refl) judged-exchange)
+request-begins (inCommunicateThru bytes ms) = single-limited 10 0x42 ms bytes _ _ (a-kind refl refl refl) refl (reads (λ _ _. refl) (λ _. refl) judged-thru)
+request-begins (inJumpForDep active br passive nfcid3 gi) = single-limited 11 0x56 3000 (jumpData (activeByte active) br passive nfcid3 gi) _ _ (a-kind refl refl refl) refl (reads (λ _ _. refl) (λ _. refl) judged-jump)
 request-begins (tgInitTarget mode mifare felica nfcid3t gt ms) =
-    begins-asserted (initFits mode mifare felica nfcid3t)
-    (single-limited 5 0x8C ms (initData mode mifare felica nfcid3t gt) _ (a-kind refl refl refl) refl (λ _ _. refl) (λ _. refl) (answers 0))
-request-begins (tgSetGeneralBytes gb) = single-limited 12 0x92 100 gb _ (a-kind refl refl refl) refl (λ _ _. refl) (λ _. refl) (λ bs. by-status bs empty)
-request-begins (tgGetInitiatorCommand ms) = single 13 0x88 ms _ _ (a-kind refl refl refl) refl (λ _ _. refl) (λ _. refl) judged-initiator
-request-begins (tgResponseToInitiator bytes) = single-limited 12 0x90 1000 bytes _ (a-kind refl refl refl) refl (λ _ _. refl) (λ _. refl) (λ bs. by-status bs empty)
-request-begins tgGetTargetStatus = single 14 0x8A 100 _ _ (a-kind refl refl refl) refl (λ _ _. refl) (λ _. refl) judged-target
+    begins-asserted (initFits mode mifare felica nfcid3t) (λ _. single-limited 5 0x8C ms (initData mode mifare felica nfcid3t gt) _ _ (a-kind refl refl refl) refl (reads (λ _ _. refl) (λ _. refl) (answers 0)))
+request-begins (tgSetGeneralBytes gb) = single-limited 12 0x92 100 gb _ _ (a-kind refl refl refl) refl (reads (λ _ _. refl) (λ _. refl) (λ bs. by-status bs empty))
+request-begins (tgGetInitiatorCommand ms) = single 13 0x88 ms _ _ _ (a-kind refl refl refl) refl (omega arith) (reads (λ _ _. refl) (λ _. refl) judged-initiator)
+request-begins (tgResponseToInitiator bytes) = single-limited 12 0x90 1000 bytes _ _ (a-kind refl refl refl) refl (reads (λ _ _. refl) (λ _. refl) (λ bs. by-status bs empty))
+request-begins tgGetTargetStatus = single 14 0x8A 100 _ _ _ (a-kind refl refl refl) refl (omega arith) (reads (λ _ _. refl) (λ _. refl) judged-target)
 
 -- ---- a discovery, or transceive
 
-by-code : (takes : Bitrate → Option ℕ) (text : List ℕ) (f : ℕ → Start) (g : ℕ → Search) → ((code : ℕ) → Starting (f code) (g code))
+by-code : (takes : Bitrate → Option ℕ) (text : List ℕ) (f : ℕ → Start) (g : ℕ → stages.Start) → ((code : ℕ) → Starting (f code) (g code))
     → Starting (bitrateStart (choiceOf text) (λ b. codeStart (takes b) f)) (codeFor takes text g)
 unfolding codeFor
 by-code takes text f g h = go (choiceOf text)
@@ -122,59 +129,55 @@ by-code takes text f g h = go (choiceOf text)
     go (chosen b) = on (takes b)
     go (noCode e) = refusedNow BadBitrate
 
-typeA-begins : (uid : List ℕ) (code : ℕ) → Starting (limitedStart (1 ∷ code ∷ cascaded uid) (typeAScript code uid)) (typeASearch uid code)
-unfolding typeASearch limited isResetOf pick
-typeA-begins uid code = go (ltb 512 (length (1 ∷ code ∷ cascaded uid)))
+typeA-begins : (uid : List ℕ) (code : ℕ) → Starting (limitedStart (1 ∷ code ∷ cascaded uid) (typeAScript code uid)) (typeAFirst uid code)
+unfolding typeAFirst stagedLimited pick
+typeA-begins uid code = go (ltb 512 (length (1 ∷ code ∷ cascaded uid))) refl
   where
-    go : (t : Bool) → Starting (cond t (refusesStart OverLong) (starts (typeAScript code uid))) (starting (pick t (refuses OverLong) (sends 17 (cmd 0x4A 1000 (1 ∷ code ∷ cascaded uid)))) [])
-    go true = refusedNow OverLong
-    go false = first 17 0x4A 1000 _ [] _ (a-kind refl refl refl) refl refl (typeA-0 [])
+    go : (t : Bool) → ltb 512 (length (1 ∷ code ∷ cascaded uid)) ≡ t
+        → Starting (cond t (refusesStart OverLong) (starts (typeAScript code uid))) (pick t (refuses OverLong) (staged 17 (1 ∷ code ∷ cascaded uid)))
+    go true e = refusedNow OverLong
+    go false e = leading 17 _ _ (a-kind refl refl refl) (ltb-false 512 (length (1 ∷ code ∷ cascaded uid)) e) (typeA-leads code uid)
 
-jump-short : (code : ℕ) (req : List ℕ) → length req ≤ 64 → leb (length (jumpData 1 code [] (take 10 (drop 2 req)) (drop 16 req))) 512 ≡ true
-jump-short code req h =
-    le-leb (length (jumpData 1 code [] (take 10 (drop 2 req)) (drop 16 req))) 512
-    (omega (arith, length-append (take 10 (drop 2 req)) (drop 16 req), length-take 10 (drop 2 req), length-drop 16 req))
-
-dep-begins : (req : List ℕ) → length req ≤ 64 → (code : ℕ) → Starting (starts (depScript code req)) (depSearch req code)
-unfolding depSearch isResetOf pick
-dep-begins req h code =
-    first 20 0x32 100 _ (jumpData 1 code [] (take 10 (drop 2 req)) (drop 16 req)) _ (a-kind refl refl refl) refl (jump-short code req h) (dep-0 code (take 10 (drop 2 req)) (drop 16 req))
+dep-begins : (req : List ℕ) → length req ≤ 64 → (code : ℕ) → Starting (starts (depScript code req)) (depFirst req code)
+unfolding depFirst
+dep-begins req h code = leading 20 _ _ (a-kind refl refl refl) (jump-few req code h) (dep-leads code req)
 
 transceive-begins : (rate : Bitrate) (selRes : List ℕ) (ridRes : Bool) (bytes : List ℕ) (ms : ℕ)
-    → Starting (transceiveStart rate selRes ridRes bytes ms) (transceiveSearch rate selRes ridRes bytes ms)
-unfolding transceiveSearch judgeOf decidedOf failedOf isResetOf pick
+    → Starting (transceiveStart rate selRes ridRes bytes ms) (pick ridRes (type1First bytes ms) (thruFirst rate selRes bytes ms))
+unfolding type1First thruFirst answerOf decidedOf failedOf isResetOf pick
 transceive-begins rate selRes true bytes ms = go (isSendable bytes)
   where
-    go : (t : Bool) → Starting (cond t (limitedStart (0x01 ∷ bytes) (transceiveType1 bytes ms)) (refusesStart NotSendable)) (pick t (starting (limited 16 (cmd 0x40 ms (0x01 ∷ bytes))) []) (refusing NotSendable))
-    go true = single-limited 16 0x40 ms (0x01 ∷ bytes) _ (a-kind refl refl refl) refl (λ _ _. refl) (λ _. refl) judged-type1
+    go : (t : Bool) → Starting (cond t (limitedStart (0x01 ∷ bytes) (transceiveType1 bytes ms)) (refusesStart NotSendable)) (pick t (limited 16 (cmd 0x40 ms (0x01 ∷ bytes))) (refuses NotSendable))
+    go true = single-limited 16 0x40 ms (0x01 ∷ bytes) _ _ (a-kind refl refl refl) refl (reads (λ _ _. refl) (λ _. refl) judged-type1)
     go false = refusedNow NotSendable
 transceive-begins rate selRes false bytes ms = go (is106A rate && type2SelRes selRes)
   where
-    go : (t : Bool) → Starting (limitedStart bytes (ifElse t (transceiveType2 bytes ms) (transceiveThru bytes ms))) (starting (limited (pick t 15 10) (cmd 0x42 ms bytes)) [])
-    go true = single-limited 15 0x42 ms bytes _ (a-kind refl refl refl) refl (λ _ _. refl) (λ _. refl) judged-type2
-    go false = single-limited 10 0x42 ms bytes _ (a-kind refl refl refl) refl (λ _ _. refl) (λ _. refl) judged-thru
+    go : (t : Bool) → Starting (limitedStart bytes (ifElse t (transceiveType2 bytes ms) (transceiveThru bytes ms))) (limited (pick t 15 10) (cmd 0x42 ms bytes))
+    go true = single-limited 15 0x42 ms bytes _ _ (a-kind refl refl refl) refl (reads (λ _ _. refl) (λ _. refl) judged-type2)
+    go false = single-limited 10 0x42 ms bytes _ _ (a-kind refl refl refl) refl (reads (λ _ _. refl) (λ _. refl) judged-thru)
 
 -- one line for each call
-device-begins : (d : DeviceCall) → Starting (deviceStart d) (searchOf d)
-unfolding searchOf typeBSearch typeFSearch isResetOf pick
+device-begins : (d : DeviceCall) → Starting (deviceStart d) (deviceFirst d)
+unfolding deviceFirst typeBFirst typeFFirst depAsserted transceiveFirst
 device-begins (detectTypeA text uid) = by-code typeACode text _ _ (typeA-begins uid)
 device-begins (detectTypeB text sensbReq) =
-    by-code typeBCode text _ _ (λ code. first 18 0x4A 1000 _ _ _ (a-kind refl refl refl) refl refl (typeB-0 (getD sensbReq 0 0)))
+    by-code typeBCode text _ _ (λ code. leading 18 _ _ (a-kind refl refl refl) (omega arith) (typeB-leads code (getD sensbReq 0 0)))
 device-begins (detectTypeF text systemCode requestCode timeSlots) =
     by-code typeFCode text _ _
-    (λ code. first 19 0x06 250 _ _ _ (a-kind refl refl refl) refl refl (typeF-0 code (sensfReq systemCode requestCode timeSlots)))
-device-begins (detectDep text atrReq) = go (both (leb 16 (length atrReq)) (leb (length atrReq) 64)) refl
-  where
-    go : (t : Bool) → both (leb 16 (length atrReq)) (leb (length atrReq) 64) ≡ t
-        → Starting (cond t (bitrateStart (choiceOf text) (λ b. codeStart (depCode b) (λ code. starts (depScript code atrReq)))) (refusesStart BadArgument)) (pick t (codeFor depCode text (depSearch atrReq)) (refusing BadArgument))
-    go true h = by-code depCode text _ _ (dep-begins atrReq (leb-true (length atrReq) 64 (both-right (leb 16 (length atrReq)) _ h)))
-    go false h = refusedNow BadArgument
+    (λ code. leading 19 _ _ (a-kind refl refl refl) (omega arith) (typeF-leads code (sensfReq systemCode requestCode timeSlots)))
+device-begins (detectDep text atrReq) =
+    begins-asserted (both (leb 16 (length atrReq)) (leb (length atrReq) 64))
+    (λ h. by-code depCode text _ _ (dep-begins atrReq (leb-true (length atrReq) 64 (both-right (leb 16 (length atrReq)) _ h))))
 device-begins (transceive text selRes ridRes bytes ms) = go (choiceOf text)
   where
-    go : (c : Choice) → Starting (bitrateStart c (λ rate. transceiveStart rate selRes ridRes bytes (clockOf ms))) (withBitrate c (λ rate. transceiveSearch rate selRes ridRes bytes (clockOf ms)))
+    go : (c : Choice)
+        → Starting (bitrateStart c (λ rate. transceiveStart rate selRes ridRes bytes (clockOf ms)))
+        (withBitrate c (λ rate. pick ridRes (type1First bytes (clockOf ms)) (thruFirst rate selRes bytes (clockOf ms))))
     go (chosen rate) = transceive-begins rate selRes ridRes bytes (clockOf ms)
     go (noCode e) = refusedNow BadBitrate
 
-pub reader-begins : (q : ReaderCall) → Starting (readerStart q) (launchFor q)
+pub reader-begins : (q : ReaderCall) → Starting (readerStart q) (startFor q)
+unfolding startFor
 reader-begins (request r) = request-begins r
 reader-begins (device d) = device-begins d
+reader-begins unknown = refusedNow BadArgument

@@ -6,7 +6,9 @@ use lib.Dec.{eqb}
 use Rattle.errors.specs.Choice.{pick}
 use Rattle.errors.specs.declared.Fault.{Fault}
 use Rattle.stages.specs.Stages.{Command, Decision, ends, refuse}
-use Rattle.chipset.specs.Verdicts.{judgeOf}
+use Rattle.chipset.specs.Commands.{resetCommand}
+use Rattle.chipset.specs.Responses.{answerOf}
+use Rattle.device.specs.Transceive.{type2Answer, type1Answer}
 use Rattle.device.specs.Opening.{openingCommand, isResetStage, openingDecision}
 use Rattle.discovery.specs.Decisions.{typeACommand, typeADecision, typeAFailure, typeBCommand, typeBDecision, typeBFailure, typeFCommand, typeFDecision, depCommand, depDecision, depFailure}
 
@@ -14,22 +16,25 @@ use Rattle.discovery.specs.Decisions.{typeACommand, typeADecision, typeAFailure
 unfoldable pub commandOf : ℕ → ℕ → List ℕ → Command
 commandOf kind stage pending =
     pick (eqb kind 1) (openingCommand stage pending)
+    (pick (eqb kind 3) (resetCommand pending)
     (pick (eqb kind 17) (typeACommand stage pending)
     (pick (eqb kind 18) (typeBCommand stage pending)
-    (pick (eqb kind 19) (typeFCommand stage pending) (depCommand stage pending))))
+    (pick (eqb kind 19) (typeFCommand stage pending) (depCommand stage pending)))))
 
 -- the command of a stage is a reset's
 unfoldable pub isResetOf : ℕ → ℕ → Bool
 isResetOf kind stage = pick (eqb kind 1) (isResetStage stage) (eqb kind 3)
 
--- what follows its response; `found` are the found bytes
-unfoldable pub decidedOf : ℕ → ℕ → List ℕ → List ℕ → Decision
-decidedOf kind stage found bs =
+-- what follows its response; `pending` is the pending command, and `found` are the found bytes
+unfoldable pub decidedOf : ℕ → ℕ → List ℕ → List ℕ → List ℕ → Decision
+decidedOf kind stage pending found bs =
     pick (eqb kind 1) (openingDecision stage found bs)
+    (pick (eqb kind 15) (ends (type2Answer bs))
+    (pick (eqb kind 16) (ends (type1Answer bs))
     (pick (eqb kind 17) (typeADecision stage found bs)
-    (pick (eqb kind 18) (typeBDecision stage bs)
+    (pick (eqb kind 18) (typeBDecision stage pending bs)
     (pick (eqb kind 19) (typeFDecision stage bs)
-    (pick (eqb kind 20) (depDecision stage found bs) (ends (judgeOf kind bs))))))
+    (pick (eqb kind 20) (depDecision stage found bs) (ends (answerOf kind bs))))))))
 
 -- what follows its failure
 unfoldable pub failedOf : ℕ → ℕ → Fault → Decision

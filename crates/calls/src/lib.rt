@@ -1,7 +1,13 @@
-// The calls by their kinds: the command of each stage, and what follows each reply.
+// The calls by their kinds: the command of each stage, and what follows each reply. How each starts, by its number, is in start.rt.
+pub mod start;
+
 use chipset::RESET_MODE;
+use chipset::general;
 use chipset::response;
 use device::OPENING;
+use device::transceive;
+use device::transceive::TYPE_1;
+use device::transceive::TYPE_2;
 use discovery::DEP;
 use discovery::TYPE_A;
 use discovery::TYPE_B;
@@ -23,6 +29,7 @@ pub fn command(kind: u8, stage: u8) -> Command
 {
     match kind {
         OPENING => device::command(stage),
+        RESET_MODE => general::reset_mode_command(),
         TYPE_A => type_a::command(stage),
         TYPE_B => type_b::command(stage),
         TYPE_F => type_f::command(stage),
@@ -41,14 +48,17 @@ pub fn is_reset(kind: u8, stage: u8) -> bool
     }
 }
 
-// What follows the response to a stage's command, or its reset; `found` are the bytes that were kept of an earlier one.
-pub fn decided(kind: u8, stage: u8, found: &[u8], response: &[u8]) -> Decision
-    ensures { λ r. ⌜ Decides (now (found .entry)) (now (response .entry)) r (decidedOf kind stage (now (found .entry)) (now (response .entry))) ⌝ }
+// What follows the response to a stage's command, or its reset; `pending` is the pending command, and `found` are the bytes that were
+// kept of an earlier response.
+pub fn decided(kind: u8, stage: u8, pending: &[u8], found: &[u8], response: &[u8]) -> Decision
+    ensures { λ r. ⌜ Decides (now (found .entry)) (now (response .entry)) r (decidedOf kind stage (now (pending .entry)) (now (found .entry)) (now (response .entry))) ⌝ }
 {
     match kind {
         OPENING => device::decided(stage, found, response),
+        TYPE_2 => transceive::type2_response(response),
+        TYPE_1 => transceive::type1_response(response),
         TYPE_A => type_a::decided(stage, found, response),
-        TYPE_B => type_b::decided(stage, response),
+        TYPE_B => type_b::decided(stage, pending, response),
         TYPE_F => type_f::decided(stage, response),
         DEP => dep::decided(stage, found, response),
         _ => response::decided(kind, response),

@@ -1,5 +1,4 @@
 -- Definitions of the commands, and of what their responses come to; laws of them.
-pub mod Launches
-pub mod Verdicts
-pub mod Starts
+pub mod Commands
+pub mod Responses
 pub mod Laws

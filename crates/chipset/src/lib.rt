@@ -1,9 +1,12 @@
-// The public commands of chipset.rs: the command that a call sends, and what its response comes to.
+// The public commands of chipset.rs: the data that each sends, and what its response comes to.
 pub mod cmd;
-pub mod command;
+pub mod general;
+pub mod initiator;
+pub mod registers;
 pub mod response;
+pub mod target;
 
-// The rules by which responses are judged. Rule 3 is reset_mode's, whose response is not looked at.
+// The kinds of a call of one command, by what its response comes to. That of reset_mode is not looked at.
 pub const VERSION: u8 = 2;
 
 pub const RESET_MODE: u8 = 3;
@@ -29,8 +32,3 @@ pub const STATUS: u8 = 12;
 pub const INITIATOR_COMMAND: u8 = 13;
 
 pub const TARGET_STATUS: u8 = 14;
-
-// transceive's, of a Type 2 and of a Type 1 target.
-pub const TYPE_2: u8 = 15;
-
-pub const TYPE_1: u8 = 16;

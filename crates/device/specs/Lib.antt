@@ -1,3 +1,4 @@
--- Definitions of the opening and of its answer.
+-- Definitions of the opening, of its answer, and of transceive.
 pub mod Names
 pub mod Opening
+pub mod Transceive

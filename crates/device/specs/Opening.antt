@@ -6,7 +6,7 @@ use lib.Dec.{eqb, ltb}
 use lib.ListN.{getD}
 use Rattle.errors.specs.Choice.{pick}
 use Rattle.stages.specs.Stages.{Command, cmd, Decision, send, keep, withLength}
-use Rattle.chipset.specs.Verdicts.{foundWritten}
+use Rattle.chipset.specs.Responses.{foundWritten}
 use Rattle.device.specs.Names.{openedBytes}
 
 -- Device::new

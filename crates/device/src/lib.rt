@@ -1,6 +1,8 @@
-// The opening (`Device::new` of device.rs): the command of each stage, and what follows each reply.
+// The opening (`Device::new` of device.rs): the command of each stage, and what follows each reply. transceive has a file of its own.
+pub mod transceive;
+
 use chipset::cmd;
-use chipset::response;
+use chipset::registers;
 use errors::Fault;
 use stages::Command;
 use stages::Decision;
@@ -228,6 +230,6 @@ pub fn decided(stage: u8, found: &[u8], response: &[u8]) -> Decision
     if stage < 9 {
         Decision::Send(stage + 1)
     } else {
-        response::found_written(found, response)
+        registers::found_written(found, response)
     }
 }

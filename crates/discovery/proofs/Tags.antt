@@ -59,16 +59,6 @@ no-dep B424B h = refl
 no-dep B848B h = refl
 no-dep Other h = refl
 
-pub not-106a : (b : Bitrate) (t : Bool) → OneOf (1 ∷ 2 ∷ 3 ∷ 4 ∷ 5 ∷ 6 ∷ 7 ∷ []) (tagOf the-type b) → false ≡ (is106A b && t)
-not-106a B106A t h = absurd (miss (1 ∷ 2 ∷ 3 ∷ 4 ∷ 5 ∷ 6 ∷ 7 ∷ []) 0 tt h)
-not-106a B212F t h = refl
-not-106a B424F t h = refl
-not-106a B106B t h = refl
-not-106a B212B t h = refl
-not-106a B424B t h = refl
-not-106a B848B t h = refl
-not-106a Other t h = refl
-
 -- the status bytes 01 and 0A
 pub no-partner-told : (x : ℕ) → OneOf (1 ∷ 10 ∷ []) x → (eqb x 1 || eqb x 10) ≡ true
 no-partner-told x (inl e) = rw e
@@ -76,28 +66,6 @@ no-partner-told x (inr e) = rw e
 
 pub partner-told : (x : ℕ) → (OneOf (1 ∷ 10 ∷ []) x → ⊥) → (eqb x 1 || eqb x 10) ≡ false
 partner-told x h = rw (ne-eqb x 1 (λ e. h (inl e)), ne-eqb x 10 (λ e. h (inr e)))
-
--- what Type 1 sends
-pub none-sendable : (l : List ℕ) → length l ≡ 0 → false ≡ isSendable l
-none-sendable [] h = refl
-none-sendable (x ∷ l) h = absurd (omega arith)
-
-pub low-sendable : (l : List ℕ) → (length l ≡ 0 → ⊥) → getD l 0 0 < 2 → true ≡ isSendable l
-low-sendable [] n h = absurd (n refl)
-low-sendable (zero ∷ l) n h = refl
-low-sendable (suc zero ∷ l) n h = refl
-low-sendable (suc (suc x) ∷ l) n h = absurd (omega arith)
-
-pub key-sendable : (l : List ℕ) → (length l ≡ 0 → ⊥) → OneOf (0x1A ∷ 0x53 ∷ 0x72 ∷ []) (getD l 0 0) → true ≡ isSendable l
-key-sendable [] n h = absurd (n refl)
-key-sendable (x ∷ l) n (inl e) = rw e
-key-sendable (x ∷ l) n (inr (inl e)) = rw e
-key-sendable (x ∷ l) n (inr (inr e)) = rw e
-
-pub other-sendable : (l : List ℕ) → (length l ≡ 0 → ⊥) → 2 ≤ getD l 0 0 → (OneOf (0x1A ∷ 0x53 ∷ 0x72 ∷ []) (getD l 0 0) → ⊥) → false ≡ isSendable l
-other-sendable [] n g h = absurd (n refl)
-other-sendable (x ∷ l) n g h =
-    rw (ne-eqb x 0 (λ e. omega arith), ne-eqb x 1 (λ e. omega arith), ne-eqb x 0x1A (λ e. h (inl e)), ne-eqb x 0x53 (λ e. h (inr (inl e))), ne-eqb x 0x72 (λ e. h (inr (inr e))))
 
 -- no status
 pub not-status : {A : Type 0} (f : ℕ → A) (a : A) (fault : Fault) → OneOf (0 ∷ 1 ∷ 2 ∷ 3 ∷ 4 ∷ 5 ∷ 6 ∷ 7 ∷ 9 ∷ 10 ∷ 11 ∷ 12 ∷ []) (tagOf Rattle.errors.proofs.Fault.the-type fault)

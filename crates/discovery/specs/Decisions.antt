@@ -11,17 +11,18 @@ use Rattle.errors.specs.declared.Fault.the-variants.{Status, NoCard}
 use Rattle.protocol.specs.Scripts.{done, type1, nothing}
 use Rattle.protocol.specs.Chipset.{statusByte, maskedStatus}
 use Rattle.protocol.specs.Discovery.{isType2}
-use Rattle.chipset.specs.Verdicts.{foundWritten}
+use Rattle.chipset.specs.Responses.{foundWritten}
 use Rattle.stages.specs.Stages.{Command, cmd, Decision, send, keep, put, pause, ends, refuse, withLength}
 
 -- ---- Type A: 0 list, 1 FIFO, 2 list of Type 1, 3 RID, 4 RX mode read, 5 RX mode written
 
 unfoldable pub typeACommand : ℕ → List ℕ → Command
 typeACommand stage pending =
-    pick (eqb stage 1) (cmd 0x06 250 (0x63 ∷ 0x39 ∷ []))
+    pick (eqb stage 0) (cmd 0x4A 1000 pending)
+    (pick (eqb stage 1) (cmd 0x06 250 (0x63 ∷ 0x39 ∷ []))
     (pick (eqb stage 2) (cmd 0x4A 1000 (0x01 ∷ 0x04 ∷ []))
     (pick (eqb stage 3) (cmd 0x40 100 (0x01 ∷ 0x78 ∷ 0x00 ∷ 0x00 ∷ 0x00 ∷ 0x00 ∷ 0x00 ∷ 0x00 ∷ []))
-    (pick (eqb stage 4) (cmd 0x06 250 (0x63 ∷ 0x03 ∷ [])) (cmd 0x08 250 pending))))
+    (pick (eqb stage 4) (cmd 0x06 250 (0x63 ∷ 0x03 ∷ [])) (cmd 0x08 250 pending)))))
 
 -- SENS_RES in the other order, SEL_RES, SDD_RES
 abbrev pub cardBytes : List ℕ → List ℕ
@@ -70,22 +71,24 @@ typeAFailure stage fault = pick (eqb stage 1) (send 2) (pick (eqb stage 3) (ridF
 -- ---- Type B: 0 list, 1 deselect, 2 wake-up
 
 unfoldable pub typeBCommand : ℕ → List ℕ → Command
-typeBCommand stage pending = pick (eqb stage 1) (cmd 0x42 500 (0xC2 ∷ [])) (cmd 0x42 500 pending)
+typeBCommand stage pending = pick (eqb stage 0) (cmd 0x4A 1000 pending) (pick (eqb stage 1) (cmd 0x42 500 (0xC2 ∷ [])) (cmd 0x42 500 pending))
 
--- a tag that is capable of ISO-DEP, by its protocol byte, is deselected
-unfoldable pub isoDep : ℕ → Decision
-isoDep protocol = pick (eqb (protocol % 2) 1) (pick (eqb (protocol / 8 % 2) 0) (send 1) (ends nothing)) (ends nothing)
+-- a tag that is capable of ISO-DEP, by its protocol byte, is deselected; the wake-up is put by
+unfoldable pub isoDep : ℕ → ℕ → Decision
+isoDep protocol afi =
+    pick (eqb (protocol % 2) 1) (pick (eqb (protocol / 8 % 2) 0) (put 1 (0x05 ∷ afi ∷ 0x08 ∷ [])) (ends nothing)) (ends nothing)
 
-unfoldable pub listedB : List ℕ → Decision
-listedB bs =
+-- the pending command is the list's, which has the AFI behind 1 and the bitrate's code
+unfoldable pub listedB : List ℕ → List ℕ → Decision
+listedB pending bs =
     pick (eqb (getD bs 0 0) 0) (ends nothing)
-    (withLength bs 2 (pick (ltb (length bs) 13) (ends nothing) (isoDep (getD bs 12 0))))
+    (withLength bs 2 (pick (ltb (length bs) 13) (ends nothing) (isoDep (getD bs 12 0) (getD pending 2 0))))
 
 unfoldable pub wokenUp : List ℕ → Decision
 wokenUp bs = pick (eqb (statusByte bs) 0) (ends (done (drop 1 bs))) (ends nothing)
 
-unfoldable pub typeBDecision : ℕ → List ℕ → Decision
-typeBDecision stage bs = pick (eqb stage 0) (listedB bs) (pick (eqb stage 1) (send 2) (wokenUp bs))
+unfoldable pub typeBDecision : ℕ → List ℕ → List ℕ → Decision
+typeBDecision stage pending bs = pick (eqb stage 0) (listedB pending bs) (pick (eqb stage 1) (send 2) (wokenUp bs))
 
 unfoldable pub typeBFailure : ℕ → Fault → Decision
 typeBFailure stage fault = pick (eqb stage 1) (send 2) (pick (eqb stage 2) (ends nothing) (refuse fault))
@@ -93,7 +96,8 @@ typeBFailure stage fault = pick (eqb stage 1) (send 2) (pick (eqb stage 2) (ends
 -- ---- Type F: 0 field, 1 RF on, then the field pause, 2 poll
 
 unfoldable pub typeFCommand : ℕ → List ℕ → Command
-typeFCommand stage pending = pick (eqb stage 1) (cmd 0x32 100 (0x01 ∷ 0x01 ∷ [])) (cmd 0x4A 1000 pending)
+typeFCommand stage pending =
+    pick (eqb stage 0) (cmd 0x06 250 (0x63 ∷ 0x04 ∷ [])) (pick (eqb stage 1) (cmd 0x32 100 (0x01 ∷ 0x01 ∷ [])) (cmd 0x4A 1000 pending))
 
 unfoldable pub txControlRead : List ℕ → Decision
 txControlRead bs = withLength bs 1 (pick (eqb (getD bs 0 0 % 4) 0) (send 1) (send 2))
@@ -107,7 +111,9 @@ typeFDecision stage bs = pick (eqb stage 0) (txControlRead bs) (pick (eqb stage 
 -- ---- DEP: 0 time-outs, 1 jump, 2 MODE
 
 unfoldable pub depCommand : ℕ → List ℕ → Command
-depCommand stage pending = pick (eqb stage 1) (cmd 0x56 3000 pending) (cmd 0x08 250 (0x63 ∷ 0x01 ∷ 0x3B ∷ []))
+depCommand stage pending =
+    pick (eqb stage 0) (cmd 0x32 100 (0x02 ∷ 0x0B ∷ 0x0B ∷ 0x0A ∷ []))
+    (pick (eqb stage 1) (cmd 0x56 3000 pending) (cmd 0x08 250 (0x63 ∷ 0x01 ∷ 0x3B ∷ [])))
 
 unfoldable pub noPartner : ℕ → Decision
 noPartner status = pick (eqb status 0x01 || eqb status 0x0A) (ends nothing) (refuse (Status status))

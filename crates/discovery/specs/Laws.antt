@@ -17,7 +17,7 @@ use Rattle.stages.specs.Laws.{decides-refused}
 use Rattle.stages.specs.declared.Decision.{Decision}
 use Rattle.stages.specs.declared.Decision.the-variants.{Refused}
 use Rattle.stages.specs.declared.Layout.{Layout}
-use Rattle.discovery.specs.Decisions.{sensRes, noPartner}
+use Rattle.discovery.specs.Decisions.{sensRes, isoDep, noPartner}
 
 -- two bytes of a list, and nothing of it behind them
 pub lays-sens-res : (f l : List ℕ) (r : Layout) → 4 ≤ length l → Lays f l r (getD l 3 0 ∷ getD l 2 0 ∷ drop (length l) l) → Lays f l r (sensRes l)
@@ -37,6 +37,10 @@ lays-rid f b r k =
 -- a status that a call answered
 pub decides-partner : (f b : List ℕ) (r : Decision) (s x : ℕ) → s ≡ x → Decides f b r (noPartner s) → Decides f b r (noPartner x)
 decides-partner f b r s x e d = rw (← e) d
+
+-- an AFI that a call answered
+pub same-afi : (f b : List ℕ) (r : Decision) (p x y : ℕ) → x ≡ y → Decides f b r (isoDep p x) → Decides f b r (isoDep p y)
+same-afi f b r p x y e d = rw (← e) d
 
 -- under 20 bytes, and so perhaps under 2
 pub short-either : (f b l : List ℕ) (d : stages.Decision) → length l < 20

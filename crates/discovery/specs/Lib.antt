@@ -1,6 +1,5 @@
--- Definitions of the device calls' first commands and of what follows their replies; laws of them.
-pub mod Searches
+-- Definitions of how the discoveries start and of what follows their replies; laws of them.
 pub mod Decisions
-pub mod Starts
+pub mod Firsts
 pub mod Laws
-pub mod SearchLaws
+pub mod FirstLaws

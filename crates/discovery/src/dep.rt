@@ -1,22 +1,80 @@
 // detect_dep: the command of each stage, and what follows each reply.
+use super::DEP;
+use super::rates::Supported;
+use super::rates::dep_code;
 use chipset::cmd;
-use chipset::response;
+use chipset::registers;
 use errors::Fault;
+use errors::Refusal;
 use stages::Command;
 use stages::Decision;
 use stages::Head;
 use stages::Layout;
 use stages::byte_or;
+use stages::put::put_all;
+use stages::start;
+use stages::start::Start;
+use targets::Coded;
 ghost use mathlib.Core.List.{List};
 ghost use Prim.Native.Nat.{ℕ};
 ghost use Rattle.stages.specs.Decided.{Decides, Always, Commands};
 ghost use Rattle.discovery.specs.Decisions.{depCommand, noPartner, jumpedTo, depDecision, jumpFailure, depFailure};
+ghost use Rattle.stages.specs.Starts.{Starts};
+ghost use mathlib.Core.Path.{_≡_};
+ghost use mathlib.Core.List.{[]};
+ghost use Prim.Native.Nat.{_+_, _*_, _≤_};
+ghost use lib.ListN.{length, take, drop};
+ghost use Rattle.protocol.specs.Chipset.{bit};
+ghost use Rattle.discovery.specs.Firsts.{depFirst, depAsserted};
 
-// The command of a stage; that of stage 0 is the call's first.
+// What InJumpForDEP is given: NFCID3, and the general bytes where ATR_REQ has some.
+fn given(atr_req: &[u8]) -> u8
+    requires { ⌜ 16 ≤ length (now «atr_req») ⌝ }
+    ensures { λ r. ⌜ r ≡ 2 * bit (take 10 (drop 2 (now («atr_req» .entry)))) + 4 * bit (drop 16 (now («atr_req» .entry))) ⌝ }
+{
+    if atr_req.len() == 16 { 2 } else { 6 }
+}
+
+// The time-outs are set first; the jump is put by.
+fn jump(code: u8, atr_req: &[u8], command: &mut [u8; 512]) -> Start
+    requires { ⌜ (16 ≤ length (now «atr_req»)) × (length (now «atr_req») ≤ 64) ⌝ }
+    ensures { λ r. ⌜ Starts r (now (command .entry)) (now (command .exit)) (depFirst (now («atr_req» .entry)) code) ⌝ }
+{
+    let head = [1, code, given(atr_req)];
+    let n = put_all(&head, &atr_req[2..12], &atr_req[16..], &[], &[], command);
+    start::staged(DEP, n)
+}
+
+pub fn detect_dep(bitrate: &[u8], atr_req: &[u8], command: &mut [u8; 512]) -> Start
+    ensures { λ r. ⌜ Starts r (now (command .entry)) (now (command .exit)) (depAsserted (now (bitrate .entry)) (now («atr_req» .entry))) ⌝ }
+{
+    if atr_req.len() < 16 {
+        return start::refused(Refusal::BadArgument);
+    }
+    if 64 < atr_req.len() {
+        return start::refused(Refusal::BadArgument);
+    }
+    let Coded::Code(rate) = targets::code(bitrate) else {
+        return start::refused(Refusal::Bitrate);
+    };
+    let Supported::Code(code) = dep_code(rate) else {
+        return start::refused(Refusal::Bitrate);
+    };
+    jump(code, atr_req, command)
+}
+
+// The command of a stage.
 pub fn command(stage: u8) -> Command
     ensures { λ r. ⌜ Commands r (depCommand stage) ⌝ }
 {
     match stage {
+        0 => Command {
+            code: cmd::RF_CONFIGURATION,
+            clock: 100,
+            is_pending: false,
+            bytes: [0x02, 0x0B, 0x0B, 0x0A, 0, 0, 0, 0, 0, 0, 0, 0],
+            len: 4,
+        },
         1 => Command {
             code: cmd::IN_JUMP_FOR_DEP,
             clock: 3000,
@@ -67,7 +125,7 @@ pub fn decided(stage: u8, found: &[u8], response: &[u8]) -> Decision
     match stage {
         0 => Decision::Send(1),
         1 => jumped(response),
-        _ => response::found_written(found, response),
+        _ => registers::found_written(found, response),
     }
 }
 

@@ -1,6 +1,6 @@
-// Discovery and transceive (discovery.rs, device.rs): the first command of a call, and what follows each reply.
+// The discoveries (discovery.rs): how each starts, the command of each stage, and what follows each reply.
 pub mod dep;
-pub mod search;
+mod rates;
 pub mod type_a;
 pub mod type_b;
 pub mod type_f;

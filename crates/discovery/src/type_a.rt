@@ -1,24 +1,72 @@
 // detect_type_a: the command of each stage, and what follows each reply.
+use super::TYPE_A;
+use super::rates::Supported;
+use super::rates::type_a_code;
 use chipset::cmd;
-use chipset::response;
+use chipset::registers;
 use errors::Fault;
+use errors::Refusal;
 use stages::Command;
 use stages::Decision;
 use stages::Head;
 use stages::Layout;
 use stages::byte_or;
+use stages::put::put_two;
+use stages::start;
+use stages::start::Start;
+use targets::Coded;
 ghost use mathlib.Core.List.{List};
 ghost use mathlib.Core.Path.{_≡_};
 ghost use Prim.Native.Nat.{ℕ, _≤_};
 ghost use lib.ListN.{length};
 ghost use Rattle.stages.specs.Decided.{Lays, Decides, Always, Commands};
 ghost use Rattle.discovery.specs.Decisions.{cardBytes, sensRes, typeACommand, listedA, fifoRead, listedType1, ridOf, rxModeRead, typeADecision, ridFailure, typeAFailure};
+ghost use Rattle.stages.specs.Starts.{Starts};
+ghost use Rattle.protocol.specs.Calls.{typeACode};
+ghost use Rattle.stages.specs.Bitrates.{codeFor};
+ghost use Rattle.discovery.specs.Firsts.{typeAFirst};
 
-// The command of a stage; that of stage 0 is the call's first.
+// A UID over 4 bytes gets 0x88 at 0; if then over 8, 0x88 at 4.
+fn list(code: u8, uid: &[u8], command: &mut [u8; 512]) -> Start
+    ensures { λ r. ⌜ Starts r (now (command .entry)) (now (command .exit)) (typeAFirst (now (uid .entry)) code) ⌝ }
+{
+    if uid.len() <= 4 {
+        let n = put_two(&[1, code], uid, command);
+        return start::staged(TYPE_A, n);
+    }
+    if uid.len() <= 7 {
+        let n = put_two(&[1, code, 0x88], uid, command);
+        return start::staged(TYPE_A, n);
+    }
+    let head = [1, code, 0x88, uid[0], uid[1], uid[2], 0x88];
+    let n = put_two(&head, &uid[3..], command);
+    start::staged(TYPE_A, n)
+}
+
+pub fn detect_type_a(bitrate: &[u8], uid: &[u8], command: &mut [u8; 512]) -> Start
+    ensures { λ r. ⌜ Starts r (now (command .entry)) (now (command .exit)) (codeFor typeACode (now (bitrate .entry)) (typeAFirst (now (uid .entry)))) ⌝ }
+{
+    let Coded::Code(rate) = targets::code(bitrate) else {
+        return start::refused(Refusal::Bitrate);
+    };
+    let Supported::Code(code) = type_a_code(rate) else {
+        return start::refused(Refusal::Bitrate);
+    };
+    list(code, uid, command)
+}
+
+// The command of a stage.
 pub fn command(stage: u8) -> Command
     ensures { λ r. ⌜ Commands r (typeACommand stage) ⌝ }
 {
     match stage {
+        0 => Command {
+            code: cmd::IN_LIST_PASSIVE_TARGET,
+            clock: 1000,
+            is_pending: true,
+            bytes: [0; 12],
+            len: 0,
+        },
         1 => Command {
             code: cmd::READ_REGISTER,
             clock: 250,
@@ -158,7 +206,7 @@ pub fn decided(stage: u8, found: &[u8], response: &[u8]) -> Decision
         2 => listed_type1(response),
         3 => rid(found, response),
         4 => rx_mode(response),
-        _ => response::found_written(found, response),
+        _ => registers::found_written(found, response),
     }
 }
 

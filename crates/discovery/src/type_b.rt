@@ -1,20 +1,54 @@
 // detect_type_b: the command of each stage, and what follows each reply.
+use super::TYPE_B;
+use super::rates::Supported;
+use super::rates::type_b_code;
 use chipset::cmd;
 use errors::Fault;
+use errors::Refusal;
 use stages::Command;
 use stages::Decision;
+use stages::Head;
 use stages::Layout;
 use stages::byte_or;
+use stages::put::put_two;
+use stages::start;
+use stages::start::Start;
+use targets::Coded;
 ghost use mathlib.Core.List.{List};
 ghost use Prim.Native.Nat.{ℕ};
+ghost use lib.ListN.{getD};
 ghost use Rattle.stages.specs.Decided.{Decides, Always, Commands};
 ghost use Rattle.discovery.specs.Decisions.{typeBCommand, isoDep, listedB, wokenUp, typeBDecision, typeBFailure};
+ghost use Rattle.stages.specs.Starts.{Starts};
+ghost use Rattle.protocol.specs.Calls.{typeBCode};
+ghost use Rattle.stages.specs.Bitrates.{codeFor};
+ghost use Rattle.discovery.specs.Firsts.{typeBFirst};
 
-// The command of a stage; that of stage 0 is the call's first.
+pub fn detect_type_b(bitrate: &[u8], sensb_req: &[u8], command: &mut [u8; 512]) -> Start
+    ensures { λ r. ⌜ Starts r (now (command .entry)) (now (command .exit)) (codeFor typeBCode (now (bitrate .entry)) (typeBFirst (getD (now («sensb_req» .entry)) 0 0))) ⌝ }
+{
+    let Coded::Code(rate) = targets::code(bitrate) else {
+        return start::refused(Refusal::Bitrate);
+    };
+    let Supported::Code(code) = type_b_code(rate) else {
+        return start::refused(Refusal::Bitrate);
+    };
+    let n = put_two(&[1, code, byte_or(sensb_req, 0, 0)], &[], command);
+    start::staged(TYPE_B, n)
+}
+
+// The command of a stage.
 pub fn command(stage: u8) -> Command
     ensures { λ r. ⌜ Commands r (typeBCommand stage) ⌝ }
 {
     match stage {
+        0 => Command {
+            code: cmd::IN_LIST_PASSIVE_TARGET,
+            clock: 1000,
+            is_pending: true,
+            bytes: [0; 12],
+            len: 0,
+        },
         1 => Command {
             code: cmd::IN_COMMUNICATE_THRU,
             clock: 500,
@@ -32,13 +66,13 @@ pub fn command(stage: u8) -> Command
     }
 }
 
-// A tag that is capable of ISO-DEP, by its protocol byte, is deselected.
-fn iso_dep(protocol: u8) -> Decision
-    ensures { λ r. ⌜ ((f b : List ℕ) → Decides f b r (isoDep protocol)) ⌝ }
+// A tag that is capable of ISO-DEP, by its protocol byte, is deselected; the wake-up is put by, with the AFI of the list.
+fn iso_dep(protocol: u8, afi: u8) -> Decision
+    ensures { λ r. ⌜ ((f b : List ℕ) → Decides f b r (isoDep protocol afi)) ⌝ }
 {
     if protocol % 2 == 1 {
         if protocol / 8 % 2 == 0 {
-            Decision::Send(1)
+            Decision::Put(1, Head(0x05, afi, 0x08))
         } else {
             Decision::Nothing
         }
@@ -48,8 +82,8 @@ fn iso_dep(protocol: u8) -> Decision
 }
 
 // detect_type_b: a target was listed, or none.
-fn listed_b(response: &[u8]) -> Decision
-    ensures { λ r. ⌜ ((f : List ℕ) → Decides f (now (response .entry)) r (listedB (now (response .entry)))) ⌝ }
+fn listed_b(pending: &[u8], response: &[u8]) -> Decision
+    ensures { λ r. ⌜ ((f : List ℕ) → Decides f (now (response .entry)) r (listedB (now (pending .entry)) (now (response .entry)))) ⌝ }
 {
     if byte_or(response, 0, 0) == 0 {
         return Decision::Nothing;
@@ -60,7 +94,7 @@ fn listed_b(response: &[u8]) -> Decision
     if response.len() < 13 {
         Decision::Nothing
     } else {
-        iso_dep(response[12])
+        iso_dep(response[12], byte_or(pending, 2, 0))
     }
 }
 
@@ -75,12 +109,12 @@ fn woken(response: &[u8]) -> Decision
     }
 }
 
-// What follows a response.
-pub fn decided(stage: u8, response: &[u8]) -> Decision
-    ensures { λ r. ⌜ ((f : List ℕ) → Decides f (now (response .entry)) r (typeBDecision stage (now (response .entry)))) ⌝ }
+// What follows a response; `pending` is the pending command.
+pub fn decided(stage: u8, pending: &[u8], response: &[u8]) -> Decision
+    ensures { λ r. ⌜ ((f : List ℕ) → Decides f (now (response .entry)) r (typeBDecision stage (now (pending .entry)) (now (response .entry)))) ⌝ }
 {
     match stage {
-        0 => listed_b(response),
+        0 => listed_b(pending, response),
         1 => Decision::Send(2),
         _ => woken(response),
     }

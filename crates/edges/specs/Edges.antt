@@ -25,7 +25,8 @@ use Rattle.exchange.specs.Packets.{hasStart, ackLed, Reply, response, failed, r
 use Rattle.exchange.specs.Exchange.{write, read, pkt, pending, Step, reading, waiting, cancelling, afterAck, advance}
 use Rattle.protocol.specs.Scripts.{Byte, card, done, Script, finish, command, reset, fieldPause, part, rest}
 use Rattle.protocol.specs.Discovery.{cascaded, transceiveType2}
-use Rattle.chipset.specs.Verdicts.{withStatus, type2Answer}
+use Rattle.chipset.specs.Responses.{withStatus}
+use Rattle.device.specs.Transceive.{type2Answer}
 
 pub data Edge : Type 0 where
   frame : LengthEncoding → List ℕ → List ℕ → Edge  -- the frame of a payload

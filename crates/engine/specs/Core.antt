@@ -17,12 +17,11 @@ use Rattle.exchange.specs.Packets.{commandFrame}
 use Rattle.exchange.specs.Steps.{exchangeAt}
 use Rattle.exchange.specs.declared.Exchange.{Exchange}
 use Rattle.protocol.specs.Scripts.{Answer, done, type1, nothing, refused}
+use Rattle.stages.specs.Put.{put}
 use Rattle.stages.specs.Stages.{Command, Decision, send, keep, put as putBy, pause as pauseFor, ends}
-use Rattle.chipset.specs.Launches.{Launch}
-use Rattle.chipset.specs.Launches.{sends as sendsFirst}
-use Rattle.chipset.specs.Launches.{refuses as refusesAtOnce}
+use Rattle.stages.specs.Starts.{Start, staged, sends as sendsFirst, refuses as refusesAtOnce}
 use Rattle.calls.specs.Tables.{commandOf, decidedOf, failedOf}
-use Rattle.engine.specs.Moves.{noCall, validCall, packetLength, fits, at, toStage, Moved, unfitting, orders, sends, resetDone, replies, refuses, moveOf}
+use Rattle.engine.specs.Moves.{noCall, firstCall, validCall, packetLength, fits, at, toStage, Moved, unfitting, orders, sends, resetDone, replies, refuses, moveOf}
 use Rattle.engine.specs.declared.call.Call.{Call}
 use Rattle.engine.specs.declared.core.Core.{Core}
 use Rattle.engine.specs.declared.core.Progress.{Progress}
@@ -84,15 +83,6 @@ progressed p f b = after (p .core) f (p .output) b
 abbrev pub unchanged : {S : Type 0} → S → Held → Refusal → List ℕ → After S
 unchanged s f r b = after s f (out.Refused r) b
 
--- bytes at the start of a list
-abbrev pub put : List ℕ → List ℕ → List ℕ
-put bytes b = bytes ++ drop (length bytes) b
-
--- n bytes, the list l, stand at the start of b, which is c otherwise
-pub record Puts (b : List ℕ) (n : ℕ) (l c : List ℕ) : Type 0 where
-  pub count : n ≡ length l
-  pub is : b ≡ put l c
-
 abbrev pub putFound : List ℕ → Held → Held
 putFound bytes f = held (f .command) (put bytes (f .found))
 
@@ -138,7 +128,7 @@ followsOf s f (ends a) b = answersOf s f a b
 
 -- on the response to the call's command, or its reset, and on its failure
 unfoldable pub repliesOf : Core → Held → List ℕ → List ℕ → After Core
-repliesOf s f bytes b = followsOf s f (decidedOf (s .call .kind) (s .call .stage) (foundOf s f) bytes) b
+repliesOf s f bytes b = followsOf s f (decidedOf (s .call .kind) (s .call .stage) (pendingOf s f) (foundOf s f) bytes) b
 
 unfoldable pub failsOf : Core → Held → Fault → List ℕ → After Core
 failsOf s f r b = followsOf s f (failedOf (s .call .kind) (s .call .stage) r) b
@@ -170,8 +160,8 @@ eventCore s f e b = pick (eqb (s .call .kind) 0) (unchanged s f OutOfTurn b) (ad
 unfoldable pub openCore : Core → Held → List ℕ → After Core
 openCore s f b = ordersOf (withFound s 0) f (write ack) (record { kind = 1; stage = 0; phase = 3 }) (s .exchange) b
 
--- a call's own refusals, or its first command; with the command to send later
-unfoldable pub launchOn : Core → Held → Launch → List ℕ → List ℕ → After Core
-launchOn s f (refusesAtOnce r) pending b = unchanged s f r b
-launchOn s f (sendsFirst rule m) pending b =
-    sendsOf (withCommand s (length pending)) (putCommand pending f) (record { kind = rule; stage = 0; phase = 0 }) m b
+-- a call's own refusals, or its first command, with what is put by
+unfoldable pub startOn : Core → Held → Start → List ℕ → After Core
+startOn s f (refusesAtOnce r) b = unchanged s f r b
+startOn s f (sendsFirst kind m) b = sendsOf (withCommand s (length (m .bytes))) (putCommand (m .bytes) f) (firstCall kind) m b
+startOn s f (staged kind pending) b = stageOf (withCommand s (length pending)) (putCommand pending f) (firstCall kind) b

@@ -10,7 +10,7 @@ use Rattle.errors.specs.Choice.{pick}
 use Rattle.errors.specs.declared.Fault.{Fault}
 use Rattle.errors.specs.declared.Fault.the-variants.{Transport}
 use Rattle.framing.specs.Frames.{ack}
-use Rattle.exchange.specs.Packets.{Reply, response, failed, resetCode, resetData}
+use Rattle.exchange.specs.Packets.{Reply, response, failed}
 use Rattle.exchange.specs.Exchange.{Order, write, read, pause, Event, ended, advance}
 use Rattle.exchange.specs.Steps.{stepOf}
 use Rattle.protocol.specs.Scripts.{Script, refused}
@@ -19,17 +19,18 @@ use Rattle.protocol.specs.Calls.{ReaderCall, Start, starts, readerStart, openin
 use Rattle.protocol.specs.Session.{byReply, ofReset, enter, afterReply, progress, Running, idle, packetLength, admitted, eventOutcome, outcome, started}
 use Rattle.protocol.specs.Session.{runs as runsOf}
 use Rattle.stages.specs.Stages.{cmd, Decision, send, refuse}
-use Rattle.chipset.specs.Launches.{Launch}
-use Rattle.discovery.specs.Searches.{Search}
+use Rattle.stages.specs.Put.{take-put}
+use Rattle.stages.specs.Starts as stages
 use Rattle.calls.specs.Tables.{isResetOf, decidedOf, failedOf}
 use Rattle.calls.specs.Refines.{Leads}
 use Rattle.calls.specs.Opening.{opening-leads, opening-fails, reset-fails}
-use Rattle.calls.specs.Starts.{launchFor, Kind, Starting, refusedNow, first, firstReset, reader-begins}
-use Rattle.engine.specs.Moves.{noCall, Moved, orders as goesOn, sends, resetDone, replies, refuses, fits, replyLength, moveOf, overMove, endedMove, validCall}
-use Rattle.engine.specs.Core.{stageOf, admittedOf, movedOf, followsOf, failsOf, repliesOf, eventCore, openCore, launchOn, putCommand}
+use Rattle.calls.specs.Firsts.{startFor}
+use Rattle.calls.specs.Starts.{Kind, Starting, refusedNow, first, leading, reader-begins}
+use Rattle.engine.specs.Moves.{noCall, firstCall, Moved, orders as goesOn, sends, resetDone, replies, refuses, fits, replyLength, moveOf, overMove, endedMove, validCall}
+use Rattle.engine.specs.Core.{stageOf, admittedOf, movedOf, followsOf, failsOf, repliesOf, eventCore, openCore, startOn}
 use Rattle.engine.specs.Relation.{Place, Wait, reply, resetReply, resetAck, resetPause, openingAck, openingReads, pausing, phaseNumber, callAt, phaseAt, Fields, coreWith, heldAt, Agrees, coreAt, runningAt, free}
 use Rattle.engine.specs.Exchanges.{NoCommand, good, reply-short}
-use Rattle.engine.specs.Simulation.{Simulates, sim-unchanged, take-put, sim-orders, sim-sends, sim-answer, lead-sims, SimulatesHere, Advances, advances-none, advances, advances-enter, advances-exchange, two-write, two-read, two-pause}
+use Rattle.engine.specs.Simulation.{Simulates, sim-unchanged, sim-orders, sim-sends, sim-answer, with-command, lead-sims, SimulatesHere, Advances, advances-none, advances, advances-enter, advances-exchange, two-write, two-read, two-pause}
 
 -- ---- an event, by what the call waits for
 
@@ -64,12 +65,12 @@ module _ (p : Place) (w : Wait p) (v : Fields) (agrees : Agrees p v) where
 
   -- the reply to a command
   reply-ends : (k : Reply → Script) → isResetOf (p .kind) (p .stage) ≡ false
-      → ((cs : List ℕ) → length cs ≤ 1022 → Leads (p .kind) (p .pending) (p .found) (decidedOf (p .kind) (p .stage) (p .found) cs) (k (response cs)))
+      → ((cs : List ℕ) → length cs ≤ 1022 → Leads (p .kind) (p .pending) (p .found) (decidedOf (p .kind) (p .stage) (p .pending) (p .found) cs) (k (response cs)))
       → ((r : Fault) → Leads (p .kind) (p .pending) (p .found) (failedOf (p .kind) (p .stage) r) (k (failed r)))
       → (r : Reply) → Advances p w v agrees (endedMove (callAt p w) (v .exchange) r) (afterReply (byReply k) r)
   unfolding overMove movedOf repliesOf failsOf pick
   reply-ends k h answered failing (response cs) =
-      rw h (advances-lead (replies cs) (decidedOf (p .kind) (p .stage) (p .found) cs) _ refl (λ b. rw (agrees .found)) (λ few. answered cs (omega arith)))
+      rw h (advances-lead (replies cs) (decidedOf (p .kind) (p .stage) (p .pending) (p .found) cs) _ refl (λ b. rw (agrees .pending, agrees .found)) (λ few. answered cs (omega arith)))
   reply-ends k h answered failing (failed r) =
       rw h (advances-lead (refuses r) (failedOf (p .kind) (p .stage) r) _ refl (λ b. refl) (λ _. failing r))
 
@@ -95,7 +96,7 @@ event-advances p (resetAck s h l) v agrees e =
 event-advances p (resetPause s l) v agrees e =
     let w = resetPause s l in
     two-pause (Advances p w v agrees) (advances-none p w v agrees)
-    (advances-lead p w v agrees resetDone (decidedOf (p .kind) (p .stage) (p .found) []) s refl (λ b. rw (agrees .found)) (λ _. l)) e
+    (advances-lead p w v agrees resetDone (decidedOf (p .kind) (p .stage) (p .pending) (p .found) []) s refl (λ b. rw (agrees .pending, agrees .found)) (λ _. l)) e
 event-advances p (openingAck s h l) v agrees e =
     let w = openingAck s h l in
     two-write (Advances p w v agrees) (advances-none p w v agrees) (advances-order p w v agrees (openingReads s l) (read 10) tt)
@@ -156,19 +157,6 @@ open-sims v b =
     sim-orders u noCall true idle p (openingAck deviceNew refl (opening-leads (take (v .pending) (v .command)) [])) (v .exchange) (write ack) b (v .phaseFits)
     record { pending = refl; found = refl } refl
 
-abbrev pending-put : (v : Fields) (l : List ℕ) → leb (length l) 512 ≡ true → Fields
-pending-put v l h =
-    record {
-      command = putCommand l (heldAt v) .command;
-      found = v .found;
-      pending = length l;
-      kept = v .kept;
-      exchange = v .exchange;
-      pendingFits = h;
-      keptFits = v .keptFits;
-      phaseFits = v .phaseFits;
-    }
-
 abbrev first-place : (q : ReaderCall) (kind : ℕ) (pending found : List ℕ) → Kind kind → Place
 first-place q kind pending found h =
     record {
@@ -183,17 +171,15 @@ first-place q kind pending found h =
       stageFits = refl;
     }
 
-start-sims : (v : Fields) (q : ReaderCall) (b : List ℕ) (x : Start) (y : Search) → Starting x y
-    → Simulates false idle (launchOn (coreWith v noCall) (heldAt v) (y .launch) (y .pending) b) (started (reader q) x)
-unfolding launchOn stepOf
+start-sims : (v : Fields) (q : ReaderCall) (b : List ℕ) (x : Start) (y : stages.Start) → Starting x y
+    → Simulates false idle (startOn (coreWith v noCall) (heldAt v) y b) (started (reader q) x)
+unfolding startOn stepOf followsOf stageOf
 start-sims v q b x y (refusedNow r) = sim-unchanged r b (free v refl refl refl)
-start-sims v q b x y (first kind code clock bytes later k isKind noReset small stands) =
-    sim-sends (pending-put v later small) noCall false idle (first-place q kind later (take (v .kept) (v .found)) isKind)
-    (reply k noReset (stands (take (v .kept) (v .found)))) code clock bytes b record { pending = take-put later (v .command); found = refl }
-start-sims v q b x y (firstReset kind later s isKind isReset small l) =
-    sim-sends (pending-put v later small) noCall false idle (first-place q kind later (take (v .kept) (v .found)) isKind)
-    (resetReply s isReset (l (take (v .kept) (v .found)))) resetCode 100 resetData b record { pending = take-put later (v .command); found = refl }
+start-sims v q b x y (first kind code clock bytes k isKind noReset small stands) =
+    sim-sends (with-command v bytes small) noCall false idle (first-place q kind bytes (take (v .kept) (v .found)) isKind)
+    (reply k noReset (stands (take (v .kept) (v .found)))) code clock bytes b record { pending = take-put bytes (v .command); found = refl }
+start-sims v q b x y (leading kind later s isKind small l) =
+    lead-sims (first-place q kind later (take (v .kept) (v .found)) isKind) idle (with-command v later small) 0 0 (send 0) s b (take-put later (v .command)) refl (l (take (v .kept) (v .found)))
 
-pub call-sims : (v : Fields) (q : ReaderCall) (b : List ℕ)
-    → Simulates false idle (launchOn (coreWith v noCall) (heldAt v) (launchFor q .launch) (launchFor q .pending) b) (started (reader q) (readerStart q))
-call-sims v q b = start-sims v q b (readerStart q) (launchFor q) (reader-begins q)
+pub call-sims : (v : Fields) (q : ReaderCall) (b : List ℕ) → Simulates false idle (startOn (coreWith v noCall) (heldAt v) (startFor q) b) (started (reader q) (readerStart q))
+call-sims v q b = start-sims v q b (readerStart q) (startFor q) (reader-begins q)

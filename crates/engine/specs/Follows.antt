@@ -19,7 +19,7 @@ use Rattle.engine.specs.Booking.{bookNumbers, books-in-range, open-flag,
 use Rattle.engine.specs.Core.{Held, After, unchanged, eventCore}
 use Rattle.engine.specs.Core.{isValid as validCore}
 use Rattle.engine.specs.Moves.{noCall, validCall}
-use Rattle.engine.specs.Sessions.{state, isValid, bookedAfter, sessionAfter, eventAfter, openAfter, launchAfter, heldIn, freshSession}
+use Rattle.engine.specs.Sessions.{state, isValid, bookedAfter, sessionAfter, eventAfter, openAfter, startAfter, heldIn, freshSession}
 use Rattle.engine.specs.Inputs.{Input, opens, asks, tells, entryOf, outputOf, afterInput, act}
 use Rattle.engine.specs.Relation.{Place, Wait, callAt, Fields, coreWith, heldAt, Agrees, coreAt, runningAt, Represents, free, runs, Means}
 use Rattle.engine.specs.Simulation.{Simulates}
@@ -79,7 +79,7 @@ in-range v c b h = rw (v .pendingFits, v .keptFits, v .phaseFits, h) (books-in-r
 
 running-refines : (p : Place) (w : Wait p) (v : Fields) → Agrees p v → (b : Meant.Books) (few : b .count ≤ ceiling) (i : Input)
     → Refines (meant (runningAt p w v) b few) (entryOf i) (afterInput (state (coreAt p w v) (bookNumbers b)) (heldAt v) i) (outcomeOf (runningAt p w v) b (entryOf i))
-unfolding openAfter launchAfter eventAfter pick
+unfolding openAfter startAfter eventAfter pick
 running-refines p w v agrees b few i = go i (in-range v (callAt p w) b (call-fits p w)) (p .running)
   where
     here : Represents (coreAt p w v) (heldAt v) (runningAt p w v)
@@ -101,7 +101,7 @@ or-false false = refl
 
 free-refines : (v : Fields) (b : Meant.Books) (few : b .count ≤ ceiling) (i : Input)
     → Refines (meant idle b few) (entryOf i) (afterInput (state (coreWith v noCall) (bookNumbers b)) (heldAt v) i) (outcomeOf idle b (entryOf i))
-unfolding openAfter launchAfter eventAfter eventCore validCall pick
+unfolding openAfter startAfter eventAfter eventCore validCall pick
 free-refines v b few i = go i (in-range v noCall b refl)
   where
     here : Represents (coreWith v noCall) (heldAt v) idle

@@ -7,10 +7,10 @@ use Rattle.protocol.specs.Scripts.{done, type1, nothing, refused}
 use Rattle.protocol.specs.Calls.{ReaderCall, opening, reader}
 use Rattle.protocol.specs.Session.{Entry, call, event}
 use Rattle.protocol.specs.Session.{Output as Given, orders, answers, rejects}
-use Rattle.calls.specs.Starts.{launchFor}
+use Rattle.calls.specs.Firsts.{startFor}
 use Rattle.engine.specs.Core.{Held, After}
 use Rattle.engine.specs.Sessions.{heldIn, sessionAfter, eventAfter, Stepped}
-use Rattle.engine.specs.Sessions.{openAfter as openedAt, launchAfter}
+use Rattle.engine.specs.Sessions.{openAfter as openedAt, startAfter}
 use Rattle.engine.specs.declared.state.State.{State}
 use Rattle.engine.specs.declared.core.Output.{Output}
 use Rattle.engine.specs.declared.core.Output.the-variants.{Ack, Command, Read, Drain, Pause, Done, Type1, Nothing, Failed, Refused}
@@ -47,7 +47,7 @@ entryOf (tells e b) = event e (length b)
 
 abbrev pub afterInput : State → Held → Input → After State
 afterInput s f (opens b) = openedAt s f b
-afterInput s f (asks c b) = launchAfter s f (launchFor c .launch) (launchFor c .pending) b
+afterInput s f (asks c b) = startAfter s f (startFor c) b
 afterInput s f (tells e b) = eventAfter s f e b
 
 abbrev pub stepWith : Session → Input → Stepped

@@ -23,9 +23,10 @@ use Rattle.framing.specs.Valid.{both-left, both-right}
 use Rattle.exchange.specs.Packets.{commandFrame}
 use Rattle.exchange.specs.Steps.{exchangeAt}
 use Rattle.exchange.specs.declared.Exchange.{Exchange}
+use Rattle.stages.specs.Put.{put}
 use Rattle.stages.specs.Stages.{Command}
 use Rattle.protocol.specs.Scripts.{type1}
-use Rattle.engine.specs.Core.{isValid, Held, put, Puts, After, endsOf, doneOf, answersOf, sendsOf, running, after}
+use Rattle.engine.specs.Core.{isValid, Held, After, endsOf, doneOf, answersOf, sendsOf, running, after}
 use Rattle.engine.specs.Moves.{validCall}
 use Rattle.engine.specs.declared.call.Call.{Call}
 use Rattle.engine.specs.declared.core.Core.{Core}
@@ -67,47 +68,6 @@ module _ (s : Core) (f : Held) (c : Call) (m : Command) (b b₁ : List ℕ) (h :
       let t : refused (numbered r) ≡ answered (length (commandFrame (m .code) (m .bytes))) = ap (λ y. y .told) q in
       let z : _≡_ {A = ℕ} 0 1 = cc in
       absurd (omega (arith, z))
-
--- a part copied behind the bytes that stand at a list's start
-pub appended : (b part l c : List ℕ) (n : ℕ) (piece : List ℕ) → n + length part ≤ length b → Puts b n l c
-    → piece ≡ take (length part) part ++ drop (length part) (take (length b - n) (drop n b))
-    → Puts (putMid n (length b - n) b piece) (n + length part) (l ++ part) c
-appended b part l c n piece room h e =
-    let front : take n b ≡ l = ap₂ take (h .count) (h .is) ∙ take-append-seam l (drop (length l) c) in
-    let back : drop (n + length part) b ≡ drop (length l + length part) c
-    = ap₂ (λ k x. drop (k + length part) x) (h .count) (h .is) ∙ drop-append-add l (drop (length l) c) (length part) ∙ drop-drop (length part) (length l) c in
-    record {
-      count = ap (λ k. k + length part) (h .count) ∙ sym (length-append l part);
-      is =
-          copied b part n room piece e
-          ∙ ap₂ (λ x y. x ++ (part ++ y)) front back
-          ∙ sym (append-assoc l part (drop (length l + length part) c))
-          ∙ ap (λ k. l ++ part ++ drop k c) (sym (length-append l part));
-    }
-
--- four lists, one behind the other
-pub laid : (b c k h p q t : List ℕ) (n : ℕ) → p ≡ q → Puts b n (((k ++ h) ++ p) ++ t) c → Puts b n (k ++ (h ++ (q ++ t))) c
-laid b c k h p q t n e u =
-    subst (λ l. Puts b n l c) (ap (λ x. ((k ++ h) ++ x) ++ t) e ∙ append-assoc (k ++ h) q t ∙ append-assoc k h (q ++ t)) u
-
--- nothing was put yet, or bytes that stand there already
-pub puts-none : (b : List ℕ) → Puts b 0 [] b
-puts-none b = record { count = refl; is = refl }
-
-pub puts-kept : (b : List ℕ) (k : ℕ) → k ≤ length b → Puts b k (take k b) b
-puts-kept b k h =
-    let n : length (take k b) ≡ k = length-take-le k b h in
-    record { count = sym n; is = sym (ap (λ j. take k b ++ drop j b) n ∙ take-append-drop k b) }
-
--- the same of bytes that are kept of a part in use
-pub puts-found : (b : List ℕ) (n k : ℕ) → k ≤ length (take n b) → Puts b k (take k (take n b)) b
-puts-found b n k h =
-    let in-use : length (take n b) ≤ n = rw (length-take n b) (omega arith) in
-    rw (take-take k n b (omega arith)) (puts-kept b k (omega (arith, length-take n b)))
-
--- bytes that were copied to the start of a list
-pub copied-start : (bytes b b₁ : List ℕ) → b₁ ≡ take (length bytes) bytes ++ drop (length bytes) b → b₁ ≡ put bytes b
-copied-start bytes b b₁ e = e ∙ ap (λ l. l ++ drop (length bytes) b) (take-length bytes)
 
 -- a call that is done with bytes at the buffer's start
 pub done-copied : (s : Core) (f : Held) (bytes b b₁ : List ℕ) (n : ℕ) (a : After Core) → n ≡ length bytes → b₁ ≡ put bytes b → a ≡ endsOf s f (Done n) b₁ → a ≡ doneOf s f bytes b

@@ -7,7 +7,6 @@ pub mod Sessions
 pub mod Laws
 pub mod Inputs
 pub mod Numbers
-pub mod NumberLaws
 pub mod Relation
 pub mod Simulation
 pub mod Events

@@ -31,6 +31,10 @@ use Rattle.engine.specs.declared.call.Move.the-variants.{Unfit, Orders, 
 abbrev pub noCall : Call
 noCall = record { kind = 0; stage = 0; phase = 0 }
 
+-- at the first command of a call
+abbrev pub firstCall : ℕ → Call
+firstCall kind = record { kind = kind; stage = 0; phase = 0 }
+
 -- a call at another phase, and at the command of a stage
 abbrev pub at : Call → ℕ → Call
 at c phase = record { kind = c .kind; stage = c .stage; phase = phase }

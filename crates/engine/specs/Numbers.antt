@@ -1,66 +1,21 @@
--- The calls and the events by their numbers.
-use mathlib.Core.Bool.{Bool, not, cond}
+-- Calls as inputs, and the events by their numbers.
 use mathlib.Core.List.{List, [], _∷_}
 use mathlib.Core.Option.{Option, none, some}
-use Prim.Native.Nat.{ℕ}
-use lib.Dec.{eqb}
+use mathlib.Core.Path.{_≡_, refl}
+use Prim.Native.Nat.{ℕ, zero, suc}
 use lib.ListN.{getD}
 use Rattle.errors.specs.declared.Refusal.the-variants.{OutOfTurn}
 use Rattle.exchange.specs.Exchange.{Event, ok, bad, pkt, time, fail, late, slept}
 use Rattle.exchange.specs.Steps as steps
-use Rattle.protocol.specs.Calls.{Call, opening, reader, request, device}
-use Rattle.protocol.specs.Calls.{version, resetMode, setParameters, rfConfiguration, rfFieldOff, readRegister, writeRegister, readSingleRegister, writeSingleRegister, inListPassiveTarget, inDataExchange, inCommunicateThru, inJumpForDep, tgInitTarget, tgSetGeneralBytes, tgGetInitiatorCommand, tgResponseToInitiator, tgGetTargetStatus}
-use Rattle.protocol.specs.Calls.{detectTypeA, detectTypeB, detectTypeF, detectDep, transceive}
+use Rattle.protocol.specs.Calls.{Call, opening, reader}
 use Rattle.engine.specs.Core.{Held, After, unchanged}
-use Rattle.engine.specs.Sessions.{eventAfter}
-use Rattle.engine.specs.Inputs.{Input, opens, asks}
+use Rattle.engine.specs.Sessions.{eventAfter, openAfter, startAfter}
+use Rattle.calls.specs.Numbers.{callOf, reader-call}
+use Rattle.calls.specs.Firsts.{startBy}
+use Rattle.engine.specs.Inputs.{Input, opens, asks, afterInput}
 use Rattle.engine.specs.declared.state.State.{State}
 use Rattle.engine.specs.declared.numbered.Known.{Known}
 use Rattle.engine.specs.declared.numbered.Known.the-variants.{Is, Not}
-
--- a byte as a flag
-abbrev pub flag : ℕ → Bool
-flag x = not (eqb x 0)
-
--- the ms of transceive, where they are given
-abbrev pub msOf : Bool → ℕ → Option ℕ
-msOf given ms = cond given (some ms) none
-
--- a detect_dep with no ATR_REQ is refused as a missing argument is
-abbrev pub noCall : Call
-noCall = reader (device (detectDep [] []))
-
--- the calls in the order of their numbers: a number of 32 bits and one of 16, two bytes, and four lists of bytes
-abbrev pub calls : (ms word x y : ℕ) (first second third fourth : List ℕ) → List Call
-calls ms word x y first second third fourth =
-    opening
-    ∷ reader (request version)
-    ∷ reader (request resetMode)
-    ∷ reader (request (setParameters x))
-    ∷ reader (request (rfConfiguration x first))
-    ∷ reader (request (readRegister first))
-    ∷ reader (request (writeRegister first))
-    ∷ reader (request (readSingleRegister word))
-    ∷ reader (request (writeSingleRegister word x))
-    ∷ reader (request (inListPassiveTarget x y first))
-    ∷ reader (request (inDataExchange first ms))
-    ∷ reader (request (inCommunicateThru first ms))
-    ∷ reader (request (inJumpForDep (flag x) y first second third))
-    ∷ reader (request (tgInitTarget x first second third fourth ms))
-    ∷ reader (request (tgSetGeneralBytes first))
-    ∷ reader (request (tgGetInitiatorCommand ms))
-    ∷ reader (request (tgResponseToInitiator first))
-    ∷ reader (request tgGetTargetStatus)
-    ∷ reader (request rfFieldOff)
-    ∷ reader (device (detectTypeA first second))
-    ∷ reader (device (detectTypeB first second))
-    ∷ reader (device (detectTypeF first word x y))
-    ∷ reader (device (detectDep first second))
-    ∷ reader (device (transceive first second (flag x) third (msOf (flag y) word)))
-    ∷ []
-
-unfoldable pub callOf : (number ms word x y : ℕ) (first second third fourth : List ℕ) → Call
-callOf number ms word x y first second third fourth = getD (calls ms word x y first second third fourth) number noCall
 
 abbrev pub callInput : Call → List ℕ → Input
 callInput opening b = opens b
@@ -81,3 +36,15 @@ knownIn Not packet = none
 abbrev pub numberedAfter : State → Held → Option Event → List ℕ → After State
 numberedAfter s f none b = unchanged s f OutOfTurn b
 numberedAfter s f (some e) b = eventAfter s f e b
+
+-- a call of any number but 0 is one of an open reader
+pub reader-input : (number ms word x y : ℕ) (first second third fourth b : List ℕ) (s : State) (f : Held) → (number ≡ 0 → ⊥)
+    → startAfter s f (startBy (callOf number ms word x y first second third fourth)) b
+    ≡ afterInput s f (callInput (callOf number ms word x y first second third fourth) b)
+reader-input zero ms word x y first second third fourth b s f h = absurd (h refl)
+reader-input (suc n) ms word x y first second third fourth b s f h = rw (reader-call n ms word x y first second third fourth)
+
+pub opening-input : (number ms word x y : ℕ) (first second third fourth b : List ℕ) (s : State) (f : Held) → number ≡ 0
+    → openAfter s f b ≡ afterInput s f (callInput (callOf number ms word x y first second third fourth) b)
+unfolding callOf
+opening-input number ms word x y first second third fourth b s f h = rw h

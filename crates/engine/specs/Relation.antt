@@ -39,9 +39,9 @@ pub record Place : Type 0 where
 -- its stage, the opening's ACK or reads, or a pause
 pub data Wait (p : Place) : Type 0 where
   reply : (k : Reply → Script) → isResetOf (p .kind) (p .stage) ≡ false → Stands (p .kind) (p .stage) (p .pending) (p .found) k → Wait p
-  resetReply : (s : Script) → isResetOf (p .kind) (p .stage) ≡ true → Leads (p .kind) (p .pending) (p .found) (decidedOf (p .kind) (p .stage) (p .found) []) s → Wait p
-  resetAck : (s : Script) → isResetOf (p .kind) (p .stage) ≡ true → Leads (p .kind) (p .pending) (p .found) (decidedOf (p .kind) (p .stage) (p .found) []) s → Wait p
-  resetPause : (s : Script) → Leads (p .kind) (p .pending) (p .found) (decidedOf (p .kind) (p .stage) (p .found) []) s → Wait p
+  resetReply : (s : Script) → isResetOf (p .kind) (p .stage) ≡ true → Leads (p .kind) (p .pending) (p .found) (decidedOf (p .kind) (p .stage) (p .pending) (p .found) []) s → Wait p
+  resetAck : (s : Script) → isResetOf (p .kind) (p .stage) ≡ true → Leads (p .kind) (p .pending) (p .found) (decidedOf (p .kind) (p .stage) (p .pending) (p .found) []) s → Wait p
+  resetPause : (s : Script) → Leads (p .kind) (p .pending) (p .found) (decidedOf (p .kind) (p .stage) (p .pending) (p .found) []) s → Wait p
   openingAck : (s : Script) → eqb (p .kind) 1 ≡ true → Leads (p .kind) (p .pending) (p .found) (send (p .stage)) s → Wait p
   openingReads : (s : Script) → Leads (p .kind) (p .pending) (p .found) (send (p .stage)) s → Wait p
   pausing : (s : Script) → Leads (p .kind) (p .pending) (p .found) (send (p .stage)) s → Wait p

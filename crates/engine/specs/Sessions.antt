@@ -8,10 +8,9 @@ use Rattle.errors.specs.Choice.{pick}
 use Rattle.errors.specs.declared.Refusal.the-variants.{OutOfTurn, ShortBuffer}
 use Rattle.framing.specs.Lists.{both}
 use Rattle.exchange.specs.Exchange.{Event}
-use Rattle.chipset.specs.Launches.{Launch}
-use Rattle.discovery.specs.Searches.{Search}
+use Rattle.stages.specs.Starts.{Start}
 use Rattle.engine.specs.Books.{noBooks, isInRange, isOpen, booked}
-use Rattle.engine.specs.Core.{noCore, Held, held, After, after, unchanged, eventCore, openCore, launchOn}
+use Rattle.engine.specs.Core.{noCore, Held, held, After, after, unchanged, eventCore, openCore, startOn}
 use Rattle.engine.specs.Core.{isValid as validCore}
 use Rattle.engine.specs.declared.books.Books.{Books}
 use Rattle.engine.specs.declared.core.Core.{Core}
@@ -52,14 +51,12 @@ withRoom s f b x = pick (ltb (length b) 1024) (unchanged s f ShortBuffer b) x
 unfoldable pub openAfter : State → Held → List ℕ → After State
 openAfter s f b = pick (isFree s) (withRoom s f b (bookedAfter true noBooks (openCore (s .core) f b))) (unchanged s f OutOfTurn b)
 
-unfoldable pub launchAfter : State → Held → Launch → List ℕ → List ℕ → After State
-launchAfter s f l pending b =
-    pick (isFree s)
-    (pick (isOpen (s .books)) (withRoom s f b (bookedAfter false (s .books) (launchOn (s .core) f l pending b))) (unchanged s f OutOfTurn b))
-    (unchanged s f OutOfTurn b)
+-- a call of an open reader
+abbrev pub isAdmitted : State → Bool
+isAdmitted s = both (isFree s) (isOpen (s .books))
 
-abbrev pub searchAfter : State → Held → Search → List ℕ → After State
-searchAfter s f x b = launchAfter s f (x .launch) (x .pending) b
+unfoldable pub startAfter : State → Held → Start → List ℕ → After State
+startAfter s f x b = pick (isAdmitted s) (withRoom s f b (bookedAfter false (s .books) (startOn (s .core) f x b))) (unchanged s f OutOfTurn b)
 
 -- ---- the session whole
 

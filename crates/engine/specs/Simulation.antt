@@ -23,12 +23,13 @@ use Rattle.protocol.specs.Session.{Phase, exchange, Rest, CallResult, enter, af
 use Rattle.protocol.specs.Session.{orders, answers, given, unchanged as unchangedOf, runs as runsOf, ends as endsIn}
 use Rattle.protocol.specs.Session as Meant
 use Rattle.protocol.specs.Follows.{plain, plainAnswer}
+use Rattle.stages.specs.Put.{put, take-put}
 use Rattle.stages.specs.Stages.{Command, cmd, Decision, send}
 use Rattle.calls.specs.Tables.{commandOf}
 use Rattle.calls.specs.Refines.{Leads, leads-end, leads-send, leads-reset, leads-keep, leads-put, leads-pause}
 use Rattle.engine.specs.Books.{booked as bookedBy}
 use Rattle.engine.specs.Booking.{bookNumbers, ack-booked, frame-booked, end-booked}
-use Rattle.engine.specs.Core.{Held, After, unchanged, running, put, putFound, putCommand, ordersOf, sendsOf, stageOf, endsOf, doneOf, answersOf, followsOf, admittedOf, isLong, movedOf}
+use Rattle.engine.specs.Core.{Held, After, unchanged, running, putFound, putCommand, ordersOf, sendsOf, stageOf, endsOf, doneOf, answersOf, followsOf, admittedOf, isLong, movedOf}
 use Rattle.engine.specs.Moves.{Moved, unfitting, orders as goesOn, fits, replyLength, endedMove, exchangeMove, exchangeIn}
 use Rattle.engine.specs.Inputs.{outputOf}
 use Rattle.engine.specs.Relation.{Place, Wait, reply, resetReply, pausing, callAt, phaseAt, Fields, coreWith, heldAt, Agrees, coreAt, runningAt, Represents, free, runs}
@@ -53,10 +54,6 @@ module _ {t : Bool} {m : Running} where
   unfolding pick
   sim-pick true h k = h
   sim-pick false h k = k refl
-
--- bytes put at the start of a list are the first of it
-pub take-put : (bytes l : List ℕ) → take (length bytes) (put bytes l) ≡ bytes
-take-put bytes l = take-append-seam bytes (drop (length bytes) l)
 
 -- ---- the call goes on, or ends, whatever the numbers of the call were
 
@@ -147,7 +144,7 @@ atStage p stage later found h =
       stageFits = h;
     }
 
-abbrev with-found : (v : Fields) (l : List ℕ) → length l ≤ 1024 → Fields
+abbrev pub with-found : (v : Fields) (l : List ℕ) → length l ≤ 1024 → Fields
 with-found v l h =
     record {
       command = v .command;
@@ -160,7 +157,7 @@ with-found v l h =
       phaseFits = v .phaseFits;
     }
 
-abbrev with-command : (v : Fields) (l : List ℕ) → length l ≤ 512 → Fields
+abbrev pub with-command : (v : Fields) (l : List ℕ) → length l ≤ 512 → Fields
 with-command v l h =
     record {
       command = put l (v .command);
@@ -179,7 +176,7 @@ callOf p stage phase = record { kind = p .kind; stage = stage; phase = phase }
 
 module _ (p : Place) (m : Running) where
   -- the command of a stage
-  stage-sims : (v : Fields) (later found : List ℕ) (n : ℕ) (h : leb n 9 ≡ true) (w : Wait (atStage p n later found h)) (stage phase code clock : ℕ) (bytes b : List ℕ)
+  pub stage-sims : (v : Fields) (later found : List ℕ) (n : ℕ) (h : leb n 9 ≡ true) (w : Wait (atStage p n later found h)) (stage phase code clock : ℕ) (bytes b : List ℕ)
       → take (v .pending) (v .command) ≡ later → take (v .kept) (v .found) ≡ found → commandOf (p .kind) n later ≡ cmd code clock bytes → callAt _ w ≡ callOf p n 0
       → Simulates (isOpening (p .call)) m (stageOf (coreWith v (callOf p stage phase)) (heldAt v) (callOf p n 0) b)
       (runsOf (p .call) (write (commandFrame code bytes)) (phaseAt w (exchangeAt 0 code clock)))

@@ -16,18 +16,17 @@ use Rattle.exchange.specs.Exchange.{Order, write, read, drain, pause, Event}
 use Rattle.exchange.specs.declared.Exchange.{Exchange}
 use Rattle.framing.specs.Valid.{both-left, both-right}
 use Rattle.protocol.specs.Scripts.{Answer, done, type1, nothing, refused}
-use Rattle.chipset.specs.Launches.{Launch, sends}
-use Rattle.chipset.specs.Launches.{refuses as refusesAtOnce}
+use Rattle.stages.specs.Starts.{Start, staged, sends as sendsFirst, refuses as refusesAtOnce}
 use Rattle.stages.specs.Stages.{Decision, send, keep, put as putBy, pause as pauseFor, ends as endsDecision}
-use Rattle.calls.specs.Starts.{launchFor}
+use Rattle.calls.specs.Firsts.{startFor}
 use Rattle.engine.specs.Books.{isInRange, isOpen, ended}
 use Rattle.engine.specs.Booking.{ended-range}
-use Rattle.engine.specs.Core.{Held, After, after, unchanged, idle, ordersOf, stageOf, endsOf, answersOf, followsOf, repliesOf, failsOf, movedOf, isLong, admittedOf, eventCore, openCore, launchOn}
+use Rattle.engine.specs.Core.{Held, After, after, unchanged, idle, ordersOf, stageOf, endsOf, answersOf, followsOf, repliesOf, failsOf, movedOf, isLong, admittedOf, eventCore, openCore, startOn}
 use Rattle.engine.specs.Core.{isValid as validCore}
 use Rattle.engine.specs.Exchanges.{by-pick}
 use Rattle.engine.specs.Inputs.{Input, opens as opened, asks, tells, bufferOf, stepWith, afterInput}
 use Rattle.engine.specs.Moves.{Moved, unfitting, orders, sends as sendsStage, resetDone, replies, refuses, fits, moveOf, validCall}
-use Rattle.engine.specs.Sessions.{state, isValid, isFree, bookedAfter, eventAfter, openAfter, launchAfter, heldIn, sessionAfter}
+use Rattle.engine.specs.Sessions.{state, isValid, isFree, isAdmitted, bookedAfter, eventAfter, openAfter, startAfter, heldIn, sessionAfter}
 use Rattle.engine.specs.declared.books.Books.{Books}
 use Rattle.engine.specs.declared.call.Call.{Call}
 use Rattle.engine.specs.declared.core.Core.{Core}
@@ -123,10 +122,11 @@ module _ (s : Core) (f : Held) (b : List ℕ) where
       (by-pick Keeps (ltb (length b) 1024) _ _ (same ShortBuffer) (by-pick Keeps (isLong e) _ _ (same OverLong) (move m)))
       (same OutOfTurn))
 
-  launch-keeps : (l : Launch) (later : List ℕ) → Keeps (launchOn s f l later b)
-  unfolding launchOn
-  launch-keeps (refusesAtOnce r) later = same r
-  launch-keeps (sends rule m) later = goes-on _ refl
+  start-keeps : (x : Start) → Keeps (startOn s f x b)
+  unfolding startOn stageOf
+  start-keeps (refusesAtOnce r) = same r
+  start-keeps (sendsFirst kind m) = goes-on _ refl
+  start-keeps (staged kind pending) = goes-on _ refl
 
 -- ---- the session's numbers
 
@@ -170,14 +170,12 @@ module _ (s : State) (f : Held) (b : List ℕ) where
       (record { early = λ r e. absurd (other-class e (λ z. omega (arith, z))); late = λ r e. absurd (other-class e (λ z. omega (arith, z))) }))
       (refuses-once OutOfTurn)
 
-  launch-stays : (l : Launch) (later : List ℕ) → Stays (launchAfter s f l later b)
-  unfolding launchAfter
-  launch-stays l later =
-      by-test Stays (isFree s) _ _
-      (λ free. by-pick Stays (isOpen (s .books)) _ _
-      (by-pick Stays (ltb (length b) 1024) _ _ (refuses-once ShortBuffer)
-      (booked-stays false _ (both-left (isValid s) _ free) (launch-keeps (s .core) f b l later)))
-      (refuses-once OutOfTurn))
+  start-stays : (x : Start) → Stays (startAfter s f x b)
+  unfolding startAfter
+  start-stays x =
+      by-test Stays (isAdmitted s) _ _
+      (λ admitted. by-pick Stays (ltb (length b) 1024) _ _ (refuses-once ShortBuffer)
+      (booked-stays false _ (both-left (isValid s) _ (both-left (isFree s) _ admitted)) (start-keeps (s .core) f b x)))
       (refuses-once OutOfTurn)
 
   event-stays : (e : Event) → Stays (eventAfter s f e b)
@@ -187,7 +185,7 @@ module _ (s : State) (f : Held) (b : List ℕ) where
 
 all-stay : (s : State) (f : Held) (i : Input) → Stays s f (bufferOf i) (afterInput s f i)
 all-stay s f (opened b) = open-stays s f b
-all-stay s f (asks q b) = launch-stays s f b (launchFor q .launch) (launchFor q .pending)
+all-stay s f (asks q b) = start-stays s f b (startFor q)
 all-stay s f (tells e b) = event-stays s f b e
 
 -- ---- the session

@@ -10,7 +10,7 @@ ghost use Prim.Native.Nat.{ℕ};
 ghost use Rattle.errors.specs.declared.Fault.the-variants.{Transport};
 ghost use Rattle.exchange.specs.Exchange.{advance, onWrite, onPause};
 ghost use Rattle.exchange.specs.Steps.{eventOf, orderOf, stepOf};
-ghost use Rattle.engine.specs.Moves.{noCall, validCall, fits, at, toStage, moveIn, moveOf, overMove, exchangeMove, orders, resetAckMove, resetPauseMove, openingAckMove, openingReadsMove, pauseMove, unfitting, refuses};
+ghost use Rattle.engine.specs.Moves.{noCall, firstCall, validCall, fits, at, toStage, moveIn, moveOf, overMove, exchangeMove, orders, resetAckMove, resetPauseMove, openingAckMove, openingReadsMove, pauseMove, unfitting, refuses};
 
 // What runs: no call, the opening, a call of one command by the number of the rule for its response, or a discovery.
 pub const NO_CALL: u8 = 0;
@@ -96,6 +96,17 @@ impl Call {
     {
         Call {
             kind: NO_CALL,
+            stage: 0,
+            phase: EXCHANGE,
+        }
+    }
+
+    // At the first command of a call.
+    pub(crate) fn first(kind: u8) -> Call
+        ensures { λ r. ⌜ r ≡ firstCall kind ⌝ }
+    {
+        Call {
+            kind,
             stage: 0,
             phase: EXCHANGE,
         }

@@ -1,12 +1,10 @@
 // One running call: its numbers, and what a call or an event does to them, to the arrays and to the buffer.
 use super::call::Call;
-use super::call::EXCHANGE;
 use super::call::Move;
 use super::call::NO_CALL;
 use super::call::OPEN;
 use super::call::OPENING_ACK;
 use super::call::Order;
-use chipset::command::Launch;
 use errors::Fault;
 use errors::Refusal;
 use exchange::Event;
@@ -14,6 +12,7 @@ use exchange::Exchange;
 use framing::ACK_BYTES;
 use framing::Built;
 use framing::frame::build_command;
+use stages::start::Start;
 ghost use mathlib.Core.Bool.{true};
 ghost use mathlib.Core.List.{List};
 ghost use mathlib.Core.Path.{_≡_};
@@ -21,9 +20,9 @@ ghost use Prim.Native.Nat.{ℕ, _≤_};
 ghost use lib.ListN.{length};
 ghost use Rattle.exchange.specs.Steps.{eventOf};
 ghost use Rattle.stages.specs.Stages.{cmd};
-ghost use Rattle.chipset.specs.Starts.{launchWith, fits};
+ghost use Rattle.stages.specs.Starts.{Starts, StartFits, Start as StartOf};
 ghost use Rattle.engine.specs.Moves.{orderOf, moveIn, packetLength, replyLength};
-ghost use Rattle.engine.specs.Core.{noCore, isValid, Held, held, running, unchanged, withFound, withCommand, progressed, ordersOf, sendsOf, stageOf, endsOf, movedOf, isLong, admittedOf, eventCore, openCore, launchOn};
+ghost use Rattle.engine.specs.Core.{noCore, isValid, Held, held, running, unchanged, withFound, withCommand, progressed, ordersOf, sendsOf, stageOf, endsOf, movedOf, isLong, admittedOf, eventCore, openCore, startOn};
 
 // How much of each array is in use, the exchange, and the call.
 #[repr(C)]
@@ -310,31 +309,25 @@ impl Core {
             .ordered(Order::Ack, call, exchange, buffer)
     }
 
-    // Its arguments are refused, or its first command is ordered.
-    pub(crate) fn sent_by(
-        self,
-        launch: Launch,
-        bytes: &[u8],
-        pending: &[u8],
-        command: &mut [u8],
-        buffer: &mut [u8],
-    ) -> Progress
-        requires { ⌜ fits launch × (length (now bytes) ≡ 512) × (length (now pending) ≤ length (now command)) × (1024 ≤ length (now buffer)) ⌝ }
-        ensures { λ r. ⌜ ((f : List ℕ) → progressed r (held (now (command .exit)) f) (now (buffer .exit)) ≡ launchOn self (held (now (command .entry)) f) (launchWith (now (bytes .entry)) launch) (now (pending .entry)) (now (buffer .entry))) ⌝ }
+    // A call starts, whose bytes have been put by: it is refused, or its first command is ordered.
+    pub(crate) fn start(self, start: Start, command: &[u8], buffer: &mut [u8]) -> Progress
+        requires { ⌜ StartFits start × (length (now command) ≡ 512) × (1024 ≤ length (now buffer)) ⌝ }
+        ensures { λ r. ⌜ ((f c₀ : List ℕ) (s : StartOf) → Starts start c₀ (now (command .entry)) s → progressed r (held (now (command .entry)) f) (now (buffer .exit)) ≡ startOn self (held c₀ f) s (now (buffer .entry))) ⌝ }
     {
-        match launch {
-            Launch::Sends(first) => {
-                let call = Call {
-                    kind: first.rule,
-                    stage: 0,
-                    phase: EXCHANGE,
-                };
+        match start {
+            Start::Command(first) => {
                 let n = first.len;
-                let count = bytes::copy(pending, command);
-                self.with_command(count)
-                    .sent(call, first.code, first.clock, &bytes[..n], buffer)
+                self.with_command(n).sent(
+                    Call::first(first.kind),
+                    first.code,
+                    first.clock,
+                    &command[..n],
+                    buffer,
+                )
             }
-            Launch::Refused(refusal) => self.refused(refusal),
+            Start::Staged(kind, n) => self.with_command(n)
+                .send(Call::first(kind), command, buffer),
+            Start::Refused(refusal) => self.refused(refusal),
         }
     }
 }

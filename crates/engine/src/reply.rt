@@ -8,25 +8,17 @@ use errors::Fault;
 use stages::Decision;
 use stages::Head;
 use stages::Layout;
+use stages::put::append;
 ghost use mathlib.Core.List.{List, _++_};
 ghost use mathlib.Core.Path.{_≡_};
 ghost use Prim.Native.Nat.{ℕ, _+_, _≤_};
 ghost use lib.ListN.{length, take, drop};
 ghost use Rattle.exchange.specs.Packets.{replyOf};
 ghost use Rattle.stages.specs.Stages.{keep, put as putBy};
+ghost use Rattle.stages.specs.Put.{put, Puts};
 ghost use Rattle.stages.specs.Decided.{headBytes, tailBytes, layoutBytes, Fitting, decisionIn, DecisionFits};
 ghost use Rattle.engine.specs.Moves.{replyMove, replyLength};
-ghost use Rattle.engine.specs.Core.{Held, held, put, Puts, progressed, followsOf, repliesOf, failsOf, movedOf};
-
-// Puts a part behind the first `len` bytes of a list that is being put together at the target's start, and answers its new length.
-fn append(part: &[u8], target: &mut [u8], len: usize) -> usize
-    requires { ⌜ len + length (now part) ≤ length (now target) ⌝ }
-    ensures { λ r. ⌜ r ≡ len + length (now (part .entry)) ⌝ }
-    ensures { λ r. ⌜ ((l c : List ℕ) → Puts (now (target .entry)) len l c → Puts (now (target .exit)) r (l ++ now (part .entry)) c) ⌝ }
-{
-    bytes::copy(part, &mut target[len..]);
-    len + part.len()
-}
+ghost use Rattle.engine.specs.Core.{Held, held, progressed, followsOf, repliesOf, failsOf, movedOf};
 
 // Puts a layout behind the found bytes that it keeps, which stand at the target's start already.
 fn lay(layout: Layout, response: &[u8], target: &mut [u8]) -> usize
@@ -147,7 +139,8 @@ impl Core {
     {
         let call = self.call;
         let n = self.found;
-        let decision = calls::decided(call.kind, call.stage, &found[..n], response);
+        let m = self.command;
+        let decision = calls::decided(call.kind, call.stage, &command[..m], &found[..n], response);
         self.followed(decision, response, command, found, buffer)
     }
 

@@ -2,13 +2,13 @@
 use super::books::Books;
 use super::core::Core;
 use super::core::Output;
-use super::numbered;
 use super::state::State;
 use exchange::Event;
 ghost use mathlib.Core.Path.{_≡_};
 ghost use Rattle.exchange.specs.Steps.{eventOf};
 ghost use Rattle.engine.specs.Inputs.{tells, stepWith};
-ghost use Rattle.engine.specs.Numbers.{callOf, callInput};
+ghost use Rattle.calls.specs.Numbers.{callOf};
+ghost use Rattle.engine.specs.Numbers.{callInput};
 ghost use Rattle.engine.specs.Sessions.{stepped, freshSession};
 
 #[repr(C)]
@@ -39,7 +39,7 @@ impl Session {
         }
     }
 
-    // A call, by its number and arguments (`numbered`).
+    // A call, by its number and arguments (`calls::start`).
     pub fn call(
         mut self,
         number: u8,
@@ -57,8 +57,7 @@ impl Session {
     {
         let state = self.state;
         let mut command = self.command;
-        let effect = numbered::call(
-            state,
+        let effect = state.call(
             &mut command,
             number,
             ms,

@@ -5,20 +5,19 @@ use super::call::OPEN;
 use super::core::Core;
 use super::core::Output;
 use super::core::Progress;
-use chipset::command::Launch;
-use chipset::command::Launched;
-use discovery::search::Search;
+use calls::start;
 use errors::Refusal;
 use exchange::Event;
-ghost use mathlib.Core.List.{List, []};
+ghost use mathlib.Core.List.{List};
 ghost use mathlib.Core.Path.{_≡_};
-ghost use Prim.Native.Nat.{ℕ, _≤_};
+ghost use Prim.Native.Nat.{ℕ};
 ghost use lib.ListN.{length};
 ghost use Rattle.exchange.specs.Steps.{eventOf};
-ghost use Rattle.chipset.specs.Starts.{launchWith, fits, launchIn, LaunchFits};
-ghost use Rattle.discovery.specs.Starts.{searchIn, SearchFits};
+ghost use Rattle.calls.specs.Numbers.{callOf};
 ghost use Rattle.engine.specs.Core.{Held, held, progressed, unchanged};
-ghost use Rattle.engine.specs.Sessions.{isValid, isFree, effected, bookedAfter, eventAfter, openAfter, launchAfter, searchAfter};
+ghost use Rattle.engine.specs.Sessions.{isValid, isFree, isAdmitted, effected, bookedAfter, eventAfter, openAfter};
+ghost use Rattle.engine.specs.Inputs.{afterInput};
+ghost use Rattle.engine.specs.Numbers.{callInput};
 
 #[repr(C)]
 pub struct State {
@@ -106,8 +105,20 @@ impl State {
         }
     }
 
+    // A call other than an opening may begin: the reader is open, too.
+    fn is_admitted(self) -> bool
+        ensures { λ r. ⌜ r ≡ isAdmitted self ⌝ }
+    {
+        let books = self.books;
+        if self.is_free() {
+            books.is_open()
+        } else {
+            false
+        }
+    }
+
     // An opening begins the books anew.
-    pub(crate) fn open(self, buffer: &mut [u8]) -> Effect
+    fn open(self, buffer: &mut [u8]) -> Effect
         ensures { λ r. ⌜ ((f : Held) → effected r f (now (buffer .exit)) ≡ openAfter self f (now (buffer .entry))) ⌝ }
     {
         if self.is_free() {
@@ -122,60 +133,48 @@ impl State {
         }
     }
 
-    // A call with its first command's data, and the command to send later.
-    pub(crate) fn launched(
+    // A call by its number and arguments (`calls::start`), whose bytes are put by in `command`.
+    pub fn call(
         self,
-        launch: Launch,
-        bytes: &[u8],
-        pending: &[u8],
-        command: &mut [u8],
+        command: &mut [u8; 512],
+        number: u8,
+        ms: u32,
+        word: u16,
+        x: u8,
+        y: u8,
+        first: &[u8],
+        second: &[u8],
+        third: &[u8],
+        fourth: &[u8],
         buffer: &mut [u8],
     ) -> Effect
-        requires { ⌜ fits launch × (length (now bytes) ≡ 512) × (length (now pending) ≤ length (now command)) ⌝ }
-        ensures { λ r. ⌜ ((f : List ℕ) → effected r (held (now (command .exit)) f) (now (buffer .exit)) ≡ launchAfter self (held (now (command .entry)) f) (launchWith (now (bytes .entry)) launch) (now (pending .entry)) (now (buffer .entry))) ⌝ }
+        ensures { λ r. ⌜ ((f : List ℕ) → effected r (held (now (command .exit)) f) (now (buffer .exit)) ≡ afterInput self (held (now (command .entry)) f) (callInput (callOf number ms word x y (now (first .entry)) (now (second .entry)) (now (third .entry)) (now (fourth .entry))) (now (buffer .entry)))) ⌝ }
     {
-        let books = self.books;
-        if self.is_free() {
-            if books.is_open() {
-                if buffer.len() < 1024 {
-                    return self.refused(Refusal::ShortBuffer);
-                }
-                let core = self.core;
-                let progress = core.sent_by(launch, bytes, pending, command, buffer);
-                Effect::booked(books, false, progress)
-            } else {
-                self.refused(Refusal::OutOfTurn)
+        if number == start::OPEN {
+            return self.open(buffer);
+        }
+        if self.is_admitted() {
+            if buffer.len() < 1024 {
+                return self.refused(Refusal::ShortBuffer);
             }
+            let core = self.core;
+            let books = self.books;
+            let started = start::start(
+                number,
+                ms,
+                word,
+                x,
+                y,
+                first,
+                second,
+                third,
+                fourth,
+                command,
+            );
+            let progress = core.start(started, command, buffer);
+            Effect::booked(books, false, progress)
         } else {
             self.refused(Refusal::OutOfTurn)
         }
-    }
-
-    // A call of one command.
-    pub(crate) fn requested(
-        self,
-        launched: Launched,
-        command: &mut [u8; 512],
-        buffer: &mut [u8],
-    ) -> Effect
-        requires { ⌜ LaunchFits launched ⌝ }
-        ensures { λ r. ⌜ ((f : List ℕ) → effected r (held (now (command .exit)) f) (now (buffer .exit)) ≡ launchAfter self (held (now (command .entry)) f) (launchIn launched) [] (now (buffer .entry))) ⌝ }
-    {
-        let launch = launched.launch;
-        let bytes = launched.bytes;
-        self.launched(launch, &bytes, &[], command, buffer)
-    }
-
-    // A call of discovery.rs, or transceive.
-    pub(crate) fn sought(self, search: Search, command: &mut [u8; 512], buffer: &mut [u8]) -> Effect
-        requires { ⌜ SearchFits search ⌝ }
-        ensures { λ r. ⌜ ((f : List ℕ) → effected r (held (now (command .exit)) f) (now (buffer .exit)) ≡ searchAfter self (held (now (command .entry)) f) (searchIn search) (now (buffer .entry))) ⌝ }
-    {
-        let launched = search.launched;
-        let launch = launched.launch;
-        let bytes = launched.bytes;
-        let pending = search.pending;
-        let n = search.count;
-        self.launched(launch, &bytes, &pending[..n], command, buffer)
     }
 }

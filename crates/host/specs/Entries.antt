@@ -5,7 +5,8 @@ use Prim.Native.Nat.{ℕ}
 use Rattle.errors.specs.Refusals.{plain}
 use Rattle.exchange.specs.Exchange.{Event}
 use Rattle.engine.specs.Inputs.{Input, tells, stepWith}
-use Rattle.engine.specs.Numbers.{callOf, callInput, eventBy}
+use Rattle.calls.specs.Numbers.{callOf}
+use Rattle.engine.specs.Numbers.{callInput, eventBy}
 use Rattle.engine.specs.declared.session.Session.{Session}
 use Rattle.host.specs.Outcomes.{Report, report, reportOf, refusedAs}
 

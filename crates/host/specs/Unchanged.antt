@@ -14,7 +14,8 @@ use Rattle.errors.specs.declared.Fault.the-variants.{Transport, TimeOut, FalseS
 use Rattle.exchange.specs.Exchange.{Event}
 use Rattle.protocol.specs.Calls.{Call, opening, reader}
 use Rattle.engine.specs.Inputs.{Input, opens, asks, tells, bufferOf, stepWith}
-use Rattle.engine.specs.Numbers.{callOf, callInput, eventBy}
+use Rattle.calls.specs.Numbers.{callOf}
+use Rattle.engine.specs.Numbers.{callInput, eventBy}
 use Rattle.engine.specs.Sessions.{isFree}
 use Rattle.engine.specs.Unchanged.{refused-unchanged, refused-ends}
 use Rattle.engine.specs.declared.session.Session.{Session}

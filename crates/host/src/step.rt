@@ -38,8 +38,7 @@ pub fn called(
 ) -> Told
     ensures { λ r. ⌜ ((found : List ℕ) → report (joined (now (command .exit)) found (r .state)) (r .outcome) (now (buffer .exit)) ≡ reportFor (joined (now (command .entry)) found state) (calling number ms word x y (now (first .entry)) (now (second .entry)) (now (third .entry)) (now (fourth .entry)) (now (buffer .entry)))) ⌝ }
 {
-    Told::of(numbered::call(
-        state,
+    Told::of(state.call(
         command,
         number,
         ms,

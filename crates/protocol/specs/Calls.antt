@@ -49,10 +49,11 @@ pub data DeviceCall : Type 0 where
   detectDep : List ℕ → List ℕ → DeviceCall  -- bitrate, ATR_REQ
   transceive : List ℕ → List ℕ → Bool → List ℕ → Option ℕ → DeviceCall  -- bitrate, SEL_RES, RID_RES, bytes, ms
 
--- a call of an open reader
+-- a call of an open reader; `unknown` is a number that has no call
 pub data ReaderCall : Type 0 where
   request : Request → ReaderCall
   device : DeviceCall → ReaderCall
+  unknown : ReaderCall
 
 -- any call; `opening` is the bench program's `open`, which is a word of this language
 pub data Call : Type 0 where
@@ -224,6 +225,7 @@ deviceStart (transceive text selRes ridRes bytes ms) = withBitrate (choiceOf tex
 abbrev pub readerStart : ReaderCall → Start
 readerStart (request r) = requestStart r
 readerStart (device d) = deviceStart d
+readerStart unknown = refuses BadArgument
 
 abbrev pub startOf : Call → Start
 startOf opening = starts deviceNew

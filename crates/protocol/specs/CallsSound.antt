@@ -4,7 +4,7 @@ use Prim.Native.Nat.{ℕ}
 use Rattle.protocol.specs.Discovery as discovery
 use Rattle.protocol.specs.Calls.{Request, version, resetMode, setParameters, rfConfiguration, rfFieldOff, readRegister, writeRegister, readSingleRegister, writeSingleRegister, inListPassiveTarget, inDataExchange, inCommunicateThru, inJumpForDep, tgInitTarget, tgSetGeneralBytes, tgGetInitiatorCommand, tgResponseToInitiator, tgGetTargetStatus}
 use Rattle.protocol.specs.Calls.{DeviceCall, detectTypeA, detectTypeB, detectTypeF, detectDep, transceive}
-use Rattle.protocol.specs.Calls.{Call, opening, reader, request, device, requestStart, deviceStart, startOf, limit}
+use Rattle.protocol.specs.Calls.{Call, opening, reader, request, device, unknown, requestStart, deviceStart, startOf, limit}
 use Rattle.protocol.specs.Own.{onlyCards, requestForm, deviceForm, formOf}
 use Rattle.protocol.specs.Sound.{Within, Correct, Sound, version-name, correct-rules, sound-rules}
 
@@ -42,3 +42,4 @@ pub sound : (c : Call) → Sound (formOf c) (startOf c) (limit c)
 sound opening = (search sound-rules depth 60, search (version-name, correct-rules) depth 60 fits 4000)
 sound (reader (request r)) = request-sound r
 sound (reader (device d)) = device-sound d
+sound (reader unknown) = search sound-rules depth 60

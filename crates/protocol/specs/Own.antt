@@ -10,7 +10,7 @@ use Rattle.protocol.specs.Chipset.{rate}
 use Rattle.protocol.specs.Device.{chipsetName}
 use Rattle.protocol.specs.Calls.{Request, version, resetMode, setParameters, rfConfiguration, rfFieldOff, readRegister, writeRegister, readSingleRegister, writeSingleRegister, inListPassiveTarget, inDataExchange, inCommunicateThru, inJumpForDep, tgInitTarget, tgSetGeneralBytes, tgGetInitiatorCommand, tgResponseToInitiator, tgGetTargetStatus}
 use Rattle.protocol.specs.Calls.{DeviceCall, detectTypeA, detectTypeB, detectTypeF, detectDep, transceive}
-use Rattle.protocol.specs.Calls.{Call, opening, reader, request, device, rateBytes}
+use Rattle.protocol.specs.Calls.{Call, opening, reader, request, device, unknown, rateBytes}
 
 -- ---- the forms of an answer
 
@@ -115,3 +115,4 @@ abbrev pub formOf : Call → Form
 formOf opening = versionAndName
 formOf (reader (request r)) = requestForm r
 formOf (reader (device d)) = deviceForm d
+formOf (reader unknown) = onlyCards

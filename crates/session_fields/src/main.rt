@@ -1,7 +1,7 @@
 // Sessions with any fields, each handed a call or an event with a buffer of some length: what comes of it, counted.
-mod calls;
 mod draw;
 mod judge;
+mod made;
 
 use judge::Tally;
 
@@ -12,7 +12,7 @@ fn turn(seed: u64, tally: Tally) -> Tally {
     let session = draw::session(seed);
     let before = session.state;
     let size = draw::size(seed);
-    let step = calls::handed(session, seed, size);
+    let step = made::handed(session, seed, size);
     let output = step.output;
     let stepped = step.session;
     let after = stepped.state;

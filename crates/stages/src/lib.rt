@@ -1,4 +1,7 @@
-// A call as stages: the command of each stage, and what is decided on a reply. Every call is made of these.
+// A call as stages: how it starts, the command of each stage, and what is decided on a reply. Every call is made of these.
+pub mod put;
+pub mod start;
+
 use errors::Fault;
 ghost use mathlib.Core.List.{List, [], _∷_, _++_};
 ghost use mathlib.Core.Path.{_≡_};

@@ -1,6 +1,6 @@
 -- `step` meets its contract.
 use borrow.Author.Needs.{needs}
-use Rattle.engine.specs.Numbers.{callOf}
+use Rattle.calls.specs.Numbers.{callOf}
 use Rattle.bench_session.specs.Answers.{stepOf}
 use Rattle.bench_session.proofs.AnswerLaws.{kept-is, call-done}
 use Rattle.bench_session.proofs.step.Statement.{statement}

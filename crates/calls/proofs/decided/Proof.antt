@@ -8,6 +8,12 @@ use Rattle.calls.proofs.decided.Tie as tie
 decided-requires : tie.Need-decided-requires
 decided-requires c κs = search needs
 
+type2-response-requires : tie.Need-type2-response-requires
+type2-response-requires c κs = search needs
+
+type1-response-requires : tie.Need-type1-response-requires
+type1-response-requires c κs = search needs
+
 decided-requires-2 : tie.Need-decided-requires-2
 decided-requires-2 c κs = search needs
 
@@ -29,29 +35,39 @@ returns c = rw (c .before .match .keys1) (c .decided .ensures)
 
 returns-2 : tie.Need-returns-2
 unfolding decidedOf pick
-returns-2 c = rw (c .before .match .keys2) (c .decided2 .ensures)
+returns-2 c = rw (c .before .match .keys2) (c .type2-response .ensures .decides _)
 
 returns-3 : tie.Need-returns-3
 unfolding decidedOf pick
-returns-3 c = rw (c .before .match .keys3) (c .decided3 .ensures _)
+returns-3 c = rw (c .before .match .keys3) (c .type1-response .ensures .decides _)
 
 returns-4 : tie.Need-returns-4
 unfolding decidedOf pick
-returns-4 c = rw (c .before .match .keys4) (c .decided4 .ensures _)
+returns-4 c = rw (c .before .match .keys4) (c .decided2 .ensures)
 
 returns-5 : tie.Need-returns-5
 unfolding decidedOf pick
-returns-5 c = rw (c .before .match .keys5) (c .decided5 .ensures)
+returns-5 c = rw (c .before .match .keys5) (c .decided3 .ensures _)
 
 returns-6 : tie.Need-returns-6
 unfolding decidedOf pick
-returns-6 c = let r = c .before .match .rest in rw (ne-eqb _ 1 (r .0 .0 .0 .0 .1), ne-eqb _ 17 (r .0 .0 .0 .1), ne-eqb _ 18 (r .0 .0 .1), ne-eqb _ 19 (r .0 .1), ne-eqb _ 20 (r .1)) (c .decided6 .ensures .decides _)
+returns-6 c = rw (c .before .match .keys6) (c .decided4 .ensures _)
+
+returns-7 : tie.Need-returns-7
+unfolding decidedOf pick
+returns-7 c = rw (c .before .match .keys7) (c .decided5 .ensures)
+
+returns-8 : tie.Need-returns-8
+unfolding decidedOf pick
+returns-8 c = let r = c .before .match .rest in rw (ne-eqb _ 1 (r .0 .0 .0 .0 .0 .0 .1), ne-eqb _ 15 (r .0 .0 .0 .0 .0 .1), ne-eqb _ 16 (r .0 .0 .0 .0 .1), ne-eqb _ 17 (r .0 .0 .0 .1), ne-eqb _ 18 (r .0 .0 .1), ne-eqb _ 19 (r .0 .1), ne-eqb _ 20 (r .1)) (c .decided6 .ensures .decides _)
 
 pub decided-spec : {M : Type 1} → statement M
 decided-spec =
     tie.close
     (tie.spec
     decided-requires
+    type2-response-requires
+    type1-response-requires
     decided-requires-2
     decided-requires-3
     decided-requires-4
@@ -62,4 +78,6 @@ decided-spec =
     returns-3
     returns-4
     returns-5
-    returns-6)
+    returns-6
+    returns-7
+    returns-8)

@@ -1,13 +1,12 @@
--- `discovery::type_b::iso_dep` meets its contract.
+use Rattle.stages.specs.Laws.{decided, decides-true, decides-put}
 use Rattle.discovery.specs.Decisions.{isoDep}
-use Rattle.stages.specs.Laws.{decided}
 use borrow.Author.Needs.{needs}
 use Rattle.discovery.proofs.type_b.iso_dep.Statement.{statement}
 use Rattle.discovery.proofs.type_b.iso_dep.Tie as tie
 
 returns : tie.Need-returns
 unfolding isoDep
-returns c = λ f b. search (decided, needs) depth 8
+returns c = λ f b. decides-true _ _ _ _ _ _ (search (decided, needs)) (decides-true _ _ _ _ _ _ (search (decided, needs)) (decides-put _ _ _ _))
 
 returns-2 : tie.Need-returns-2
 unfolding isoDep

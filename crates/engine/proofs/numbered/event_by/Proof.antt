@@ -4,7 +4,7 @@ use mathlib.Core.Option.{none}
 use native.Mathlib.Omega.{arith}
 use lib.ListN.{List·getD-eq-default}
 use Rattle.engine.specs.Numbers.{events, eventBy, knownIn}
-use Rattle.engine.specs.NumberLaws.{beyond}
+use Rattle.calls.specs.Numbers.{beyond}
 use Rattle.engine.proofs.numbered.event_by.Statement.{statement}
 use Rattle.engine.proofs.numbered.event_by.Tie as tie
 

@@ -2,7 +2,7 @@ use mathlib.Core.Path.{sym}
 use native.Mathlib.Omega.{arith}
 use lib.ListN.{length-take}
 use lib.Seq.{length-take-le}
-use Rattle.engine.specs.Laws.{puts-none}
+use Rattle.stages.specs.Put.{puts-none}
 use borrow.Author.Needs.{needs}
 use Rattle.engine.proofs.reply.answer.Statement.{statement}
 use Rattle.engine.proofs.reply.answer.Tie as tie
@@ -11,7 +11,7 @@ slice-aggregate-append : tie.Need-slice-aggregate-append
 slice-aggregate-append c = sym (length-take-le (c .before .before .before .before .args .layout .kept) (c .before .before .before .before .args .found .now) (c .before .before .before .before .pre .0 .kept))
 
 append-requires : tie.Need-append-requires
-append-requires c κs = omega (arith, length-take (c .before .before .before .before .before .args .layout .kept) (c .before .before .before .before .before .args .found .now), c .before .before .before .before .before .pre .1)
+append-requires c κs = search needs
 
 lay-requires : tie.Need-lay-requires
 lay-requires c κs = search needs
@@ -20,7 +20,10 @@ same-length : tie.Need-same-length
 same-length c = search needs
 
 returns : tie.Need-returns
-returns c = let a = c .before .before .before .before .before .before .before .before .before .before .before .before .args in let h = c .before .before .before .before .before .before .append .ensures .1 _ _ (puts-none _) in let r = c .before .before .lay .ensures (a .found .now) (a .target .now) record { count = sym (length-take-le (a .layout .kept) (a .found .now) (c .before .before .before .before .before .before .before .before .before .before .before .before .pre .0 .kept)); is = h .is } in (r .count, r .is)
+returns c = let a = c .before .before .before .before .before .before .before .before .before .before .before .before .args in
+    let h = c .before .before .before .before .before .before .append .ensures .puts _ _ (omega (arith, length-take (a .layout .kept) (a .found .now), c .before .before .before .before .before .before .before .before .before .before .before .before .pre .1)) (puts-none _) in
+    let r = c .before .before .lay .ensures (a .found .now) (a .target .now) record { count = sym (length-take-le (a .layout .kept) (a .found .now) (c .before .before .before .before .before .before .before .before .before .before .before .before .pre .0 .kept)); is = h .is } in
+    (r .count, r .is)
 
 pub answer-spec : {M : Type 1} → statement M
 answer-spec =

@@ -1,6 +1,7 @@
 -- `host::step::called` meets its contract.
 use borrow.Author.Needs.{needs}
-use Rattle.engine.specs.Numbers.{callOf, callInput}
+use Rattle.calls.specs.Numbers.{callOf}
+use Rattle.engine.specs.Numbers.{callInput}
 use Rattle.host.specs.Outcomes.{joined}
 use Rattle.host.specs.Steps.{call-told}
 use Rattle.host.proofs.step.called.Statement.{statement}

@@ -5,7 +5,7 @@ use lib.ListN.{length, take, length-take}
 use Rattle.stages.specs.Decided.{layoutBytes}
 use Rattle.engine.specs.declared.core.Core.{Core}
 use Rattle.engine.specs.Core.{held, stageOf, withFound, followsOf}
-use Rattle.engine.specs.Laws.{puts-found}
+use Rattle.stages.specs.Put.{puts-found}
 use borrow.Author.Needs.{needs}
 use Rattle.engine.proofs.core.Core.kept.Statement.{statement}
 use Rattle.engine.proofs.core.Core.kept.Tie as tie

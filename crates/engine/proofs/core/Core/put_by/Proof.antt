@@ -4,7 +4,7 @@ use native.Mathlib.Omega.{arith}
 use Rattle.stages.specs.Decided.{headBytes}
 use Rattle.engine.specs.declared.core.Core.{Core}
 use Rattle.engine.specs.Core.{held, stageOf, followsOf}
-use Rattle.engine.specs.Laws.{copied-start}
+use Rattle.stages.specs.Put.{copied-start}
 use borrow.Author.Needs.{needs}
 use Rattle.engine.proofs.core.Core.put_by.Statement.{statement}
 use Rattle.engine.proofs.core.Core.put_by.Tie as tie

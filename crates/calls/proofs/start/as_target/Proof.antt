@@ -1,0 +1,57 @@
+use mathlib.Core.Path.{_≡_}
+use native.Mathlib.Omega.{arith}
+use Rattle.calls.specs.Numbers.{callOf, beyond}
+use Rattle.calls.specs.Firsts.{startFor}
+use borrow.Author.Needs.{needs}
+use Rattle.calls.proofs.start.as_target.Statement.{statement}
+use Rattle.calls.proofs.start.as_target.Tie as tie
+
+tg-set-general-bytes-requires : tie.Need-tg-set-general-bytes-requires
+tg-set-general-bytes-requires c κs = search needs
+
+tg-get-initiator-command-requires : tie.Need-tg-get-initiator-command-requires
+tg-get-initiator-command-requires c κs = search needs
+
+tg-response-to-initiator-requires : tie.Need-tg-response-to-initiator-requires
+tg-response-to-initiator-requires c κs = search needs
+
+tg-get-target-status-requires : tie.Need-tg-get-target-status-requires
+tg-get-target-status-requires c κs = search needs
+
+rf-field-off-requires : tie.Need-rf-field-off-requires
+rf-field-off-requires c κs = search needs
+
+returns : tie.Need-returns
+unfolding callOf startFor
+returns c = λ word x y second third fourth. rw (c .before .before .match .keys1) (c .tg-set-general-bytes .ensures)
+
+returns-2 : tie.Need-returns-2
+unfolding callOf startFor
+returns-2 c = λ word x y second third fourth. rw (c .before .before .match .keys2) (c .tg-get-initiator-command .ensures)
+
+returns-3 : tie.Need-returns-3
+unfolding callOf startFor
+returns-3 c = λ word x y second third fourth. rw (c .before .before .match .keys3) (c .tg-response-to-initiator .ensures)
+
+returns-4 : tie.Need-returns-4
+unfolding callOf startFor
+returns-4 c = λ word x y second third fourth. rw (c .before .before .match .keys4) (c .tg-get-target-status .ensures)
+
+returns-5 : tie.Need-returns-5
+unfolding callOf startFor
+returns-5 c = λ word x y second third fourth. let r = c .before .before .match .rest in let e : c .before .before .before .before .args .number ≡ 18 = omega (arith, c .before .before .before .before .pre .1, beyond 17 _ (beyond 16 _ (beyond 15 _ (beyond 14 _ (c .before .before .before .before .pre .0) (r .0 .0 .0 .1)) (r .0 .0 .1)) (r .0 .1)) (r .1)) in rw e (c .rf-field-off .ensures)
+
+pub as-target-spec : {M : Type 1} → statement M
+as-target-spec =
+    tie.close
+    (tie.spec
+    tg-set-general-bytes-requires
+    tg-get-initiator-command-requires
+    tg-response-to-initiator-requires
+    tg-get-target-status-requires
+    rf-field-off-requires
+    returns
+    returns-2
+    returns-3
+    returns-4
+    returns-5)

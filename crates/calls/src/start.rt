@@ -1,0 +1,198 @@
+// How each call starts, by its number: its first command, for which bytes are put by, or its refusal at once.
+use chipset::general;
+use chipset::initiator;
+use chipset::registers;
+use chipset::target;
+use device::transceive::Timeout;
+use device::transceive::transceive;
+use discovery::dep::detect_dep;
+use discovery::type_a::detect_type_a;
+use discovery::type_b::detect_type_b;
+use discovery::type_f::detect_type_f;
+use errors::Refusal;
+use stages::start;
+use stages::start::Start;
+ghost use mathlib.Core.List.{List};
+ghost use mathlib.Core.Path.{_≡_};
+ghost use Prim.Native.Nat.{ℕ, _≤_, _<_};
+ghost use Rattle.stages.specs.Starts.{Starts};
+ghost use Rattle.device.specs.Transceive.{timeoutOf};
+ghost use Rattle.calls.specs.Numbers.{flag, msOf, callOf};
+ghost use Rattle.calls.specs.Firsts.{startBy};
+
+// The numbers of the calls.
+pub const OPEN: u8 = 0;
+
+pub const GET_FIRMWARE_VERSION: u8 = 1;
+
+pub const RESET_MODE: u8 = 2;
+
+pub const SET_PARAMETERS: u8 = 3;
+
+pub const RF_CONFIGURATION: u8 = 4;
+
+pub const READ_REGISTER: u8 = 5;
+
+pub const WRITE_REGISTER: u8 = 6;
+
+pub const READ_SINGLE_REGISTER: u8 = 7;
+
+pub const WRITE_SINGLE_REGISTER: u8 = 8;
+
+pub const IN_LIST_PASSIVE_TARGET: u8 = 9;
+
+pub const IN_DATA_EXCHANGE: u8 = 10;
+
+pub const IN_COMMUNICATE_THRU: u8 = 11;
+
+pub const IN_JUMP_FOR_DEP: u8 = 12;
+
+pub const TG_INIT_TARGET: u8 = 13;
+
+pub const TG_SET_GENERAL_BYTES: u8 = 14;
+
+pub const TG_GET_INITIATOR_COMMAND: u8 = 15;
+
+pub const TG_RESPONSE_TO_INITIATOR: u8 = 16;
+
+pub const TG_GET_TARGET_STATUS: u8 = 17;
+
+pub const RF_FIELD_OFF: u8 = 18;
+
+pub const DETECT_TYPE_A: u8 = 19;
+
+pub const DETECT_TYPE_B: u8 = 20;
+
+pub const DETECT_TYPE_F: u8 = 21;
+
+pub const DETECT_DEP: u8 = 22;
+
+pub const TRANSCEIVE: u8 = 23;
+
+// Calls 1 to 8: the chip's version, mode, parameters and registers.
+fn chip(number: u8, word: u16, x: u8, first: &[u8], command: &mut [u8; 512]) -> Start
+    requires { ⌜ number < 9 ⌝ }
+    ensures { λ r. ⌜ ((ms y : ℕ) (second third fourth : List ℕ) → Starts r (now (command .entry)) (now (command .exit)) (startBy (callOf number ms word x y (now (first .entry)) second third fourth))) ⌝ }
+{
+    match number {
+        GET_FIRMWARE_VERSION => general::get_firmware_version(command),
+        RESET_MODE => general::reset_mode(command),
+        SET_PARAMETERS => general::set_parameters(x, command),
+        RF_CONFIGURATION => general::rf_configuration(x, first, command),
+        READ_REGISTER => registers::read_register(first, command),
+        WRITE_REGISTER => registers::write_register(first, command),
+        READ_SINGLE_REGISTER => registers::read_single_register(word, command),
+        WRITE_SINGLE_REGISTER => registers::write_single_register(word, x, command),
+        _ => start::refused(Refusal::BadArgument),
+    }
+}
+
+// A byte as a flag.
+fn is_set(x: u8) -> bool
+    ensures { λ r. ⌜ r ≡ flag x ⌝ }
+{
+    x != 0
+}
+
+// Calls 9 to 13: what an initiator does, and the start of a target.
+fn as_initiator(
+    number: u8,
+    ms: u32,
+    x: u8,
+    y: u8,
+    first: &[u8],
+    second: &[u8],
+    third: &[u8],
+    fourth: &[u8],
+    command: &mut [u8; 512],
+) -> Start
+    requires { ⌜ (9 ≤ number) × (number < 14) ⌝ }
+    ensures { λ r. ⌜ ((word : ℕ) → Starts r (now (command .entry)) (now (command .exit)) (startBy (callOf number ms word x y (now (first .entry)) (now (second .entry)) (now (third .entry)) (now (fourth .entry))))) ⌝ }
+{
+    match number {
+        IN_LIST_PASSIVE_TARGET => initiator::in_list_passive_target(x, y, first, command),
+        IN_DATA_EXCHANGE => initiator::in_data_exchange(first, ms, command),
+        IN_COMMUNICATE_THRU => initiator::in_communicate_thru(first, ms, command),
+        IN_JUMP_FOR_DEP => initiator::in_jump_for_dep(is_set(x), y, first, second, third, command),
+        _ => target::tg_init_target(x, first, second, third, fourth, ms, command),
+    }
+}
+
+// Calls 14 to 18: what a target does, and the field.
+fn as_target(number: u8, ms: u32, first: &[u8], command: &mut [u8; 512]) -> Start
+    requires { ⌜ (14 ≤ number) × (number < 19) ⌝ }
+    ensures { λ r. ⌜ ((word x y : ℕ) (second third fourth : List ℕ) → Starts r (now (command .entry)) (now (command .exit)) (startBy (callOf number ms word x y (now (first .entry)) second third fourth))) ⌝ }
+{
+    match number {
+        TG_SET_GENERAL_BYTES => target::tg_set_general_bytes(first, command),
+        TG_GET_INITIATOR_COMMAND => target::tg_get_initiator_command(ms, command),
+        TG_RESPONSE_TO_INITIATOR => target::tg_response_to_initiator(first, command),
+        TG_GET_TARGET_STATUS => target::tg_get_target_status(command),
+        _ => general::rf_field_off(command),
+    }
+}
+
+// The ms of transceive, where they are given.
+fn timeout(given: bool, ms: u16) -> Timeout
+    ensures { λ r. ⌜ timeoutOf r ≡ msOf given ms ⌝ }
+{
+    if given {
+        Timeout::Ms(ms)
+    } else {
+        Timeout::Standard
+    }
+}
+
+// Calls 19 to 23: the discoveries and transceive. A number that has no call is refused with 4.
+fn on_device(
+    number: u8,
+    word: u16,
+    x: u8,
+    y: u8,
+    first: &[u8],
+    second: &[u8],
+    third: &[u8],
+    command: &mut [u8; 512],
+) -> Start
+    requires { ⌜ 19 ≤ number ⌝ }
+    ensures { λ r. ⌜ ((ms : ℕ) (fourth : List ℕ) → Starts r (now (command .entry)) (now (command .exit)) (startBy (callOf number ms word x y (now (first .entry)) (now (second .entry)) (now (third .entry)) fourth))) ⌝ }
+{
+    match number {
+        DETECT_TYPE_A => detect_type_a(first, second, command),
+        DETECT_TYPE_B => detect_type_b(first, second, command),
+        DETECT_TYPE_F => detect_type_f(first, word, x, y, command),
+        DETECT_DEP => detect_dep(first, second, command),
+        TRANSCEIVE => {
+            let ms = timeout(is_set(y), word);
+            transceive(first, second, is_set(x), third, ms, command)
+        }
+        _ => start::refused(Refusal::BadArgument),
+    }
+}
+
+// A call of an open reader, by its number: what is put by goes into `command`.
+pub fn start(
+    number: u8,
+    ms: u32,
+    word: u16,
+    x: u8,
+    y: u8,
+    first: &[u8],
+    second: &[u8],
+    third: &[u8],
+    fourth: &[u8],
+    command: &mut [u8; 512],
+) -> Start
+    ensures { λ r. ⌜ Starts r (now (command .entry)) (now (command .exit)) (startBy (callOf number ms word x y (now (first .entry)) (now (second .entry)) (now (third .entry)) (now (fourth .entry)))) ⌝ }
+{
+    if number < 9 {
+        return chip(number, word, x, first, command);
+    }
+    if number < 14 {
+        return as_initiator(number, ms, x, y, first, second, third, fourth, command);
+    }
+    if number < 19 {
+        return as_target(number, ms, first, command);
+    }
+    on_device(number, word, x, y, first, second, third, command)
+}

@@ -1,0 +1,75 @@
+// get_firmware_version, reset_mode, parameters and RF configuration (chipset.rs): the data that each sends, and its response.
+use super::NO_BYTES;
+use super::RESET_MODE;
+use super::VERSION;
+use super::cmd;
+use super::response::part;
+use errors::Fault;
+use stages::Command;
+use stages::Decision;
+use stages::put::put_two;
+use stages::start;
+use stages::start::Start;
+ghost use Rattle.protocol.specs.Calls.{version, resetMode, setParameters, rfConfiguration, rfFieldOff};
+ghost use Rattle.stages.specs.Decided.{Comes, Commands};
+ghost use Rattle.stages.specs.Starts.{Starts};
+ghost use Rattle.chipset.specs.Commands.{firstOf, resetCommand};
+ghost use Rattle.chipset.specs.Responses.{versionAnswer};
+
+pub fn get_firmware_version(command: &mut [u8; 512]) -> Start
+    ensures { λ r. ⌜ Starts r (now (command .entry)) (now (command .exit)) (firstOf version) ⌝ }
+{
+    let n = put_two(&[], &[], command);
+    start::command(VERSION, cmd::GET_FIRMWARE_VERSION, 100, n)
+}
+
+pub(crate) fn get_firmware_version_response(response: &[u8]) -> Decision
+    ensures { λ r. ⌜ Comes (now (response .entry)) r (versionAnswer (now (response .entry))) ⌝ }
+{
+    if response.len() < 4 {
+        Decision::Refused(Fault::ShortResponse)
+    } else {
+        part(0, 3)
+    }
+}
+
+// The reset's command is that of its kind's stage 0; its response is not looked at.
+pub fn reset_mode(command: &mut [u8; 512]) -> Start
+    ensures { λ r. ⌜ Starts r (now (command .entry)) (now (command .exit)) (firstOf resetMode) ⌝ }
+{
+    let n = put_two(&[], &[], command);
+    start::staged(RESET_MODE, n)
+}
+
+pub fn reset_mode_command() -> Command
+    ensures { λ r. ⌜ Commands r resetCommand ⌝ }
+{
+    Command {
+        code: cmd::RESET_MODE,
+        clock: 100,
+        is_pending: false,
+        bytes: [0x01, 0, 0, 0, 0, 0, 0, 0, 0, 0, 0, 0],
+        len: 1,
+    }
+}
+
+pub fn set_parameters(flags: u8, command: &mut [u8; 512]) -> Start
+    ensures { λ r. ⌜ Starts r (now (command .entry)) (now (command .exit)) (firstOf (setParameters flags)) ⌝ }
+{
+    let n = put_two(&[flags], &[], command);
+    start::command(NO_BYTES, cmd::SET_PARAMETERS, 100, n)
+}
+
+pub fn rf_configuration(item: u8, config: &[u8], command: &mut [u8; 512]) -> Start
+    ensures { λ r. ⌜ Starts r (now (command .entry)) (now (command .exit)) (firstOf (rfConfiguration item (now (config .entry)))) ⌝ }
+{
+    let n = put_two(&[item], config, command);
+    start::command(NO_BYTES, cmd::RF_CONFIGURATION, 100, n)
+}
+
+pub fn rf_field_off(command: &mut [u8; 512]) -> Start
+    ensures { λ r. ⌜ Starts r (now (command .entry)) (now (command .exit)) (firstOf rfFieldOff) ⌝ }
+{
+    let n = put_two(&[0x01, 0x02], &[], command);
+    start::command(NO_BYTES, cmd::RF_CONFIGURATION, 100, n)
+}

@@ -1,0 +1,140 @@
+// What an initiator does (chipset.rs): the data that each command sends, and its response.
+use super::EXCHANGED_DATA;
+use super::JUMP;
+use super::LISTED_TARGET;
+use super::THRU;
+use super::cmd;
+use super::response::from;
+use errors::Fault;
+use stages::Decision;
+use stages::Layout;
+use stages::Tail;
+use stages::byte_or;
+use stages::put::put_all;
+use stages::put::put_two;
+use stages::start;
+use stages::start::Start;
+ghost use mathlib.Core.Path.{_≡_};
+ghost use Prim.Native.Nat.{_≤_};
+ghost use lib.ListN.{drop};
+ghost use Rattle.protocol.specs.Scripts.{done};
+ghost use Rattle.protocol.specs.Chipset.{bit as bitOf};
+ghost use Rattle.protocol.specs.Calls.{inListPassiveTarget, inDataExchange, inCommunicateThru, inJumpForDep, activeByte};
+ghost use Rattle.stages.specs.Decided.{Comes};
+ghost use Rattle.stages.specs.Starts.{Starts};
+ghost use Rattle.chipset.specs.Commands.{firstOf};
+ghost use Rattle.chipset.specs.Responses.{withStatus, listAnswer, exchangeAnswer, jumpAnswer};
+
+pub fn in_list_passive_target(
+    max_tg: u8,
+    bitrate: u8,
+    initiator: &[u8],
+    command: &mut [u8; 512],
+) -> Start
+    ensures { λ r. ⌜ Starts r (now (command .entry)) (now (command .exit)) (firstOf (inListPassiveTarget «max_tg» bitrate (now (initiator .entry)))) ⌝ }
+{
+    let n = put_two(&[max_tg, bitrate], initiator, command);
+    start::command(LISTED_TARGET, cmd::IN_LIST_PASSIVE_TARGET, 1000, n)
+}
+
+// NbTg and Tg are left out.
+pub(crate) fn in_list_passive_target_response(response: &[u8]) -> Decision
+    ensures { λ r. ⌜ Comes (now (response .entry)) r (listAnswer (now (response .entry))) ⌝ }
+{
+    if byte_or(response, 0, 0) == 0 {
+        return Decision::Nothing;
+    }
+    if response.len() < 2 {
+        Decision::Refused(Fault::ShortResponse)
+    } else {
+        from(response, 2)
+    }
+}
+
+pub fn in_data_exchange(bytes: &[u8], ms: u32, command: &mut [u8; 512]) -> Start
+    ensures { λ r. ⌜ Starts r (now (command .entry)) (now (command .exit)) (firstOf (inDataExchange (now (bytes .entry)) ms)) ⌝ }
+{
+    let n = put_two(&[0x01], bytes, command);
+    start::command(EXCHANGED_DATA, cmd::IN_DATA_EXCHANGE, ms, n)
+}
+
+// The status is masked, and the more flag stands behind the data.
+pub(crate) fn in_data_exchange_response(response: &[u8]) -> Decision
+    ensures { λ r. ⌜ Comes (now (response .entry)) r (exchangeAnswer (now (response .entry))) ⌝ }
+{
+    if response.len() == 0 {
+        return Decision::Refused(Fault::Status(0xFF));
+    }
+    let status = response[0] % 64;
+    if status == 0 {
+        let more = response[0] / 64 % 2;
+        let tail = Tail(more, 0, 0, 0, 0, 0, 0, 0, 0, 0, 0, 0);
+        Decision::Done(Layout::tailed(1, response.len() - 1, tail, 1))
+    } else {
+        Decision::Refused(Fault::Status(status))
+    }
+}
+
+pub fn in_communicate_thru(bytes: &[u8], ms: u32, command: &mut [u8; 512]) -> Start
+    ensures { λ r. ⌜ Starts r (now (command .entry)) (now (command .exit)) (firstOf (inCommunicateThru (now (bytes .entry)) ms)) ⌝ }
+{
+    let n = put_two(&[], bytes, command);
+    start::command(THRU, cmd::IN_COMMUNICATE_THRU, ms, n)
+}
+
+// The status is not masked.
+pub(crate) fn in_communicate_thru_response(response: &[u8]) -> Decision
+    ensures { λ r. ⌜ Comes (now (response .entry)) r (withStatus (now (response .entry)) (done (drop 1 (now (response .entry))))) ⌝ }
+{
+    let status = byte_or(response, 0, 0xFF);
+    if status == 0 {
+        from(response, 1)
+    } else {
+        Decision::Refused(Fault::Status(status))
+    }
+}
+
+// 1 where there are bytes.
+fn bit(bytes: &[u8]) -> u8
+    ensures { λ r. ⌜ (r ≡ bitOf (now (bytes .entry))) × (r ≤ 1) ⌝ }
+{
+    if bytes.len() == 0 { 0 } else { 1 }
+}
+
+fn active_byte(active: bool) -> u8
+    ensures { λ r. ⌜ r ≡ activeByte active ⌝ }
+{
+    if active { 1 } else { 0 }
+}
+
+pub fn in_jump_for_dep(
+    active: bool,
+    br: u8,
+    passive: &[u8],
+    nfcid3: &[u8],
+    gi: &[u8],
+    command: &mut [u8; 512],
+) -> Start
+    ensures { λ r. ⌜ Starts r (now (command .entry)) (now (command .exit)) (firstOf (inJumpForDep active br (now (passive .entry)) (now (nfcid3 .entry)) (now (gi .entry)))) ⌝ }
+{
+    let nf = bit(passive) + 2 * bit(nfcid3) + 4 * bit(gi);
+    let head = [active_byte(active), br, nf];
+    let n = put_all(&head, passive, nfcid3, gi, &[], command);
+    start::command(JUMP, cmd::IN_JUMP_FOR_DEP, 3000, n)
+}
+
+// Status and Tg are left out.
+pub(crate) fn in_jump_for_dep_response(response: &[u8]) -> Decision
+    ensures { λ r. ⌜ Comes (now (response .entry)) r (jumpAnswer (now (response .entry))) ⌝ }
+{
+    let status = byte_or(response, 0, 0xFF);
+    if status == 0 {
+        if response.len() < 2 {
+            Decision::Refused(Fault::ShortResponse)
+        } else {
+            from(response, 2)
+        }
+    } else {
+        Decision::Refused(Fault::Status(status))
+    }
+}

@@ -1,0 +1,119 @@
+// Registers (chipset.rs): the data that each command sends, and its response.
+use super::ALL_BYTES;
+use super::FIRST_BYTE;
+use super::REGISTERS_WRITTEN;
+use super::cmd;
+use super::response::part;
+use errors::Fault;
+use errors::Refusal;
+use stages::Decision;
+use stages::Layout;
+use stages::put::put_two;
+use stages::start;
+use stages::start::Start;
+ghost use mathlib.Core.Path.{_≡_};
+ghost use Prim.Native.Nat.{_<_};
+ghost use Rattle.protocol.specs.Chipset.{anyNonzero};
+ghost use Rattle.protocol.specs.Calls.{readRegister, writeRegister, readSingleRegister, writeSingleRegister, registers as registersOf};
+ghost use Rattle.stages.specs.Decided.{Decides, Comes};
+ghost use Rattle.stages.specs.Starts.{Starts};
+ghost use Rattle.chipset.specs.Commands.{firstOf};
+ghost use Rattle.chipset.specs.Responses.{foundWritten, writeAnswer, firstAnswer};
+
+// Whole words or triples, of at most 64 registers.
+fn whole_registers(bytes: &[u8], size: usize) -> bool
+    requires { ⌜ 0 < size ⌝ }
+    ensures { λ r. ⌜ r ≡ registersOf size (now (bytes .entry)) ⌝ }
+{
+    if bytes.len() % size == 0 {
+        bytes.len() / size <= 64
+    } else {
+        false
+    }
+}
+
+// The addresses as they are sent, high byte first.
+pub fn read_register(addresses: &[u8], command: &mut [u8; 512]) -> Start
+    ensures { λ r. ⌜ Starts r (now (command .entry)) (now (command .exit)) (firstOf (readRegister (now (addresses .entry)))) ⌝ }
+{
+    if whole_registers(addresses, 2) {
+        let n = put_two(addresses, &[], command);
+        start::command(ALL_BYTES, cmd::READ_REGISTER, 250, n)
+    } else {
+        start::refused(Refusal::BadArgument)
+    }
+}
+
+// For each register its address, high byte first, and its value.
+pub fn write_register(registers: &[u8], command: &mut [u8; 512]) -> Start
+    ensures { λ r. ⌜ Starts r (now (command .entry)) (now (command .exit)) (firstOf (writeRegister (now (registers .entry)))) ⌝ }
+{
+    if whole_registers(registers, 3) {
+        let n = put_two(registers, &[], command);
+        start::command(REGISTERS_WRITTEN, cmd::WRITE_REGISTER, 250, n)
+    } else {
+        start::refused(Refusal::BadArgument)
+    }
+}
+
+// Whether a byte is not 0.
+pub fn any_nonzero(bytes: &[u8]) -> bool
+    ensures { λ r. ⌜ r ≡ anyNonzero (now (bytes .entry)) ⌝ }
+{
+    let mut i = 0;
+    while i < bytes.len() {
+        if bytes[i] != 0 {
+            return true;
+        }
+        i += 1;
+    }
+    false
+}
+
+// A register was not written.
+pub(crate) fn write_register_response(response: &[u8]) -> Decision
+    ensures { λ r. ⌜ Comes (now (response .entry)) r (writeAnswer (now (response .entry))) ⌝ }
+{
+    if any_nonzero(response) {
+        Decision::Refused(Fault::Status(0xFE))
+    } else {
+        part(0, 0)
+    }
+}
+
+// A register was written, the last command of a call: the answer is what was found.
+pub fn found_written(found: &[u8], response: &[u8]) -> Decision
+    ensures { λ r. ⌜ Decides (now (found .entry)) (now (response .entry)) r (foundWritten (now (found .entry)) (now (response .entry))) ⌝ }
+{
+    if any_nonzero(response) {
+        Decision::Refused(Fault::Status(0xFE))
+    } else {
+        Decision::Done(Layout::found(found))
+    }
+}
+
+pub fn read_single_register(address: u16, command: &mut [u8; 512]) -> Start
+    ensures { λ r. ⌜ Starts r (now (command .entry)) (now (command .exit)) (firstOf (readSingleRegister address)) ⌝ }
+{
+    let word = [(address / 256) as u8, (address % 256) as u8];
+    let n = put_two(&word, &[], command);
+    start::command(FIRST_BYTE, cmd::READ_REGISTER, 250, n)
+}
+
+pub(crate) fn read_single_register_response(response: &[u8]) -> Decision
+    ensures { λ r. ⌜ Comes (now (response .entry)) r (firstAnswer (now (response .entry))) ⌝ }
+{
+    if response.len() < 1 {
+        Decision::Refused(Fault::ShortResponse)
+    } else {
+        part(0, 1)
+    }
+}
+
+pub fn write_single_register(address: u16, value: u8, command: &mut [u8; 512]) -> Start
+    ensures { λ r. ⌜ Starts r (now (command .entry)) (now (command .exit)) (firstOf (writeSingleRegister address value)) ⌝ }
+{
+    let register = [(address / 256) as u8, (address % 256) as u8, value];
+    let n = put_two(&register, &[], command);
+    start::command(REGISTERS_WRITTEN, cmd::WRITE_REGISTER, 250, n)
+}

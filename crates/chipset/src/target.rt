@@ -1,0 +1,178 @@
+// What a target does (chipset.rs): the data that each command sends, and its response.
+use super::ALL_BYTES;
+use super::INITIATOR_COMMAND;
+use super::STATUS;
+use super::TARGET_STATUS;
+use super::cmd;
+use super::response::from;
+use super::response::part;
+use errors::Fault;
+use errors::Refusal;
+use stages::Decision;
+use stages::Layout;
+use stages::Tail;
+use stages::byte_or;
+use stages::put::put_all;
+use stages::put::put_two;
+use stages::start;
+use stages::start::Start;
+ghost use mathlib.Core.List.{List, [], _∷_, _++_};
+ghost use mathlib.Core.Path.{_≡_};
+ghost use Prim.Native.Nat.{ℕ, _≤_, _%_};
+ghost use lib.Dec.{eqb, leb};
+ghost use lib.ListN.{length, getD};
+ghost use Rattle.framing.specs.Lists.{both};
+ghost use Rattle.protocol.specs.Scripts.{done};
+ghost use Rattle.protocol.specs.Chipset.{rate as rateOf, word};
+ghost use Rattle.protocol.specs.Calls.{tgInitTarget, tgSetGeneralBytes, tgGetInitiatorCommand, tgResponseToInitiator, tgGetTargetStatus, initFits};
+ghost use Rattle.stages.specs.Decided.{Comes};
+ghost use Rattle.stages.specs.Starts.{Starts};
+ghost use Rattle.chipset.specs.Commands.{firstOf};
+ghost use Rattle.chipset.specs.Responses.{withStatus, initiatorAnswer, targetAnswer};
+
+// The mode is 0 or 2.
+fn is_mode(mode: u8) -> bool
+    ensures { λ r. ⌜ r ≡ both (leb mode 2) (eqb (mode % 2) 0) ⌝ }
+{
+    if mode <= 2 { mode % 2 == 0 } else { false }
+}
+
+fn init_fits(mode: u8, mifare: &[u8], felica: &[u8], nfcid3t: &[u8]) -> bool
+    ensures { λ r. ⌜ r ≡ initFits mode (now (mifare .entry)) (now (felica .entry)) (now (nfcid3t .entry)) ⌝ }
+{
+    if is_mode(mode) {
+        if mifare.len() == 6 {
+            if felica.len() == 18 {
+                nfcid3t.len() == 10
+            } else {
+                false
+            }
+        } else {
+            false
+        }
+    } else {
+        false
+    }
+}
+
+pub fn tg_init_target(
+    mode: u8,
+    mifare: &[u8],
+    felica: &[u8],
+    nfcid3t: &[u8],
+    gt: &[u8],
+    ms: u32,
+    command: &mut [u8; 512],
+) -> Start
+    ensures { λ r. ⌜ Starts r (now (command .entry)) (now (command .exit)) (firstOf (tgInitTarget mode (now (mifare .entry)) (now (felica .entry)) (now (nfcid3t .entry)) (now (gt .entry)) ms)) ⌝ }
+{
+    if init_fits(mode, mifare, felica, nfcid3t) {
+        let n = put_all(&[mode], mifare, felica, nfcid3t, gt, command);
+        start::command(ALL_BYTES, cmd::TG_INIT_TARGET, ms, n)
+    } else {
+        start::refused(Refusal::BadArgument)
+    }
+}
+
+pub fn tg_set_general_bytes(gb: &[u8], command: &mut [u8; 512]) -> Start
+    ensures { λ r. ⌜ Starts r (now (command .entry)) (now (command .exit)) (firstOf (tgSetGeneralBytes (now (gb .entry)))) ⌝ }
+{
+    let n = put_two(&[], gb, command);
+    start::command(STATUS, cmd::TG_SET_GENERAL_BYTES, 100, n)
+}
+
+pub fn tg_get_initiator_command(ms: u32, command: &mut [u8; 512]) -> Start
+    ensures { λ r. ⌜ Starts r (now (command .entry)) (now (command .exit)) (firstOf (tgGetInitiatorCommand ms)) ⌝ }
+{
+    let n = put_two(&[], &[], command);
+    start::command(INITIATOR_COMMAND, cmd::TG_GET_INITIATOR_COMMAND, ms, n)
+}
+
+// None on any other status.
+pub(crate) fn tg_get_initiator_command_response(response: &[u8]) -> Decision
+    ensures { λ r. ⌜ Comes (now (response .entry)) r (initiatorAnswer (now (response .entry))) ⌝ }
+{
+    if byte_or(response, 0, 0xFF) == 0 {
+        from(response, 1)
+    } else {
+        Decision::Nothing
+    }
+}
+
+pub fn tg_response_to_initiator(bytes: &[u8], command: &mut [u8; 512]) -> Start
+    ensures { λ r. ⌜ Starts r (now (command .entry)) (now (command .exit)) (firstOf (tgResponseToInitiator (now (bytes .entry)))) ⌝ }
+{
+    let n = put_two(&[], bytes, command);
+    start::command(STATUS, cmd::TG_RESPONSE_TO_INITIATOR, 1000, n)
+}
+
+// Of tg_set_general_bytes and tg_response_to_initiator.
+pub(crate) fn status_response(response: &[u8]) -> Decision
+    ensures { λ r. ⌜ Comes (now (response .entry)) r (withStatus (now (response .entry)) (done [])) ⌝ }
+{
+    let status = byte_or(response, 0, 0xFF);
+    if status == 0 {
+        part(0, 0)
+    } else {
+        Decision::Refused(Fault::Status(status))
+    }
+}
+
+pub fn tg_get_target_status(command: &mut [u8; 512]) -> Start
+    ensures { λ r. ⌜ Starts r (now (command .entry)) (now (command .exit)) (firstOf tgGetTargetStatus) ⌝ }
+{
+    let n = put_two(&[], &[], command);
+    start::command(TARGET_STATUS, cmd::TG_GET_TARGET_STATUS, 100, n)
+}
+
+// A rate by its index.
+fn rate(index: u8) -> u16
+    ensures { λ r. ⌜ r ≡ rateOf index ⌝ }
+{
+    if index == 0 {
+        return 106;
+    }
+    if index == 1 { 212 } else { 424 }
+}
+
+// The state and the two rates, high byte first.
+fn with_rates(send: u16, receive: u16) -> Decision
+    ensures { λ r. ⌜ ((bs : List ℕ) → 1 ≤ length bs → Comes bs r (done (getD bs 0 0 ∷ (word send ++ word receive)))) ⌝ }
+{
+    let tail = Tail(
+        (send / 256) as u8,
+        (send % 256) as u8,
+        (receive / 256) as u8,
+        (receive % 256) as u8,
+        0,
+        0,
+        0,
+        0,
+        0,
+        0,
+        0,
+        0,
+    );
+    Decision::Done(Layout::tailed(0, 1, tail, 4))
+}
+
+pub(crate) fn tg_get_target_status_response(response: &[u8]) -> Decision
+    ensures { λ r. ⌜ Comes (now (response .entry)) r (targetAnswer (now (response .entry))) ⌝ }
+{
+    if response.len() < 2 {
+        return Decision::Refused(Fault::ShortResponse);
+    }
+    if response[0] == 1 {
+        let send = response[1] / 16 % 8;
+        let receive = response[1] % 8;
+        if 2 < send {
+            return Decision::Refused(Fault::Rate);
+        }
+        if 2 < receive {
+            return Decision::Refused(Fault::Rate);
+        }
+        with_rates(rate(send), rate(receive))
+    } else {
+        with_rates(0, 0)
+    }
+}

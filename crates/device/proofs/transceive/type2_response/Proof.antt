@@ -1,0 +1,70 @@
+-- `device::transceive::type2_response` meets its contract.
+use native.Mathlib.Omega.{arith}
+use Rattle.chipset.specs.Responses.{withStatus}
+use Rattle.device.specs.Transceive.{type2Answer}
+use Rattle.stages.specs.Laws.{verdicts, comes-true}
+use Rattle.chipset.specs.Laws.{has-first}
+use Rattle.device.specs.Transceive.{check-told}
+use borrow.Author.Needs.{needs}
+use Rattle.device.proofs.transceive.type2_response.Statement.{statement}
+use Rattle.device.proofs.transceive.type2_response.Tie as tie
+
+byte-or-requires : tie.Need-byte-or-requires
+byte-or-requires c κs = search needs
+
+sub-check-crc-a : tie.Need-sub-check-crc-a
+sub-check-crc-a c = search needs
+
+part-check-crc-a-start : tie.Need-part-check-crc-a-start
+part-check-crc-a-start c = search needs
+
+part-check-crc-a-end : tie.Need-part-check-crc-a-end
+part-check-crc-a-end c = search needs
+
+check-crc-a-requires : tie.Need-check-crc-a-requires
+check-crc-a-requires c κs = search needs
+
+sub-part : tie.Need-sub-part
+sub-part c = search needs
+
+part-requires : tie.Need-part-requires
+part-requires c κs = search needs
+
+from-requires : tie.Need-from-requires
+from-requires c κs = search (has-first, needs)
+
+returns : tie.Need-returns
+unfolding type2Answer withStatus
+returns c =
+    comes-true _ _ _ _ _ (search (verdicts, needs))
+    (comes-true _ _ _ _ _ (search (verdicts, needs))
+    (comes-true _ _ _ _ _ (search (check-told, needs)) (c .part .ensures _ (omega arith))))
+
+returns-2 : tie.Need-returns-2
+unfolding type2Answer withStatus
+returns-2 c = search (check-told, verdicts, needs) depth 10
+
+returns-3 : tie.Need-returns-3
+unfolding type2Answer withStatus
+returns-3 c = search (verdicts, needs) depth 8
+
+returns-4 : tie.Need-returns-4
+unfolding type2Answer withStatus
+returns-4 c = search (verdicts, needs) depth 8
+
+pub type2-response-spec : {M : Type 1} → statement M
+type2-response-spec =
+    tie.close
+    (tie.spec
+    byte-or-requires
+    sub-check-crc-a
+    part-check-crc-a-start
+    part-check-crc-a-end
+    check-crc-a-requires
+    sub-part
+    part-requires
+    from-requires
+    returns
+    returns-2
+    returns-3
+    returns-4)

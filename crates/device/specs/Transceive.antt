@@ -1,0 +1,85 @@
+-- transceive: how it starts, and its answers.
+use mathlib.Core.Path.{_≡_, refl, sym, ap, _∙_}
+use mathlib.Core.Bool.{Bool, true, false, _&&_}
+use mathlib.Core.List.{List, [], _∷_}
+use mathlib.Core.Option.{Option, none, some}
+use Prim.Native.Nat.{ℕ, _-_, _/_, _%_, _≤_}
+use native.Mathlib.Omega.{arith}
+use lib.Dec.{eqb, ltb}
+use lib.ListN.{length, take, drop, getD, length-drop}
+use lib.Seq.{take-all}
+use Rattle.errors.specs.Choice.{pick}
+use Rattle.errors.specs.declared.Fault.the-variants.{Status, CrcA}
+use Rattle.errors.specs.declared.Refusal.the-variants.{NotSendable}
+use Rattle.crc.specs.Crc.{typeA as crcA, checks}
+use Rattle.targets.specs.Bitrates.{choiceOf}
+use Rattle.targets.specs.declared.Bitrate.{Bitrate}
+use Rattle.protocol.specs.Scripts.{Answer, done, refused}
+use Rattle.protocol.specs.Chipset.{maskedStatus}
+use Rattle.protocol.specs.Calls.{is106A, type2SelRes, isSendable}
+use Rattle.stages.specs.Stages.{Command, cmd}
+use Rattle.stages.specs.Starts.{Start, refuses, limited, Starts}
+use Rattle.stages.specs.Bitrates.{withBitrate}
+use Rattle.stages.specs.declared.start.Start as code
+use Rattle.chipset.specs.Responses.{withStatus}
+use Rattle.device.specs.declared.transceive.Timeout.{Timeout}
+use Rattle.device.specs.declared.transceive.Timeout.the-variants.{Standard, Ms}
+
+abbrev pub timeoutOf : Timeout → Option ℕ
+timeoutOf Standard = none
+timeoutOf (Ms ms) = some ms
+
+-- kind 16 is a Type 1 target's, 15 a Type 2 target's, 10 in_communicate_thru's
+unfoldable pub type1First : List ℕ → ℕ → Start
+type1First bytes ms = pick (isSendable bytes) (limited 16 (cmd 0x40 ms (0x01 ∷ bytes))) (refuses NotSendable)
+
+unfoldable pub thruFirst : Bitrate → List ℕ → List ℕ → ℕ → Start
+thruFirst rate selRes bytes ms = limited (pick (is106A rate && type2SelRes selRes) 15 10) (cmd 0x42 ms bytes)
+
+unfoldable pub transceiveFirst : List ℕ → List ℕ → Bool → List ℕ → ℕ → Start
+transceiveFirst text selRes ridRes bytes ms = withBitrate (choiceOf text) (λ rate. pick ridRes (type1First bytes ms) (thruFirst rate selRes bytes ms))
+
+-- the answers: of Type 2, whose reply over 2 bytes must pass CRC_A and loses two bytes, and of Type 1
+unfoldable pub type2Answer : List ℕ → Answer ℕ
+type2Answer bs =
+    withStatus bs
+    (pick (ltb 3 (length bs)) (pick (checks crcA (drop 1 bs)) (done (take (length bs - 3) (drop 1 bs))) (refused CrcA)) (done (drop 1 bs)))
+
+unfoldable pub type1Answer : List ℕ → Answer ℕ
+type1Answer bs =
+    pick (eqb (length bs) 0) (refused (Status 0xFF)) (pick (eqb (maskedStatus bs) 0) (done (drop 1 bs)) (refused (Status (maskedStatus bs))))
+
+-- ---- laws
+
+pub no-sel-res : (l : List ℕ) → length l ≡ 0 → false ≡ type2SelRes l
+no-sel-res [] h = refl
+no-sel-res (x ∷ l) h = absurd (omega arith)
+
+pub sel-res : (l : List ℕ) → (length l ≡ 0 → ⊥) → eqb (getD l 0 0 / 32 % 4) 0 ≡ type2SelRes l
+sel-res [] h = absurd (h refl)
+sel-res (x ∷ l) h = refl
+
+module _ (r : code.Start) (c₀ c₁ : List ℕ) (c : Command) (t : Bool) where
+  pub kind-type2 : t ≡ true → Starts r c₀ c₁ (limited 15 c) → Starts r c₀ c₁ (limited (pick t 15 10) c)
+  unfolding pick
+  kind-type2 h e = rw h e
+
+  pub kind-thru : t ≡ false → Starts r c₀ c₁ (limited 10 c) → Starts r c₀ c₁ (limited (pick t 15 10) c)
+  unfolding pick
+  kind-thru h e = rw h e
+
+-- the clock as a call answered it
+module _ (r : code.Start) (c₀ c₁ : List ℕ) (rate : Bitrate) (selRes bytes : List ℕ) (ms m : ℕ) (clock : ms ≡ m) where
+  pub as-type1 : (rid : Bool) → rid ≡ true → Starts r c₀ c₁ (type1First bytes ms) → Starts r c₀ c₁ (pick rid (type1First bytes m) (thruFirst rate selRes bytes m))
+  unfolding pick
+  as-type1 rid h s = rw (h, ← clock) s
+
+  pub as-thru : (rid : Bool) → rid ≡ false → Starts r c₀ c₁ (thruFirst rate selRes bytes ms) → Starts r c₀ c₁ (pick rid (type1First bytes m) (thruFirst rate selRes bytes m))
+  unfolding pick
+  as-thru rid h s = rw (h, ← clock) s
+
+-- the check of a reply, which stands behind the status byte
+pub check-told : (bs : List ℕ) (r t : Bool) → r ≡ checks crcA (take (length bs - 1) (drop 1 bs)) → r ≡ t → checks crcA (drop 1 bs) ≡ t
+check-told bs r t e f =
+    let l : length (drop 1 bs) ≤ length bs - 1 = rw (length-drop 1 bs) (omega arith) in
+    ap (checks crcA) (sym (take-all (length bs - 1) (drop 1 bs) l)) ∙ sym e ∙ f

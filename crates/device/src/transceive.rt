@@ -1,0 +1,152 @@
+// transceive (device.rs): how it starts, and its responses. That of any other target is in_communicate_thru's.
+use chipset::THRU;
+use chipset::cmd;
+use chipset::response::from;
+use chipset::response::part;
+use errors::Fault;
+use errors::Refusal;
+use stages::Decision;
+use stages::byte_or;
+use stages::put::put_two;
+use stages::start;
+use stages::start::Start;
+use targets::Bitrate;
+use targets::Coded;
+ghost use mathlib.Core.Bool.{_&&_};
+ghost use mathlib.Core.Path.{_≡_};
+ghost use Rattle.protocol.specs.Calls.{is106A, type2SelRes, isSendable, clockOf};
+ghost use Rattle.stages.specs.Decided.{Comes};
+ghost use Rattle.stages.specs.Starts.{Starts};
+ghost use Rattle.device.specs.Transceive.{timeoutOf, type1First, thruFirst, transceiveFirst, type2Answer, type1Answer};
+
+// The kinds of transceive of a Type 2 and of a Type 1 target.
+pub const TYPE_2: u8 = 15;
+
+pub const TYPE_1: u8 = 16;
+
+pub enum Timeout {
+    Standard,
+    Ms(u16),
+}
+
+// The ms of the command's clock.
+fn clock(timeout: Timeout) -> u32
+    ensures { λ r. ⌜ r ≡ clockOf (timeoutOf timeout) ⌝ }
+{
+    match timeout {
+        Timeout::Standard => 1000 + 100,
+        Timeout::Ms(ms) => ms as u32 + 100,
+    }
+}
+
+// The first byte of SEL_RES is that of a Type 2 tag.
+fn is_type2(sel_res: &[u8]) -> bool
+    ensures { λ r. ⌜ r ≡ type2SelRes (now («sel_res» .entry)) ⌝ }
+{
+    if sel_res.len() == 0 {
+        false
+    } else {
+        sel_res[0] / 32 % 4 == 0
+    }
+}
+
+fn is_type2_106a(bitrate: Bitrate, sel_res: &[u8]) -> bool
+    ensures { λ r. ⌜ r ≡ (is106A bitrate && type2SelRes (now («sel_res» .entry))) ⌝ }
+{
+    match bitrate {
+        Bitrate::B106A => is_type2(sel_res),
+        _ => false,
+    }
+}
+
+// RALL, READ, WRITE-NE, WRITE-E and RID.
+fn is_sendable(bytes: &[u8]) -> bool
+    ensures { λ r. ⌜ r ≡ isSendable (now (bytes .entry)) ⌝ }
+{
+    if bytes.len() == 0 {
+        return false;
+    }
+    match bytes[0] {
+        0x00 | 0x01 | 0x1A | 0x53 | 0x72 => true,
+        _ => false,
+    }
+}
+
+fn type1(bytes: &[u8], ms: u32, command: &mut [u8; 512]) -> Start
+    ensures { λ r. ⌜ Starts r (now (command .entry)) (now (command .exit)) (type1First (now (bytes .entry)) ms) ⌝ }
+{
+    if is_sendable(bytes) {
+        let n = put_two(&[0x01], bytes, command);
+        start::command(TYPE_1, cmd::IN_DATA_EXCHANGE, ms, n)
+    } else {
+        start::refused(Refusal::NotSendable)
+    }
+}
+
+fn thru(bitrate: Bitrate, sel_res: &[u8], bytes: &[u8], ms: u32, command: &mut [u8; 512]) -> Start
+    ensures { λ r. ⌜ Starts r (now (command .entry)) (now (command .exit)) (thruFirst bitrate (now («sel_res» .entry)) (now (bytes .entry)) ms) ⌝ }
+{
+    let n = put_two(&[], bytes, command);
+    if is_type2_106a(bitrate, sel_res) {
+        start::command(TYPE_2, cmd::IN_COMMUNICATE_THRU, ms, n)
+    } else {
+        start::command(THRU, cmd::IN_COMMUNICATE_THRU, ms, n)
+    }
+}
+
+// SEL_RES is empty where there is none.
+pub fn transceive(
+    bitrate: &[u8],
+    sel_res: &[u8],
+    rid_res: bool,
+    bytes: &[u8],
+    timeout: Timeout,
+    command: &mut [u8; 512],
+) -> Start
+    ensures { λ r. ⌜ Starts r (now (command .entry)) (now (command .exit)) (transceiveFirst (now (bitrate .entry)) (now («sel_res» .entry)) «rid_res» (now (bytes .entry)) (clockOf (timeoutOf timeout))) ⌝ }
+{
+    let Coded::Code(rate) = targets::code(bitrate) else {
+        return start::refused(Refusal::Bitrate);
+    };
+    let ms = clock(timeout);
+    if rid_res {
+        type1(bytes, ms, command)
+    } else {
+        thru(rate, sel_res, bytes, ms, command)
+    }
+}
+
+// Of a Type 2 target: a reply over 2 bytes must pass CRC_A and loses two bytes.
+pub fn type2_response(response: &[u8]) -> Decision
+    ensures { λ r. ⌜ Comes (now (response .entry)) r (type2Answer (now (response .entry))) ⌝ }
+{
+    let status = byte_or(response, 0, 0xFF);
+    if status == 0 {
+        if 3 < response.len() {
+            if crc::check_crc_a(&response[1..]) {
+                part(1, response.len() - 3)
+            } else {
+                Decision::Refused(Fault::CrcA)
+            }
+        } else {
+            from(response, 1)
+        }
+    } else {
+        Decision::Refused(Fault::Status(status))
+    }
+}
+
+// Of a Type 1 target: the more flag is left out.
+pub fn type1_response(response: &[u8]) -> Decision
+    ensures { λ r. ⌜ Comes (now (response .entry)) r (type1Answer (now (response .entry))) ⌝ }
+{
+    if response.len() == 0 {
+        return Decision::Refused(Fault::Status(0xFF));
+    }
+    let status = response[0] % 64;
+    if status == 0 {
+        from(response, 1)
+    } else {
+        Decision::Refused(Fault::Status(status))
+    }
+}

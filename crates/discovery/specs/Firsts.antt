@@ -1,0 +1,38 @@
+-- How each discovery starts: the bytes that are put by for its stages, or its refusal at once.
+use mathlib.Core.List.{List, [], _∷_}
+use mathlib.Core.Option.{Option, none, some}
+use Prim.Native.Nat.{ℕ}
+use lib.Dec.{leb}
+use lib.ListN.{length, take, drop}
+use Rattle.framing.specs.Lists.{both}
+use Rattle.protocol.specs.Chipset.{jumpData}
+use Rattle.protocol.specs.Discovery.{cascaded}
+use Rattle.protocol.specs.Calls.{depCode}
+use Rattle.stages.specs.Starts.{Start, staged, stagedLimited, asserted}
+use Rattle.stages.specs.Bitrates.{codeFor}
+use Rattle.discovery.specs.declared.rates.Supported.{Supported}
+use Rattle.discovery.specs.declared.rates.Supported.the-variants.{Code, Not}
+
+-- the list with the UID
+unfoldable pub typeAFirst : List ℕ → ℕ → Start
+typeAFirst uid code = stagedLimited 17 (1 ∷ code ∷ cascaded uid)
+
+-- the list with the AFI
+unfoldable pub typeBFirst : ℕ → ℕ → Start
+typeBFirst afi code = staged 18 (1 ∷ code ∷ afi ∷ [])
+
+-- the poll
+unfoldable pub typeFFirst : List ℕ → ℕ → Start
+typeFFirst req code = staged 19 (1 ∷ code ∷ req)
+
+-- the jump
+unfoldable pub depFirst : List ℕ → ℕ → Start
+depFirst atrReq code = staged 20 (jumpData 1 code [] (take 10 (drop 2 atrReq)) (drop 16 atrReq))
+
+unfoldable pub depAsserted : List ℕ → List ℕ → Start
+depAsserted text atrReq = asserted (both (leb 16 (length atrReq)) (leb (length atrReq) 64)) (codeFor depCode text (depFirst atrReq))
+
+-- what the code's answer says
+abbrev pub supportedIn : Supported → Option ℕ
+supportedIn (Code code) = some code
+supportedIn Not = none

@@ -1,0 +1,54 @@
+// The bitrates that each discovery takes, and their codes for the chip.
+use targets::Bitrate;
+ghost use mathlib.Core.Path.{_≡_};
+ghost use Rattle.protocol.specs.Calls.{typeACode, typeBCode, typeFCode, depCode};
+ghost use Rattle.discovery.specs.Firsts.{supportedIn};
+
+// The chip's code of a bitrate, where the call takes it.
+pub enum Supported {
+    Code(u8),
+    Not,
+}
+
+pub(crate) fn type_a_code(bitrate: Bitrate) -> Supported
+    ensures { λ r. ⌜ supportedIn r ≡ typeACode bitrate ⌝ }
+{
+    match bitrate {
+        Bitrate::B106A => Supported::Code(0),
+        Bitrate::B212F => Supported::Code(1),
+        Bitrate::B424F => Supported::Code(2),
+        Bitrate::B106B => Supported::Code(3),
+        _ => Supported::Not,
+    }
+}
+
+// The chip lists no other Type B rate.
+pub(crate) fn type_b_code(bitrate: Bitrate) -> Supported
+    ensures { λ r. ⌜ supportedIn r ≡ typeBCode bitrate ⌝ }
+{
+    match bitrate {
+        Bitrate::B106B => Supported::Code(3),
+        _ => Supported::Not,
+    }
+}
+
+pub(crate) fn type_f_code(bitrate: Bitrate) -> Supported
+    ensures { λ r. ⌜ supportedIn r ≡ typeFCode bitrate ⌝ }
+{
+    match bitrate {
+        Bitrate::B212F => Supported::Code(1),
+        Bitrate::B424F => Supported::Code(2),
+        _ => Supported::Not,
+    }
+}
+
+pub(crate) fn dep_code(bitrate: Bitrate) -> Supported
+    ensures { λ r. ⌜ supportedIn r ≡ depCode bitrate ⌝ }
+{
+    match bitrate {
+        Bitrate::B106A => Supported::Code(0),
+        Bitrate::B212F => Supported::Code(1),
+        Bitrate::B424F => Supported::Code(2),
+        _ => Supported::Not,
+    }
+}

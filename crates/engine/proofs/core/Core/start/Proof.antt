@@ -1,0 +1,100 @@
+use mathlib.Core.Path.{_≡_, sym, ap, ap₂, _∙_, subst}
+use Prim.Native.Nat.{_≤_}
+use native.Mathlib.Omega.{arith}
+use lib.ListN.{length, take, length-take}
+use lib.Seq.{length-take-le}
+use Rattle.stages.specs.Put.{put, take-put}
+use Rattle.stages.specs.Stages.{cmd}
+use Rattle.stages.specs.Starts.{Starts, StartFits, commanded, as-staged, at-once}
+use Rattle.engine.specs.declared.core.Core.{Core}
+use Rattle.engine.specs.Core.{held, withCommand, sendsOf, stageOf, unchanged, startOn}
+use Rattle.engine.specs.Moves.{firstCall}
+use borrow.Author.Needs.{needs}
+use Rattle.engine.proofs.core.Core.start.Statement.{statement}
+use Rattle.engine.proofs.core.Core.start.Tie as tie
+
+enum-known-start : tie.Need-enum-known-start
+enum-known-start c = search needs
+
+with-command-requires : tie.Need-with-command-requires
+with-command-requires c κs = search needs
+
+first-requires : tie.Need-first-requires
+first-requires c κs = search needs
+
+slice-aggregate-sent : tie.Need-slice-aggregate-sent
+slice-aggregate-sent c = let n = subst StartFits (c .before .before .before .before .start .given .1) (c .before .before .before .before .before .before .before .before .pre .0) in sym (length-take-le _ (c .before .before .before .before .before .before .before .before .args .command .now) (omega (arith, n, c .before .before .before .before .before .before .before .before .pre .1)))
+
+sent-requires : tie.Need-sent-requires
+sent-requires c κs = let n = subst StartFits (c .before .before .before .before .before .start .given .1) (c .before .before .before .before .before .before .before .before .before .pre .0) in (omega (arith, n, length-take (c .before .before .before .before .before .start .given .0 .0 .len) (c .before .before .before .before .before .before .before .before .before .args .command .now)), c .before .before .before .before .before .before .before .before .before .pre .2)
+
+enum-known-start-2 : tie.Need-enum-known-start-2
+enum-known-start-2 c = search needs
+
+with-command-requires-2 : tie.Need-with-command-requires-2
+with-command-requires-2 c κs = search needs
+
+first-requires-2 : tie.Need-first-requires-2
+first-requires-2 c κs = search needs
+
+send-requires : tie.Need-send-requires
+send-requires c κs = let n = subst StartFits (c .before .before .before .before .start2 .given .1) (c .before .before .before .before .before .before .before .before .pre .0) in (subst (λ (s : Core). s .command ≤ 512) (sym (c .before .before .with-command2 .ensures)) n, c .before .before .before .before .before .before .before .before .pre .1, c .before .before .before .before .before .before .before .before .pre .2)
+
+enum-known-start-3 : tie.Need-enum-known-start-3
+enum-known-start-3 c = search needs
+
+refused-requires : tie.Need-refused-requires
+refused-requires c κs = search needs
+
+same-length : tie.Need-same-length
+same-length c = search needs
+
+returns : tie.Need-returns
+unfolding startOn
+returns c = λ f k s h.
+    let a = c .before .before .before .before .before .before .before .before .before .before .before .before .args in
+    let r = commanded (subst (λ x. Starts x k (a .command .now) s) (c .before .before .before .before .before .before .before .before .start .given .1) h) in
+    let part : take (c .before .before .before .before .before .before .before .before .start .given .0 .0 .len) (a .command .now) ≡ r .bytes = ap₂ take (r .puts .count) (r .puts .is) ∙ take-put (r .bytes) k in
+    rw (r .is)
+    (c .before .before .sent .ensures _
+    ∙ (λ i. sendsOf ((c .before .before .before .before .before .before .with-command .ensures ∙ ap (withCommand (a .self)) (r .puts .count)) i) (held (r .puts .is i) f) (c .before .before .before .before .before .first .ensures i) (cmd (c .before .before .before .before .before .before .before .before .start .given .0 .0 .code) (c .before .before .before .before .before .before .before .before .start .given .0 .0 .clock) (part i)) (a .buffer .now)))
+
+same-length-2 : tie.Need-same-length-2
+same-length-2 c = search needs
+
+returns-2 : tie.Need-returns-2
+unfolding startOn
+returns-2 c = λ f k s h.
+    let a = c .before .before .before .before .before .before .before .before .before .before .before .args in
+    let r = as-staged (subst (λ x. Starts x k (a .command .now) s) (c .before .before .before .before .before .before .before .start2 .given .1) h) in
+    rw (r .is)
+    (c .before .before .send .ensures f
+    ∙ (λ i. stageOf ((c .before .before .before .before .before .with-command2 .ensures ∙ ap (withCommand (a .self)) (r .puts .count)) i) (held (r .puts .is i) f) (c .before .before .before .before .first2 .ensures i) (a .buffer .now)))
+
+returns-3 : tie.Need-returns-3
+unfolding startOn
+returns-3 c = λ f k s h.
+    let a = c .before .before .before .before .before .before .args in
+    let r = at-once (subst (λ x. Starts x k (a .command .now) s) (c .before .before .start3 .given .1) h) in
+    rw (r .is) (c .refused .ensures _ _ ∙ ap (λ x. unchanged (a .self) (held x f) (c .before .before .start3 .given .0 .0) (a .buffer .now)) (r .same))
+
+pub start-spec : {M : Type 1} → statement M
+start-spec =
+    tie.close
+    (tie.spec
+    enum-known-start
+    with-command-requires
+    first-requires
+    slice-aggregate-sent
+    sent-requires
+    enum-known-start-2
+    with-command-requires-2
+    first-requires-2
+    send-requires
+    enum-known-start-3
+    refused-requires
+    same-length
+    returns
+    same-length-2
+    returns-2
+    returns-3)
