@@ -45,10 +45,7 @@ unsafe extern "C" {
     pub fn rcs956_call(
         session: &mut Session,
         number: u8,
-        ms: u32,
-        word: u16,
-        x: u8,
-        y: u8,
+        numbers: Numbers,
         first: *const u8,
         first_len: usize,
         second: *const u8,
@@ -60,6 +57,14 @@ unsafe extern "C" {
         buffer: *mut u8,
         buffer_len: usize,
     ) -> Outcome;
+}
+
+#[repr(C)]
+pub struct Numbers {
+    pub ms: u32,
+    pub word: u16,
+    pub x: u8,
+    pub y: u8,
 }
 
 #[repr(C)]

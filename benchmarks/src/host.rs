@@ -90,10 +90,7 @@ impl Host {
             rcs956_call(
                 &mut self.session,
                 number,
-                0,
-                word,
-                0,
-                given,
+                Numbers { ms: 0, word, x: 0, y: given },
                 bitrate.as_ptr(),
                 bitrate.len(),
                 request.as_ptr(),

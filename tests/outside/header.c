@@ -19,11 +19,11 @@ struct got {
 static struct got got;
 static int calls, wrong;
 
-rcs956_outcome rcs956_call(rcs956_session *s, uint8_t number, uint32_t ms, uint16_t word, uint8_t x, uint8_t y,
-                           const uint8_t *first, size_t first_len, const uint8_t *second, size_t second_len, const uint8_t *third,
-                           size_t third_len, const uint8_t *fourth, size_t fourth_len, uint8_t *buf, size_t buf_len)
+rcs956_outcome rcs956_call(rcs956_session *s, uint8_t number, rcs956_numbers n, const uint8_t *first, size_t first_len,
+                           const uint8_t *second, size_t second_len, const uint8_t *third, size_t third_len, const uint8_t *fourth,
+                           size_t fourth_len, uint8_t *buf, size_t buf_len)
 {
-    struct got now = {number, ms, word, x, y, {first_len, second_len, third_len, fourth_len}, {first, second, third, fourth}};
+    struct got now = {number, n.ms, n.word, n.x, n.y, {first_len, second_len, third_len, fourth_len}, {first, second, third, fourth}};
     rcs956_outcome none = {RCS956_NONE, 0, 0, 0, 0};
     got = now;
     if (s != &session || buf != buffer || buf_len != sizeof buffer)

@@ -3,3 +3,4 @@ mod ReadLaws
 mod WordsLaws
 mod PartLaws
 mod StandLaws
+mod TableLaws

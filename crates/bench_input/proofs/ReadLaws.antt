@@ -2,26 +2,27 @@
 use mathlib.Core.Path.{_≡_, refl, sym, ap, _∙_}
 use mathlib.Core.Bool.{true, false}
 use mathlib.Core.List.{List, [], _∷_, _++_, append-assoc, append-nil}
-use Prim.Native.Nat.{ℕ, _+_, _-_, _*_, _/_, _≤_, _<_}
+use mathlib.Core.Option.{none}
+use Prim.Native.Nat.{ℕ, _+_, _-_, _*_, _/_, _%_, _≤_, _<_}
 use native.Mathlib.Nat.{zero-add}
 use native.Mathlib.Numerals.{add-one}
 use native.Mathlib.Omega.{arith}
 use borrow.Author.Tests.{eq-eqb, ne-eqb, lt-ltb, le-ltb, le-leb, lt-leb}
-use borrow.Rule.Slice.PartMut.{putMid, postOf, take-put, put-same}
+use borrow.Rule.Slice.PartMut.{putMid, postOf, take-put}
 use lib.Dec.{ltb}
 use lib.ListN.{length, getD, take, drop, length-append, length-take, length-drop, drop-of-length-le}
-use lib.Seq.{slice, take-at, drop-at, take-append-add, drop-cons, length-take-le, take-length}
+use lib.Seq.{slice, take-at, drop-at, take-append-add, drop-cons, length-take-le, take-length, length-slice}
 use Rattle.errors.specs.Choice.{pick}
 use Rattle.errors.specs.declared.Refusal.{Refusal}
 use Rattle.framing.specs.Lists.{both, both-false-r, same}
+use Rattle.framing.specs.Copied.{copied}
 use Rattle.bench.specs.Hex.{dash, pairsOf, readOf}
-use Rattle.bench.specs.HexLaws.{length-pairs, was-read, read-count, read-into, not-read, not-put}
-use Rattle.bench.specs.TextLaws.{over-copied}
+use Rattle.bench.specs.HexLaws.{length-pairs, was-read, read-count, read-into, not-read}
 use Rattle.bench.specs.Texts.{outcome, over, left}
 use Rattle.bench.specs.declared.Put.{Put}
 use Rattle.bench.specs.declared.Put.the-variants.{Bytes, Refused}
-use Rattle.bench_input.specs.Arguments.{Said, unreadable, hexArg, textArg, digitOf, allDecimal, numberFrom, msLimit, isMs, msArg}
-use Rattle.bench_input.specs.Readings.{Behind}
+use Rattle.bench_input.specs.Arguments.{Read, hexArg, textArg, digitOf, allDecimal, numberFrom, msLimit, isMs, msArg}
+use Rattle.bench_input.specs.Readings.{Between}
 
 -- a buffer that the word's m bytes fill
 module _ (w u p part : List ℕ) (q : Put) (m : ℕ) (is : w ≡ u) (size : length w ≡ 2 * m) (filled : length p ≡ m) (read : left (outcome q) part ≡ readOf w p) where
@@ -31,14 +32,14 @@ module _ (w u p part : List ℕ) (q : Put) (m : ℕ) (is : w ≡ u) (size : leng
   pairs-room : length u / 2 ≤ length p
   pairs-room = omega (arith, ap length is)
 
-  pub pairs-read : (n : ℕ) → q ≡ Bytes n → (f : List ℕ → Said) → f part ≡ hexArg u f
+  pub pairs-read : (n : ℕ) → q ≡ Bytes n → (f : List ℕ → Read) → f part ≡ hexArg u f
   unfolding hexArg pick over
   pairs-read n given f =
       let k : length p ≤ 0 + length (pairsOf u) = omega (arith, ap length is, length-pairs u) in
       let e : part ≡ pairsOf u = read-into u p part q pairs-room told n given ∙ rw (drop-of-length-le p {i = 0 + length (pairsOf u)} k, append-nil) in
       rw (was-read u p part q pairs-room told n given) (ap f e)
 
-  pub pairs-unread : (e : Refusal) → q ≡ Refused e → (f : List ℕ → Said) → unreadable ≡ hexArg u f
+  pub pairs-unread : (e : Refusal) → q ≡ Refused e → (f : List ℕ → Read) → none ≡ hexArg u f
   unfolding hexArg pick
   pairs-unread e given f = rw (not-read u p part q pairs-room told e given)
 
@@ -50,8 +51,16 @@ placed-here a p x i n h k =
     ∙ drop-at a (take n (p ++ x)) i h
     ∙ take-at p x n (sym k)
 
+-- behind a text that was copied to a place the buffer is as it was
+copied-kept : (b t : List ℕ) (at : ℕ) → at + length t ≤ length b → (part : List ℕ) → part ≡ take (length t) t ++ drop (length t) (take (length b - at) (drop at b))
+    → drop (at + length t) (putMid at (length b - at) b part) ≡ drop (at + length t) b
+copied-kept b t at room part e =
+    let z : List ℕ = drop (at + length t) b in
+    let l : length (take at b ++ t) ≡ at + length t = length-append (take at b) t ∙ rw (length-take-le at b (omega arith)) in
+    rw (copied b t at room part e, ← append-assoc (take at b) t z) (drop-at (take at b ++ t) z (at + length t) l)
+
 -- a word that was read from place `at` on, through the part of the buffer b from there
-module _ (w u b part : List ℕ) (at : ℕ) (q : Put) (is : w ≡ u) (room : at + length u / 2 ≤ length b) (read : left (outcome q) part ≡ readOf w (take (length b - at) (drop at b))) where
+module _ (w u b part : List ℕ) (at : ℕ) (q : Put) (is : w ≡ u) (room : at + length u ≤ length b) (read : left (outcome q) part ≡ readOf w (take (length b - at) (drop at b))) where
   told′ : left (outcome q) part ≡ readOf u (take (length b - at) (drop at b))
   told′ = read ∙ ap (λ z. readOf z (take (length b - at) (drop at b))) is
 
@@ -65,7 +74,7 @@ module _ (w u b part : List ℕ) (at : ℕ) (q : Put) (is : w ≡ u) (room : at 
     count-is : n ≡ length u / 2
     count-is = read-count u (take (length b - at) (drop at b)) part q behind-room told′ n given ∙ length-pairs u
 
-    pub hex-read : (f : List ℕ → Said) → f (slice at (at + n) (putMid at (length b - at) b part)) ≡ hexArg u f
+    pub hex-read : (f : List ℕ → Read) → f (slice at (at + n) (putMid at (length b - at) b part)) ≡ hexArg u f
     unfolding hexArg pick over
     hex-read f =
         let p : List ℕ = take (length b - at) (drop at b) in
@@ -81,28 +90,20 @@ module _ (w u b part : List ℕ) (at : ℕ) (q : Put) (is : w ≡ u) (room : at 
     behind-kept =
         let t : List ℕ = pairsOf u in
         let p : List ℕ = take (length b - at) (drop at b) in
-        let z : List ℕ = drop (at + length t) b in
-        let size : n ≡ length t = count-is ∙ sym (length-pairs u) in
-        let l : length (take at b ++ t) ≡ at + length t = length-append (take at b) t ∙ rw (length-take-le at b (omega arith)) in
         let e : part ≡ take (length t) t ++ drop (length t) p = read-into u p part q behind-room told′ n given ∙ rw (take-length t, zero-add (length t)) in
-        rw (size, over-copied b t part at (omega (arith, length-pairs u)) e, ← append-assoc (take at b) t z) (drop-at (take at b ++ t) z (at + length t) l)
+        let size : n ≡ length t = count-is ∙ sym (length-pairs u) in
+        rw size (copied-kept b t at (omega (arith, length-pairs u)) part e)
 
-    pub hex-behind : Behind at (at + n) (length u) b (putMid at (length b - at) b part)
+    pub hex-behind : Between at (at + n) (length u) b (putMid at (length b - at) b part)
     hex-behind = record { from = omega arith; short = omega (arith, count-is); kept = before-kept; behind = behind-kept }
 
     pub hex-within : at + n ≤ length b
     hex-within = omega (arith, count-is)
 
   module _ (e : Refusal) (given : q ≡ Refused e) where
-    pub hex-unread : (f : List ℕ → Said) → unreadable ≡ hexArg u f
+    pub hex-unread : (f : List ℕ → Read) → none ≡ hexArg u f
     unfolding hexArg pick
     hex-unread f = rw (not-read u (take (length b - at) (drop at b)) part q behind-room told′ e given)
-
-    all-kept : putMid at (length b - at) b part ≡ b
-    all-kept = rw (not-put u (take (length b - at) (drop at b)) part q behind-room told′ e given) (put-same at (length b - at) b)
-
-    pub hex-stays : Behind at at (length u) b (putMid at (length b - at) b part)
-    hex-stays = record { from = omega arith; short = omega arith; kept = before-kept; behind = ap (drop at) all-kept }
 
 -- decimal digits, place by place
 grows : (n : ℕ) (w : List ℕ) → n ≤ numberFrom n w
@@ -140,12 +141,12 @@ module _ (w : List ℕ) (n i v : ℕ) (inside : i < length w) (value : v ≡ dig
   ms-over e h = too-large w (omega (arith, ms-number e, grows (n * 10 + v) (drop (i + 1) w)))
 
 -- what is said with a number that was read, or was not
-module _ (w u : List ℕ) (is : w ≡ u) (f : ℕ → Said) where
-  pub ms-unread : isMs w ≡ false → unreadable ≡ msArg u f
+module _ (w u : List ℕ) (is : w ≡ u) (f : ℕ → Read) where
+  pub ms-unread : isMs w ≡ false → none ≡ msArg u f
   unfolding msArg pick
   ms-unread h = rw (← is, h)
 
-  pub ms-empty : length w ≡ 0 → unreadable ≡ msArg u f
+  pub ms-empty : length w ≡ 0 → none ≡ msArg u f
   unfolding isMs
   ms-empty h = ms-unread (rw (le-ltb 0 (length w) (omega arith)))
 
@@ -156,30 +157,43 @@ module _ (w u : List ℕ) (is : w ≡ u) (f : ℕ → Said) where
       let number : numberFrom 0 w ≡ n = e ∙ ap (numberFrom n) z in
       rw (← is, lt-ltb 0 (length w) some, d ∙ ap allDecimal z, number, le-leb n msLimit h)
 
--- a BITRATE that was copied to the start of the buffer b, or was not
-module _ (w u : List ℕ) (is : w ≡ u) (f : List ℕ → Said) where
-  pub text-empty : length w ≡ 0 → unreadable ≡ textArg u f
+-- a BITRATE that was copied into the buffer b, or was not
+module _ (w u : List ℕ) (is : w ≡ u) where
+  pub text-empty : (f : List ℕ → Read) → length w ≡ 0 → none ≡ textArg u f
   unfolding textArg pick
-  text-empty h = rw (← is, eq-eqb (length w) 0 h)
+  text-empty f h = rw (← is, eq-eqb (length w) 0 h)
 
-  pub text-dash : (length w ≡ 0 → ⊥) → same dash w ≡ true → f [] ≡ textArg u f
+  pub text-dash : (f : List ℕ → Read) → (length w ≡ 0 → ⊥) → same dash w ≡ true → f [] ≡ textArg u f
   unfolding textArg pick
-  text-dash some h = rw (← is, ne-eqb (length w) 0 some, h)
+  text-dash f some h = rw (← is, ne-eqb (length w) 0 some, h)
 
-  pub text-read : (b o : List ℕ) → (length w ≡ 0 → ⊥) → same dash w ≡ false → o ≡ take (length w) w ++ drop (length w) b → f (slice 0 (length w) o) ≡ textArg u f
-  unfolding textArg pick
-  text-read b o some h e =
-      let here : slice 0 (length w) o ≡ w = ap (take (length w)) (e ∙ ap (λ z. z ++ drop (length w) b) (take-length w)) ∙ take-at w (drop (length w) b) (length w) refl in
-      rw (← is, ne-eqb (length w) 0 some, h) (ap f here)
+  pub text-room : (b : List ℕ) (at : ℕ) → at + length u ≤ length b → length w ≤ length (take (length b - at) (drop at b))
+  text-room b at room = simp (length-take, length-drop) (omega (arith, ap length is))
 
-pub text-behind : (w b o : List ℕ) → o ≡ take (length w) w ++ drop (length w) b → drop (length w) o ≡ drop (length w) b
-text-behind w b o e = rw (e, take-length w) (drop-at w (drop (length w) b) (length w) refl)
+  module _ (b part : List ℕ) (at : ℕ) (room : at + length u ≤ length b) (e : part ≡ take (length w) w ++ drop (length w) (take (length b - at) (drop at b))) where
+    text-inside : at + length w ≤ length b
+    text-inside = omega (arith, ap length is)
+
+    pub text-read : (f : List ℕ → Read) → (length w ≡ 0 → ⊥) → same dash w ≡ false → f (slice at (at + length w) (putMid at (length b - at) b part)) ≡ textArg u f
+    unfolding textArg pick
+    text-read f some h =
+        let l : length (take at b) ≡ at = length-take-le at b (omega arith) in
+        let here : slice at (at + length w) (putMid at (length b - at) b part) ≡ w
+        = ap (slice at (at + length w)) (copied b w at text-inside part e) ∙ placed-here (take at b) w (drop (at + length w) b) at (length w) l refl in
+        rw (← is, ne-eqb (length w) 0 some, h) (ap f here)
+
+    pub text-between : Between at (at + length w) (length u) b (putMid at (length b - at) b part)
+    text-between = record { from = omega arith; short = omega (arith, ap length is); kept = take-put at (length b - at) b part (omega arith); behind = copied-kept b w at text-inside part e }
 
 -- an absent argument has no bytes
-pub none-read : (at : ℕ) (b : List ℕ) (f : List ℕ → Said) → f (slice at at b) ≡ f []
-none-read at b f =
-    let short : length (take at b) ≤ at = simp (length-take) (omega arith) in
-    ap f (drop-of-length-le (take at b) {i = at} short)
+pub slice-none : (i j : ℕ) (b : List ℕ) → j ≤ i → slice i j b ≡ []
+slice-none i j b h =
+    let short : length (take j b) ≤ i = simp (length-take) (omega arith) in
+    drop-of-length-le (take j b) {i = i} short
 
-pub none-stays : (at size : ℕ) (b : List ℕ) → Behind at at size b b
+pub none-stays : (at size : ℕ) (b : List ℕ) → Between at at size b b
 none-stays at size b = record { from = omega arith; short = omega arith; kept = refl; behind = refl }
+
+-- bytes that are no whole groups
+pub not-whole : (at end size : ℕ) (o : List ℕ) → end ≤ length o → ((end - at) % size ≡ 0 → ⊥) → length (slice at end o) % size ≡ 0 → ⊥
+not-whole at end size o inside h e = h (ap (λ n. n % size) (sym (length-slice at end o inside)) ∙ e)

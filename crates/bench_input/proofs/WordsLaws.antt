@@ -1,17 +1,25 @@
 -- The words of a line are no longer together than the line, so that there is room for the bytes of each.
-use mathlib.Core.Path.{_≡_, ap}
+use mathlib.Core.Path.{_≡_, refl, sym, ap, ap₂, _∙_}
 use mathlib.Core.Bool.{Bool, true, false}
 use mathlib.Core.List.{List, [], _∷_}
-use Prim.Native.Nat.{ℕ, zero, suc, _+_, _/_, _≤_}
+use mathlib.Core.Option.{none, some}
+use Prim.Native.Nat.{ℕ, zero, suc, _+_, _≤_, _<_}
+use native.Mathlib.Numerals.{add-one}
 use native.Mathlib.Omega.{arith}
 use lib.Dec.{eqb}
-use lib.ListN.{length, getD, drop}
+use lib.ListN.{length, getD, drop, drop-of-length-le}
+use lib.Seq.{drop-cons}
 use Rattle.errors.specs.Choice.{pick}
 use Rattle.bench.specs.Words.{ahead, wordsOf}
-use Rattle.bench.specs.WordLaws.{word-short}
-use Rattle.bench_input.specs.Arguments.{lineLimit, bytesRoom, word}
+use Rattle.bench_input.specs.Arguments.{Arguments, Read, word, lineLimit, bytesRoom}
+use Rattle.bench_input.specs.Letters.{argument, argumentsOf, noNumbers, noArguments}
+use Rattle.bench_input.specs.Readings.{Ended, takenIn, nextIn, Grown, Takes}
+use Rattle.bench_input.specs.declared.letters.Taken.{Taken}
+use Rattle.bench_input.specs.declared.letters.Next.{Next}
+use Rattle.bench_input.specs.declared.letters.Next.the-variants.{Value as NextValue, Unreadable as NoNext}
+use Rattle.bench_input.proofs.StandLaws.{grown-at, drop-more}
 
-unfoldable total : List (List ℕ) → ℕ
+unfoldable pub total : List (List ℕ) → ℕ
 total [] = 0
 total (w ∷ ws) = length w + total ws
 
@@ -20,7 +28,7 @@ unfolding ahead total
 total-ahead b [] = omega arith
 total-ahead b (w ∷ ws) = omega arith
 
-total-words : (l : List ℕ) → total (wordsOf l) ≤ length l
+pub total-words : (l : List ℕ) → total (wordsOf l) ≤ length l
 unfolding wordsOf pick total
 total-words [] = omega arith
 total-words (b ∷ l) = go (total-words l) (eqb b 32)
@@ -29,45 +37,61 @@ total-words (b ∷ l) = go (total-words l) (eqb b 32)
     go h true = omega arith
     go h false = omega (arith, total-ahead b (wordsOf l))
 
-total-at : (ws : List (List ℕ)) (k : ℕ) → length (getD ws k []) + total (drop (suc k) ws) ≤ total (drop k ws)
+pub total-at : (ws : List (List ℕ)) (k : ℕ) → length (getD ws k []) + total (drop (suc k) ws) ≤ total (drop k ws)
 unfolding total
 total-at [] zero = omega arith
 total-at [] (suc k) = omega arith
 total-at (w ∷ ws) zero = omega arith
 total-at (w ∷ ws) (suc k) = total-at ws k
 
-pub four-short : (l : List ℕ) → length (word l 3) + length (word l 4) + length (word l 5) + length (word l 6) ≤ length l
-four-short l =
-    let ws : List (List ℕ) = wordsOf l in
-    omega (arith, total-words l, total-at ws 0, total-at ws 1, total-at ws 2, total-at ws 3, total-at ws 4, total-at ws 5, total-at ws 6)
+-- The words behind the name, of which k are read: what was taken stands in o, and b is as it was behind it.
+pub record Begun (l letters b o : List ℕ) (t : Taken) (k : ℕ) : Type 0 where
+  pub inside : k ≤ length letters
+  pub held : Ended (t .count) (t .ends)
+  pub says : argumentsOf letters (drop 1 (wordsOf l)) noArguments ≡ argumentsOf (drop k letters) (drop (k + 1) (wordsOf l)) (takenIn o t)
+  pub room : t .ends .fourth + total (drop (k + 1) (wordsOf l)) ≤ length l
+  pub behind : drop (t .ends .fourth) o ≡ drop (t .ends .fourth) b
+  pub size : length o ≡ bytesRoom
 
-pub two-short : (l : List ℕ) → length (word l 1) + length (word l 2) + length (word l 5) ≤ length l
-two-short l =
-    let ws : List (List ℕ) = wordsOf l in
-    omega (arith, total-words l, total-at ws 0, total-at ws 1, total-at ws 2, total-at ws 3, total-at ws 4, total-at ws 5)
+abbrev nothing : Taken
+nothing = record { numbers = noNumbers; count = 0; ends = record { first = 0; second = 0; third = 0; fourth = 0 } }
 
--- room for a word's bytes behind those of the words before
-module _ (l b : List ℕ) (short : length l ≤ lineLimit) (room : length b ≡ bytesRoom) where
-  pub word-room : (k : ℕ) → 0 + length (word l k) / 2 ≤ length b
-  word-room k = omega (arith, word-short l k)
+pub begin : (l letters b : List ℕ) → length b ≡ bytesRoom → Begun l letters b b nothing 0
+begin l letters b h = record { inside = omega arith; held = (refl, refl, refl, refl); says = refl; room = omega (arith, total-words l, total-at (wordsOf l) 0); behind = refl; size = h }
 
-  pub fourth-room : (i : ℕ) → i + i ≤ 0 + 0 + length (word l 3) → i + length (word l 4) / 2 ≤ length b
-  fourth-room i h = omega (arith, four-short l)
+module _ (l letters b o : List ℕ) (t : Taken) (k : ℕ) (i : Begun l letters b o t k) (words : length letters + 1 ≡ length (wordsOf l)) where
+  -- nothing is left
+  pub all-read : length letters ≤ k → some (takenIn o t) ≡ argumentsOf letters (drop 1 (wordsOf l)) noArguments
+  unfolding argumentsOf
+  all-read h = sym (i .says ∙ rw (drop-of-length-le letters {i = k} h, drop-of-length-le (wordsOf l) {i = k + 1} (omega arith)))
 
-  pub fifth-room : (i j : ℕ) → i + i ≤ 0 + 0 + length (word l 3) → j + j ≤ i + i + length (word l 4) → j + length (word l 5) / 2 ≤ length b
-  fifth-room i j h g = omega (arith, four-short l)
+  module _ (more : k < length letters) where
+    pub next-fits : length l ≤ lineLimit → t .ends .fourth + length (word l (k + 1)) ≤ length o
+    next-fits h = omega (arith, i .room, i .size, total-at (wordsOf l) (k + 1))
 
-  pub sixth-room : (k : ℕ) → k + k ≤ length (word l 3) + length (word l 4) + length (word l 5) → k + length (word l 6) / 2 ≤ length b
-  sixth-room k h = omega (arith, four-short l)
+    next-word : (a : Arguments) → argumentsOf (drop k letters) (drop (k + 1) (wordsOf l)) a
+        ≡ argument (getD letters k 0) (word l (k + 1)) a (λ z. argumentsOf (drop (k + 1) letters) (drop (k + 1 + 1) (wordsOf l)) z)
+    unfolding argumentsOf
+    next-word a =
+        ap₂ (λ ls ws. argumentsOf ls ws a)
+        (drop-cons letters k 0 more ∙ ap (λ n. getD letters k 0 ∷ drop n letters) (sym (add-one k)))
+        (drop-cons (wordsOf l) (k + 1) [] (omega arith) ∙ ap (λ n. word l (k + 1) ∷ drop n (wordsOf l)) (sym (add-one (k + 1))))
 
-  pub count-room : (k n : ℕ) → n + n ≤ 0 + 0 + length (word l k) → n ≤ length b
-  count-room k n h = omega (arith, word-short l k)
+    module _ (o′ : List ℕ) (r : Next) (read : Takes (getD letters k 0) (word l (k + 1)) t o o′ r) where
+      abbrev later : Arguments → Read
+      later z = argumentsOf (drop (k + 1) letters) (drop (k + 1 + 1) (wordsOf l)) z
 
-  pub text-room : (w : List ℕ) → w ≡ word l 1 → length w ≤ length b
-  text-room w e = omega (arith, ap length e, word-short l 1)
+      pub next-none : r ≡ NoNext → none ≡ argumentsOf letters (drop 1 (wordsOf l)) noArguments
+      next-none e = ap (λ q. nextIn o′ q later) (sym e) ∙ read .says later ∙ sym (i .says ∙ next-word (takenIn o t))
 
-  pub second-room : (i : ℕ) → i ≤ length (word l 1) → i + length (word l 2) / 2 ≤ length b
-  second-room i h = omega (arith, two-short l)
-
-  pub third-room : (j : ℕ) → j ≤ length (word l 1) + length (word l 2) → j + length (word l 5) / 2 ≤ length b
-  third-room j h = omega (arith, two-short l)
+      pub next-begun : length o′ ≡ length o → (u : Taken) → r ≡ NextValue u → Begun l letters b o′ u (k + 1)
+      next-begun same u e =
+          let g : Grown (t .ends .fourth) (length (word l (k + 1))) o o′ (NextValue u) = grown-at _ _ o o′ r u (read .stands) e in
+          record {
+            inside = omega arith;
+            held = g .0;
+            says = i .says ∙ next-word (takenIn o t) ∙ sym (read .says later) ∙ ap (λ q. nextIn o′ q later) e;
+            room = omega (arith, i .room, total-at (wordsOf l) (k + 1), ap (λ n. total (drop n (wordsOf l))) (add-one (k + 1)));
+            behind = g .3 ∙ drop-more (t .ends .fourth) (u .ends .fourth) b o (g .1) (i .behind);
+            size = same ∙ i .size;
+          }

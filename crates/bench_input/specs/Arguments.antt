@@ -1,23 +1,28 @@
--- What a line says, and the arguments of a call. A reader of an argument hands the word's value on, or the line cannot be read.
-use mathlib.Core.Bool.{Bool, true, false}
+-- The arguments of a line, and how a word is read. A reader of a word hands its value on, or the line cannot be read.
+use mathlib.Core.Bool.{Bool, true}
 use mathlib.Core.List.{List, [], _∷_}
-use mathlib.Core.Option.{Option, none, some}
-use Prim.Native.Nat.{ℕ, _+_, _-_, _*_}
+use mathlib.Core.Option.{Option, none}
+use Prim.Native.Nat.{ℕ, _+_, _-_, _*_, _%_}
 use lib.Dec.{eqb, ltb, leb}
 use lib.ListN.{length, getD}
 use Rattle.errors.specs.Choice.{pick}
 use Rattle.framing.specs.Lists.{both, same}
 use Rattle.targets.specs.Bitrates.{ascii}
-use Rattle.exchange.specs.Exchange.{Event}
-use Rattle.protocol.specs.Calls.{Call}
 use Rattle.bench.specs.Hex.{dash, inRange, isHex, pairsOf}
 use Rattle.bench.specs.Words.{wordsOf}
+use Rattle.calls.specs.declared.start.Numbers.{Numbers}
 
--- a call, an event with its packet's bytes, or a line that cannot be read
-pub data Said : Type 0 where
-  calls : Call → Said
-  happens : Event → Said
-  unreadable : Said
+-- what the words of a line give: numbers, and byte strings in their order
+pub record Arguments : Type 0 where
+  pub numbers : Numbers
+  pub strings : List (List ℕ)
+
+abbrev pub arguments : Numbers → List (List ℕ) → Arguments
+arguments n s = record { numbers = n; strings = s }
+
+-- none where a word cannot be read
+abbrev pub Read : Type 0
+Read = Option Arguments
 
 -- the longest line, without its line feed, and room for its bytes: a BITRATE has as many as its word
 abbrev pub lineLimit : ℕ
@@ -31,20 +36,24 @@ abbrev pub word : List ℕ → ℕ → List ℕ
 word l k = getD (wordsOf l) k []
 
 -- HEX: pairs of digits, or `-` for no bytes
-unfoldable pub hexArg : List ℕ → (List ℕ → Said) → Said
-hexArg w f = pick (isHex w) (f (pairsOf w)) unreadable
+unfoldable pub hexArg : List ℕ → (List ℕ → Read) → Read
+hexArg w f = pick (isHex w) (f (pairsOf w)) none
+
+-- HEX of whole groups of bytes
+unfoldable pub wholeArg : ℕ → List ℕ → (List ℕ → Read) → Read
+wholeArg size w f = hexArg w (λ p. pick (eqb (length p % size) 0) (f p) none)
 
 -- BYTE: one pair
-unfoldable pub byteArg : List ℕ → (ℕ → Said) → Said
-byteArg w f = pick (eqb (length w) 2) (hexArg w (λ p. f (getD p 0 0))) unreadable
-
--- WORD: two pairs, high byte first
-unfoldable pub wordArg : List ℕ → (ℕ → Said) → Said
-wordArg w f = pick (eqb (length w) 4) (hexArg w (λ p. f (getD p 0 0 * 256 + getD p 1 0))) unreadable
+unfoldable pub byteArg : List ℕ → (ℕ → Read) → Read
+byteArg w f = pick (eqb (length w) 2) (hexArg w (λ p. f (getD p 0 0))) none
 
 -- 00 or 01
-unfoldable pub flagArg : List ℕ → (Bool → Said) → Said
-flagArg w f = byteArg w (λ b. pick (ltb 1 b) unreadable (f (eqb b 1)))
+unfoldable pub flagArg : List ℕ → (ℕ → Read) → Read
+flagArg w f = byteArg w (λ b. pick (ltb 1 b) none (f b))
+
+-- WORD: two pairs, high byte first
+unfoldable pub wordArg : List ℕ → (ℕ → Read) → Read
+wordArg w f = pick (eqb (length w) 4) (hexArg w (λ p. f (getD p 0 0 * 256 + getD p 1 0))) none
 
 -- the value of a decimal digit; 10 for any other byte
 unfoldable pub digitOf : ℕ → ℕ
@@ -66,28 +75,28 @@ msLimit = 4294967295
 unfoldable pub isMs : List ℕ → Bool
 isMs w = both (ltb 0 (length w)) (both (allDecimal w) (leb (numberFrom 0 w) msLimit))
 
-unfoldable pub msArg : List ℕ → (ℕ → Said) → Said
-msArg w f = pick (isMs w) (f (numberFrom 0 w)) unreadable
+unfoldable pub msArg : List ℕ → (ℕ → Read) → Read
+msArg w f = pick (isMs w) (f (numberFrom 0 w)) none
 
 -- BITRATE: the word itself, or `-` for the empty text
-unfoldable pub textArg : List ℕ → (List ℕ → Said) → Said
-textArg w f = pick (eqb (length w) 0) unreadable (pick (same dash w) (f []) (f w))
+unfoldable pub textArg : List ℕ → (List ℕ → Read) → Read
+textArg w f = pick (eqb (length w) 0) none (pick (same dash w) (f []) (f w))
 
 -- an argument that may be absent: `none`
 unfoldable pub isNone : List ℕ → Bool
 isNone w = same (ascii "none") w
 
 -- HEX that counts as no bytes where it is absent
-unfoldable pub hexOrNone : List ℕ → (List ℕ → Said) → Said
+unfoldable pub hexOrNone : List ℕ → (List ℕ → Read) → Read
 hexOrNone w f = pick (isNone w) (f []) (hexArg w f)
 
--- whether a HEX is present
-unfoldable pub presentArg : List ℕ → (Bool → Said) → Said
-presentArg w f = pick (isNone w) (f false) (pick (isHex w) (f true) unreadable)
+-- whether a HEX is present: 1 or 0
+unfoldable pub presentArg : List ℕ → (ℕ → Read) → Read
+presentArg w f = pick (isNone w) (f 0) (pick (isHex w) (f 1) none)
 
--- MS of at most 65535 that may be absent
+-- MS of at most 65535 that may be absent: 1 and the MS, or 0 and 0
 abbrev pub waitLimit : ℕ
 waitLimit = 65535
 
-unfoldable pub waitArg : List ℕ → (Option ℕ → Said) → Said
-waitArg w f = pick (isNone w) (f none) (msArg w (λ ms. pick (ltb waitLimit ms) unreadable (f (some ms))))
+unfoldable pub waitArg : List ℕ → (ℕ → ℕ → Read) → Read
+waitArg w f = pick (isNone w) (f 0 0) (msArg w (λ ms. pick (ltb waitLimit ms) none (f 1 ms)))

@@ -1,3 +1,5 @@
 pub mod Arguments
-pub mod Inputs
+pub mod Letters
+pub mod Table
 pub mod Readings
+pub mod Lines

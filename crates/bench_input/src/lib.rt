@@ -1,75 +1,45 @@
 // A line of the program `session`, read: a call or an event. The bytes of its BITRATE and HEX arguments stand one behind the
 // other at the start of a lent buffer, and a call tells the places where they end.
 mod arguments;
-mod calls;
+mod letters;
+mod table;
 
+use arguments::Byte;
 use bench::words;
-use exchange::Event;
+use calls::start::Numbers;
+use letters::Next;
+use letters::Taken;
+use table::Found;
+use table::TABLE;
 ghost use mathlib.Core.Path.{_≡_};
-ghost use lib.ListN.{drop};
+ghost use mathlib.Core.List.{List};
+ghost use Prim.Native.Nat.{ℕ, _≤_};
+ghost use lib.ListN.{length, drop};
 ghost use lib.Seq.{slice};
-ghost use Rattle.bench_input.specs.Inputs.{inputOf};
-ghost use Rattle.bench_input.specs.Readings.{Reads};
+ghost use Rattle.bench.specs.Words.{wordsOf};
+ghost use Rattle.bench_input.specs.Arguments.{word, lineLimit, bytesRoom};
+ghost use Rattle.bench_input.specs.Table.{table as tableOf, rowFor, said, byRow, inputOf};
+ghost use Rattle.bench_input.specs.Readings.{Ended, takenIn, texts, inputIn, Stands, Reads};
 
 // The longest line, without its line feed, and room for its bytes: a BITRATE has as many as its word.
 pub const LINE: usize = 8192;
 
 pub const BYTES: usize = 8192;
 
-// The calls of the chip itself, with their arguments in the order of the Rust's.
-pub enum Command {
-    Version,
-    ResetMode,
-    SetParameters(u8),
-    RfConfiguration(u8, usize),
-    RfFieldOff,
-    ReadRegister(usize),
-    WriteRegister(usize),
-    ReadSingleRegister(u16),
-    WriteSingleRegister(u16, u8),
+// An event has its number behind this one in the table.
+const EVENTS: u8 = 128;
+// The places where four byte strings end: each begins where the one before ends, and the ends behind the last equal it.
+pub struct Ends {
+    pub first: usize,
+    pub second: usize,
+    pub third: usize,
+    pub fourth: usize,
 }
 
-// The calls of an initiator.
-pub enum Initiator {
-    InListPassiveTarget(u8, u8, usize),
-    InDataExchange(usize, u32),
-    InCommunicateThru(usize, u32),
-    InJumpForDep(bool, u8, usize, usize, usize),
-}
-
-// The calls of a target.
-pub enum Target {
-    TgInitTarget(u8, usize, usize, usize, usize, u32),
-    TgSetGeneralBytes(usize),
-    TgGetInitiatorCommand(u32),
-    TgResponseToInitiator(usize),
-    TgGetTargetStatus,
-}
-
-// How long a tag may take: as ever, or so many milliseconds.
-pub enum Wait {
-    Standard,
-    Ms(u16),
-}
-
-// The calls of the device, the bitrate's end first. An absent argument counts as one of no bytes; of RID_RES a call tells only
-// whether it is present.
-pub enum Device {
-    DetectTypeA(usize, usize),
-    DetectTypeB(usize, usize),
-    DetectTypeF(usize, u16, u8, u8),
-    DetectDep(usize, usize),
-    Transceive(usize, usize, bool, usize, Wait),
-}
-
-// What a line says: a call, an event with the number of its packet's bytes, or nothing that can be read.
+// What a line says: a call by its number, an event by its number with the number of its packet's bytes, or nothing that can be read.
 pub enum Input {
-    Open,
-    Chip(Command),
-    In(Initiator),
-    Tg(Target),
-    Dev(Device),
-    Happened(Event, usize),
+    Call(u8, Numbers, Ends),
+    Event(u8, usize),
     Unreadable,
 }
 
@@ -95,7 +65,42 @@ pub fn part(bytes: &[u8], from: usize, to: usize) -> &[u8]
     }
 }
 
-// Reads a line. Where it can be read, the array is fixed: it holds the arguments' bytes, and behind them what it held before.
+// What was taken, as the call or the event of a number.
+fn by_number(number: u8, taken: Taken) -> Input
+    requires { ⌜ Ended (taken .count) (taken .ends) ⌝ }
+    ensures { λ r. ⌜ ((b : List ℕ) → inputIn b r ≡ said number (takenIn b taken)) ⌝ }
+    ensures { λ r. ⌜ ((b o : List ℕ) → (taken .ends .fourth ≤ bytesRoom) → drop (taken .ends .fourth) o ≡ drop (taken .ends .fourth) b → Stands r b o) ⌝ }
+{
+    let ends = taken.ends;
+    let numbers = taken.numbers;
+    if number < EVENTS {
+        return Input::Call(number, numbers, ends);
+    }
+    if 1 < taken.count {
+        return Input::Unreadable;
+    }
+    Input::Event(number - EVENTS, ends.first)
+}
+
+// Reads a line by the table.
+fn by_table(table: &[u8], line: &[u8], bytes: &mut [u8]) -> Input
+    requires { ⌜ (wordsOf (now table) ≡ texts tableOf) × (length (now line) ≤ lineLimit) × (length (now bytes) ≡ bytesRoom) ⌝ }
+    ensures { λ r. ⌜ Reads (now (bytes .entry)) (now (bytes .exit)) r (byRow (rowFor tableOf (word (now (line .entry)) 0) (length (wordsOf (now (line .entry))))) (wordsOf (now (line .entry)))) ⌝ }
+{
+    let Found::At(i) = table::row(table, line) else {
+        return Input::Unreadable;
+    };
+    let Byte::Value(number) = arguments::read_byte(table, 3 * i + 2) else {
+        return Input::Unreadable;
+    };
+    let letters = words::word(table, 3 * i + 1);
+    let Next::Value(taken) = letters::read(line, letters, bytes) else {
+        return Input::Unreadable;
+    };
+    by_number(number, taken)
+}
+
+// Reads a line. Where it can be read, the array is fixed: it holds the byte strings, and behind them what it held before.
 // Where it cannot be read, all bytes of the array are free.
 pub fn read(line: &[u8], bytes: &mut [u8; BYTES]) -> Input
     ensures { λ r. ⌜ Reads (now (bytes .entry)) (now (bytes .exit)) r (inputOf (now (line .entry))) ⌝ }
@@ -103,27 +108,5 @@ pub fn read(line: &[u8], bytes: &mut [u8; BYTES]) -> Input
     if LINE < line.len() {
         return Input::Unreadable;
     }
-    let n = words::count(line);
-    if n == 1 {
-        return calls::one_word(line);
-    }
-    if n == 2 {
-        return calls::two_words(line, bytes);
-    }
-    if n == 3 {
-        return calls::three_words(line, bytes);
-    }
-    if n == 4 {
-        return calls::four_words(line, bytes);
-    }
-    if n == 5 {
-        return calls::five_words(line, bytes);
-    }
-    if n == 6 {
-        return calls::six_words(line, bytes);
-    }
-    if n == 7 {
-        return calls::seven_words(line, bytes);
-    }
-    Input::Unreadable
+    by_table(&TABLE, line, bytes)
 }

@@ -1,33 +1,40 @@
 -- Laws of an answer: what was read, the engine's step, and the text with its line feed.
-use mathlib.Core.Path.{_≡_, refl, ap, ap₂, _∙_}
+use mathlib.Core.Path.{_≡_, refl, sym, ap, ap₂, _∙_}
 use mathlib.Core.List.{List}
 use Prim.Native.Nat.{ℕ, _+_}
 use native.Mathlib.Nat.{zero-add}
 use lib.ListN.{length, take, set}
-use Rattle.protocol.specs.Calls.{Call}
-use Rattle.engine.specs.Inputs.{stepWith}
-use Rattle.engine.specs.Numbers.{callInput}
+use Rattle.exchange.specs.Steps.{eventOf}
+use Rattle.exchange.specs.declared.Event.{Event}
+use Rattle.engine.specs.Inputs.{tells, stepWith}
+use Rattle.engine.specs.Numbers.{eventBy, knownIn}
 use Rattle.engine.specs.Sessions.{Stepped, stepped}
 use Rattle.errors.specs.declared.Refusal.the-variants.{BadArgument}
 use Rattle.engine.specs.declared.core.Output.{Output}
 use Rattle.engine.specs.declared.core.Output.the-variants.{Refused}
+use Rattle.engine.specs.declared.numbered.Known.{Known}
+use Rattle.engine.specs.declared.numbered.Known.the-variants.{Is, Not}
 use Rattle.engine.specs.declared.session.Session.{Session}
 use Rattle.engine.specs.declared.session.Step.{Step}
 use Rattle.bench.specs.Texts.{over, Placed, placed, placedAt}
 use Rattle.bench.specs.declared.lines.Line.{Line}
 use Rattle.bench.specs.declared.lines.Line.the-variants.{Text, OverLong, End}
-use Rattle.bench_input.specs.Arguments.{Said, calls}
-use Rattle.bench_input.specs.Inputs.{inputOf}
+use Rattle.bench_input.specs.Table.{Said, happens, inputOf}
 use Rattle.bench_session.specs.Outputs.{textOf}
-use Rattle.bench_session.specs.Answers.{kept, stepOf, After, after, printed, answerOf, fed, replyOf}
+use Rattle.bench_session.specs.Answers.{kept, told, stepOf, After, after, printed, answerOf, fed, replyOf}
 
 pub kept-is : (s : Session) (r : Step) (b : List ℕ) → r .session ≡ s → r .output ≡ Refused BadArgument → stepped r b ≡ kept s b
 kept-is s r b p q = ap₂ (λ (x : Session) (y : Output). record { session = x; output = y; buffer = b }) p q
 
--- a call that was read
-pub call-done : (s : Session) (t : Stepped) (c d : Call) (b : List ℕ) → t ≡ stepWith s (callInput c b) → c ≡ d → t ≡ stepOf s (calls d) b
-unfolding stepOf
-call-done s t c d b e p = e ∙ ap (λ z. stepWith s (callInput z b)) p
+-- an event by its number, which has none or one
+module _ (s : Session) (number : ℕ) (r : Known) (p b : List ℕ) (known : (packet : List ℕ) → knownIn r packet ≡ eventBy number packet) where
+  pub told-none : r ≡ Not → kept s b ≡ stepOf s (happens number p) b
+  unfolding stepOf knownIn
+  told-none h = ap (λ e. told s e b) (ap (λ q. knownIn q p) (sym h) ∙ known p)
+
+  pub told-some : (e : Event) (t : Stepped) → r ≡ Is e → t ≡ stepWith s (tells (eventOf e p) b) → t ≡ stepOf s (happens number p) b
+  unfolding stepOf knownIn
+  told-some e t h g = g ∙ ap (λ e. told s e b) (ap (λ q. knownIn q p) (sym h) ∙ known p)
 
 -- the text of a step
 pub print-done : (t : Stepped) (s : Session) (f : Output) (b o o′ : List ℕ) (n : ℕ) → record { session = s; output = f; buffer = b } ≡ t → placed n o′ ≡ placedAt 0 (textOf f b) o

@@ -1,36 +1,35 @@
 -- The session, the engine's buffer and the text after a line.
 use mathlib.Core.List.{List}
+use mathlib.Core.Option.{Option, none, some}
 use Prim.Native.Nat.{ℕ, _+_}
 use lib.ListN.{length, take, set}
-use lib.Seq.{slice}
 use Rattle.errors.specs.declared.Refusal.the-variants.{BadArgument}
-use Rattle.protocol.specs.Calls.{Call}
+use Rattle.exchange.specs.Exchange.{Event}
 use Rattle.engine.specs.Inputs.{tells, stepWith}
 use Rattle.calls.specs.Numbers.{callOf}
-use Rattle.engine.specs.Numbers.{callInput}
+use Rattle.engine.specs.Numbers.{callInput, eventBy}
 use Rattle.engine.specs.Sessions.{Stepped}
 use Rattle.engine.specs.declared.core.Output.the-variants.{Refused}
 use Rattle.engine.specs.declared.session.Session.{Session}
 use Rattle.bench.specs.Texts.{over}
 use Rattle.bench.specs.declared.lines.Line.{Line}
 use Rattle.bench.specs.declared.lines.Line.the-variants.{Text, OverLong, End}
-use Rattle.bench_input.specs.Arguments.{Said, calls, happens, unreadable}
-use Rattle.bench_input.specs.Inputs.{inputOf}
+use Rattle.bench_input.specs.Table.{Said, calls, happens, unreadable, inputOf}
 use Rattle.bench_session.specs.Outputs.{textOf}
-use Rattle.bench_session.specs.declared.Asked.{Asked}
-
--- a call by its number, with its byte strings one behind the other in b
-abbrev pub askedIn : List ℕ → Asked → Call
-askedIn b a = callOf (a .0) (a .1) (a .2) (a .3) (a .4) (slice 0 (a .5) b) (slice (a .5) (a .6) b) (slice (a .6) (a .7) b) (slice (a .7) (a .8) b)
 
 -- a line that cannot be read: the session stays as it was
 abbrev pub kept : Session → List ℕ → Stepped
 kept s b = record { session = s; output = Refused BadArgument; buffer = b }
 
+-- an event, where its number has one
+abbrev pub told : Session → Option Event → List ℕ → Stepped
+told s none b = kept s b
+told s (some e) b = stepWith s (tells e b)
+
 -- what the engine does with what a line says
 unfoldable pub stepOf : Session → Said → List ℕ → Stepped
-stepOf s (calls c) b = stepWith s (callInput c b)
-stepOf s (happens e) b = stepWith s (tells e b)
+stepOf s (calls number n first second third fourth) b = stepWith s (callInput (callOf number n first second third fourth) b)
+stepOf s (happens number packet) b = told s (eventBy number packet) b
 stepOf s unreadable b = kept s b
 
 -- a session and a text's length, with the engine's buffer and the text's buffer

@@ -1,5 +1,4 @@
 // The lines of the program `session`: a call or an event in, an order or an answer out.
-mod numbers;
 pub mod output;
 mod text;
 
@@ -7,24 +6,25 @@ use bench::lines;
 use bench::lines::Held;
 use bench::lines::Line;
 use bench_input::BYTES;
+use bench_input::Ends;
 use bench_input::Input;
 use bench_input::LINE;
 use bench_input::part;
-use calls::start::OPEN;
+use calls::start::Numbers;
 use engine::core::Output;
+use engine::numbered;
+use engine::numbered::Known;
 use engine::session::Session;
 use engine::session::Step;
 use errors::Refusal;
 ghost use mathlib.Core.Path.{_≡_};
 ghost use Prim.Native.Nat.{_+_, _≤_};
 ghost use lib.ListN.{length, set};
-ghost use Rattle.engine.specs.Inputs.{stepWith};
-ghost use Rattle.engine.specs.Numbers.{callInput};
 ghost use Rattle.engine.specs.Sessions.{stepped};
 ghost use Rattle.bench.specs.Lines.{lengthOf};
 ghost use Rattle.bench_input.specs.Readings.{inputIn};
 ghost use Rattle.bench_session.specs.Outputs.{outRoom, textLimit};
-ghost use Rattle.bench_session.specs.Answers.{askedIn, stepOf, after, answerOf, replyOf};
+ghost use Rattle.bench_session.specs.Answers.{stepOf, after, answerOf, replyOf};
 
 // Room for the engine's bytes, and for any answer and a line feed.
 pub const BUFFER: usize = 1024;
@@ -47,20 +47,32 @@ fn unreadable(session: Session) -> Step
     }
 }
 
-// A call's number, its ms, word, x and y as `State::call` takes them, and the places where its four byte strings end in the lent
-// array: each begins where the one before ends. What a call does not have is 0.
-struct Asked(u8, u32, u16, u8, u8, usize, usize, usize, usize);
-
-// What the engine does with a call.
-fn called(session: Session, call: Asked, bytes: &[u8], buffer: &mut [u8]) -> Step
-    ensures { λ r. ⌜ stepped r (now (buffer .exit)) ≡ stepWith session (callInput (askedIn (now (bytes .entry)) call) (now (buffer .entry))) ⌝ }
+// What the engine does with a call, whose byte strings stand one behind the other.
+fn called(
+    session: Session,
+    number: u8,
+    numbers: Numbers,
+    ends: Ends,
+    bytes: &[u8],
+    buffer: &mut [u8],
+) -> Step
+    ensures { λ r. ⌜ stepped r (now (buffer .exit)) ≡ stepOf session (inputIn (now (bytes .entry)) (Input.Call number numbers ends)) (now (buffer .entry)) ⌝ }
 {
-    let Asked(number, ms, word, x, y, i, j, k, n) = call;
-    let first = part(bytes, 0, i);
-    let second = part(bytes, i, j);
-    let third = part(bytes, j, k);
-    let fourth = part(bytes, k, n);
-    session.call(number, ms, word, x, y, first, second, third, fourth, buffer)
+    let first = part(bytes, 0, ends.first);
+    let second = part(bytes, ends.first, ends.second);
+    let third = part(bytes, ends.second, ends.third);
+    let fourth = part(bytes, ends.third, ends.fourth);
+    session.call(number, numbers, first, second, third, fourth, buffer)
+}
+
+// What the engine does with an event, whose packet has n bytes.
+fn told(session: Session, number: u8, n: usize, bytes: &[u8], buffer: &mut [u8]) -> Step
+    ensures { λ r. ⌜ stepped r (now (buffer .exit)) ≡ stepOf session (inputIn (now (bytes .entry)) (Input.Event number n)) (now (buffer .entry)) ⌝ }
+{
+    let Known::Is(event) = numbered::event_by(number) else {
+        return unreadable(session);
+    };
+    session.event(event, part(bytes, 0, n), buffer)
 }
 
 // What the engine does with what was read.
@@ -68,12 +80,10 @@ fn step(session: Session, input: Input, bytes: &[u8; BYTES], buffer: &mut [u8]) 
     ensures { λ r. ⌜ stepped r (now (buffer .exit)) ≡ stepOf session (inputIn (now (bytes .entry)) input) (now (buffer .entry)) ⌝ }
 {
     match input {
-        Input::Open => called(session, Asked(OPEN, 0, 0, 0, 0, 0, 0, 0, 0), bytes, buffer),
-        Input::Chip(call) => called(session, numbers::chip(call), bytes, buffer),
-        Input::In(call) => called(session, numbers::initiator(call), bytes, buffer),
-        Input::Tg(call) => called(session, numbers::target(call), bytes, buffer),
-        Input::Dev(call) => called(session, numbers::device(call), bytes, buffer),
-        Input::Happened(event, n) => session.event(event, part(bytes, 0, n), buffer),
+        Input::Call(number, numbers, ends) => {
+            called(session, number, numbers, ends, bytes, buffer)
+        }
+        Input::Event(number, n) => told(session, number, n, bytes, buffer),
         Input::Unreadable => unreadable(session),
     }
 }

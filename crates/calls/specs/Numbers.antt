@@ -10,6 +10,7 @@ use lib.ListN.{getD, List·getD-eq-default}
 use Rattle.protocol.specs.Calls.{ReaderCall, Call, opening, reader, request, device, unknown}
 use Rattle.protocol.specs.Calls.{version, resetMode, setParameters, rfConfiguration, rfFieldOff, readRegister, writeRegister, readSingleRegister, writeSingleRegister, inListPassiveTarget, inDataExchange, inCommunicateThru, inJumpForDep, tgInitTarget, tgSetGeneralBytes, tgGetInitiatorCommand, tgResponseToInitiator, tgGetTargetStatus}
 use Rattle.protocol.specs.Calls.{detectTypeA, detectTypeB, detectTypeF, detectDep, transceive}
+use Rattle.calls.specs.declared.start.Numbers.{Numbers}
 
 -- a byte as a flag
 abbrev pub flag : ℕ → Bool
@@ -19,37 +20,37 @@ flag x = not (eqb x 0)
 abbrev pub msOf : Bool → ℕ → Option ℕ
 msOf given ms = cond given (some ms) none
 
--- the calls of an open reader in the order of their numbers, from 1 on: a number of 32 bits and one of 16, two bytes, and four lists of bytes
-abbrev pub readerCalls : (ms word x y : ℕ) (first second third fourth : List ℕ) → List ReaderCall
-readerCalls ms word x y first second third fourth =
+-- the calls of an open reader in the order of their numbers, from 1 on; their arguments are a struct of numbers and four lists of bytes
+abbrev pub readerCalls : (n : Numbers) (first second third fourth : List ℕ) → List ReaderCall
+readerCalls n first second third fourth =
     request version
     ∷ request resetMode
-    ∷ request (setParameters x)
-    ∷ request (rfConfiguration x first)
+    ∷ request (setParameters (n .x))
+    ∷ request (rfConfiguration (n .x) first)
     ∷ request (readRegister first)
     ∷ request (writeRegister first)
-    ∷ request (readSingleRegister word)
-    ∷ request (writeSingleRegister word x)
-    ∷ request (inListPassiveTarget x y first)
-    ∷ request (inDataExchange first ms)
-    ∷ request (inCommunicateThru first ms)
-    ∷ request (inJumpForDep (flag x) y first second third)
-    ∷ request (tgInitTarget x first second third fourth ms)
+    ∷ request (readSingleRegister (n .word))
+    ∷ request (writeSingleRegister (n .word) (n .x))
+    ∷ request (inListPassiveTarget (n .x) (n .y) first)
+    ∷ request (inDataExchange first (n .ms))
+    ∷ request (inCommunicateThru first (n .ms))
+    ∷ request (inJumpForDep (flag (n .x)) (n .y) first second third)
+    ∷ request (tgInitTarget (n .x) first second third fourth (n .ms))
     ∷ request (tgSetGeneralBytes first)
-    ∷ request (tgGetInitiatorCommand ms)
+    ∷ request (tgGetInitiatorCommand (n .ms))
     ∷ request (tgResponseToInitiator first)
     ∷ request tgGetTargetStatus
     ∷ request rfFieldOff
     ∷ device (detectTypeA first second)
     ∷ device (detectTypeB first second)
-    ∷ device (detectTypeF first word x y)
+    ∷ device (detectTypeF first (n .word) (n .x) (n .y))
     ∷ device (detectDep first second)
-    ∷ device (transceive first second (flag x) third (msOf (flag y) word))
+    ∷ device (transceive first second (flag (n .x)) third (msOf (flag (n .y)) (n .word)))
     ∷ []
 
 -- 0 is the opening
-unfoldable pub callOf : (number ms word x y : ℕ) (first second third fourth : List ℕ) → Call
-callOf number ms word x y first second third fourth = getD (opening ∷ map reader (readerCalls ms word x y first second third fourth)) number (reader unknown)
+unfoldable pub callOf : (number : ℕ) (n : Numbers) (first second third fourth : List ℕ) → Call
+callOf number n first second third fourth = getD (opening ∷ map reader (readerCalls n first second third fourth)) number (reader unknown)
 
 -- ---- laws
 
@@ -63,9 +64,9 @@ not-among zero h a b c d e f g k = refl
 not-among (suc n) h a b c d e f g k =
     absurd (omega (arith, beyond 8 (suc n) (beyond 7 (suc n) (beyond 6 (suc n) (beyond 5 (suc n) (beyond 4 (suc n) (beyond 3 (suc n) (beyond 2 (suc n) (beyond 1 (suc n) (omega arith) a) b) c) d) e) f) g) k))
 
-pub no-call : (n ms word x y : ℕ) (first second third fourth : List ℕ) → 24 ≤ n → callOf n ms word x y first second third fourth ≡ reader unknown
+pub no-call : (number : ℕ) (n : Numbers) (first second third fourth : List ℕ) → 24 ≤ number → callOf number n first second third fourth ≡ reader unknown
 unfolding callOf
-no-call n ms word x y first second third fourth h = List·getD-eq-default (opening ∷ map reader (readerCalls ms word x y first second third fourth)) (reader unknown) h
+no-call number n first second third fourth h = List·getD-eq-default (opening ∷ map reader (readerCalls n first second third fourth)) (reader unknown) h
 
 -- any number but 0 has a call of an open reader
 mapped : (l : List ReaderCall) (n : ℕ) → getD (map reader l) n (reader unknown) ≡ reader (getD l n unknown)
@@ -73,7 +74,7 @@ mapped [] n = refl
 mapped (c ∷ l) zero = refl
 mapped (c ∷ l) (suc n) = mapped l n
 
-pub reader-call : (n ms word x y : ℕ) (first second third fourth : List ℕ)
-    → callOf (suc n) ms word x y first second third fourth ≡ reader (getD (readerCalls ms word x y first second third fourth) n unknown)
+pub reader-call : (k : ℕ) (n : Numbers) (first second third fourth : List ℕ)
+    → callOf (suc k) n first second third fourth ≡ reader (getD (readerCalls n first second third fourth) k unknown)
 unfolding callOf
-reader-call n ms word x y first second third fourth = mapped (readerCalls ms word x y first second third fourth) n
+reader-call k n first second third fourth = mapped (readerCalls n first second third fourth) k

@@ -20,6 +20,15 @@ ghost use Rattle.device.specs.Transceive.{timeoutOf};
 ghost use Rattle.calls.specs.Numbers.{flag, msOf, callOf};
 ghost use Rattle.calls.specs.Firsts.{startBy};
 
+// A call's arguments that are numbers: milliseconds, a word of 16 bits and two bytes. What a call does not use counts for nothing.
+#[repr(C)]
+pub struct Numbers {
+    pub ms: u32,
+    pub word: u16,
+    pub x: u8,
+    pub y: u8,
+}
+
 // The numbers of the calls.
 pub const OPEN: u8 = 0;
 
@@ -70,10 +79,12 @@ pub const DETECT_DEP: u8 = 22;
 pub const TRANSCEIVE: u8 = 23;
 
 // Calls 1 to 8: the chip's version, mode, parameters and registers.
-fn chip(number: u8, word: u16, x: u8, first: &[u8], command: &mut [u8; 512]) -> Start
+fn chip(number: u8, numbers: Numbers, first: &[u8], command: &mut [u8; 512]) -> Start
     requires { ⌜ number < 9 ⌝ }
-    ensures { λ r. ⌜ ((ms y : ℕ) (second third fourth : List ℕ) → Starts r (now (command .entry)) (now (command .exit)) (startBy (callOf number ms word x y (now (first .entry)) second third fourth))) ⌝ }
+    ensures { λ r. ⌜ ((second third fourth : List ℕ) → Starts r (now (command .entry)) (now (command .exit)) (startBy (callOf number numbers (now (first .entry)) second third fourth))) ⌝ }
 {
+    let x = numbers.x;
+    let word = numbers.word;
     match number {
         GET_FIRMWARE_VERSION => general::get_firmware_version(command),
         RESET_MODE => general::reset_mode(command),
@@ -97,9 +108,7 @@ fn is_set(x: u8) -> bool
 // Calls 9 to 13: what an initiator does, and the start of a target.
 fn as_initiator(
     number: u8,
-    ms: u32,
-    x: u8,
-    y: u8,
+    numbers: Numbers,
     first: &[u8],
     second: &[u8],
     third: &[u8],
@@ -107,8 +116,11 @@ fn as_initiator(
     command: &mut [u8; 512],
 ) -> Start
     requires { ⌜ (9 ≤ number) × (number < 14) ⌝ }
-    ensures { λ r. ⌜ ((word : ℕ) → Starts r (now (command .entry)) (now (command .exit)) (startBy (callOf number ms word x y (now (first .entry)) (now (second .entry)) (now (third .entry)) (now (fourth .entry))))) ⌝ }
+    ensures { λ r. ⌜ Starts r (now (command .entry)) (now (command .exit)) (startBy (callOf number numbers (now (first .entry)) (now (second .entry)) (now (third .entry)) (now (fourth .entry)))) ⌝ }
 {
+    let ms = numbers.ms;
+    let x = numbers.x;
+    let y = numbers.y;
     match number {
         IN_LIST_PASSIVE_TARGET => initiator::in_list_passive_target(x, y, first, command),
         IN_DATA_EXCHANGE => initiator::in_data_exchange(first, ms, command),
@@ -119,10 +131,11 @@ fn as_initiator(
 }
 
 // Calls 14 to 18: what a target does, and the field.
-fn as_target(number: u8, ms: u32, first: &[u8], command: &mut [u8; 512]) -> Start
+fn as_target(number: u8, numbers: Numbers, first: &[u8], command: &mut [u8; 512]) -> Start
     requires { ⌜ (14 ≤ number) × (number < 19) ⌝ }
-    ensures { λ r. ⌜ ((word x y : ℕ) (second third fourth : List ℕ) → Starts r (now (command .entry)) (now (command .exit)) (startBy (callOf number ms word x y (now (first .entry)) second third fourth))) ⌝ }
+    ensures { λ r. ⌜ ((second third fourth : List ℕ) → Starts r (now (command .entry)) (now (command .exit)) (startBy (callOf number numbers (now (first .entry)) second third fourth))) ⌝ }
 {
+    let ms = numbers.ms;
     match number {
         TG_SET_GENERAL_BYTES => target::tg_set_general_bytes(first, command),
         TG_GET_INITIATOR_COMMAND => target::tg_get_initiator_command(ms, command),
@@ -146,17 +159,18 @@ fn timeout(given: bool, ms: u16) -> Timeout
 // Calls 19 to 23: the discoveries and transceive. A number that has no call is refused with 4.
 fn on_device(
     number: u8,
-    word: u16,
-    x: u8,
-    y: u8,
+    numbers: Numbers,
     first: &[u8],
     second: &[u8],
     third: &[u8],
     command: &mut [u8; 512],
 ) -> Start
     requires { ⌜ 19 ≤ number ⌝ }
-    ensures { λ r. ⌜ ((ms : ℕ) (fourth : List ℕ) → Starts r (now (command .entry)) (now (command .exit)) (startBy (callOf number ms word x y (now (first .entry)) (now (second .entry)) (now (third .entry)) fourth))) ⌝ }
+    ensures { λ r. ⌜ ((fourth : List ℕ) → Starts r (now (command .entry)) (now (command .exit)) (startBy (callOf number numbers (now (first .entry)) (now (second .entry)) (now (third .entry)) fourth))) ⌝ }
 {
+    let word = numbers.word;
+    let x = numbers.x;
+    let y = numbers.y;
     match number {
         DETECT_TYPE_A => detect_type_a(first, second, command),
         DETECT_TYPE_B => detect_type_b(first, second, command),
@@ -173,26 +187,23 @@ fn on_device(
 // A call of an open reader, by its number: what is put by goes into `command`.
 pub fn start(
     number: u8,
-    ms: u32,
-    word: u16,
-    x: u8,
-    y: u8,
+    numbers: Numbers,
     first: &[u8],
     second: &[u8],
     third: &[u8],
     fourth: &[u8],
     command: &mut [u8; 512],
 ) -> Start
-    ensures { λ r. ⌜ Starts r (now (command .entry)) (now (command .exit)) (startBy (callOf number ms word x y (now (first .entry)) (now (second .entry)) (now (third .entry)) (now (fourth .entry)))) ⌝ }
+    ensures { λ r. ⌜ Starts r (now (command .entry)) (now (command .exit)) (startBy (callOf number numbers (now (first .entry)) (now (second .entry)) (now (third .entry)) (now (fourth .entry)))) ⌝ }
 {
     if number < 9 {
-        return chip(number, word, x, first, command);
+        return chip(number, numbers, first, command);
     }
     if number < 14 {
-        return as_initiator(number, ms, x, y, first, second, third, fourth, command);
+        return as_initiator(number, numbers, first, second, third, fourth, command);
     }
     if number < 19 {
-        return as_target(number, ms, first, command);
+        return as_target(number, numbers, first, command);
     }
-    on_device(number, word, x, y, first, second, third, command)
+    on_device(number, numbers, first, second, third, command)
 }

@@ -11,6 +11,13 @@ use Rattle.stages.specs.Starts.{Start, sends, staged, limited, asserted}
 abbrev pub resetCommand : List ℕ → Command
 resetCommand pending = cmd 0x18 100 (0x01 ∷ [])
 
+-- read_single_register and write_single_register as commands of a stage
+abbrev pub readCommand : ℕ → List ℕ → Command
+readCommand address pending = cmd 0x06 250 (word address)
+
+abbrev pub writeCommand : ℕ → ℕ → List ℕ → Command
+writeCommand address value pending = cmd 0x08 250 (word address ++ (value ∷ []))
+
 unfoldable pub firstOf : Request → Start
 firstOf version = sends 2 (cmd 0x02 100 [])
 firstOf resetMode = staged 3 []

@@ -2,6 +2,7 @@
 use super::NO_BYTES;
 use super::RESET_MODE;
 use super::VERSION;
+use super::clock;
 use super::cmd;
 use super::response::part;
 use errors::Fault;
@@ -16,11 +17,29 @@ ghost use Rattle.stages.specs.Starts.{Starts};
 ghost use Rattle.chipset.specs.Commands.{firstOf, resetCommand};
 ghost use Rattle.chipset.specs.Responses.{versionAnswer};
 
+// What reset_mode clears.
+const CLEAR: u8 = 0x01;
+
+// RF configuration: items, and the field on or off.
+pub const RF_FIELD: u8 = 0x01;
+
+pub const FIELD_ON: u8 = 0x01;
+
+pub const FIELD_OFF: u8 = 0x02;
+
+pub const TIMEOUTS: u8 = 0x02;
+
+pub const MAX_RTY_COM: u8 = 0x04;
+
+pub const MAX_RETRIES: u8 = 0x05;
+
+pub const ANALOG_106A: u8 = 0x0A;
+
 pub fn get_firmware_version(command: &mut [u8; 512]) -> Start
     ensures { λ r. ⌜ Starts r (now (command .entry)) (now (command .exit)) (firstOf version) ⌝ }
 {
     let n = put_two(&[], &[], command);
-    start::command(VERSION, cmd::GET_FIRMWARE_VERSION, 100, n)
+    start::command(VERSION, cmd::GET_FIRMWARE_VERSION, clock::COMMAND, n)
 }
 
 pub(crate) fn get_firmware_version_response(response: &[u8]) -> Decision
@@ -44,32 +63,27 @@ pub fn reset_mode(command: &mut [u8; 512]) -> Start
 pub fn reset_mode_command() -> Command
     ensures { λ r. ⌜ Commands r resetCommand ⌝ }
 {
-    Command {
-        code: cmd::RESET_MODE,
-        clock: 100,
-        is_pending: false,
-        bytes: [0x01, 0, 0, 0, 0, 0, 0, 0, 0, 0, 0, 0],
-        len: 1,
-    }
+    let bytes = [CLEAR, 0, 0, 0, 0, 0, 0, 0, 0, 0, 0, 0];
+    Command::with(cmd::RESET_MODE, clock::COMMAND, bytes, 1)
 }
 
 pub fn set_parameters(flags: u8, command: &mut [u8; 512]) -> Start
     ensures { λ r. ⌜ Starts r (now (command .entry)) (now (command .exit)) (firstOf (setParameters flags)) ⌝ }
 {
     let n = put_two(&[flags], &[], command);
-    start::command(NO_BYTES, cmd::SET_PARAMETERS, 100, n)
+    start::command(NO_BYTES, cmd::SET_PARAMETERS, clock::COMMAND, n)
 }
 
 pub fn rf_configuration(item: u8, config: &[u8], command: &mut [u8; 512]) -> Start
     ensures { λ r. ⌜ Starts r (now (command .entry)) (now (command .exit)) (firstOf (rfConfiguration item (now (config .entry)))) ⌝ }
 {
     let n = put_two(&[item], config, command);
-    start::command(NO_BYTES, cmd::RF_CONFIGURATION, 100, n)
+    start::command(NO_BYTES, cmd::RF_CONFIGURATION, clock::COMMAND, n)
 }
 
 pub fn rf_field_off(command: &mut [u8; 512]) -> Start
     ensures { λ r. ⌜ Starts r (now (command .entry)) (now (command .exit)) (firstOf rfFieldOff) ⌝ }
 {
-    let n = put_two(&[0x01, 0x02], &[], command);
-    start::command(NO_BYTES, cmd::RF_CONFIGURATION, 100, n)
+    let n = put_two(&[RF_FIELD, FIELD_OFF], &[], command);
+    start::command(NO_BYTES, cmd::RF_CONFIGURATION, clock::COMMAND, n)
 }

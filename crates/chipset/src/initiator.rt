@@ -3,7 +3,9 @@ use super::EXCHANGED_DATA;
 use super::JUMP;
 use super::LISTED_TARGET;
 use super::THRU;
+use super::clock;
 use super::cmd;
+use super::err;
 use super::response::from;
 use errors::Fault;
 use stages::Decision;
@@ -25,6 +27,9 @@ ghost use Rattle.stages.specs.Starts.{Starts};
 ghost use Rattle.chipset.specs.Commands.{firstOf};
 ghost use Rattle.chipset.specs.Responses.{withStatus, listAnswer, exchangeAnswer, jumpAnswer};
 
+// The number of the one target that the chip has listed.
+pub const TARGET: u8 = 0x01;
+
 pub fn in_list_passive_target(
     max_tg: u8,
     bitrate: u8,
@@ -34,7 +39,12 @@ pub fn in_list_passive_target(
     ensures { λ r. ⌜ Starts r (now (command .entry)) (now (command .exit)) (firstOf (inListPassiveTarget «max_tg» bitrate (now (initiator .entry)))) ⌝ }
 {
     let n = put_two(&[max_tg, bitrate], initiator, command);
-    start::command(LISTED_TARGET, cmd::IN_LIST_PASSIVE_TARGET, 1000, n)
+    start::command(
+        LISTED_TARGET,
+        cmd::IN_LIST_PASSIVE_TARGET,
+        clock::IN_LIST_PASSIVE_TARGET,
+        n,
+    )
 }
 
 // NbTg and Tg are left out.
@@ -54,7 +64,7 @@ pub(crate) fn in_list_passive_target_response(response: &[u8]) -> Decision
 pub fn in_data_exchange(bytes: &[u8], ms: u32, command: &mut [u8; 512]) -> Start
     ensures { λ r. ⌜ Starts r (now (command .entry)) (now (command .exit)) (firstOf (inDataExchange (now (bytes .entry)) ms)) ⌝ }
 {
-    let n = put_two(&[0x01], bytes, command);
+    let n = put_two(&[TARGET], bytes, command);
     start::command(EXCHANGED_DATA, cmd::IN_DATA_EXCHANGE, ms, n)
 }
 
@@ -63,7 +73,7 @@ pub(crate) fn in_data_exchange_response(response: &[u8]) -> Decision
     ensures { λ r. ⌜ Comes (now (response .entry)) r (exchangeAnswer (now (response .entry))) ⌝ }
 {
     if response.len() == 0 {
-        return Decision::Refused(Fault::Status(0xFF));
+        return Decision::Refused(Fault::Status(err::NO_DATA));
     }
     let status = response[0] % 64;
     if status == 0 {
@@ -86,7 +96,7 @@ pub fn in_communicate_thru(bytes: &[u8], ms: u32, command: &mut [u8; 512]) -> St
 pub(crate) fn in_communicate_thru_response(response: &[u8]) -> Decision
     ensures { λ r. ⌜ Comes (now (response .entry)) r (withStatus (now (response .entry)) (done (drop 1 (now (response .entry))))) ⌝ }
 {
-    let status = byte_or(response, 0, 0xFF);
+    let status = byte_or(response, 0, err::NO_DATA);
     if status == 0 {
         from(response, 1)
     } else {
@@ -120,14 +130,14 @@ pub fn in_jump_for_dep(
     let nf = bit(passive) + 2 * bit(nfcid3) + 4 * bit(gi);
     let head = [active_byte(active), br, nf];
     let n = put_all(&head, passive, nfcid3, gi, &[], command);
-    start::command(JUMP, cmd::IN_JUMP_FOR_DEP, 3000, n)
+    start::command(JUMP, cmd::IN_JUMP_FOR_DEP, clock::IN_JUMP_FOR_DEP, n)
 }
 
 // Status and Tg are left out.
 pub(crate) fn in_jump_for_dep_response(response: &[u8]) -> Decision
     ensures { λ r. ⌜ Comes (now (response .entry)) r (jumpAnswer (now (response .entry))) ⌝ }
 {
-    let status = byte_or(response, 0, 0xFF);
+    let status = byte_or(response, 0, err::NO_DATA);
     if status == 0 {
         if response.len() < 2 {
             Decision::Refused(Fault::ShortResponse)

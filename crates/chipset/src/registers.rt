@@ -2,10 +2,13 @@
 use super::ALL_BYTES;
 use super::FIRST_BYTE;
 use super::REGISTERS_WRITTEN;
+use super::clock;
 use super::cmd;
+use super::err;
 use super::response::part;
 use errors::Fault;
 use errors::Refusal;
+use stages::Command;
 use stages::Decision;
 use stages::Layout;
 use stages::put::put_two;
@@ -15,9 +18,9 @@ ghost use mathlib.Core.Path.{_≡_};
 ghost use Prim.Native.Nat.{_<_};
 ghost use Rattle.protocol.specs.Chipset.{anyNonzero};
 ghost use Rattle.protocol.specs.Calls.{readRegister, writeRegister, readSingleRegister, writeSingleRegister, registers as registersOf};
-ghost use Rattle.stages.specs.Decided.{Decides, Comes};
+ghost use Rattle.stages.specs.Decided.{Decides, Comes, Commands};
 ghost use Rattle.stages.specs.Starts.{Starts};
-ghost use Rattle.chipset.specs.Commands.{firstOf};
+ghost use Rattle.chipset.specs.Commands.{firstOf, readCommand, writeCommand};
 ghost use Rattle.chipset.specs.Responses.{foundWritten, writeAnswer, firstAnswer};
 
 // Whole words or triples, of at most 64 registers.
@@ -38,7 +41,7 @@ pub fn read_register(addresses: &[u8], command: &mut [u8; 512]) -> Start
 {
     if whole_registers(addresses, 2) {
         let n = put_two(addresses, &[], command);
-        start::command(ALL_BYTES, cmd::READ_REGISTER, 250, n)
+        start::command(ALL_BYTES, cmd::READ_REGISTER, clock::REGISTERS, n)
     } else {
         start::refused(Refusal::BadArgument)
     }
@@ -50,7 +53,7 @@ pub fn write_register(registers: &[u8], command: &mut [u8; 512]) -> Start
 {
     if whole_registers(registers, 3) {
         let n = put_two(registers, &[], command);
-        start::command(REGISTERS_WRITTEN, cmd::WRITE_REGISTER, 250, n)
+        start::command(REGISTERS_WRITTEN, cmd::WRITE_REGISTER, clock::REGISTERS, n)
     } else {
         start::refused(Refusal::BadArgument)
     }
@@ -75,7 +78,7 @@ pub(crate) fn write_register_response(response: &[u8]) -> Decision
     ensures { λ r. ⌜ Comes (now (response .entry)) r (writeAnswer (now (response .entry))) ⌝ }
 {
     if any_nonzero(response) {
-        Decision::Refused(Fault::Status(0xFE))
+        Decision::Refused(Fault::Status(err::REGISTER_WRITE_FAILED))
     } else {
         part(0, 0)
     }
@@ -86,7 +89,7 @@ pub fn found_written(found: &[u8], response: &[u8]) -> Decision
     ensures { λ r. ⌜ Decides (now (found .entry)) (now (response .entry)) r (foundWritten (now (found .entry)) (now (response .entry))) ⌝ }
 {
     if any_nonzero(response) {
-        Decision::Refused(Fault::Status(0xFE))
+        Decision::Refused(Fault::Status(err::REGISTER_WRITE_FAILED))
     } else {
         Decision::Done(Layout::found(found))
     }
@@ -97,7 +100,17 @@ pub fn read_single_register(address: u16, command: &mut [u8; 512]) -> Start
 {
     let word = [(address / 256) as u8, (address % 256) as u8];
     let n = put_two(&word, &[], command);
-    start::command(FIRST_BYTE, cmd::READ_REGISTER, 250, n)
+    start::command(FIRST_BYTE, cmd::READ_REGISTER, clock::REGISTERS, n)
+}
+
+// The same as a stage's command.
+pub fn read_single_register_command(address: u16) -> Command
+    ensures { λ r. ⌜ Commands r (readCommand address) ⌝ }
+{
+    let high = (address / 256) as u8;
+    let low = (address % 256) as u8;
+    let bytes = [high, low, 0, 0, 0, 0, 0, 0, 0, 0, 0, 0];
+    Command::with(cmd::READ_REGISTER, clock::REGISTERS, bytes, 2)
 }
 
 pub(crate) fn read_single_register_response(response: &[u8]) -> Decision
@@ -115,5 +128,14 @@ pub fn write_single_register(address: u16, value: u8, command: &mut [u8; 512]) -
 {
     let register = [(address / 256) as u8, (address % 256) as u8, value];
     let n = put_two(&register, &[], command);
-    start::command(REGISTERS_WRITTEN, cmd::WRITE_REGISTER, 250, n)
+    start::command(REGISTERS_WRITTEN, cmd::WRITE_REGISTER, clock::REGISTERS, n)
+}
+
+pub fn write_single_register_command(address: u16, value: u8) -> Command
+    ensures { λ r. ⌜ Commands r (writeCommand address value) ⌝ }
+{
+    let high = (address / 256) as u8;
+    let low = (address % 256) as u8;
+    let bytes = [high, low, value, 0, 0, 0, 0, 0, 0, 0, 0, 0];
+    Command::with(cmd::WRITE_REGISTER, clock::REGISTERS, bytes, 3)
 }

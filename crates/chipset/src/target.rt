@@ -3,7 +3,9 @@ use super::ALL_BYTES;
 use super::INITIATOR_COMMAND;
 use super::STATUS;
 use super::TARGET_STATUS;
+use super::clock;
 use super::cmd;
+use super::err;
 use super::response::from;
 use super::response::part;
 use errors::Fault;
@@ -78,7 +80,7 @@ pub fn tg_set_general_bytes(gb: &[u8], command: &mut [u8; 512]) -> Start
     ensures { λ r. ⌜ Starts r (now (command .entry)) (now (command .exit)) (firstOf (tgSetGeneralBytes (now (gb .entry)))) ⌝ }
 {
     let n = put_two(&[], gb, command);
-    start::command(STATUS, cmd::TG_SET_GENERAL_BYTES, 100, n)
+    start::command(STATUS, cmd::TG_SET_GENERAL_BYTES, clock::COMMAND, n)
 }
 
 pub fn tg_get_initiator_command(ms: u32, command: &mut [u8; 512]) -> Start
@@ -92,7 +94,7 @@ pub fn tg_get_initiator_command(ms: u32, command: &mut [u8; 512]) -> Start
 pub(crate) fn tg_get_initiator_command_response(response: &[u8]) -> Decision
     ensures { λ r. ⌜ Comes (now (response .entry)) r (initiatorAnswer (now (response .entry))) ⌝ }
 {
-    if byte_or(response, 0, 0xFF) == 0 {
+    if byte_or(response, 0, err::NO_DATA) == 0 {
         from(response, 1)
     } else {
         Decision::Nothing
@@ -103,14 +105,19 @@ pub fn tg_response_to_initiator(bytes: &[u8], command: &mut [u8; 512]) -> Start
     ensures { λ r. ⌜ Starts r (now (command .entry)) (now (command .exit)) (firstOf (tgResponseToInitiator (now (bytes .entry)))) ⌝ }
 {
     let n = put_two(&[], bytes, command);
-    start::command(STATUS, cmd::TG_RESPONSE_TO_INITIATOR, 1000, n)
+    start::command(
+        STATUS,
+        cmd::TG_RESPONSE_TO_INITIATOR,
+        clock::TG_RESPONSE_TO_INITIATOR,
+        n,
+    )
 }
 
 // Of tg_set_general_bytes and tg_response_to_initiator.
 pub(crate) fn status_response(response: &[u8]) -> Decision
     ensures { λ r. ⌜ Comes (now (response .entry)) r (withStatus (now (response .entry)) (done [])) ⌝ }
 {
-    let status = byte_or(response, 0, 0xFF);
+    let status = byte_or(response, 0, err::NO_DATA);
     if status == 0 {
         part(0, 0)
     } else {
@@ -122,7 +129,7 @@ pub fn tg_get_target_status(command: &mut [u8; 512]) -> Start
     ensures { λ r. ⌜ Starts r (now (command .entry)) (now (command .exit)) (firstOf tgGetTargetStatus) ⌝ }
 {
     let n = put_two(&[], &[], command);
-    start::command(TARGET_STATUS, cmd::TG_GET_TARGET_STATUS, 100, n)
+    start::command(TARGET_STATUS, cmd::TG_GET_TARGET_STATUS, clock::COMMAND, n)
 }
 
 // A rate by its index.

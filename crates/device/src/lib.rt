@@ -1,9 +1,18 @@
 // The opening (`Device::new` of device.rs): the command of each stage, and what follows each reply. transceive has a file of its own.
 pub mod transceive;
 
+use chipset::ciu;
+use chipset::clock;
 use chipset::cmd;
+use chipset::general;
 use chipset::registers;
 use errors::Fault;
+use general::ANALOG_106A;
+use general::FIELD_OFF;
+use general::MAX_RETRIES;
+use general::MAX_RTY_COM;
+use general::RF_FIELD;
+use general::TIMEOUTS;
 use stages::Command;
 use stages::Decision;
 use stages::Layout;
@@ -12,6 +21,7 @@ ghost use mathlib.Core.List.{List};
 ghost use mathlib.Core.Path.{_≡_};
 ghost use Prim.Native.Nat.{ℕ, _≤_, _<_};
 ghost use lib.ListN.{take};
+ghost use Rattle.stages.specs.Stages.{cmd};
 ghost use Rattle.stages.specs.Decided.{tailBytes, Decides, Commands};
 ghost use Rattle.device.specs.Names.{hexDigit, dotted, nameBytes};
 ghost use Rattle.device.specs.Opening.{openingCommand, settingsCommand, isResetStage, versionKept, openingDecision};
@@ -21,7 +31,7 @@ pub const OPENING: u8 = 1;
 
 // The RF settings for 106A, behind their item.
 const RF_106A: [u8; 12] = [
-    0x0A,
+    ANALOG_106A,
     0x5A,
     0xF4,
     0x3F,
@@ -35,46 +45,50 @@ const RF_106A: [u8; 12] = [
     0x87,
 ];
 
+// The stages.
+const STAGE_RESET: u8 = 0;
+
+const STAGE_VERSION: u8 = 1;
+
+const STAGE_FIELD_OFF: u8 = 2;
+
+const STAGE_TIMEOUTS: u8 = 3;
+
+const STAGE_MAX_RTY_COM: u8 = 4;
+
+const STAGE_MAX_RETRIES: u8 = 5;
+
+const STAGE_ANALOG: u8 = 6;
+
+const STAGE_PARAMETERS: u8 = 7;
+
+const STAGE_RESET_AGAIN: u8 = 8;
+
+pub const STAGE_RF_CFG: u8 = 9;
+
+// RFCfg of RAM-07 as the opening leaves it.
+const RF_CFG: u8 = 0x59;
+
+// The parameters that the opening sets.
+const PARAMETERS: u8 = 0x08;
+
+// An RF configuration of an item, with the first `len` of the bytes.
+fn configured(bytes: [u8; 12], len: usize) -> Command
+    ensures { λ r. ⌜ (len ≤ 12 → Commands r (λ pending. cmd 0x32 100 (take len bytes))) ⌝ }
+{
+    Command::with(cmd::RF_CONFIGURATION, clock::COMMAND, bytes, len)
+}
+
 // The commands of Device::new, one for each stage.
 pub fn command(stage: u8) -> Command
     ensures { λ r. ⌜ Commands r (openingCommand stage) ⌝ }
 {
     match stage {
-        0 => Command {
-            code: cmd::RESET_MODE,
-            clock: 100,
-            is_pending: false,
-            bytes: [0x01, 0, 0, 0, 0, 0, 0, 0, 0, 0, 0, 0],
-            len: 1,
-        },
-        1 => Command {
-            code: cmd::GET_FIRMWARE_VERSION,
-            clock: 100,
-            is_pending: false,
-            bytes: [0; 12],
-            len: 0,
-        },
-        2 => Command {
-            code: cmd::RF_CONFIGURATION,
-            clock: 100,
-            is_pending: false,
-            bytes: [0x01, 0x02, 0, 0, 0, 0, 0, 0, 0, 0, 0, 0],
-            len: 2,
-        },
-        3 => Command {
-            code: cmd::RF_CONFIGURATION,
-            clock: 100,
-            is_pending: false,
-            bytes: [0x02, 0x0B, 0x0B, 0x0A, 0, 0, 0, 0, 0, 0, 0, 0],
-            len: 4,
-        },
-        4 => Command {
-            code: cmd::RF_CONFIGURATION,
-            clock: 100,
-            is_pending: false,
-            bytes: [0x04, 0x00, 0, 0, 0, 0, 0, 0, 0, 0, 0, 0],
-            len: 2,
-        },
+        STAGE_RESET => general::reset_mode_command(),
+        STAGE_VERSION => Command::with(cmd::GET_FIRMWARE_VERSION, clock::COMMAND, [0; 12], 0),
+        STAGE_FIELD_OFF => configured([RF_FIELD, FIELD_OFF, 0, 0, 0, 0, 0, 0, 0, 0, 0, 0], 2),
+        STAGE_TIMEOUTS => configured([TIMEOUTS, 0x0B, 0x0B, 0x0A, 0, 0, 0, 0, 0, 0, 0, 0], 4),
+        STAGE_MAX_RTY_COM => configured([MAX_RTY_COM, 0x00, 0, 0, 0, 0, 0, 0, 0, 0, 0, 0], 2),
         _ => settings(stage),
     }
 }
@@ -84,49 +98,28 @@ fn settings(stage: u8) -> Command
     ensures { λ r. ⌜ Commands r (settingsCommand stage) ⌝ }
 {
     match stage {
-        5 => Command {
-            code: cmd::RF_CONFIGURATION,
-            clock: 100,
-            is_pending: false,
-            bytes: [0x05, 0x00, 0x00, 0x01, 0, 0, 0, 0, 0, 0, 0, 0],
-            len: 4,
-        },
-        6 => Command {
-            code: cmd::RF_CONFIGURATION,
-            clock: 100,
-            is_pending: false,
-            bytes: RF_106A,
-            len: 12,
-        },
-        7 => Command {
-            code: cmd::SET_PARAMETERS,
-            clock: 100,
-            is_pending: false,
-            bytes: [0x08, 0, 0, 0, 0, 0, 0, 0, 0, 0, 0, 0],
-            len: 1,
-        },
-        8 => Command {
-            code: cmd::RESET_MODE,
-            clock: 100,
-            is_pending: false,
-            bytes: [0x01, 0, 0, 0, 0, 0, 0, 0, 0, 0, 0, 0],
-            len: 1,
-        },
-        _ => Command {
-            code: cmd::WRITE_REGISTER,
-            clock: 250,
-            is_pending: false,
-            bytes: [0x03, 0x28, 0x59, 0, 0, 0, 0, 0, 0, 0, 0, 0],
-            len: 3,
-        },
+        STAGE_MAX_RETRIES => configured([MAX_RETRIES, 0x00, 0x00, 0x01, 0, 0, 0, 0, 0, 0, 0, 0], 4),
+        STAGE_ANALOG => configured(RF_106A, 12),
+        STAGE_PARAMETERS => Command::with(
+            cmd::SET_PARAMETERS,
+            clock::COMMAND,
+            [PARAMETERS, 0, 0, 0, 0, 0, 0, 0, 0, 0, 0, 0],
+            1,
+        ),
+        STAGE_RESET_AGAIN => general::reset_mode_command(),
+        _ => registers::write_single_register_command(ciu::RF_CFG_RAM07, RF_CFG),
     }
 }
 
-// The commands of stages 0 and 8 are resets.
+// Two commands are resets.
 pub fn is_reset(stage: u8) -> bool
     ensures { λ r. ⌜ r ≡ isResetStage stage ⌝ }
 {
-    if stage == 0 { true } else { stage == 8 }
+    if stage == STAGE_RESET {
+        true
+    } else {
+        stage == STAGE_RESET_AGAIN
+    }
 }
 
 // A lower-case hex digit.
@@ -217,17 +210,17 @@ fn version(response: &[u8]) -> Decision
     }
     let name = chipset_name(response[1], response[2]);
     let tail = name.tail;
-    Decision::Keep(2, Layout::tailed(0, 3, tail, name.len))
+    Decision::Keep(STAGE_FIELD_OFF, Layout::tailed(0, 3, tail, name.len))
 }
 
 // What follows a response, or a reset; `found` is the answer once the version is known.
 pub fn decided(stage: u8, found: &[u8], response: &[u8]) -> Decision
     ensures { λ r. ⌜ Decides (now (found .entry)) (now (response .entry)) r (openingDecision stage (now (found .entry)) (now (response .entry))) ⌝ }
 {
-    if stage == 1 {
+    if stage == STAGE_VERSION {
         return version(response);
     }
-    if stage < 9 {
+    if stage < STAGE_RF_CFG {
         Decision::Send(stage + 1)
     } else {
         registers::found_written(found, response)

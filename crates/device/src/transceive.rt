@@ -1,6 +1,8 @@
 // transceive (device.rs): how it starts, and its responses. That of any other target is in_communicate_thru's.
 use chipset::THRU;
 use chipset::cmd;
+use chipset::err;
+use chipset::initiator::TARGET;
 use chipset::response::from;
 use chipset::response::part;
 use errors::Fault;
@@ -59,7 +61,17 @@ fn is_type2_106a(bitrate: Bitrate, sel_res: &[u8]) -> bool
     }
 }
 
-// RALL, READ, WRITE-NE, WRITE-E and RID.
+// The commands of a Type 1 tag that the chip sends.
+const RALL: u8 = 0x00;
+
+const READ: u8 = 0x01;
+
+const WRITE_NE: u8 = 0x1A;
+
+const WRITE_E: u8 = 0x53;
+
+const RID: u8 = 0x72;
+
 fn is_sendable(bytes: &[u8]) -> bool
     ensures { λ r. ⌜ r ≡ isSendable (now (bytes .entry)) ⌝ }
 {
@@ -67,7 +79,7 @@ fn is_sendable(bytes: &[u8]) -> bool
         return false;
     }
     match bytes[0] {
-        0x00 | 0x01 | 0x1A | 0x53 | 0x72 => true,
+        RALL | READ | WRITE_NE | WRITE_E | RID => true,
         _ => false,
     }
 }
@@ -76,7 +88,7 @@ fn type1(bytes: &[u8], ms: u32, command: &mut [u8; 512]) -> Start
     ensures { λ r. ⌜ Starts r (now (command .entry)) (now (command .exit)) (type1First (now (bytes .entry)) ms) ⌝ }
 {
     if is_sendable(bytes) {
-        let n = put_two(&[0x01], bytes, command);
+        let n = put_two(&[TARGET], bytes, command);
         start::command(TYPE_1, cmd::IN_DATA_EXCHANGE, ms, n)
     } else {
         start::refused(Refusal::NotSendable)
@@ -120,7 +132,7 @@ pub fn transceive(
 pub fn type2_response(response: &[u8]) -> Decision
     ensures { λ r. ⌜ Comes (now (response .entry)) r (type2Answer (now (response .entry))) ⌝ }
 {
-    let status = byte_or(response, 0, 0xFF);
+    let status = byte_or(response, 0, err::NO_DATA);
     if status == 0 {
         if 3 < response.len() {
             if crc::check_crc_a(&response[1..]) {
@@ -141,7 +153,7 @@ pub fn type1_response(response: &[u8]) -> Decision
     ensures { λ r. ⌜ Comes (now (response .entry)) r (type1Answer (now (response .entry))) ⌝ }
 {
     if response.len() == 0 {
-        return Decision::Refused(Fault::Status(0xFF));
+        return Decision::Refused(Fault::Status(err::NO_DATA));
     }
     let status = response[0] % 64;
     if status == 0 {

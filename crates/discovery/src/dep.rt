@@ -2,7 +2,11 @@
 use super::DEP;
 use super::rates::Supported;
 use super::rates::dep_code;
+use chipset::ciu;
+use chipset::clock;
 use chipset::cmd;
+use chipset::err;
+use chipset::general::TIMEOUTS;
 use chipset::registers;
 use errors::Fault;
 use errors::Refusal;
@@ -63,32 +67,27 @@ pub fn detect_dep(bitrate: &[u8], atr_req: &[u8], command: &mut [u8; 512]) -> St
     jump(code, atr_req, command)
 }
 
+// The stages.
+const STAGE_TIMEOUTS: u8 = 0;
+
+const STAGE_JUMP: u8 = 1;
+
+const STAGE_WRITE_MODE: u8 = 2;
+
+// The time-outs of ATR_RES and of the exchange.
+const ATR_RES_TIMEOUTS: [u8; 12] = [TIMEOUTS, 0x0B, 0x0B, 0x0A, 0, 0, 0, 0, 0, 0, 0, 0];
+
+// CIU_Mode with the detect-sync bit off.
+const NO_DETECT_SYNC: u8 = 0x3B;
+
 // The command of a stage.
 pub fn command(stage: u8) -> Command
     ensures { λ r. ⌜ Commands r (depCommand stage) ⌝ }
 {
     match stage {
-        0 => Command {
-            code: cmd::RF_CONFIGURATION,
-            clock: 100,
-            is_pending: false,
-            bytes: [0x02, 0x0B, 0x0B, 0x0A, 0, 0, 0, 0, 0, 0, 0, 0],
-            len: 4,
-        },
-        1 => Command {
-            code: cmd::IN_JUMP_FOR_DEP,
-            clock: 3000,
-            is_pending: true,
-            bytes: [0; 12],
-            len: 0,
-        },
-        _ => Command {
-            code: cmd::WRITE_REGISTER,
-            clock: 250,
-            is_pending: false,
-            bytes: [0x63, 0x01, 0x3B, 0, 0, 0, 0, 0, 0, 0, 0, 0],
-            len: 3,
-        },
+        STAGE_TIMEOUTS => Command::with(cmd::RF_CONFIGURATION, clock::COMMAND, ATR_RES_TIMEOUTS, 4),
+        STAGE_JUMP => Command::pending(cmd::IN_JUMP_FOR_DEP, clock::IN_JUMP_FOR_DEP),
+        _ => registers::write_single_register_command(ciu::MODE, NO_DETECT_SYNC),
     }
 }
 
@@ -97,7 +96,7 @@ fn no_partner(status: u8) -> Decision
     ensures { λ r. ⌜ ((f b : List ℕ) → Decides f b r (noPartner status)) ⌝ }
 {
     match status {
-        0x01 | 0x0A => Decision::Nothing,
+        err::TIMEOUT | err::RF_NOT_ACTIVATED => Decision::Nothing,
         _ => Decision::Refused(Fault::Status(status)),
     }
 }
@@ -106,12 +105,15 @@ fn no_partner(status: u8) -> Decision
 fn jumped(response: &[u8]) -> Decision
     ensures { λ r. ⌜ ((f : List ℕ) → Decides f (now (response .entry)) r (jumpedTo (now (response .entry)))) ⌝ }
 {
-    let status = byte_or(response, 0, 0xFF);
+    let status = byte_or(response, 0, err::NO_DATA);
     if status == 0 {
         if response.len() < 2 {
             Decision::Refused(Fault::ShortResponse)
         } else {
-            Decision::Keep(2, Layout::headed(Head(0xD5, 0x01, 0), 2, response, 2))
+            Decision::Keep(
+                STAGE_WRITE_MODE,
+                Layout::headed(Head(0xD5, 0x01, 0), 2, response, 2),
+            )
         }
     } else {
         no_partner(status)
@@ -123,8 +125,8 @@ pub fn decided(stage: u8, found: &[u8], response: &[u8]) -> Decision
     ensures { λ r. ⌜ Decides (now (found .entry)) (now (response .entry)) r (depDecision stage (now (found .entry)) (now (response .entry))) ⌝ }
 {
     match stage {
-        0 => Decision::Send(1),
-        1 => jumped(response),
+        STAGE_TIMEOUTS => Decision::Send(STAGE_JUMP),
+        STAGE_JUMP => jumped(response),
         _ => registers::found_written(found, response),
     }
 }
@@ -144,7 +146,7 @@ pub fn failed(stage: u8, fault: Fault) -> Decision
     ensures { λ r. ⌜ Always r (depFailure stage fault) ⌝ }
 {
     match stage {
-        1 => jump_failed(fault),
+        STAGE_JUMP => jump_failed(fault),
         _ => Decision::Refused(fault),
     }
 }

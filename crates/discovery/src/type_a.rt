@@ -2,7 +2,10 @@
 use super::TYPE_A;
 use super::rates::Supported;
 use super::rates::type_a_code;
+use chipset::ciu;
+use chipset::clock;
 use chipset::cmd;
+use chipset::initiator::TARGET;
 use chipset::registers;
 use errors::Fault;
 use errors::Refusal;
@@ -26,6 +29,28 @@ ghost use Rattle.protocol.specs.Calls.{typeACode};
 ghost use Rattle.stages.specs.Bitrates.{codeFor};
 ghost use Rattle.discovery.specs.Firsts.{typeAFirst};
 
+// The stages.
+const STAGE_LIST: u8 = 0;
+
+const STAGE_FIFO: u8 = 1;
+
+const STAGE_LIST_TYPE_1: u8 = 2;
+
+const STAGE_RID: u8 = 3;
+
+const STAGE_READ_RX_MODE: u8 = 4;
+
+const STAGE_WRITE_RX_MODE: u8 = 5;
+
+// Stands in a UID where it goes on at the next cascade level.
+const CASCADE_TAG: u8 = 0x88;
+
+// What the FIFO holds where no SENS_RES came: the request.
+const SENS_REQ: u8 = 0x26;
+
+// The clock of the RID exchange in ms.
+const RID_CLOCK: u32 = 100;
+
 // A UID over 4 bytes gets 0x88 at 0; if then over 8, 0x88 at 4.
 fn list(code: u8, uid: &[u8], command: &mut [u8; 512]) -> Start
     ensures { λ r. ⌜ Starts r (now (command .entry)) (now (command .exit)) (typeAFirst (now (uid .entry)) code) ⌝ }
@@ -35,10 +60,10 @@ fn list(code: u8, uid: &[u8], command: &mut [u8; 512]) -> Start
         return start::staged(TYPE_A, n);
     }
     if uid.len() <= 7 {
-        let n = put_two(&[1, code, 0x88], uid, command);
+        let n = put_two(&[1, code, CASCADE_TAG], uid, command);
         return start::staged(TYPE_A, n);
     }
-    let head = [1, code, 0x88, uid[0], uid[1], uid[2], 0x88];
+    let head = [1, code, CASCADE_TAG, uid[0], uid[1], uid[2], CASCADE_TAG];
     let n = put_two(&head, &uid[3..], command);
     start::staged(TYPE_A, n)
 }
@@ -55,53 +80,30 @@ pub fn detect_type_a(bitrate: &[u8], uid: &[u8], command: &mut [u8; 512]) -> Sta
     list(code, uid, command)
 }
 
+// The list of a Type 1 tag: one target, at the chip's code for Type 1.
+const TYPE_1_LIST: [u8; 12] = [1, 4, 0, 0, 0, 0, 0, 0, 0, 0, 0, 0];
+
+// RID to the listed target, behind its code six bytes of 0.
+const RID: [u8; 12] = [TARGET, 0x78, 0, 0, 0, 0, 0, 0, 0, 0, 0, 0];
+
 // The command of a stage.
 pub fn command(stage: u8) -> Command
     ensures { λ r. ⌜ Commands r (typeACommand stage) ⌝ }
 {
     match stage {
-        0 => Command {
-            code: cmd::IN_LIST_PASSIVE_TARGET,
-            clock: 1000,
-            is_pending: true,
-            bytes: [0; 12],
-            len: 0,
-        },
-        1 => Command {
-            code: cmd::READ_REGISTER,
-            clock: 250,
-            is_pending: false,
-            bytes: [0x63, 0x39, 0, 0, 0, 0, 0, 0, 0, 0, 0, 0],
-            len: 2,
-        },
-        2 => Command {
-            code: cmd::IN_LIST_PASSIVE_TARGET,
-            clock: 1000,
-            is_pending: false,
-            bytes: [0x01, 0x04, 0, 0, 0, 0, 0, 0, 0, 0, 0, 0],
-            len: 2,
-        },
-        3 => Command {
-            code: cmd::IN_DATA_EXCHANGE,
-            clock: 100,
-            is_pending: false,
-            bytes: [0x01, 0x78, 0, 0, 0, 0, 0, 0, 0, 0, 0, 0],
-            len: 8,
-        },
-        4 => Command {
-            code: cmd::READ_REGISTER,
-            clock: 250,
-            is_pending: false,
-            bytes: [0x63, 0x03, 0, 0, 0, 0, 0, 0, 0, 0, 0, 0],
-            len: 2,
-        },
-        _ => Command {
-            code: cmd::WRITE_REGISTER,
-            clock: 250,
-            is_pending: true,
-            bytes: [0; 12],
-            len: 0,
-        },
+        STAGE_LIST => Command::pending(cmd::IN_LIST_PASSIVE_TARGET, clock::IN_LIST_PASSIVE_TARGET),
+        STAGE_FIFO => registers::read_single_register_command(ciu::FIFO_DATA),
+        STAGE_LIST_TYPE_1 => {
+            Command::with(
+                cmd::IN_LIST_PASSIVE_TARGET,
+                clock::IN_LIST_PASSIVE_TARGET,
+                TYPE_1_LIST,
+                2,
+            )
+        }
+        STAGE_RID => Command::with(cmd::IN_DATA_EXCHANGE, RID_CLOCK, RID, 8),
+        STAGE_READ_RX_MODE => registers::read_single_register_command(ciu::RX_MODE),
+        _ => Command::pending(cmd::WRITE_REGISTER, clock::REGISTERS),
     }
 }
 
@@ -118,7 +120,7 @@ fn listed_a(response: &[u8]) -> Decision
     ensures { λ r. ⌜ ((f : List ℕ) → Decides f (now (response .entry)) r (listedA (now (response .entry)))) ⌝ }
 {
     if byte_or(response, 0, 0) == 0 {
-        return Decision::Send(1);
+        return Decision::Send(STAGE_FIFO);
     }
     if response.len() < 2 {
         return Decision::Refused(Fault::ShortResponse);
@@ -127,20 +129,20 @@ fn listed_a(response: &[u8]) -> Decision
         return Decision::Nothing;
     }
     if response[4] / 32 % 4 == 0 {
-        Decision::Keep(4, card(response))
+        Decision::Keep(STAGE_READ_RX_MODE, card(response))
     } else {
         Decision::Done(card(response))
     }
 }
 
-// The FIFO holds 0x26 where no SENS_RES came.
+// No SENS_RES came where the FIFO still holds the request.
 fn fifo(response: &[u8]) -> Decision
     ensures { λ r. ⌜ ((f : List ℕ) → Decides f (now (response .entry)) r (fifoRead (now (response .entry)))) ⌝ }
 {
-    if byte_or(response, 0, 0) == 0x26 {
+    if byte_or(response, 0, 0) == SENS_REQ {
         Decision::Nothing
     } else {
-        Decision::Send(2)
+        Decision::Send(STAGE_LIST_TYPE_1)
     }
 }
 
@@ -165,7 +167,7 @@ fn listed_type1(response: &[u8]) -> Decision
     if response.len() < 2 {
         Decision::Refused(Fault::ShortResponse)
     } else {
-        Decision::Keep(3, sens_res(response))
+        Decision::Keep(STAGE_RID, sens_res(response))
     }
 }
 
@@ -192,7 +194,9 @@ fn rx_mode(response: &[u8]) -> Decision
     if response.len() < 1 {
         Decision::Refused(Fault::ShortResponse)
     } else {
-        Decision::Put(5, Head(0x63, 0x03, response[0] % 128))
+        let high = (ciu::RX_MODE / 256) as u8;
+        let low = (ciu::RX_MODE % 256) as u8;
+        Decision::Put(STAGE_WRITE_RX_MODE, Head(high, low, response[0] % 128))
     }
 }
 
@@ -201,11 +205,11 @@ pub fn decided(stage: u8, found: &[u8], response: &[u8]) -> Decision
     ensures { λ r. ⌜ Decides (now (found .entry)) (now (response .entry)) r (typeADecision stage (now (found .entry)) (now (response .entry))) ⌝ }
 {
     match stage {
-        0 => listed_a(response),
-        1 => fifo(response),
-        2 => listed_type1(response),
-        3 => rid(found, response),
-        4 => rx_mode(response),
+        STAGE_LIST => listed_a(response),
+        STAGE_FIFO => fifo(response),
+        STAGE_LIST_TYPE_1 => listed_type1(response),
+        STAGE_RID => rid(found, response),
+        STAGE_READ_RX_MODE => rx_mode(response),
         _ => registers::found_written(found, response),
     }
 }
@@ -225,8 +229,8 @@ pub fn failed(stage: u8, fault: Fault) -> Decision
     ensures { λ r. ⌜ Always r (typeAFailure stage fault) ⌝ }
 {
     match stage {
-        1 => Decision::Send(2),
-        3 => rid_failed(fault),
+        STAGE_FIFO => Decision::Send(STAGE_LIST_TYPE_1),
+        STAGE_RID => rid_failed(fault),
         _ => Decision::Refused(fault),
     }
 }

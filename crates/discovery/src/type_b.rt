@@ -2,7 +2,9 @@
 use super::TYPE_B;
 use super::rates::Supported;
 use super::rates::type_b_code;
+use chipset::clock;
 use chipset::cmd;
+use chipset::err;
 use errors::Fault;
 use errors::Refusal;
 use stages::Command;
@@ -37,32 +39,32 @@ pub fn detect_type_b(bitrate: &[u8], sensb_req: &[u8], command: &mut [u8; 512]) 
     start::staged(TYPE_B, n)
 }
 
+// The stages.
+const STAGE_LIST: u8 = 0;
+
+const STAGE_DESELECT: u8 = 1;
+
+const STAGE_WAKE_UP: u8 = 2;
+
+// The clock of deselect and wake-up in ms.
+const THRU_CLOCK: u32 = 500;
+
+// S(DESELECT).
+const DESELECT: [u8; 12] = [0xC2, 0, 0, 0, 0, 0, 0, 0, 0, 0, 0, 0];
+
+// WUPB: its code and, behind the AFI, its parameter.
+const WUPB: u8 = 0x05;
+
+const WUPB_PARAMETER: u8 = 0x08;
+
 // The command of a stage.
 pub fn command(stage: u8) -> Command
     ensures { λ r. ⌜ Commands r (typeBCommand stage) ⌝ }
 {
     match stage {
-        0 => Command {
-            code: cmd::IN_LIST_PASSIVE_TARGET,
-            clock: 1000,
-            is_pending: true,
-            bytes: [0; 12],
-            len: 0,
-        },
-        1 => Command {
-            code: cmd::IN_COMMUNICATE_THRU,
-            clock: 500,
-            is_pending: false,
-            bytes: [0xC2, 0, 0, 0, 0, 0, 0, 0, 0, 0, 0, 0],
-            len: 1,
-        },
-        _ => Command {
-            code: cmd::IN_COMMUNICATE_THRU,
-            clock: 500,
-            is_pending: true,
-            bytes: [0; 12],
-            len: 0,
-        },
+        STAGE_LIST => Command::pending(cmd::IN_LIST_PASSIVE_TARGET, clock::IN_LIST_PASSIVE_TARGET),
+        STAGE_DESELECT => Command::with(cmd::IN_COMMUNICATE_THRU, THRU_CLOCK, DESELECT, 1),
+        _ => Command::pending(cmd::IN_COMMUNICATE_THRU, THRU_CLOCK),
     }
 }
 
@@ -72,7 +74,7 @@ fn iso_dep(protocol: u8, afi: u8) -> Decision
 {
     if protocol % 2 == 1 {
         if protocol / 8 % 2 == 0 {
-            Decision::Put(1, Head(0x05, afi, 0x08))
+            Decision::Put(STAGE_DESELECT, Head(WUPB, afi, WUPB_PARAMETER))
         } else {
             Decision::Nothing
         }
@@ -102,7 +104,7 @@ fn listed_b(pending: &[u8], response: &[u8]) -> Decision
 fn woken(response: &[u8]) -> Decision
     ensures { λ r. ⌜ ((f : List ℕ) → Decides f (now (response .entry)) r (wokenUp (now (response .entry)))) ⌝ }
 {
-    if byte_or(response, 0, 0xFF) == 0 {
+    if byte_or(response, 0, err::NO_DATA) == 0 {
         Decision::Done(Layout::rest(response, 1))
     } else {
         Decision::Nothing
@@ -114,8 +116,8 @@ pub fn decided(stage: u8, pending: &[u8], response: &[u8]) -> Decision
     ensures { λ r. ⌜ ((f : List ℕ) → Decides f (now (response .entry)) r (typeBDecision stage (now (pending .entry)) (now (response .entry)))) ⌝ }
 {
     match stage {
-        0 => listed_b(pending, response),
-        1 => Decision::Send(2),
+        STAGE_LIST => listed_b(pending, response),
+        STAGE_DESELECT => Decision::Send(STAGE_WAKE_UP),
         _ => woken(response),
     }
 }
@@ -125,8 +127,8 @@ pub fn failed(stage: u8, fault: Fault) -> Decision
     ensures { λ r. ⌜ Always r (typeBFailure stage fault) ⌝ }
 {
     match stage {
-        1 => Decision::Send(2), // the deselect
-        2 => Decision::Nothing, // the wake-up
+        STAGE_DESELECT => Decision::Send(STAGE_WAKE_UP), // whatever came of it
+        STAGE_WAKE_UP => Decision::Nothing,
         _ => Decision::Refused(fault),
     }
 }

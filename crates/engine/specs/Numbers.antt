@@ -12,6 +12,7 @@ use Rattle.engine.specs.Core.{Held, After, unchanged}
 use Rattle.engine.specs.Sessions.{eventAfter, openAfter, startAfter}
 use Rattle.calls.specs.Numbers.{callOf, reader-call}
 use Rattle.calls.specs.Firsts.{startBy}
+use Rattle.calls.specs.declared.start.Numbers.{Numbers}
 use Rattle.engine.specs.Inputs.{Input, opens, asks, afterInput}
 use Rattle.engine.specs.declared.state.State.{State}
 use Rattle.engine.specs.declared.numbered.Known.{Known}
@@ -38,13 +39,13 @@ numberedAfter s f none b = unchanged s f OutOfTurn b
 numberedAfter s f (some e) b = eventAfter s f e b
 
 -- a call of any number but 0 is one of an open reader
-pub reader-input : (number ms word x y : ℕ) (first second third fourth b : List ℕ) (s : State) (f : Held) → (number ≡ 0 → ⊥)
-    → startAfter s f (startBy (callOf number ms word x y first second third fourth)) b
-    ≡ afterInput s f (callInput (callOf number ms word x y first second third fourth) b)
-reader-input zero ms word x y first second third fourth b s f h = absurd (h refl)
-reader-input (suc n) ms word x y first second third fourth b s f h = rw (reader-call n ms word x y first second third fourth)
+pub reader-input : (number : ℕ) (n : Numbers) (first second third fourth b : List ℕ) (s : State) (f : Held) → (number ≡ 0 → ⊥)
+    → startAfter s f (startBy (callOf number n first second third fourth)) b
+    ≡ afterInput s f (callInput (callOf number n first second third fourth) b)
+reader-input zero n first second third fourth b s f h = absurd (h refl)
+reader-input (suc k) n first second third fourth b s f h = rw (reader-call k n first second third fourth)
 
-pub opening-input : (number ms word x y : ℕ) (first second third fourth b : List ℕ) (s : State) (f : Held) → number ≡ 0
-    → openAfter s f b ≡ afterInput s f (callInput (callOf number ms word x y first second third fourth) b)
+pub opening-input : (number : ℕ) (n : Numbers) (first second third fourth b : List ℕ) (s : State) (f : Held) → number ≡ 0
+    → openAfter s f b ≡ afterInput s f (callInput (callOf number n first second third fourth) b)
 unfolding callOf
-opening-input number ms word x y first second third fourth b s f h = rw h
+opening-input number n first second third fourth b s f h = rw h

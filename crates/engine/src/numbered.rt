@@ -16,7 +16,7 @@ pub enum Known {
     Not,
 }
 
-fn event_by(number: u8) -> Known
+pub fn event_by(number: u8) -> Known
     ensures { λ r. ⌜ ((packet : List ℕ) → knownIn r packet ≡ eventBy number packet) ⌝ }
 {
     match number {

@@ -3,6 +3,7 @@ use super::books::Books;
 use super::core::Core;
 use super::core::Output;
 use super::state::State;
+use calls::start::Numbers;
 use exchange::Event;
 ghost use mathlib.Core.Path.{_≡_};
 ghost use Rattle.exchange.specs.Steps.{eventOf};
@@ -43,27 +44,21 @@ impl Session {
     pub fn call(
         mut self,
         number: u8,
-        ms: u32,
-        word: u16,
-        x: u8,
-        y: u8,
+        numbers: Numbers,
         first: &[u8],
         second: &[u8],
         third: &[u8],
         fourth: &[u8],
         buffer: &mut [u8],
     ) -> Step
-        ensures { λ r. ⌜ stepped r (now (buffer .exit)) ≡ stepWith self (callInput (callOf number ms word x y (now (first .entry)) (now (second .entry)) (now (third .entry)) (now (fourth .entry))) (now (buffer .entry))) ⌝ }
+        ensures { λ r. ⌜ stepped r (now (buffer .exit)) ≡ stepWith self (callInput (callOf number numbers (now (first .entry)) (now (second .entry)) (now (third .entry)) (now (fourth .entry))) (now (buffer .entry))) ⌝ }
     {
         let state = self.state;
         let mut command = self.command;
         let effect = state.call(
             &mut command,
             number,
-            ms,
-            word,
-            x,
-            y,
+            numbers,
             first,
             second,
             third,

@@ -6,6 +6,7 @@ use super::core::Core;
 use super::core::Output;
 use super::core::Progress;
 use calls::start;
+use calls::start::Numbers;
 use errors::Refusal;
 use exchange::Event;
 ghost use mathlib.Core.List.{List};
@@ -138,17 +139,14 @@ impl State {
         self,
         command: &mut [u8; 512],
         number: u8,
-        ms: u32,
-        word: u16,
-        x: u8,
-        y: u8,
+        numbers: Numbers,
         first: &[u8],
         second: &[u8],
         third: &[u8],
         fourth: &[u8],
         buffer: &mut [u8],
     ) -> Effect
-        ensures { λ r. ⌜ ((f : List ℕ) → effected r (held (now (command .exit)) f) (now (buffer .exit)) ≡ afterInput self (held (now (command .entry)) f) (callInput (callOf number ms word x y (now (first .entry)) (now (second .entry)) (now (third .entry)) (now (fourth .entry))) (now (buffer .entry)))) ⌝ }
+        ensures { λ r. ⌜ ((f : List ℕ) → effected r (held (now (command .exit)) f) (now (buffer .exit)) ≡ afterInput self (held (now (command .entry)) f) (callInput (callOf number numbers (now (first .entry)) (now (second .entry)) (now (third .entry)) (now (fourth .entry))) (now (buffer .entry)))) ⌝ }
     {
         if number == start::OPEN {
             return self.open(buffer);
@@ -159,18 +157,7 @@ impl State {
             }
             let core = self.core;
             let books = self.books;
-            let started = start::start(
-                number,
-                ms,
-                word,
-                x,
-                y,
-                first,
-                second,
-                third,
-                fourth,
-                command,
-            );
+            let started = start::start(number, numbers, first, second, third, fourth, command);
             let progress = core.start(started, command, buffer);
             Effect::booked(books, false, progress)
         } else {

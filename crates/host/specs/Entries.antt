@@ -6,13 +6,14 @@ use Rattle.errors.specs.Refusals.{plain}
 use Rattle.exchange.specs.Exchange.{Event}
 use Rattle.engine.specs.Inputs.{Input, tells, stepWith}
 use Rattle.calls.specs.Numbers.{callOf}
+use Rattle.calls.specs.declared.start.Numbers.{Numbers}
 use Rattle.engine.specs.Numbers.{callInput, eventBy}
 use Rattle.engine.specs.declared.session.Session.{Session}
 use Rattle.host.specs.Outcomes.{Report, report, reportOf, refusedAs}
 
 -- a call or an event as the host gives it: a number, its arguments and the bytes of the buffer
 pub data HostEntry : Type 0 where
-  calling : (number ms word x y : ℕ) (first second third fourth buffer : List ℕ) → HostEntry
+  calling : (number : ℕ) (numbers : Numbers) (first second third fourth buffer : List ℕ) → HostEntry
   telling : (number : ℕ) (packet buffer : List ℕ) → HostEntry
 
 abbrev pub eventInput : Option Event → List ℕ → Option Input
@@ -21,11 +22,11 @@ eventInput (some e) b = some (tells e b)
 
 -- the engine's entry; none for an event with a number that has none
 abbrev pub inputOf : HostEntry → Option Input
-inputOf (calling number ms word x y first second third fourth b) = some (callInput (callOf number ms word x y first second third fourth) b)
+inputOf (calling number numbers first second third fourth b) = some (callInput (callOf number numbers first second third fourth) b)
 inputOf (telling number packet b) = eventInput (eventBy number packet) b
 
 abbrev pub bufferIn : HostEntry → List ℕ
-bufferIn (calling number ms word x y first second third fourth b) = b
+bufferIn (calling number numbers first second third fourth b) = b
 bufferIn (telling number packet b) = b
 
 -- what has no entry of the engine is refused as out of turn, and nothing changes

@@ -96,5 +96,5 @@ event-kept s (some e) b = step-kept s (tells e b)
 
 -- for every session and every entry
 pub host-kept : (s : Session) (h : HostEntry) → Kept s (bufferIn h) (reportFor s h)
-host-kept s (calling number ms word x y first second third fourth b) = call-kept s (callOf number ms word x y first second third fourth) b
+host-kept s (calling number numbers first second third fourth b) = call-kept s (callOf number numbers first second third fourth) b
 host-kept s (telling number packet b) = event-kept s (eventBy number packet) b

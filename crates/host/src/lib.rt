@@ -2,6 +2,7 @@
 pub mod outcome;
 pub mod step;
 
+use calls::start::Numbers;
 use engine::session::Session;
 use outcome::Outcome;
 use step::called;
@@ -24,27 +25,21 @@ pub extern "C" fn rcs956_fresh() -> Session
 pub extern "C" fn rcs956_call(
     session: &mut Session,
     number: u8,
-    ms: u32,
-    word: u16,
-    x: u8,
-    y: u8,
+    numbers: Numbers,
     first: &[u8],
     second: &[u8],
     third: &[u8],
     fourth: &[u8],
     buffer: &mut [u8],
 ) -> Outcome
-    ensures { λ r. ⌜ report (now (session .exit)) r (now (buffer .exit)) ≡ reportFor (now (session .entry)) (calling number ms word x y (now (first .entry)) (now (second .entry)) (now (third .entry)) (now (fourth .entry)) (now (buffer .entry))) ⌝ }
+    ensures { λ r. ⌜ report (now (session .exit)) r (now (buffer .exit)) ≡ reportFor (now (session .entry)) (calling number numbers (now (first .entry)) (now (second .entry)) (now (third .entry)) (now (fourth .entry)) (now (buffer .entry))) ⌝ }
 {
     let state = session.state;
     let step = called(
         state,
         &mut session.command,
         number,
-        ms,
-        word,
-        x,
-        y,
+        numbers,
         first,
         second,
         third,

@@ -1,5 +1,6 @@
 // An event and a call, on a session's numbers and on its arrays where they lie.
 use super::outcome::Told;
+use calls::start::Numbers;
 use engine::numbered;
 use engine::state::State;
 ghost use mathlib.Core.List.{List};
@@ -26,25 +27,19 @@ pub fn called(
     state: State,
     command: &mut [u8; 512],
     number: u8,
-    ms: u32,
-    word: u16,
-    x: u8,
-    y: u8,
+    numbers: Numbers,
     first: &[u8],
     second: &[u8],
     third: &[u8],
     fourth: &[u8],
     buffer: &mut [u8],
 ) -> Told
-    ensures { λ r. ⌜ ((found : List ℕ) → report (joined (now (command .exit)) found (r .state)) (r .outcome) (now (buffer .exit)) ≡ reportFor (joined (now (command .entry)) found state) (calling number ms word x y (now (first .entry)) (now (second .entry)) (now (third .entry)) (now (fourth .entry)) (now (buffer .entry)))) ⌝ }
+    ensures { λ r. ⌜ ((found : List ℕ) → report (joined (now (command .exit)) found (r .state)) (r .outcome) (now (buffer .exit)) ≡ reportFor (joined (now (command .entry)) found state) (calling number numbers (now (first .entry)) (now (second .entry)) (now (third .entry)) (now (fourth .entry)) (now (buffer .entry)))) ⌝ }
 {
     Told::of(state.call(
         command,
         number,
-        ms,
-        word,
-        x,
-        y,
+        numbers,
         first,
         second,
         third,

@@ -2,6 +2,7 @@
 use super::draw;
 use bench_input::part;
 use calls::start;
+use calls::start::Numbers;
 use engine::session::Session;
 use engine::session::Step;
 use exchange::Event;
@@ -18,6 +19,10 @@ fn count(seed: u64, k: u64) -> usize {
     } else {
         (x / 8 % 20) as usize
     }
+}
+
+fn numbers(ms: u32, word: u16, x: u8, y: u8) -> Numbers {
+    Numbers { ms, word, x, y }
 }
 
 // The number of a call of the chip itself.
@@ -40,7 +45,15 @@ fn chip(session: Session, seed: u64, bytes: &[u8], buffer: &mut [u8]) -> Step {
     let number = chip_number(draw::number(seed, 21));
     let rest = part(bytes, 0, count(seed, 20));
     let none = part(bytes, 0, 0);
-    session.call(number, 0, 25404, 1, 0, rest, none, none, none, buffer)
+    session.call(
+        number,
+        numbers(0, 25404, 1, 0),
+        rest,
+        none,
+        none,
+        none,
+        buffer,
+    )
 }
 
 // Calls of an initiator and of a target: their numbers follow each other.
@@ -54,12 +67,28 @@ fn peer(session: Session, seed: u64, bytes: &[u8], buffer: &mut [u8]) -> Step {
     let eighteen = part(bytes, 0, 18);
     match number {
         start::IN_JUMP_FOR_DEP => {
-            session.call(number, 0, 0, 0, 1, none, ten, rest, none, buffer)
+            session.call(number, numbers(0, 0, 0, 1), none, ten, rest, none, buffer)
         }
         start::TG_INIT_TARGET => {
-            session.call(number, 100, 0, 0, 0, six, eighteen, ten, rest, buffer)
+            session.call(
+                number,
+                numbers(100, 0, 0, 0),
+                six,
+                eighteen,
+                ten,
+                rest,
+                buffer,
+            )
         }
-        _ => session.call(number, 100, 0, 1, 0, rest, none, none, none, buffer),
+        _ => session.call(
+            number,
+            numbers(100, 0, 1, 0),
+            rest,
+            none,
+            none,
+            none,
+            buffer,
+        ),
     }
 }
 
@@ -80,14 +109,17 @@ fn device(session: Session, seed: u64, bytes: &[u8], buffer: &mut [u8]) -> Step 
     let rest = part(bytes, 0, count(seed, 20));
     let none = part(bytes, 0, 0);
     let one = part(bytes, 0, 1);
+    let zeros = numbers(0, 0, 0, 0);
+    let code = numbers(0, 65535, 0, 0);
+    let timed = numbers(0, 100, 1, 1);
     match k {
-        0 => session.call(number, 0, 0, 0, 0, b"106A", rest, none, none, buffer),
-        1 => session.call(number, 0, 0, 0, 0, b"106B", rest, none, none, buffer),
-        2 => session.call(number, 0, 65535, 0, 0, b"212F", none, none, none, buffer),
-        3 => session.call(number, 0, 0, 0, 0, b"424F", rest, none, none, buffer),
-        4 => session.call(number, 0, 0, 0, 0, b"848A", rest, none, none, buffer),
-        5 => session.call(number, 0, 0, 0, 0, b"106A", one, rest, none, buffer),
-        _ => session.call(number, 0, 100, 1, 1, b"106A", rest, rest, none, buffer),
+        0 => session.call(number, zeros, b"106A", rest, none, none, buffer),
+        1 => session.call(number, zeros, b"106B", rest, none, none, buffer),
+        2 => session.call(number, code, b"212F", none, none, none, buffer),
+        3 => session.call(number, zeros, b"424F", rest, none, none, buffer),
+        4 => session.call(number, zeros, b"848A", rest, none, none, buffer),
+        5 => session.call(number, zeros, b"106A", one, rest, none, buffer),
+        _ => session.call(number, timed, b"106A", rest, rest, none, buffer),
     }
 }
 

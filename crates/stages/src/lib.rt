@@ -7,7 +7,8 @@ ghost use mathlib.Core.List.{List, [], _∷_, _++_};
 ghost use mathlib.Core.Path.{_≡_};
 ghost use Prim.Native.Nat.{ℕ, _+_, _≤_};
 ghost use lib.ListN.{length, take, drop, getD};
-ghost use Rattle.stages.specs.Decided.{Lays, headBytes, tailBytes};
+ghost use Rattle.stages.specs.Decided.{Lays, headBytes, tailBytes, Commands};
+ghost use Rattle.stages.specs.Stages.{cmd};
 
 // The command of a stage: its code, its clock in ms, whether its data is the pending command, the bytes of any other data, and how many
 // they are. Bytes behind them are free, and so are all bytes and their number beside the pending command: nothing reads them.
@@ -17,6 +18,34 @@ pub struct Command {
     pub is_pending: bool,
     pub bytes: [u8; 12],
     pub len: usize,
+}
+
+impl Command {
+    // With data of its own: the first `len` bytes.
+    pub fn with(code: u8, clock: u32, bytes: [u8; 12], len: usize) -> Command
+        ensures { λ r. ⌜ (len ≤ 12 → Commands r (λ pending. cmd code clock (take len bytes))) ⌝ }
+    {
+        Command {
+            code,
+            clock,
+            is_pending: false,
+            bytes,
+            len,
+        }
+    }
+
+    // With the pending command as its data.
+    pub fn pending(code: u8, clock: u32) -> Command
+        ensures { λ r. ⌜ Commands r (λ pending. cmd code clock pending) ⌝ }
+    {
+        Command {
+            code,
+            clock,
+            is_pending: true,
+            bytes: [0; 12],
+            len: 0,
+        }
+    }
 }
 
 // Bytes of the engine's own, or in another order than they came. An enum cannot hold an array.

@@ -1,5 +1,6 @@
 -- `called` meets its contract.
 use borrow.Author.Needs.{needs}
+use Rattle.bench_session.specs.Answers.{stepOf}
 use Rattle.bench_session.proofs.called.Statement.{statement}
 use Rattle.bench_session.proofs.called.Tie as tie
 
@@ -22,6 +23,7 @@ same-length : tie.Need-same-length
 same-length c = search needs
 
 returns : tie.Need-returns
+unfolding stepOf
 returns c =
     let at = c .before .before in
     let at-part4 = at .before .before in

@@ -1,33 +1,60 @@
--- `device::settings` meets its contract.
+use native.Mathlib.Omega.{arith}
 use borrow.Author.Tests.{ne-eqb}
+use borrow.Author.Needs.{needs}
 use Rattle.errors.specs.Choice.{pick}
 use Rattle.device.specs.Opening.{settingsCommand}
-use native.Mathlib.Omega.{arith}
-use borrow.Author.Needs.{needs}
 use Rattle.device.proofs.settings.Statement.{statement}
 use Rattle.device.proofs.settings.Tie as tie
 
+configured-requires : tie.Need-configured-requires
+configured-requires c κs = search needs
+
+configured-requires-2 : tie.Need-configured-requires-2
+configured-requires-2 c κs = search needs
+
+with-requires : tie.Need-with-requires
+with-requires c κs = search needs
+
+reset-mode-command-requires : tie.Need-reset-mode-command-requires
+reset-mode-command-requires c κs = search needs
+
+write-single-register-command-requires : tie.Need-write-single-register-command-requires
+write-single-register-command-requires c κs = search needs
+
 returns : tie.Need-returns
 unfolding settingsCommand pick
-returns c = record { is = λ pending. rw (c .match .keys1); fits = omega arith }
+returns c = rw (c .before .match .keys1) (c .configured .ensures (omega arith))
 
 returns-2 : tie.Need-returns-2
 unfolding settingsCommand pick
-returns-2 c = record { is = λ pending. rw (c .match .keys2); fits = omega arith }
+returns-2 c = rw (c .before .match .keys2) (c .configured2 .ensures (omega arith))
 
 returns-3 : tie.Need-returns-3
 unfolding settingsCommand pick
-returns-3 c = record { is = λ pending. rw (c .match .keys3); fits = omega arith }
+returns-3 c = rw (c .before .match .keys3) (c .with .ensures (omega arith))
 
 returns-4 : tie.Need-returns-4
 unfolding settingsCommand pick
-returns-4 c = record { is = λ pending. rw (c .match .keys4); fits = omega arith }
+returns-4 c = rw (c .before .match .keys4) (c .reset-mode-command .ensures)
 
 returns-5 : tie.Need-returns-5
 unfolding settingsCommand pick
 returns-5 c =
-    let r = c .match .rest in
-    record { is = λ pending. rw (ne-eqb _ 5 (r .0 .0 .0 .1), ne-eqb _ 6 (r .0 .0 .1), ne-eqb _ 7 (r .0 .1), ne-eqb _ 8 (r .1)); fits = omega arith }
+    let r = c .before .match .rest in
+    let e = c .write-single-register-command .ensures in
+    record { is = λ pending. rw (ne-eqb _ 5 (r .0 .0 .0 .1), ne-eqb _ 6 (r .0 .0 .1), ne-eqb _ 7 (r .0 .1), ne-eqb _ 8 (r .1)) (e .is pending); fits = e .fits }
 
 pub settings-spec : {M : Type 1} → statement M
-settings-spec = tie.close (tie.spec returns returns-2 returns-3 returns-4 returns-5)
+settings-spec =
+    tie.close
+    (tie.spec
+    configured-requires
+    configured-requires-2
+    with-requires
+    reset-mode-command-requires
+    write-single-register-command-requires
+    returns
+    returns-2
+    returns-3
+    returns-4
+    returns-5)

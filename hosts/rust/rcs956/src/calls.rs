@@ -1,6 +1,6 @@
 //! The calls, by their names in include/rcs956.h, which has what each takes and answers.
 
-use crate::raw::Arguments;
+use crate::raw::{Arguments, Numbers};
 
 /// A call and its arguments. Bitrates are texts such as `b"106A"`; an argument of no bytes is absent where it may be.
 #[derive(Clone, Copy, Debug, PartialEq, Eq)]
@@ -41,6 +41,22 @@ impl<'a> Arguments<'a> {
     fn with(number: u8, first: &'a [u8]) -> Self {
         Arguments { number, first, ..Arguments::default() }
     }
+
+    fn ms(self, ms: u32) -> Self {
+        Arguments { numbers: Numbers { ms, ..self.numbers }, ..self }
+    }
+
+    fn word(self, word: u16) -> Self {
+        Arguments { numbers: Numbers { word, ..self.numbers }, ..self }
+    }
+
+    fn x(self, x: u8) -> Self {
+        Arguments { numbers: Numbers { x, ..self.numbers }, ..self }
+    }
+
+    fn y(self, y: u8) -> Self {
+        Arguments { numbers: Numbers { y, ..self.numbers }, ..self }
+    }
 }
 
 impl<'a> Call<'a> {
@@ -50,37 +66,35 @@ impl<'a> Call<'a> {
             Call::Open => Arguments::of(0),
             Call::Version => Arguments::of(1),
             Call::ResetMode => Arguments::of(2),
-            Call::SetParameters { flags } => Arguments { x: flags, ..Arguments::of(3) },
-            Call::RfConfiguration { item, data } => Arguments { x: item, ..Arguments::with(4, data) },
+            Call::SetParameters { flags } => Arguments::of(3).x(flags),
+            Call::RfConfiguration { item, data } => Arguments::with(4, data).x(item),
             Call::ReadRegister { addresses } => Arguments::with(5, addresses),
             Call::WriteRegister { registers } => Arguments::with(6, registers),
-            Call::ReadSingleRegister { address } => Arguments { word: address, ..Arguments::of(7) },
-            Call::WriteSingleRegister { address, value } => Arguments { word: address, x: value, ..Arguments::of(8) },
-            Call::InListPassiveTarget { max_tg, bitrate, initiator } => {
-                Arguments { x: max_tg, y: bitrate, ..Arguments::with(9, initiator) }
-            }
-            Call::InDataExchange { data, ms } => Arguments { ms, ..Arguments::with(10, data) },
-            Call::InCommunicateThru { data, ms } => Arguments { ms, ..Arguments::with(11, data) },
+            Call::ReadSingleRegister { address } => Arguments::of(7).word(address),
+            Call::WriteSingleRegister { address, value } => Arguments::of(8).word(address).x(value),
+            Call::InListPassiveTarget { max_tg, bitrate, initiator } => Arguments::with(9, initiator).x(max_tg).y(bitrate),
+            Call::InDataExchange { data, ms } => Arguments::with(10, data).ms(ms),
+            Call::InCommunicateThru { data, ms } => Arguments::with(11, data).ms(ms),
             Call::InJumpForDep { active, br, passive, nfcid3, gi } => {
-                Arguments { x: active as u8, y: br, second: nfcid3, third: gi, ..Arguments::with(12, passive) }
+                Arguments { second: nfcid3, third: gi, ..Arguments::with(12, passive) }.x(active as u8).y(br)
             }
             Call::TgInitTarget { mode, mifare, felica, nfcid3t, gt, ms } => {
-                Arguments { x: mode, ms, second: felica, third: nfcid3t, fourth: gt, ..Arguments::with(13, mifare) }
+                Arguments { second: felica, third: nfcid3t, fourth: gt, ..Arguments::with(13, mifare) }.x(mode).ms(ms)
             }
             Call::TgSetGeneralBytes { data } => Arguments::with(14, data),
-            Call::TgGetInitiatorCommand { ms } => Arguments { ms, ..Arguments::of(15) },
+            Call::TgGetInitiatorCommand { ms } => Arguments::of(15).ms(ms),
             Call::TgResponseToInitiator { data } => Arguments::with(16, data),
             Call::TgGetTargetStatus => Arguments::of(17),
             Call::RfFieldOff => Arguments::of(18),
             Call::DetectTypeA { bitrate, uid } => Arguments { second: uid, ..Arguments::with(19, bitrate) },
             Call::DetectTypeB { bitrate, sensb_req } => Arguments { second: sensb_req, ..Arguments::with(20, bitrate) },
             Call::DetectTypeF { bitrate, system_code, request_code, time_slots } => {
-                Arguments { word: system_code, x: request_code, y: time_slots, ..Arguments::with(21, bitrate) }
+                Arguments::with(21, bitrate).word(system_code).x(request_code).y(time_slots)
             }
             Call::DetectDep { bitrate, atr_req } => Arguments { second: atr_req, ..Arguments::with(22, bitrate) },
             Call::Transceive { bitrate, sel_res, rid_res, data, ms } => {
-                let (y, word) = (ms.is_some() as u8, ms.unwrap_or(0));
-                Arguments { second: sel_res, x: rid_res as u8, third: data, y, word, ..Arguments::with(23, bitrate) }
+                let given = Arguments { second: sel_res, third: data, ..Arguments::with(23, bitrate) }.x(rid_res as u8);
+                ms.map_or(given, |ms| given.word(ms).y(1))
             }
         }
     }

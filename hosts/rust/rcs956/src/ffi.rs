@@ -1,8 +1,8 @@
 //! The archive's functions, as include/rcs956.h declares them. All unsafe code of the crate is here.
 
-use crate::raw::{Arguments, Outcome, RawSession};
+use crate::raw::{Arguments, Numbers, Outcome, RawSession};
 
-const _: () = assert!(size_of::<RawSession>() == 1576 && size_of::<Outcome>() == 16, "the archive is for 64 bits");
+const _: () = assert!(size_of::<RawSession>() == 1576 && size_of::<Outcome>() == 16 && size_of::<Numbers>() == 8, "the archive is for 64 bits");
 
 unsafe extern "C" {
     safe fn rcs956_fresh() -> RawSession;
@@ -19,10 +19,7 @@ unsafe extern "C" {
     fn rcs956_call(
         session: *mut RawSession,
         number: u8,
-        ms: u32,
-        word: u16,
-        x: u8,
-        y: u8,
+        numbers: Numbers,
         first: *const u8,
         first_len: usize,
         second: *const u8,
@@ -51,10 +48,7 @@ pub fn call(session: &mut RawSession, a: &Arguments<'_>, buffer: &mut [u8]) -> O
         rcs956_call(
             session,
             a.number,
-            a.ms,
-            a.word,
-            a.x,
-            a.y,
+            a.numbers,
             a.first.as_ptr(),
             a.first.len(),
             a.second.as_ptr(),

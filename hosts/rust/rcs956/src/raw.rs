@@ -99,14 +99,21 @@ pub struct Outcome {
     pub len: usize,
 }
 
-/// A call's number and arguments, as `rcs956_call` takes them.
+/// A call's arguments that are numbers. What a call does not use counts for nothing.
+#[repr(C)]
 #[derive(Clone, Copy, Debug, Default, PartialEq, Eq)]
-pub struct Arguments<'a> {
-    pub number: u8,
+pub struct Numbers {
     pub ms: u32,
     pub word: u16,
     pub x: u8,
     pub y: u8,
+}
+
+/// A call's number and arguments, as `rcs956_call` takes them.
+#[derive(Clone, Copy, Debug, Default, PartialEq, Eq)]
+pub struct Arguments<'a> {
+    pub number: u8,
+    pub numbers: Numbers,
     pub first: &'a [u8],
     pub second: &'a [u8],
     pub third: &'a [u8],

@@ -8,7 +8,7 @@
 mod draw;
 
 use draw::Draw;
-use rcs956::raw::{self, Arguments, Outcome, RawSession, event, kind};
+use rcs956::raw::{self, Arguments, Numbers, Outcome, RawSession, event, kind};
 
 /// The bytes on each side of the buffer.
 const GUARD: usize = 64;
@@ -69,7 +69,7 @@ impl Entry {
             Entry::Event { number, packet } => raw::event(session, *number, packet, buffer),
             Entry::Call { arguments: [number, ms, word, x, y], bytes: [first, second, third, fourth] } => {
                 let (number, ms, word, x, y) = (*number as u8, *ms as u32, *word as u16, *x as u8, *y as u8);
-                raw::call(session, &Arguments { number, ms, word, x, y, first, second, third, fourth }, buffer)
+                raw::call(session, &Arguments { number, numbers: Numbers { ms, word, x, y }, first, second, third, fourth }, buffer)
             }
         }
     }

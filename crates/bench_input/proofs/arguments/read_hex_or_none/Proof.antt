@@ -1,9 +1,10 @@
 -- `arguments::read_hex_or_none` meets its contract.
-use mathlib.Core.Path.{sym, _∙_}
+use mathlib.Core.Path.{sym, ap, _∙_}
 use borrow.Author.Needs.{needs}
+use native.Mathlib.Omega.{arith}
 use Rattle.framing.specs.Rules.{at-true, at-false}
 use Rattle.bench_input.specs.Arguments.{hexOrNone}
-use Rattle.bench_input.proofs.ReadLaws.{none-read, none-stays}
+use Rattle.bench_input.proofs.ReadLaws.{slice-none, none-stays}
 use Rattle.bench_input.proofs.arguments.read_hex_or_none.Statement.{statement}
 use Rattle.bench_input.proofs.arguments.read_hex_or_none.Tie as tie
 
@@ -14,7 +15,7 @@ returns : tie.Need-returns
 unfolding hexOrNone
 returns c =
     let start = c .before .before .before .before in (
-      λ f. at-true _ _ _ _ (sym (c .before .is-none .ensures) ∙ c .if1 .taken) (none-read (start .args .at) (start .args .bytes .now) f),
+      λ f. at-true _ _ _ _ (sym (c .before .is-none .ensures) ∙ c .if1 .taken) (ap f (slice-none (start .args .at) (start .args .at) (start .args .bytes .now) (omega arith))),
       none-stays _ _ _,
     )
 

@@ -1,10 +1,9 @@
 -- `arguments::read_text` meets its contract.
-use mathlib.Core.Path.{refl, sym, ap, _∙_}
 use borrow.Author.Needs.{needs}
+use mathlib.Core.Path.{sym, ap, _∙_}
 use native.Mathlib.Omega.{arith}
 use lib.ListN.{length}
-use Rattle.bench_input.proofs.ReadLaws.{text-empty, text-dash, text-read, text-behind}
-use Rattle.bench_input.proofs.WordsLaws.{text-room}
+use Rattle.bench_input.proofs.ReadLaws.{text-empty, text-dash, text-room, text-read, text-between, slice-none, none-stays}
 use Rattle.bench_input.proofs.arguments.read_text.Statement.{statement}
 use Rattle.bench_input.proofs.arguments.read_text.Tie as tie
 
@@ -12,7 +11,7 @@ word-requires : tie.Need-word-requires
 word-requires c κs = search needs
 
 returns : tie.Need-returns
-returns c = (λ f. text-empty _ _ (c .before .word .ensures) f (c .if1 .taken), (omega arith, refl))
+returns c = (λ f. text-empty _ _ (c .before .word .ensures) f (c .if1 .taken), tt)
 
 slice-aggregate-is : tie.Need-slice-aggregate-is
 slice-aggregate-is c = search needs
@@ -24,13 +23,30 @@ returns-2 : tie.Need-returns-2
 returns-2 c =
     let at-if1 = c .before .before .before in
     let at-word = at-if1 .before in
-    (λ f. text-dash _ _ (at-word .word .ensures) f (at-if1 .if1 .left) (sym (c .before .is .ensures) ∙ c .if2 .taken), (omega arith, refl))
+    let start = at-word .before .before .before in (
+      λ f. ap f (slice-none (start .args .at) (start .args .at) (start .args .bytes .now) (omega arith)) ∙ text-dash _ _ (at-word .word .ensures) f (at-if1 .if1 .left) (sym (c .before .is .ensures) ∙ c .if2 .taken),
+      none-stays _ _ _,
+    )
+
+sub-copy : tie.Need-sub-copy
+sub-copy c = search needs
+
+part-copy-start : tie.Need-part-copy-start
+part-copy-start c = search needs
+
+part-copy-end : tie.Need-part-copy-end
+part-copy-end c = search needs
 
 copy-requires : tie.Need-copy-requires
 copy-requires c κs =
     let at-word = c .before .before .before .before .before in
     let start = at-word .before .before .before in
-    text-room (start .args .line .now) (start .args .bytes .now) (start .pre .0) (start .pre .1) _ (at-word .word .ensures)
+    text-room _ _ (at-word .word .ensures) (start .args .bytes .now) (start .args .at) (start .pre)
+
+add-t14 : tie.Need-add-t14
+add-t14 c =
+    let at-word = c .before .before .before .before .before .before .before .before in
+    let e = ap length (at-word .word .ensures) in search needs
 
 same-length : tie.Need-same-length
 same-length c = search needs
@@ -42,7 +58,10 @@ returns-3 c =
     let at-is = at-if2 .before in
     let at-if1 = at-is .before .before in
     let at-word = at-if1 .before in
-    (λ f. text-read _ _ (at-word .word .ensures) f _ _ (at-if1 .if1 .left) (sym (at-is .is .ensures) ∙ at-if2 .if2 .left) (at-copy .copy .ensures .1), (omega (arith, ap length (at-word .word .ensures)), text-behind (at-word .word .result .now) (at-word .before .before .before .args .bytes .now) _ (at-copy .copy .ensures .1)))
+    let start = at-word .before .before .before in (
+      λ f. text-read _ _ (at-word .word .ensures) (start .args .bytes .now) _ (start .args .at) (start .pre) (at-copy .copy .ensures .1) f (at-if1 .if1 .left) (sym (at-is .is .ensures) ∙ at-if2 .if2 .left),
+      text-between _ _ (at-word .word .ensures) (start .args .bytes .now) _ (start .args .at) (start .pre) (at-copy .copy .ensures .1),
+    )
 
 pub read-text-spec : {M : Type 1} → statement M
 read-text-spec =
@@ -53,6 +72,10 @@ read-text-spec =
     slice-aggregate-is
     is-requires
     returns-2
+    sub-copy
+    part-copy-start
+    part-copy-end
     copy-requires
+    add-t14
     same-length
     returns-3)

@@ -31,7 +31,7 @@ returns-2 c = λ f.
     let at-if1 = at-read-ms .before in
     let at-is-none = at-if1 .before in
     at-false _ _ _ _ (sym (at-is-none .is-none .ensures) ∙ at-if1 .if1 .left)
-    (ms-none _ _ (at-read-ms .read-ms .ensures) _ (c .enum-told .given .1))
+    (ms-none _ _ _ (at-read-ms .read-ms .ensures) (c .enum-told .given .1))
 
 returns-3 : tie.Need-returns-3
 unfolding waitArg
@@ -41,11 +41,11 @@ returns-3 c = λ f.
     let at-if1 = at-read-ms .before in
     let at-is-none = at-if1 .before in
     at-false _ _ _ _ (sym (at-is-none .is-none .ensures) ∙ at-if1 .if1 .left)
-    (ms-value _ _ (at-read-ms .read-ms .ensures) _ _ _ (at-ms .ms .given .1)
+    (ms-value _ _ _ (at-read-ms .read-ms .ensures) _ _ (at-ms .ms .given .1)
     (at-true _ _ _ _ (lt-ltb _ _ (c .if2 .taken)) refl))
 
-cast-t8 : tie.Need-cast-t8
-cast-t8 c = search needs
+cast-t7 : tie.Need-cast-t7
+cast-t7 c = search needs
 
 returns-4 : tie.Need-returns-4
 unfolding waitArg
@@ -55,7 +55,7 @@ returns-4 c = λ f.
     let at-if1 = at-read-ms .before in
     let at-is-none = at-if1 .before in
     at-false _ _ _ _ (sym (at-is-none .is-none .ensures) ∙ at-if1 .if1 .left)
-    (ms-value _ _ (at-read-ms .read-ms .ensures) _ _ _ (at-ms .ms .given .1)
+    (ms-value _ _ _ (at-read-ms .read-ms .ensures) _ _ (at-ms .ms .given .1)
     (at-false _ _ _ _ (le-ltb _ _ (c .if2 .left)) refl))
 
 pub read-wait-spec : {M : Type 1} → statement M
@@ -69,5 +69,5 @@ read-wait-spec =
     enum-told
     returns-2
     returns-3
-    cast-t8
+    cast-t7
     returns-4)

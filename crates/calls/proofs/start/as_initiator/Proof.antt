@@ -26,23 +26,23 @@ tg-init-target-requires c κs = search needs
 
 returns : tie.Need-returns
 unfolding callOf startFor
-returns c = λ word. rw (c .before .before .match .keys1) (c .in-list-passive-target .ensures)
+returns c = rw (c .before .before .match .keys1) (c .in-list-passive-target .ensures)
 
 returns-2 : tie.Need-returns-2
 unfolding callOf startFor
-returns-2 c = λ word. rw (c .before .before .match .keys2) (c .in-data-exchange .ensures)
+returns-2 c = rw (c .before .before .match .keys2) (c .in-data-exchange .ensures)
 
 returns-3 : tie.Need-returns-3
 unfolding callOf startFor
-returns-3 c = λ word. rw (c .before .before .match .keys3) (c .in-communicate-thru .ensures)
+returns-3 c = rw (c .before .before .match .keys3) (c .in-communicate-thru .ensures)
 
 returns-4 : tie.Need-returns-4
 unfolding callOf startFor
-returns-4 c = λ word. rw (c .before .before .before .match .keys4) (rw (c .before .before .is-set .ensures) at (c .in-jump-for-dep .ensures))
+returns-4 c = rw (c .before .before .before .match .keys4) (rw (c .before .before .is-set .ensures) at (c .in-jump-for-dep .ensures))
 
 returns-5 : tie.Need-returns-5
 unfolding callOf startFor
-returns-5 c = λ word. let r = c .before .before .match .rest in let e : c .before .before .before .before .before .before .before .args .number ≡ 13 = omega (arith, c .before .before .before .before .before .before .before .pre .1, beyond 12 _ (beyond 11 _ (beyond 10 _ (beyond 9 _ (c .before .before .before .before .before .before .before .pre .0) (r .0 .0 .0 .1)) (r .0 .0 .1)) (r .0 .1)) (r .1)) in rw e (c .tg-init-target .ensures)
+returns-5 c = let r = c .before .before .match .rest in let e : c .before .before .before .before .before .before .before .args .number ≡ 13 = omega (arith, c .before .before .before .before .before .before .before .pre .1, beyond 12 _ (beyond 11 _ (beyond 10 _ (beyond 9 _ (c .before .before .before .before .before .before .before .pre .0) (r .0 .0 .0 .1)) (r .0 .0 .1)) (r .0 .1)) (r .1)) in rw e (c .tg-init-target .ensures)
 
 pub as-initiator-spec : {M : Type 1} → statement M
 as-initiator-spec =

@@ -33,27 +33,27 @@ refused-requires c κs = search needs
 
 returns : tie.Need-returns
 unfolding callOf startFor deviceFirst
-returns c = λ ms fourth. rw (c .before .before .match .keys1) (c .detect-type-a .ensures)
+returns c = λ fourth. rw (c .before .before .match .keys1) (c .detect-type-a .ensures)
 
 returns-2 : tie.Need-returns-2
 unfolding callOf startFor deviceFirst
-returns-2 c = λ ms fourth. rw (c .before .before .match .keys2) (c .detect-type-b .ensures)
+returns-2 c = λ fourth. rw (c .before .before .match .keys2) (c .detect-type-b .ensures)
 
 returns-3 : tie.Need-returns-3
 unfolding callOf startFor deviceFirst
-returns-3 c = λ ms fourth. rw (c .before .before .match .keys3) (c .detect-type-f .ensures)
+returns-3 c = λ fourth. rw (c .before .before .match .keys3) (c .detect-type-f .ensures)
 
 returns-4 : tie.Need-returns-4
 unfolding callOf startFor deviceFirst
-returns-4 c = λ ms fourth. rw (c .before .before .match .keys4) (c .detect-dep .ensures)
+returns-4 c = λ fourth. rw (c .before .before .match .keys4) (c .detect-dep .ensures)
 
 returns-5 : tie.Need-returns-5
 unfolding callOf startFor deviceFirst
-returns-5 c = λ ms fourth. rw (c .before .before .before .before .before .match .keys5) (rw (c .before .before .is-set2 .ensures, c .before .before .before .timeout .ensures, c .before .before .before .before .is-set .ensures) at (c .transceive .ensures))
+returns-5 c = λ fourth. rw (c .before .before .before .before .before .match .keys5) (rw (c .before .before .is-set2 .ensures, c .before .before .before .timeout .ensures, c .before .before .before .before .is-set .ensures) at (c .transceive .ensures))
 
 returns-6 : tie.Need-returns-6
 unfolding startFor
-returns-6 c = λ ms fourth. let r = c .before .match .rest in let e = no-call (c .before .before .before .before .before .args .number) ms (c .before .before .before .before .before .args .word) (c .before .before .before .before .before .args .x) (c .before .before .before .before .before .args .y) (c .before .before .before .before .before .args .first .now) (c .before .before .before .before .before .args .second .now) (c .before .before .before .before .before .args .third .now) fourth (beyond 23 _ (beyond 22 _ (beyond 21 _ (beyond 20 _ (beyond 19 _ (c .before .before .before .before .before .pre) (r .0 .0 .0 .0 .1)) (r .0 .0 .0 .1)) (r .0 .0 .1)) (r .0 .1)) (r .1)) in rw e (c .refused .ensures _)
+returns-6 c = λ fourth. let r = c .before .match .rest in let e = no-call (c .before .before .before .before .before .args .number) (c .before .before .before .before .before .args .numbers) (c .before .before .before .before .before .args .first .now) (c .before .before .before .before .before .args .second .now) (c .before .before .before .before .before .args .third .now) fourth (beyond 23 _ (beyond 22 _ (beyond 21 _ (beyond 20 _ (beyond 19 _ (c .before .before .before .before .before .pre) (r .0 .0 .0 .0 .1)) (r .0 .0 .0 .1)) (r .0 .0 .1)) (r .0 .1)) (r .1)) in rw e (c .refused .ensures _)
 
 pub on-device-spec : {M : Type 1} → statement M
 on-device-spec =

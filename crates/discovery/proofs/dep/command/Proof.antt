@@ -1,23 +1,39 @@
-use mathlib.Core.Path.{refl}
 use native.Mathlib.Omega.{arith}
-use Rattle.errors.specs.Choice.{pick}
 use borrow.Author.Tests.{ne-eqb}
+use Rattle.errors.specs.Choice.{pick}
 use Rattle.discovery.specs.Decisions.{depCommand}
 use borrow.Author.Needs.{needs}
 use Rattle.discovery.proofs.dep.command.Statement.{statement}
 use Rattle.discovery.proofs.dep.command.Tie as tie
 
+with-requires : tie.Need-with-requires
+with-requires c κs = search needs
+
+pending-requires : tie.Need-pending-requires
+pending-requires c κs = search needs
+
+write-single-register-command-requires : tie.Need-write-single-register-command-requires
+write-single-register-command-requires c κs = search needs
+
 returns : tie.Need-returns
 unfolding depCommand pick
-returns c = record { is = λ pending. rw (c .match .keys1) refl; fits = omega arith }
+returns c = rw (c .before .match .keys1) (c .with .ensures (omega arith))
 
 returns-2 : tie.Need-returns-2
 unfolding depCommand pick
-returns-2 c = record { is = λ pending. rw (c .match .keys2) refl; fits = omega arith }
+returns-2 c = rw (c .before .match .keys2) (c .pending .ensures)
 
 returns-3 : tie.Need-returns-3
 unfolding depCommand pick
-returns-3 c = let r = c .match .rest in record { is = λ pending. rw (ne-eqb _ 0 (r .0 .1), ne-eqb _ 1 (r .1)) refl; fits = omega arith }
+returns-3 c = let r = c .before .match .rest in let e = c .write-single-register-command .ensures in record { is = λ pending. rw (ne-eqb _ 0 (r .0 .1), ne-eqb _ 1 (r .1)) (e .is pending); fits = e .fits }
 
 pub command-spec : {M : Type 1} → statement M
-command-spec = tie.close (tie.spec returns returns-2 returns-3)
+command-spec =
+    tie.close
+    (tie.spec
+    with-requires
+    pending-requires
+    write-single-register-command-requires
+    returns
+    returns-2
+    returns-3)

@@ -1,23 +1,33 @@
-use mathlib.Core.Path.{refl}
 use native.Mathlib.Omega.{arith}
-use Rattle.errors.specs.Choice.{pick}
 use borrow.Author.Tests.{ne-eqb}
+use Rattle.errors.specs.Choice.{pick}
 use Rattle.discovery.specs.Decisions.{typeBCommand}
 use borrow.Author.Needs.{needs}
 use Rattle.discovery.proofs.type_b.command.Statement.{statement}
 use Rattle.discovery.proofs.type_b.command.Tie as tie
 
+pending-requires : tie.Need-pending-requires
+pending-requires c κs = search needs
+
+with-requires : tie.Need-with-requires
+with-requires c κs = search needs
+
+pending-requires-2 : tie.Need-pending-requires-2
+pending-requires-2 c κs = search needs
+
 returns : tie.Need-returns
 unfolding typeBCommand pick
-returns c = record { is = λ pending. rw (c .match .keys1) refl; fits = omega arith }
+returns c = rw (c .before .match .keys1) (c .pending .ensures)
 
 returns-2 : tie.Need-returns-2
 unfolding typeBCommand pick
-returns-2 c = record { is = λ pending. rw (c .match .keys2) refl; fits = omega arith }
+returns-2 c = rw (c .before .match .keys2) (c .with .ensures (omega arith))
 
 returns-3 : tie.Need-returns-3
 unfolding typeBCommand pick
-returns-3 c = let r = c .match .rest in record { is = λ pending. rw (ne-eqb _ 0 (r .0 .1), ne-eqb _ 1 (r .1)) refl; fits = omega arith }
+returns-3 c = let r = c .before .match .rest in let e = c .pending2 .ensures in record { is = λ pending. rw (ne-eqb _ 0 (r .0 .1), ne-eqb _ 1 (r .1)) (e .is pending); fits = e .fits }
 
 pub command-spec : {M : Type 1} → statement M
-command-spec = tie.close (tie.spec returns returns-2 returns-3)
+command-spec =
+    tie.close
+    (tie.spec pending-requires with-requires pending-requires-2 returns returns-2 returns-3)

@@ -17,7 +17,7 @@ same-length : tie.Need-same-length
 same-length c = search needs
 
 returns : tie.Need-returns
-returns c = λ f. c .before .before .«open» .ensures _ ∙ opening-input _ _ _ _ _ _ _ _ _ _ _ _ (c .before .before .before .before .if1 .taken)
+returns c = λ f. c .before .before .«open» .ensures _ ∙ opening-input _ _ _ _ _ _ _ _ _ (c .before .before .before .before .if1 .taken)
 
 is-admitted-requires : tie.Need-is-admitted-requires
 is-admitted-requires c κs = search needs
@@ -27,7 +27,7 @@ refused-requires c κs = search needs
 
 returns-2 : tie.Need-returns-2
 unfolding startAfter
-returns-2 c = λ f. at-true _ _ _ _ (sym (c .before .before .before .is-admitted .ensures) ∙ c .before .before .if2 .taken) (at-true _ _ _ _ (lt-ltb _ _ (c .before .if3 .taken)) (c .refused .ensures _ _)) ∙ reader-input _ _ _ _ _ _ _ _ _ _ _ _ (c .before .before .before .before .if1 .left)
+returns-2 c = λ f. at-true _ _ _ _ (sym (c .before .before .before .is-admitted .ensures) ∙ c .before .before .if2 .taken) (at-true _ _ _ _ (lt-ltb _ _ (c .before .if3 .taken)) (c .refused .ensures _ _)) ∙ reader-input _ _ _ _ _ _ _ _ _ (c .before .before .before .before .if1 .left)
 
 start-requires : tie.Need-start-requires
 start-requires c κs = search needs
@@ -46,11 +46,11 @@ same-length-2 c = search needs
 
 returns-3 : tie.Need-returns-3
 unfolding startAfter
-returns-3 c = λ f. at-true _ _ _ _ (sym (c .before .before .before .before .before .before .before .before .before .before .before .before .before .is-admitted .ensures) ∙ c .before .before .before .before .before .before .before .before .before .before .before .before .if2 .taken) (at-false _ _ _ _ (le-ltb _ _ (c .before .before .before .before .before .before .before .before .before .before .before .if3 .left)) (c .booked .ensures _ _ ∙ ap (bookedAfter _ _) (c .before .before .before .start2 .ensures f _ _ (c .before .before .before .before .before .before .before .start .ensures)))) ∙ reader-input _ _ _ _ _ _ _ _ _ _ _ _ (c .before .before .before .before .before .before .before .before .before .before .before .before .before .before .if1 .left)
+returns-3 c = λ f. at-true _ _ _ _ (sym (c .before .before .before .before .before .before .before .before .before .before .before .before .before .is-admitted .ensures) ∙ c .before .before .before .before .before .before .before .before .before .before .before .before .if2 .taken) (at-false _ _ _ _ (le-ltb _ _ (c .before .before .before .before .before .before .before .before .before .before .before .if3 .left)) (c .booked .ensures _ _ ∙ ap (bookedAfter _ _) (c .before .before .before .start2 .ensures f _ _ (c .before .before .before .before .before .before .before .start .ensures)))) ∙ reader-input _ _ _ _ _ _ _ _ _ (c .before .before .before .before .before .before .before .before .before .before .before .before .before .before .if1 .left)
 
 returns-4 : tie.Need-returns-4
 unfolding startAfter
-returns-4 c = λ f. at-false _ _ _ _ (sym (c .before .before .is-admitted .ensures) ∙ c .before .if2 .left) (c .refused2 .ensures _ _) ∙ reader-input _ _ _ _ _ _ _ _ _ _ _ _ (c .before .before .before .if1 .left)
+returns-4 c = λ f. at-false _ _ _ _ (sym (c .before .before .is-admitted .ensures) ∙ c .before .if2 .left) (c .refused2 .ensures _ _) ∙ reader-input _ _ _ _ _ _ _ _ _ (c .before .before .before .if1 .left)
 
 pub call-spec : {M : Type 1} → statement M
 call-spec =

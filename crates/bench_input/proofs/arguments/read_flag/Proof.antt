@@ -1,0 +1,34 @@
+-- `arguments::read_flag` meets its contract.
+use borrow.Author.Needs.{needs}
+use mathlib.Core.Path.{refl}
+use borrow.Author.Tests.{lt-ltb, le-ltb}
+use Rattle.framing.specs.Rules.{at-true, at-false}
+use Rattle.bench_input.specs.Arguments.{flagArg}
+use Rattle.bench_input.proofs.ArgumentLaws.{byte-value, byte-none}
+use Rattle.bench_input.proofs.arguments.read_flag.Statement.{statement}
+use Rattle.bench_input.proofs.arguments.read_flag.Tie as tie
+
+read-byte-requires : tie.Need-read-byte-requires
+read-byte-requires c κs = search needs
+
+enum-known-flag : tie.Need-enum-known-flag
+enum-known-flag c = search needs
+
+enum-told : tie.Need-enum-told
+enum-told c = search needs
+
+returns : tie.Need-returns
+unfolding flagArg
+returns c = λ f. byte-none _ _ _ (c .before .before .read-byte .ensures) (c .enum-told .given .1)
+
+returns-2 : tie.Need-returns-2
+unfolding flagArg
+returns-2 c = λ f. byte-value _ _ _ (c .before .before .before .before .read-byte .ensures) _ _ (c .before .before .flag .given .1) (at-true _ _ _ _ (lt-ltb _ _ (c .if1 .taken)) refl)
+
+returns-3 : tie.Need-returns-3
+unfolding flagArg
+returns-3 c = λ f. byte-value _ _ _ (c .before .before .before .before .read-byte .ensures) _ _ (c .before .before .flag .given .1) (at-false _ _ _ _ (le-ltb _ _ (c .if1 .left)) refl)
+
+pub read-flag-spec : {M : Type 1} → statement M
+read-flag-spec =
+    tie.close (tie.spec read-byte-requires enum-known-flag enum-told returns returns-2 returns-3)

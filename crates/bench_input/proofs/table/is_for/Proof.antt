@@ -1,0 +1,66 @@
+-- `table::is_for` meets its contract.
+use borrow.Author.Needs.{needs}
+use mathlib.Core.Path.{sym, ap, _∙_}
+use mathlib.Core.List.{List}
+use Prim.Native.Nat.{ℕ, _+_}
+use native.Mathlib.Omega.{arith}
+use lib.Dec.{eqb}
+use lib.ListN.{length}
+use Rattle.framing.specs.Lists.{same}
+use Rattle.framing.specs.Rules.{both-true, both-false}
+use Rattle.bench_input.specs.Table.{isFor}
+use Rattle.bench_input.proofs.TableLaws.{table-short, word-at, name-at}
+use Rattle.bench_input.proofs.table.is_for.Statement.{statement}
+use Rattle.bench_input.proofs.table.is_for.Tie as tie
+
+mul-word : tie.Need-mul-word
+mul-word c = let e = table-short in search needs
+
+word-requires : tie.Need-word-requires
+word-requires c κs = search needs
+
+is-requires : tie.Need-is-requires
+is-requires c κs = search needs
+
+mul-word-2 : tie.Need-mul-word-2
+mul-word-2 c = let e = table-short in search needs
+
+add-word : tie.Need-add-word
+add-word c = let e = table-short in search needs
+
+word-requires-2 : tie.Need-word-requires-2
+word-requires-2 c κs = search needs
+
+add-result : tie.Need-add-result
+add-result c = search needs
+
+returns : tie.Need-returns
+unfolding isFor
+returns c =
+    let at-is = c .before .before in
+    let start = at-is .before .before .before .before in
+    let name = name-at (start .args .table .now) (start .pre .0) (start .args .i) (start .pre .1) _ (at-is .before .word .ensures) in
+    let letters = c .word2 .ensures ∙ word-at (start .args .table .now) (start .pre .0) (start .args .i) (start .pre .1) 1 (omega arith) in
+    both-true _ _ _ (ap (λ (l : List ℕ). same l (start .args .name .now)) (sym name) ∙ sym (at-is .is .ensures) ∙ c .before .if1 .taken) (ap (λ (l : List ℕ). eqb (length l + 1) (start .args .n)) letters)
+
+returns-2 : tie.Need-returns-2
+unfolding isFor
+returns-2 c =
+    let at-is = c .before in
+    let start = at-is .before .before .before .before in
+    let name = name-at (start .args .table .now) (start .pre .0) (start .args .i) (start .pre .1) _ (at-is .before .word .ensures) in
+    both-false _ _ (ap (λ (l : List ℕ). same l (start .args .name .now)) (sym name) ∙ sym (at-is .is .ensures) ∙ c .if1 .left)
+
+pub is-for-spec : {M : Type 1} → statement M
+is-for-spec =
+    tie.close
+    (tie.spec
+    mul-word
+    word-requires
+    is-requires
+    mul-word-2
+    add-word
+    word-requires-2
+    add-result
+    returns
+    returns-2)

@@ -1,0 +1,51 @@
+-- `told` meets its contract.
+use borrow.Author.Needs.{needs}
+use mathlib.Core.Path.{_∙_}
+use Rattle.bench_session.proofs.AnswerLaws.{kept-is, told-none, told-some}
+use Rattle.bench_session.proofs.told.Statement.{statement}
+use Rattle.bench_session.proofs.told.Tie as tie
+
+event-by-requires : tie.Need-event-by-requires
+event-by-requires c κs = search needs
+
+enum-known-event : tie.Need-enum-known-event
+enum-known-event c = search needs
+
+enum-told : tie.Need-enum-told
+enum-told c = search needs
+
+unreadable-requires : tie.Need-unreadable-requires
+unreadable-requires c κs = search needs
+
+returns : tie.Need-returns
+returns c = kept-is _ _ _ (c .unreadable .ensures .0) (c .unreadable .ensures .1) ∙ told-none _ _ _ _ _ (c .before .before .before .event-by .ensures) (c .before .enum-told .given .1)
+
+part-requires : tie.Need-part-requires
+part-requires c κs = search needs
+
+event-requires : tie.Need-event-requires
+event-requires c κs = search needs
+
+same-length : tie.Need-same-length
+same-length c = search needs
+
+returns-2 : tie.Need-returns-2
+returns-2 c =
+    let at-event2 = c .before .before in
+    let at-part = at-event2 .before .before in
+    let at-event = at-part .before .before in
+    rw (← at-part .part .ensures) (told-some _ _ _ _ _ (at-event .before .before .event-by .ensures) _ _ (at-event .event .given .1) (at-event2 .event2 .ensures))
+
+pub told-spec : {M : Type 1} → statement M
+told-spec =
+    tie.close
+    (tie.spec
+    event-by-requires
+    enum-known-event
+    enum-told
+    unreadable-requires
+    returns
+    part-requires
+    event-requires
+    same-length
+    returns-2)
