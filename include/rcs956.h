@@ -31,8 +31,8 @@
  * The session. Each reader has one, made by rcs956_fresh and kept by the host for the reader's life; it is handed to each call and
  * event of that reader, by one thread at a time. Any number of sessions may be in use side by side. A session is plain memory: it
  * may be moved or copied between calls, and needs no end. Zeroed memory is a fresh session. Any other bytes are allowed as well: a
- * session with a field out of range gets refusal 1, and any other is served. `state.books.opened` and `state.books.frames` may be
- * read; the other fields are the engine's own.
+ * session with a field out of range gets refusal 1, and any other is served. The fields of `state.books` may be read; the others
+ * are the engine's own.
  *
  * Memory. No function keeps a pointer or allocates, and none has a state but the session. The caller sees to it that, for the time
  * of a call,
@@ -123,6 +123,10 @@ extern "C" {
 #define RCS956_CALL_DETECT_DEP 22
 #define RCS956_CALL_TRANSCEIVE 23
 
+/* Modes of an opening, for the session until the next one that is accepted. */
+#define RCS956_MODE_OFF 0    /* a packet starts with 00 00 FF */
+#define RCS956_MODE_PADDED 1 /* up to 16 more zeros may stand before that */
+
 /* The exchange of one command. */
 typedef struct rcs956_exchange_state {
     uint8_t phase, code;
@@ -141,9 +145,10 @@ typedef struct rcs956_core {
     rcs956_call_state call;
 } rcs956_core;
 
-/* The reader's books. An opening that is accepted begins them anew: both are 0. */
+/* The reader's books. An opening that is accepted begins them anew: its mode, and else 0. */
 typedef struct rcs956_books {
     uint8_t opened;  /* 1 where the reader is open, else 0, also while an opening runs; any other value is out of range */
+    uint8_t mode;    /* of the last opening that was accepted; above 1 is out of range */
     uint32_t frames; /* command frames ordered since the last opening began, stopping at 4,294,967,295 */
 } rcs956_books;
 
@@ -181,6 +186,7 @@ typedef char rcs956_session_state_is_at_1536[offsetof(rcs956_session, state) == 
 typedef char rcs956_state_books_is_at_32[offsetof(rcs956_state, books) == 32 ? 1 : -1];
 typedef char rcs956_core_exchange_is_at_16[offsetof(rcs956_core, exchange) == 16 ? 1 : -1];
 typedef char rcs956_core_call_is_at_24[offsetof(rcs956_core, call) == 24 ? 1 : -1];
+typedef char rcs956_books_mode_is_at_1[offsetof(rcs956_books, mode) == 1 ? 1 : -1];
 typedef char rcs956_books_frames_is_at_4[offsetof(rcs956_books, frames) == 4 ? 1 : -1];
 typedef char rcs956_outcome_has_16_bytes[sizeof(rcs956_outcome) == 16 ? 1 : -1];
 typedef char rcs956_numbers_has_8_bytes[sizeof(rcs956_numbers) == 8 ? 1 : -1];
@@ -218,12 +224,22 @@ static inline rcs956_numbers rcs956_numbers_of(uint32_t ms, uint16_t word, uint8
 
 /*
  * The opening: `Chipset::new`, then `Device::new`; on an open reader it starts anew. One that fails leaves the reader unopened.
- * Answer: the three version bytes, then the chip's name as text, such as RCS956v1.30.
+ * Answer: the three version bytes, then the chip's name as text, such as RCS956v1.30. The padded mode is off.
  */
 static inline rcs956_outcome rcs956_open(rcs956_session *session, uint8_t *buffer, size_t buffer_len)
 {
-    return rcs956_call(session, RCS956_CALL_OPEN, rcs956_numbers_of(0, 0, 0, 0), RCS956_NO_BYTES, RCS956_NO_BYTES, RCS956_NO_BYTES,
+    return rcs956_call(session, RCS956_CALL_OPEN, rcs956_numbers_of(0, 0, RCS956_MODE_OFF, 0), RCS956_NO_BYTES, RCS956_NO_BYTES, RCS956_NO_BYTES,
                        RCS956_NO_BYTES, buffer, buffer_len);
+}
+
+/*
+ * The same for a board that pads the start: in this session the engine steps over up to 16 zeros before the start of a packet. A
+ * packet has at most 1,024 bytes with them.
+ */
+static inline rcs956_outcome rcs956_open_padded(rcs956_session *session, uint8_t *buffer, size_t buffer_len)
+{
+    return rcs956_call(session, RCS956_CALL_OPEN, rcs956_numbers_of(0, 0, RCS956_MODE_PADDED, 0), RCS956_NO_BYTES, RCS956_NO_BYTES,
+                       RCS956_NO_BYTES, RCS956_NO_BYTES, buffer, buffer_len);
 }
 
 /* `get_firmware_version`. Answer: three bytes. */

@@ -64,6 +64,16 @@ uint8_t rcs956_frame_build(uint8_t setting, const uint8_t *payload, size_t paylo
 uint8_t rcs956_frame_parse(uint8_t setting, const uint8_t *packet, size_t packet_len, uint8_t *kind, size_t *start, size_t *len,
                            size_t *frame);
 
+/*
+ * The same of a board that pads the start: up to 16 zeros before the start bytes are stepped over. The numbers are those of
+ * rcs956_frame_parse, and one more:
+ * - *start: where in the packet as it came;
+ * - *frame: extra zeros are not counted, for Error neither;
+ * - *zeros: how many were stepped over, 0 to 16. 17 and more are no extra zeros: such a packet is no frame, and has 0.
+ */
+uint8_t rcs956_frame_parse_padded(uint8_t setting, const uint8_t *packet, size_t packet_len, uint8_t *kind, size_t *start, size_t *len,
+                                  size_t *frame, size_t *zeros);
+
 /* Whether the last two bytes are the CRC_A of those before them, low byte first. Under two bytes: no. */
 bool rcs956_crc_a_check(const uint8_t *bytes, size_t len);
 

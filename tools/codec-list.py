@@ -4,7 +4,8 @@
     python3 tools/codec-list.py ORACLE FUZZ CRATE
 
 ORACLE is the program built from the Rust, FUZZ the folder of its fuzz.py, CRATE the crate's folder. The lines are those of
-fuzz.py's generator for the codec at a fixed seed, without its long ones, and long payloads at the limits of the length forms.
+fuzz.py's generator for the codec at a fixed seed, without its long ones; long payloads at the limits of the length forms; and packets
+with extra zeros, none, some and too many, under every setting.
 """
 import sys
 from pathlib import Path
@@ -30,7 +31,7 @@ def payload(size):
 
 
 def line(name, setting, data):
-    return f"{name} {setting} {data.hex().upper()}".encode()
+    return f"{name} {setting} {data.hex().upper() or '-'}".encode()
 
 
 def long_lines():
@@ -48,8 +49,27 @@ def long_lines():
     yield line("parse", 5, fuzz.extended(payload(65535), "big"))
 
 
+def padded_lines():
+    shapes = (
+        fuzz.ACK,
+        fuzz.ACK + b"\x00",
+        bytes.fromhex("0000FFFFFF00"),
+        bytes.fromhex("0000FF01FF7F8100"),
+        fuzz.frame(bytes.fromhex("D50333")) + b"\xaa",
+        fuzz.frame(bytes.fromhex("D503"))[:-2],
+        fuzz.extended(payload(300), "little"),
+        fuzz.extended(payload(300), "big"),
+        b"\x00\xff",
+        b"",
+    )
+    for shape in shapes:
+        for zeros in (0, 1, 2, 16, 17, 18):
+            for setting in range(6) if len(shape) < 10 else (2, 5):
+                yield line("parse_padded", setting, b"\x00" * zeros + shape)
+
+
 lines = generated()
-script = [next(lines) for _ in range(LINES)] + list(long_lines())
+script = [next(lines) for _ in range(LINES)] + list(long_lines()) + list(padded_lines())
 answers = fuzz.run([oracle, "codec"], script)
 assert len(answers) == len(script)
 Path(crate, "stdin").write_bytes(b"".join(text + b"\n" for text in script))

@@ -1,13 +1,15 @@
 #!/usr/bin/env python3
 """Compares the program `session` with the oracle on generated scripts of some or all calls.
 
-    python3 session-compare.py FOLDER PROGRAM [--calls opening|commands|all] [--seed 1] [--first 0] [--cases 1000] [--jobs 2] [--coverage]
+    python3 session-compare.py FOLDER PROGRAM [--calls opening|commands|all] [--requests N2] [--seed 1] [--first 0] [--cases 1000]
+        [--jobs 2] [--coverage]
 
 FOLDER has the oracle's bench program `oracle` and its scripts fuzz.py and diff.py. A script is made by talking to the
 oracle line by line, with fuzz.py's simulated chip at the other end. Then PROGRAM gets the whole script on its input; every
 tenth case goes line by line instead, the next line only after the answer. The first difference is cut down and printed,
 and the end code is 1. `opening` is `open` and `version` with more that goes wrong in openings, `commands` the calls of
-chipset.rs, `all` the whole language.
+chipset.rs, `all` the whole language. --requests names the later requests whose lines are drawn and read, `none` for none: with N2
+openings in both modes, and packets with 0 to 18 extra zeros.
 """
 import argparse
 import multiprocessing
@@ -33,6 +35,13 @@ def imports(folder, calls):
     return fuzz, diff
 
 
+def with_zeros(rng, text, padded):
+    """A packet's line with extra zeros before it: in the padded mode mostly some, else now and then."""
+    if not text.startswith(b"pkt ") or text == b"pkt -" or not rng.chance(0.7 if padded else 0.02):
+        return text
+    return b"pkt " + b"00" * rng.choice((0, 1, 15, 16, 16, rng.randint(0, 16), rng.randint(0, 18))) + text[4:]
+
+
 def chip_of(fuzz, rng):
     """fuzz's chip, whose answers to an opening's commands are odd now and then."""
     class Chip(fuzz.Chip):
@@ -46,7 +55,7 @@ def chip_of(fuzz, rng):
     return Chip(rng)
 
 
-def script_of(fuzz, seed, index, count):
+def script_of(fuzz, seed, index, count, requests=()):
     """One script and the oracle's output: as fuzz.session_case, with more openings and more that goes wrong in them."""
     rng = fuzz.case_rng(seed, index, "session of two calls")
     chip = chip_of(fuzz, rng)
@@ -56,14 +65,17 @@ def script_of(fuzz, seed, index, count):
     calls = rng.randint(1, 8)
     talk = fuzz.Talk([os.environ["ORACLE"]])
     script, output = [], []
-    order, call, opened, frames, reads = None, None, False, 0, 0
+    openings = (b"open", b"open padded") if "N2" in requests else (b"open",)
+    order, call, opened, padded, frames, reads = None, None, False, False, 0, 0
     while len(script) < 600 and (calls > 0 or order):
         if rng.chance(stray):
             text = fuzz.out_of_turn(rng)
         elif order:
             text = chip.event(order)
+            text = with_zeros(rng, text, padded) if "N2" in requests else text
         else:
-            text = rng.choice((b"version", b"version", b"open")) if opened else rng.choice((b"open", b"open", b"open", b"version"))
+            open_line = rng.choice(openings)
+            text = rng.choice((b"version", b"version", open_line)) if opened else rng.choice((open_line, open_line, open_line, b"version"))
         answer = talk.say(text)
         script.append(text)
         output.append(answer)
@@ -74,6 +86,7 @@ def script_of(fuzz, seed, index, count):
                 calls -= rng.chance(0.5)
                 continue
             call, frames = word, 0
+            padded = text == b"open padded" if word == "open" else padded
             calls -= 1
             good = rng.chance(clean)
             chip.good = call == "open"
@@ -110,11 +123,11 @@ def line_by_line(fuzz, command, script):
 def one_case(job):
     args, index = job
     fuzz, diff = imports(args.folder, args.calls)
-    count = fuzz.Coverage()
+    count, requests = fuzz.Coverage(), fuzz.chosen(args)
     if args.calls == "opening":
-        script, output = script_of(fuzz, args.seed, index, count)
+        script, output = script_of(fuzz, args.seed, index, count, requests)
     else:
-        script, output = fuzz.session_case(args.seed, index, coverage=count)
+        script, output = fuzz.make("session", requests)(args.seed, index, coverage=count)
     run = line_by_line if index % 10 == 9 else lambda fuzz, command, script: fuzz.run(command, script)
     told = run(fuzz, [args.program], script)
     differs = diff.first_difference(output, told) is not None
@@ -126,6 +139,7 @@ def main():
     parser.add_argument("folder")
     parser.add_argument("program")
     parser.add_argument("--calls", choices=("opening", "commands", "all"), default="all")
+    parser.add_argument("--requests", default="N2")
     parser.add_argument("--seed", default="1")
     parser.add_argument("--first", type=int, default=0)
     parser.add_argument("--cases", type=int, default=1000)

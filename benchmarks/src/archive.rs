@@ -91,6 +91,7 @@ struct Core {
 #[repr(C)]
 struct Books {
     opened: u8,
+    mode: u8,
     frames: u32,
 }
 

@@ -37,6 +37,23 @@ static void parses(uint8_t setting, const uint8_t *packet, size_t packet_len, ui
     expect(k == kind && s == start && l == len && f == frame, what);
 }
 
+/* As `parses`, of the packet behind so many zeros; above 16 there is no frame. */
+static void parses_padded(uint8_t setting, const uint8_t *packet, size_t packet_len, uint8_t kind, size_t start, size_t len,
+                          size_t frame, const char *what)
+{
+    static const size_t counts[] = {0, 1, 16, 17, 18};
+    for (size_t i = 0; i < sizeof counts / sizeof counts[0]; i++) {
+        uint8_t padded[64] = {0}, k = 77;
+        size_t n = counts[i], s = 77, l = 77, f = 77, z = 77;
+        bool none = n > 16 || kind == RCS956_NO_FRAME;
+        memcpy(padded + n, packet, packet_len);
+        expect(rcs956_frame_parse_padded(setting, padded, n + packet_len, &k, &s, &l, &f, &z) == 0, what);
+        expect(z == (n > 16 ? 0 : n), what);
+        expect(none ? k == RCS956_NO_FRAME && s == 0 && l == 0 && f == 0 : k == kind && l == len && f == frame, what);
+        expect(none || s == (kind == RCS956_DATA ? start + n : 0), what);
+    }
+}
+
 static void appends(const uint8_t *bytes, size_t len, uint8_t low, uint8_t high, const char *what)
 {
     uint8_t out[16];
@@ -74,6 +91,13 @@ static void frames(void)
     parses(RCS956_BIG_ENDIAN_STATUS_BYTE, status, 8, RCS956_ERROR, 0, 0, 8, "7F under StatusByte");
     parses(RCS956_LITTLE_ENDIAN_ERROR_FRAME, empty_little, 10, RCS956_DATA, 8, 0, 10, "little-endian, empty");
     parses(RCS956_NORMAL_ERROR_FRAME, answer, 0, RCS956_NO_FRAME, 0, 0, 0, "no bytes");
+
+    parses_padded(RCS956_BIG_ENDIAN_ERROR_FRAME, answer, sizeof answer, RCS956_DATA, 5, 6, 13, "padded answer and a byte more");
+    parses_padded(RCS956_BIG_ENDIAN_ERROR_FRAME, ack, 6, RCS956_ACK, 0, 0, 6, "padded ACK");
+    parses_padded(RCS956_BIG_ENDIAN_ERROR_FRAME, ack, 7, RCS956_NO_FRAME, 0, 0, 0, "padded ACK and one 00 more");
+    parses_padded(RCS956_BIG_ENDIAN_ERROR_FRAME, error, 6, RCS956_ERROR, 0, 0, 6, "padded error frame");
+    parses_padded(RCS956_BIG_ENDIAN_STATUS_BYTE, status, 8, RCS956_ERROR, 0, 0, 8, "padded 7F under StatusByte");
+    parses_padded(RCS956_LITTLE_ENDIAN_ERROR_FRAME, empty_little, 10, RCS956_DATA, 8, 0, 10, "padded little-endian, empty");
 }
 
 /* The longest normal frame and the shortest extended one; each parses back. */
@@ -97,11 +121,14 @@ static void no_setting(void)
 {
     static const uint8_t packet[] = {0x00, 0x00, 0xFF, 0x00, 0xFF, 0x00};
     uint8_t buffer[8] = {0}, kind = 77;
-    size_t count = 77, start = 77, len = 77, frame = 77;
+    size_t count = 77, start = 77, len = 77, frame = 77, zeros = 77;
     expect(rcs956_frame_build(6, packet, 0, buffer, sizeof buffer, &count) == RCS956_BAD_ARGUMENT, "setting 6");
     expect(count == 77 && buffer[2] == 0, "setting 6");
     expect(rcs956_frame_parse(255, packet, sizeof packet, &kind, &start, &len, &frame) == RCS956_BAD_ARGUMENT, "setting 255");
     expect(kind == 77 && start == 77 && len == 77 && frame == 77, "setting 255");
+    expect(rcs956_frame_parse_padded(6, packet, sizeof packet, &kind, &start, &len, &frame, &zeros) == RCS956_BAD_ARGUMENT,
+           "setting 6, padded");
+    expect(kind == 77 && start == 77 && len == 77 && frame == 77 && zeros == 77, "setting 6, padded");
 }
 
 static void checksums(void)

@@ -1,12 +1,13 @@
 #!/usr/bin/env python3
 """Compares the program `lines`, frame counts included, with the Rust driver itself on generated scripts.
 
-    python3 compare.py ORACLE_FOLDER LINES [--seed 1] [--first 0] [--cases 5000] [--jobs 2]
+    python3 compare.py ORACLE_FOLDER LINES [--requests N2] [--seed 1] [--first 0] [--cases 5000] [--jobs 2]
 
 ORACLE_FOLDER has the Rust driver as a program of bench lines, `oracle` or `target/release/oracle`, and the generator fuzz.py. A
-script is made by talking to the oracle; every fourth one is of openings and versions alone (tools/session-compare.py). LINES gets
-the whole script, every tenth one line by line. The count expected behind a line is the number of write lines of the oracle, other
-than the bare ACK, since the last `open` that it accepted. The first difference is printed, and the end code is 1.
+script is made by talking to the oracle; every fourth one is of openings and versions alone (tools/session-compare.py). --requests
+names the later requests whose lines are drawn: with N2 openings in both modes, and packets with extra zeros. LINES gets the whole
+script, every tenth one line by line. The count expected behind a line is the number of write lines of the oracle, other than the bare
+ACK, since the last opening that it accepted. The first difference is printed, and the end code is 1.
 """
 import argparse
 import functools
@@ -40,7 +41,7 @@ def counted(fuzz, script, output):
     frames, lines = 0, []
     for text, answer in zip(script, output):
         if answer.startswith(b"write"):
-            if text == b"open":
+            if text.split(b" ")[0] == b"open":
                 frames = 0
             elif answer != fuzz.WRITE_ACK:
                 frames = min(frames + 1, CEILING)
@@ -51,10 +52,11 @@ def counted(fuzz, script, output):
 def one_case(job):
     args, index = job
     base, fuzz = imports(args.folder)
+    requests = fuzz.chosen(args)
     if index % 4 == 3:
-        script, output = base.script_of(fuzz, args.seed, index, fuzz.Coverage())
+        script, output = base.script_of(fuzz, args.seed, index, fuzz.Coverage(), requests)
     else:
-        script, output = fuzz.session_case(args.seed, index)
+        script, output = fuzz.make("session", requests)(args.seed, index)
     command = [args.program, "--frames"]
     told = base.line_by_line(fuzz, command, script) if index % 10 == 9 else fuzz.run(command, script)
     expected = counted(fuzz, script, output)
@@ -75,6 +77,7 @@ def main():
     parser = argparse.ArgumentParser(description=__doc__, formatter_class=argparse.RawDescriptionHelpFormatter)
     parser.add_argument("folder")
     parser.add_argument("program")
+    parser.add_argument("--requests", default="N2")
     parser.add_argument("--seed", default="1")
     parser.add_argument("--first", type=int, default=0)
     parser.add_argument("--cases", type=int, default=5000)

@@ -49,6 +49,8 @@ static void expect(rcs956_outcome outcome, unsigned long ms, unsigned long word,
 int main(void)
 {
     rcs956_session *s = &session;
+    expect(rcs956_open_padded(s, END), 0, 0, 1, 0, 0);
+    calls = 0; /* the same call in its other mode */
     expect(rcs956_open(s, END), 0, 0, 0, 0, 0);
     expect(rcs956_version(s, END), 0, 0, 0, 0, 0);
     expect(rcs956_reset_mode(s, END), 0, 0, 0, 0, 0);

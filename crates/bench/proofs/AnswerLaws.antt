@@ -14,30 +14,31 @@ use Rattle.framing.specs.Build.{limitOf}
 use Rattle.framing.specs.Frames.{frameOf, checksumOf}
 use Rattle.errors.specs.Choice.{pick}
 use Rattle.framing.specs.Lists.{same}
+use Rattle.framing.specs.Padded.{parsePadded}
 use Rattle.framing.specs.Parse.{parseOf}
 use Rattle.framing.specs.declared.FrameFormat.{FrameFormat}
 use Rattle.framing.specs.declared.FrameType.{FrameType}
-use Rattle.framing.specs.declared.FrameType.the-variants.{Ack, Error, Data, Nothing}
+use Rattle.framing.specs.declared.padded.Padded.{Padded}
 use Rattle.framing.specs.declared.settings.Setting.{Setting}
 use Rattle.framing.specs.declared.settings.Setting.the-variants.{Format, Nothing as NoSetting}
 use Rattle.crc.specs.Crc.{Kind, typeA, typeB, checks, crcBytes}
 use Rattle.crc.specs.Laws.{crc-length}
 use Rattle.targets.specs.Bitrates.{ascii, parseOf as bitrateOf}
-use Rattle.bench.specs.Codec.{lineLimit, bytesRoom, answerRoom, unreadable, settingNamed, buildText, dataText, foundText, parseText, checksumText, yesOrNo, appendText, sendText, bitrateText, bitrateWord, onBytes, onFormat, twoWords, onSetting, onWords, answerOf, replyOf}
+use Rattle.bench.specs.Codec.{lineLimit, bytesRoom, answerRoom, unreadable, settingNamed, buildText, foundText, parseText, isFrame, withZeros, paddedText, checksumText, yesOrNo, appendText, sendText, bitrateText, bitrateWord, onBytes, onFormat, twoWords, onSetting, onWords, answerOf, replyOf}
 use Rattle.bench.specs.Hex.{dash, isHex, pairsOf, hexOf}
 use Rattle.bench.specs.Texts.{over, Placed, placed, placedAt, decimalOf}
 use Rattle.bench.specs.Words.{wordsOf}
 use Rattle.bench.specs.declared.lines.Line.{Line}
 use Rattle.bench.specs.declared.lines.Line.the-variants.{Text, OverLong, End}
-use Rattle.bench.proofs.CodecLaws.{length-frame, longest-65535, payload-short}
+use Rattle.bench.proofs.CodecLaws.{length-frame, longest-65535, found-short}
 use Rattle.bench.specs.DecimalLaws.{decimal-short}
 use Rattle.bench.specs.HexLaws.{hex-short, length-pairs}
 use Rattle.bench.specs.TextLaws.{length-over}
 use Rattle.bench.specs.WordLaws.{word-short}
 
--- the longest answer: `data`, 20 digits and the payload of a line's bytes
+-- the longest answer: `data`, 20 digits, the payload of a line's bytes, and 20 digits
 abbrev Fits : List ℕ → Type 0
-Fits t = length t ≤ 262171
+Fits t = length t ≤ 262192
 
 pick-fits : (t : Bool) (a c : List ℕ) → Fits a → Fits c → Fits (pick t a c)
 unfolding pick
@@ -86,27 +87,23 @@ build-fits f p = go (ltb (limitOf f) (length p)) refl
     go true h = omega arith
     go false h = omega (arith, ltb-false (limitOf f) (length p) h, longest-65535 (f .length), length-frame (f .length) p, hex-short (frameOf (f .length) p))
 
-data-fits : (n : ℕ) (q : List ℕ) → length q ≤ bytesRoom → Fits (dataText n q)
-unfolding dataText
-data-fits n q h =
-    rw (length-append (ascii "data " ++ decimalOf n ++ ascii " ") (hexOf q), length-append (ascii "data " ++ decimalOf n) (ascii " "), length-append (ascii "data ") (decimalOf n))
-    (omega (arith, decimal-short n, hex-short q))
+found-fits : (r : FrameType) (p : List ℕ) → length p ≤ bytesRoom → Fits (foundText r p)
+found-fits r p h = omega (arith, found-short r p h)
 
-parse-fits : (f : FrameFormat) (p : List ℕ) → length p ≤ bytesRoom → Fits (parseText f p)
-unfolding parseText foundText
-parse-fits f p h = go (parseOf f p)
-  where
-    go : (r : FrameType) → Fits (foundText r p)
-    go (Ack n) = rw (length-append (ascii "ack ") (decimalOf n)) (omega (arith, decimal-short n))
-    go (Error n) = rw (length-append (ascii "error ") (decimalOf n)) (omega (arith, decimal-short n))
-    go (Data s len n) = data-fits n _ (omega (arith, payload-short p s len n))
-    go Nothing = omega arith
+padded-fits : (a : Padded) (p : List ℕ) → length p ≤ bytesRoom → Fits (withZeros a p)
+unfolding withZeros
+padded-fits a p h =
+    pick-fits (isFrame (a .found)) _ _
+    (rw (length-append (foundText (a .found) p ++ ascii " ") (decimalOf (a .zeros)), length-append (foundText (a .found) p) (ascii " "))
+    (omega (arith, found-short (a .found) p h, decimal-short (a .zeros))))
+    (found-fits (a .found) p h)
 
 format-fits : (name p : List ℕ) (f : FrameFormat) → length p ≤ bytesRoom → Fits (onFormat name f p)
-unfolding onFormat
+unfolding onFormat parseText paddedText
 format-fits name p f h =
     pick-fits (same (ascii "build") name) _ _ (build-fits f p)
-    (pick-fits (same (ascii "parse") name) _ unreadable (parse-fits f p h) unreadable-fits)
+    (pick-fits (same (ascii "parse") name) _ _ (found-fits (parseOf f p) p h)
+    (pick-fits (same (ascii "parse_padded") name) _ unreadable (padded-fits (parsePadded f true p) p h) unreadable-fits))
 
 pairs-fit : (w : List ℕ) → length w ≤ lineLimit → length (pairsOf w) ≤ bytesRoom
 pairs-fit w h = omega (arith, length-pairs w)
@@ -130,7 +127,7 @@ words-fit (a ∷ b ∷ []) h = two-fit a b (h 1)
 words-fit (a ∷ b ∷ c ∷ []) h = setting-fits (settingNamed b) a c (h 2)
 words-fit (a ∷ b ∷ c ∷ d ∷ ws) h = unreadable-fits
 
-pub answer-fits : (l : List ℕ) → length (answerOf l) ≤ 262171
+pub answer-fits : (l : List ℕ) → length (answerOf l) ≤ 262192
 unfolding answerOf pick
 answer-fits l = go (ltb lineLimit (length l)) refl
   where
@@ -147,7 +144,7 @@ feed-over t b h =
     (set-at t (getD b (length t) 0) (drop (suc (length t)) b) 10 (length t) refl ∙ sym (append-assoc t (10 ∷ []) (drop (suc (length t)) b)))
 
 module _ (t b o : List ℕ) (r : ℕ) (before : placed r o ≡ placedAt 0 t b) where
-  pub feed-place : length t ≤ 262171 → r < answerRoom
+  pub feed-place : length t ≤ 262192 → r < answerRoom
   feed-place h = omega (arith, ap (λ p. p .next) before)
 
   pub feed-done : (x : Placed) → length t < length b → x ≡ placed (r + 1) (set o r 10) → x ≡ placedAt 0 (t ++ (10 ∷ [])) b

@@ -19,7 +19,7 @@ use Rattle.framing.specs.declared.Built.{Built}
 use Rattle.framing.specs.declared.Built.the-variants.{Frame, Refused as NotBuilt}
 use Rattle.framing.specs.declared.FrameFormat.{FrameFormat}
 use Rattle.framing.specs.declared.FrameType.{FrameType}
-use Rattle.framing.specs.declared.FrameType.the-variants.{Data}
+use Rattle.framing.specs.declared.FrameType.the-variants.{Ack, Error, Data, Nothing}
 use Rattle.framing.specs.declared.LengthEncoding.{LengthEncoding}
 use Rattle.framing.specs.declared.LengthEncoding.the-variants.{Normal, ExtendedLittleEndian, NormalOrExtendedBigEndian}
 use Rattle.framing.specs.declared.settings.Setting.{Setting}
@@ -61,9 +61,12 @@ module _ (t b o : List ℕ) (r n : ℕ) (before : placed r o ≡ placedAt 0 t b)
   kind-done x e = put-behind t b o r before (decimalOf n) x e (omega (arith, decimal-short n))
 
 -- what was found of a packet
-pub found-done : (f : FrameFormat) (p b : List ℕ) (r k : FrameType) (x : Placed) → r ≡ parseOf f p → r ≡ k → x ≡ placedAt 0 (foundText k p) b → x ≡ placedAt 0 (parseText f p) b
+pub found-done : (p b : List ℕ) (r k : FrameType) (x : Placed) → r ≡ k → x ≡ placedAt 0 (foundText k p) b → x ≡ placedAt 0 (foundText r p) b
+found-done p b r k x q e = rw q e
+
+pub parse-done : (f : FrameFormat) (p b : List ℕ) (r : FrameType) (x : Placed) → r ≡ parseOf f p → x ≡ placedAt 0 (foundText r p) b → x ≡ placedAt 0 (parseText f p) b
 unfolding parseText
-found-done f p b r k x h q e = rw (sym h ∙ q) e
+parse-done f p b r x h e = rw h at e
 
 pub payload-short : (p : List ℕ) (s len n : ℕ) → length (payloadOf (Data s len n) p) ≤ length p
 unfolding payloadOf
@@ -98,10 +101,22 @@ module _ (p q : List ℕ) (s len n : ℕ) (payload : q ≡ payloadOf (Data s len
   pub payload-fits : length p ≤ bytesRoom → length q ≤ bytesRoom
   payload-fits h = omega (arith, ap length payload, payload-short p s len n)
 
-  pub found-data : (f : FrameFormat) (b : List ℕ) (r : FrameType) (x : Placed) → r ≡ parseOf f p → r ≡ Data s len n → x ≡ placedAt 0 (dataText n q) b
-      → x ≡ placedAt 0 (parseText f p) b
+  pub found-data : (b : List ℕ) (r : FrameType) (x : Placed) → r ≡ Data s len n → x ≡ placedAt 0 (dataText n q) b → x ≡ placedAt 0 (foundText r p) b
   unfolding foundText
-  found-data f b r x h is e = found-done f p b r (Data s len n) x h is (rw payload at e)
+  found-data b r x is e = found-done p b r (Data s len n) x is (rw payload at e)
+
+data-short : (n : ℕ) (q : List ℕ) → length q ≤ bytesRoom → length (dataText n q) ≤ 262171
+unfolding dataText
+data-short n q h =
+    rw (length-append (ascii "data " ++ decimalOf n ++ ascii " ") (hexOf q), length-append (ascii "data " ++ decimalOf n) (ascii " "), length-append (ascii "data ") (decimalOf n))
+    (omega (arith, decimal-short n, hex-short q))
+
+pub found-short : (r : FrameType) (p : List ℕ) → length p ≤ bytesRoom → length (foundText r p) ≤ 262171
+unfolding foundText
+found-short (Ack n) p h = rw (length-append (ascii "ack ") (decimalOf n)) (omega (arith, decimal-short n))
+found-short (Error n) p h = rw (length-append (ascii "error ") (decimalOf n)) (omega (arith, decimal-short n))
+found-short (Data s len n) p h = data-short n _ (omega (arith, payload-short p s len n))
+found-short Nothing p h = omega arith
 
 pub one-room : (s n : ℕ) → answerRoom ≤ n → 0 + length (hexOf (s ∷ [])) ≤ n
 one-room s n h = omega (arith, hex-short (s ∷ []))

@@ -1,3 +1,4 @@
 mod AnswerLaws
 mod CodecLaws
 mod NextLaws
+mod PaddedLaws

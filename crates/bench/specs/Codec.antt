@@ -9,11 +9,13 @@ use Rattle.framing.specs.Build.{limitOf}
 use Rattle.framing.specs.Frames.{frameOf, checksumOf}
 use Rattle.errors.specs.Choice.{pick}
 use Rattle.framing.specs.Lists.{same}
+use Rattle.framing.specs.Padded.{parsePadded}
 use Rattle.framing.specs.Parse.{parseOf, payloadOf}
 use Rattle.framing.specs.Settings.{settingOf}
 use Rattle.framing.specs.declared.FrameFormat.{FrameFormat}
 use Rattle.framing.specs.declared.FrameType.{FrameType}
 use Rattle.framing.specs.declared.FrameType.the-variants.{Ack, Error, Data, Nothing}
+use Rattle.framing.specs.declared.padded.Padded.{Padded}
 use Rattle.framing.specs.declared.settings.Setting.{Setting}
 use Rattle.framing.specs.declared.settings.Setting.the-variants.{Format, Nothing as NoSetting}
 use Rattle.crc.specs.Crc.{Kind, typeA, typeB, checks, crcBytes}
@@ -35,7 +37,7 @@ abbrev pub frameRoom : ℕ
 frameRoom = 131088
 
 abbrev pub answerRoom : ℕ
-answerRoom = 262176
+answerRoom = 262208
 
 abbrev pub unreadable : List ℕ
 unreadable = ascii "refused 4"
@@ -60,6 +62,19 @@ foundText Nothing p = ascii "none"
 
 unfoldable pub parseText : FrameFormat → List ℕ → List ℕ
 parseText f p = foundText (parseOf f p) p
+
+-- `parse_padded`: the same with the padded mode on, and behind a frame the number of extra zeros
+abbrev pub isFrame : FrameType → Bool
+isFrame (Ack n) = true
+isFrame (Error n) = true
+isFrame (Data start len n) = true
+isFrame Nothing = false
+
+unfoldable pub withZeros : Padded → List ℕ → List ℕ
+withZeros a p = pick (isFrame (a .found)) (foundText (a .found) p ++ ascii " " ++ decimalOf (a .zeros)) (foundText (a .found) p)
+
+unfoldable pub paddedText : FrameFormat → List ℕ → List ℕ
+paddedText f p = withZeros (parsePadded f true p) p
 
 -- `checksum`: one byte
 unfoldable pub checksumText : List ℕ → List ℕ
@@ -98,7 +113,8 @@ onBytes name p =
 unfoldable pub onFormat : List ℕ → FrameFormat → List ℕ → List ℕ
 onFormat name f p =
     pick (same (ascii "build") name) (buildText f p)
-    (pick (same (ascii "parse") name) (parseText f p) unreadable)
+    (pick (same (ascii "parse") name) (parseText f p)
+    (pick (same (ascii "parse_padded") name) (paddedText f p) unreadable))
 
 unfoldable pub twoWords : List ℕ → List ℕ → List ℕ
 twoWords name w =

@@ -19,7 +19,7 @@ ghost use Prim.Native.Nat.{_+_, _≤_, _<_};
 ghost use lib.ListN.{length, set};
 ghost use Rattle.crc.specs.Crc.{typeA, typeB};
 ghost use Rattle.bench.specs.Texts.{placed, placedAt, decimalOf};
-ghost use Rattle.bench.specs.Codec.{lineLimit, bytesRoom, frameRoom, answerRoom, settingNamed, buildText, dataText, parseText, checksumText, yesOrNo, appendText, bitrateText, bitrateWord, onBytes as onBytesOf, onFormat as onFormatOf, twoWords, onSetting, onWords, answerOf, replyOf};
+ghost use Rattle.bench.specs.Codec.{lineLimit, bytesRoom, frameRoom, answerRoom, settingNamed, buildText, dataText, foundText, parseText, isFrame, paddedText, checksumText, yesOrNo, appendText, bitrateText, bitrateWord, onBytes as onBytesOf, onFormat as onFormatOf, twoWords, onSetting, onWords, answerOf, replyOf};
 ghost use Rattle.bench.specs.Codec.{unreadable as unreadableText};
 ghost use Rattle.bench.specs.Lines.{lengthOf};
 ghost use Rattle.bench.specs.Words.{wordsOf};
@@ -27,7 +27,7 @@ ghost use Rattle.bench.specs.Words.{wordsOf};
 // The longest line, without its line feed, and room for the longest answer and a line feed.
 pub const LINE: usize = 262144;
 
-pub const OUT: usize = 262176;
+pub const OUT: usize = 262208;
 
 // Room for the bytes of a line, and for a frame or those bytes with their CRC.
 const BYTES: usize = 131072;
@@ -84,11 +84,11 @@ fn put_data(count: usize, payload: &[u8], out: &mut [u8]) -> usize
     hex::put(payload, out, next)
 }
 
-fn parse(format: FrameFormat, packet: &[u8], out: &mut [u8]) -> usize
+// What was found of a packet.
+fn put_found(found: FrameType, packet: &[u8], out: &mut [u8]) -> usize
     requires { ⌜ (length (now packet) ≤ bytesRoom) × (answerRoom ≤ length (now out)) ⌝ }
-    ensures { λ r. ⌜ placed r (now (out .exit)) ≡ placedAt 0 (parseText format (now (packet .entry))) (now (out .entry)) ⌝ }
+    ensures { λ r. ⌜ placed r (now (out .exit)) ≡ placedAt 0 (foundText found (now (packet .entry))) (now (out .entry)) ⌝ }
 {
-    let found = framing::parse(format, packet);
     match found {
         FrameType::Ack(n) => put_kind(b"ack ", n, out),
         FrameType::Error(n) => put_kind(b"error ", n, out),
@@ -99,6 +99,43 @@ fn parse(format: FrameFormat, packet: &[u8], out: &mut [u8]) -> usize
         } => put_data(frame, framing::payload(packet, found), out),
         FrameType::Nothing => text::put(b"none", out, 0),
     }
+}
+
+fn parse(format: FrameFormat, packet: &[u8], out: &mut [u8]) -> usize
+    requires { ⌜ (length (now packet) ≤ bytesRoom) × (answerRoom ≤ length (now out)) ⌝ }
+    ensures { λ r. ⌜ placed r (now (out .exit)) ≡ placedAt 0 (parseText format (now (packet .entry))) (now (out .entry)) ⌝ }
+{
+    put_found(framing::parse(format, packet), packet, out)
+}
+
+fn is_frame(found: FrameType) -> bool
+    ensures { λ r. ⌜ r ≡ isFrame found ⌝ }
+{
+    match found {
+        FrameType::Ack(_) => true,
+        FrameType::Error(_) => true,
+        FrameType::Data {
+            start: _,
+            len: _,
+            frame: _,
+        } => true,
+        FrameType::Nothing => false,
+    }
+}
+
+// The same with the padded mode on, and behind a frame the number of extra zeros.
+fn parse_padded(format: FrameFormat, packet: &[u8], out: &mut [u8]) -> usize
+    requires { ⌜ (length (now packet) ≤ bytesRoom) × (answerRoom ≤ length (now out)) ⌝ }
+    ensures { λ r. ⌜ placed r (now (out .exit)) ≡ placedAt 0 (paddedText format (now (packet .entry))) (now (out .entry)) ⌝ }
+{
+    let padded = framing::padded::parse_padded(format, true, packet);
+    let found = padded.found;
+    let end = put_found(found, packet, out);
+    if is_frame(found) {
+        let at = text::put(b" ", out, end);
+        return text::put_decimal(padded.zeros, out, at);
+    }
+    end
 }
 
 fn checksum(bytes: &[u8], out: &mut [u8]) -> usize
@@ -205,6 +242,9 @@ fn on_format(
     }
     if words::is(name, b"parse") {
         return parse(format, bytes, out);
+    }
+    if words::is(name, b"parse_padded") {
+        return parse_padded(format, bytes, out);
     }
     unreadable(out)
 }

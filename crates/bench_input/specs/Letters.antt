@@ -6,7 +6,7 @@ use Prim.Native.Nat.{ℕ}
 use lib.Dec.{eqb, ltb}
 use lib.ListN.{length}
 use Rattle.errors.specs.Choice.{pick}
-use Rattle.bench_input.specs.Arguments.{Arguments, arguments, Read, hexArg, wholeArg, byteArg, flagArg, wordArg, msArg, textArg, hexOrNone, presentArg, waitArg}
+use Rattle.bench_input.specs.Arguments.{Arguments, arguments, Read, hexArg, wholeArg, byteArg, flagArg, wordArg, msArg, textArg, hexOrNone, presentArg, waitArg, paddedArg}
 use Rattle.calls.specs.declared.start.Numbers.{Numbers}
 
 abbrev pub withMs : ℕ → Numbers → Numbers
@@ -36,7 +36,9 @@ numberArg letter w n f =
     -- `m`: MS
     (pick (eqb letter 109) (msArg w (λ v. f (withMs v n)))
     -- `t`: MS of at most 65535 to word, and y is 1; or `none`
-    (pick (eqb letter 116) (waitArg w (λ given v. f (withY given (withWord v n)))) none))))))
+    (pick (eqb letter 116) (waitArg w (λ given v. f (withY given (withWord v n))))
+    -- `z`: the word `padded`, by which x is 1
+    (pick (eqb letter 122) (paddedArg w (λ v. f (withX v n))) none)))))))
 
 -- a byte string
 unfoldable pub stringArg : ℕ → List ℕ → (List ℕ → Read) → Read

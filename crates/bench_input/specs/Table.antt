@@ -29,6 +29,7 @@ eventsFrom = 128
 unfoldable pub table : List Row
 table =
     row (ascii "open") (ascii "") 0
+    ∷ row (ascii "open") (ascii "z") 0
     ∷ row (ascii "version") (ascii "") 1
     ∷ row (ascii "reset_mode") (ascii "") 2
     ∷ row (ascii "set_parameters") (ascii "x") 3

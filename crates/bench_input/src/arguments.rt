@@ -7,7 +7,7 @@ ghost use mathlib.Core.Path.{_≡_};
 ghost use mathlib.Core.List.{List};
 ghost use Prim.Native.Nat.{ℕ, _+_, _*_, _≤_, _<_};
 ghost use lib.ListN.{length};
-ghost use Rattle.bench_input.specs.Arguments.{Read, word, byteArg, flagArg, wordArg, msArg, hexArg, wholeArg, textArg, isNone, hexOrNone, presentArg, waitArg, digitOf};
+ghost use Rattle.bench_input.specs.Arguments.{Read, word, byteArg, flagArg, wordArg, msArg, hexArg, wholeArg, textArg, isNone, hexOrNone, presentArg, paddedArg, waitArg, digitOf};
 ghost use Rattle.bench_input.specs.Readings.{byteIn, wordIn, msIn, waitIn, hexIn, Behind};
 
 // What a word says as BYTE, as WORD and as MS.
@@ -180,6 +180,16 @@ pub(crate) fn read_flag(line: &[u8], k: usize) -> Byte
         return Byte::Unreadable;
     }
     Byte::Value(flag)
+}
+
+// The word `padded`: 1.
+pub(crate) fn read_padded(line: &[u8], k: usize) -> Byte
+    ensures { λ r. ⌜ ((f : ℕ → Read) → byteIn r f ≡ paddedArg (word (now (line .entry)) k) f) ⌝ }
+{
+    if words::is(words::word(line, k), b"padded") {
+        return Byte::Value(1);
+    }
+    Byte::Unreadable
 }
 
 // Whether a HEX is present: 1 or 0.

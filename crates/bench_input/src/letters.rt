@@ -107,6 +107,7 @@ fn number(letter: u8, line: &[u8], k: usize, numbers: Numbers) -> Numbered
         b'w' => with_word(numbers, arguments::read_word(line, k)),
         b'm' => with_ms(numbers, arguments::read_ms(line, k)),
         b't' => with_wait(numbers, arguments::read_wait(line, k)),
+        b'z' => with_x(numbers, arguments::read_padded(line, k)),
         _ => Numbered::Unreadable,
     }
 }

@@ -8,8 +8,9 @@ ghost use Rattle.bench_input.specs.Arguments.{word};
 ghost use Rattle.bench_input.specs.Table.{table as tableOf, rowAt, isFor, rowFor};
 ghost use Rattle.bench_input.specs.Readings.{texts, foundIn, Within};
 
-pub(crate) const TABLE: [u8; 596] = *b"\
+pub(crate) const TABLE: [u8; 606] = *b"\
     open  00 \
+    open z 00 \
     version  01 \
     reset_mode  02 \
     set_parameters x 03 \

@@ -25,5 +25,5 @@ startFor unknown = refuses BadArgument
 
 -- an opening is no call of an open reader
 abbrev pub startBy : Call → Start
-startBy opening = refuses BadArgument
+startBy (opening mode) = refuses BadArgument
 startBy (reader c) = startFor c

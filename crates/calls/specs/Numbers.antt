@@ -48,9 +48,9 @@ readerCalls n first second third fourth =
     ∷ device (transceive first second (flag (n .x)) third (msOf (flag (n .y)) (n .word)))
     ∷ []
 
--- 0 is the opening
+-- 0 is the opening, whose mode is x
 unfoldable pub callOf : (number : ℕ) (n : Numbers) (first second third fourth : List ℕ) → Call
-callOf number n first second third fourth = getD (opening ∷ map reader (readerCalls n first second third fourth)) number (reader unknown)
+callOf number n first second third fourth = getD (opening (n .x) ∷ map reader (readerCalls n first second third fourth)) number (reader unknown)
 
 -- ---- laws
 
@@ -66,7 +66,7 @@ not-among (suc n) h a b c d e f g k =
 
 pub no-call : (number : ℕ) (n : Numbers) (first second third fourth : List ℕ) → 24 ≤ number → callOf number n first second third fourth ≡ reader unknown
 unfolding callOf
-no-call number n first second third fourth h = List·getD-eq-default (opening ∷ map reader (readerCalls n first second third fourth)) (reader unknown) h
+no-call number n first second third fourth h = List·getD-eq-default (opening (n .x) ∷ map reader (readerCalls n first second third fourth)) (reader unknown) h
 
 -- any number but 0 has a call of an open reader
 mapped : (l : List ReaderCall) (n : ℕ) → getD (map reader l) n (reader unknown) ≡ reader (getD l n unknown)

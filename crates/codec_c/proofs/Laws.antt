@@ -1,5 +1,6 @@
 -- What each return of an exported function leaves, from what its callees ensure.
 use mathlib.Core.Path.{_≡_}
+use mathlib.Core.Bool.{true}
 use mathlib.Core.List.{List}
 use Prim.Native.Nat.{ℕ}
 use Rattle.crc.specs.Answers.{added}
@@ -11,14 +12,16 @@ use Rattle.errors.specs.Refusals.{Outcome, numbered}
 use Rattle.errors.specs.declared.Refusal.{Refusal}
 use Rattle.framing.specs.Build.{left, buildOf}
 use Rattle.framing.specs.Build as framing
+use Rattle.framing.specs.Padded.{parsePadded}
 use Rattle.framing.specs.Parse.{parseOf}
 use Rattle.framing.specs.declared.Built.{Built}
 use Rattle.framing.specs.declared.Built.the-variants as built
 use Rattle.framing.specs.declared.FrameFormat.{FrameFormat}
 use Rattle.framing.specs.declared.FrameType.{FrameType}
+use Rattle.framing.specs.declared.padded.Padded.{Padded}
 use Rattle.framing.specs.declared.settings.Setting.{Setting}
 use Rattle.framing.specs.declared.settings.Setting.the-variants.{Format, Nothing}
-use Rattle.codec_c.specs.Answers.{written, writtenOf, buildFor, appendB, foundOf, parsed, parseFor}
+use Rattle.codec_c.specs.Answers.{written, writtenOf, buildFor, appendB, foundOf, parsed, parseFor, parsedPadded, paddedFor}
 use Rattle.codec_c.specs.declared.Found.{Found}
 
 module _ (bytes out after : List ℕ) (count : ℕ) (r : Added) (e : _≡_ {A = Outcome × List ℕ} (crc.outcome r, after) (added typeB bytes out)) where
@@ -39,7 +42,16 @@ module _ (s t : Setting) (e : s ≡ t) where
   unfolding parseFor
   not-parsed packet places k h g = rw (← e, h, g)
 
+  pub not-padded : (packet : List ℕ) (places : Found) (zeros k : ℕ) → s ≡ Nothing → k ≡ 4 → parsedPadded k places zeros ≡ paddedFor t packet places zeros
+  unfolding paddedFor
+  not-padded packet places zeros k h g = rw (← e, h, g)
+
   module _ (f : FrameFormat) (h : s ≡ Format f) where
+    pub was-padded : (packet : List ℕ) (before places : Found) (zeros : ℕ) (a : Padded) → a ≡ parsePadded f true packet → places ≡ foundOf (a .found)
+        → parsedPadded 0 places (a .zeros) ≡ paddedFor t packet before zeros
+    unfolding paddedFor
+    was-padded packet before places zeros a g k = rw (← e, h, ← g, k)
+
     pub was-parsed : (packet : List ℕ) (before places : Found) (p : FrameType) → p ≡ parseOf f packet → places ≡ foundOf p → parsed 0 places ≡ parseFor t packet before
     unfolding parseFor
     was-parsed packet before places p g k = rw (← e, h, ← g, k)

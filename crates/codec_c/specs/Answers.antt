@@ -1,13 +1,16 @@
 -- What the C functions answer, and what they leave in the caller's memory. An answer is 0, or document 01's number of a refusal.
+use mathlib.Core.Bool.{true}
 use mathlib.Core.List.{List}
 use Prim.Native.Nat.{ℕ}
 use Rattle.crc.specs.Answers.{added}
 use Rattle.crc.specs.Crc.{typeB}
 use Rattle.errors.specs.Refusals.{Outcome, answered, refused, plain}
 use Rattle.framing.specs.Build.{buildOf}
+use Rattle.framing.specs.Padded.{parsePadded}
 use Rattle.framing.specs.Parse.{parseOf}
 use Rattle.framing.specs.declared.FrameType.{FrameType}
 use Rattle.framing.specs.declared.FrameType.the-variants.{Ack, Error, Data}
+use Rattle.framing.specs.declared.padded.Padded.{Padded}
 use Rattle.framing.specs.declared.settings.Setting.{Setting}
 use Rattle.framing.specs.declared.settings.Setting.the-variants.{Format}
 use Rattle.codec_c.specs.declared.Found.{Found}
@@ -57,3 +60,19 @@ parsed answer places = record { answer = answer; places = places }
 unfoldable pub parseFor : Setting → List ℕ → Found → Parsed
 parseFor (Format f) packet before = parsed 0 (foundOf (parseOf f packet))
 parseFor Setting.Nothing packet before = parsed 4 before
+
+-- the padded answer: the same, and the number of extra zeros
+pub record ParsedPadded : Type 0 where
+  pub answer : ℕ
+  pub places : Found
+  pub zeros : ℕ
+
+abbrev pub parsedPadded : ℕ → Found → ℕ → ParsedPadded
+parsedPadded answer places zeros = record { answer = answer; places = places; zeros = zeros }
+
+abbrev pub paddedOf : Padded → ParsedPadded
+paddedOf a = parsedPadded 0 (foundOf (a .found)) (a .zeros)
+
+unfoldable pub paddedFor : Setting → List ℕ → Found → ℕ → ParsedPadded
+paddedFor (Format f) packet before zeros = paddedOf (parsePadded f true packet)
+paddedFor Setting.Nothing packet before zeros = parsedPadded 4 before zeros

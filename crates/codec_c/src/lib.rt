@@ -4,7 +4,7 @@ ghost use Rattle.crc.specs.Crc.{typeA, typeB, checks};
 ghost use Rattle.errors.specs.Refusals.{numbered};
 ghost use Rattle.framing.specs.Frames.{checksumOf};
 ghost use Rattle.framing.specs.Settings.{settingOf};
-ghost use Rattle.codec_c.specs.Answers.{written, buildFor, appendB, found, foundOf, parsed, parseFor};
+ghost use Rattle.codec_c.specs.Answers.{written, buildFor, appendB, found, foundOf, parsed, parseFor, parsedPadded, paddedFor};
 use crc::Added;
 use errors::Refusal;
 use framing::Built;
@@ -109,6 +109,34 @@ pub extern "C" fn rcs956_frame_parse(
     *start = places.start;
     *len = places.len;
     *frame = places.frame;
+    0
+}
+
+// The same behind up to 16 extra zeros, with their number. The places are those of the packet as it came; the frame's length counts no
+// extra zeros.
+#[no_mangle]
+pub extern "C" fn rcs956_frame_parse_padded(
+    setting: u8,
+    packet: &[u8],
+    kind: &mut u8,
+    start: &mut usize,
+    len: &mut usize,
+    frame: &mut usize,
+    zeros: &mut usize,
+) -> u8
+    ensures { λ r. ⌜ parsedPadded r (found (now (kind .exit)) (now (start .exit)) (now (len .exit)) (now (frame .exit))) (now (zeros .exit)) ≡ paddedFor (settingOf setting) (now (packet .entry)) (found (now (kind .entry)) (now (start .entry)) (now (len .entry)) (now (frame .entry))) (now (zeros .entry)) ⌝ }
+{
+    let Setting::Format(format) = framing::settings::numbered(setting) else {
+        return number(Refusal::BadArgument);
+    };
+    let padded = framing::padded::parse_padded(format, true, packet);
+    let found = padded.found;
+    let at = encode(found);
+    *kind = at.kind;
+    *start = at.start;
+    *len = at.len;
+    *frame = at.frame;
+    *zeros = padded.zeros;
     0
 }
 

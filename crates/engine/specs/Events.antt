@@ -130,9 +130,9 @@ event-sims p w v agrees e b = rw (p .running) (event-advances p w v agrees e e b
 
 -- ---- a call begins
 
-pub open-sims : (v : Fields) (b : List ℕ) → Simulates true idle (openCore (coreWith v noCall) (heldAt v) b) (started opening (starts deviceNew))
+pub open-sims : (v : Fields) (mode : ℕ) (b : List ℕ) → Simulates true idle (openCore (coreWith v noCall) (heldAt v) b) (started (opening mode) (starts deviceNew))
 unfolding openCore
-open-sims v b =
+open-sims v mode b =
     let u : Fields = record {
       command = v .command;
       found = v .found;
@@ -144,7 +144,7 @@ open-sims v b =
       phaseFits = v .phaseFits;
     } in
     let p : Place = record {
-      call = opening;
+      call = opening mode;
       kind = 1;
       stage = 0;
       pending = take (v .pending) (v .command);

@@ -1,25 +1,28 @@
 -- The engine follows the session of the definitions, and so has demand 3.
-use mathlib.Core.Path.{_≡_, refl, sym, ap, subst}
+use mathlib.Core.Path.{_≡_, refl, sym, ap, _∙_, subst}
 use mathlib.Core.Bool.{Bool, true, false, cond, _||_}
-use mathlib.Core.List.{List}
+use mathlib.Core.List.{List, map}
 use Prim.Native.Nat.{ℕ, _≤_}
 use native.Mathlib.Omega.{arith}
+use borrow.Author.Tests.{ltb-true, ltb-false, le-leb, lt-leb}
 use lib.Dec.{eqb, ltb}
 use lib.ListN.{length, replicate}
 use Rattle.errors.specs.Choice.{pick}
 use Rattle.errors.specs.declared.Refusal.{Refusal}
-use Rattle.errors.specs.declared.Refusal.the-variants.{OutOfTurn, ShortBuffer}
+use Rattle.errors.specs.declared.Refusal.the-variants.{OutOfTurn, ShortBuffer, BadArgument}
 use Rattle.exchange.specs.Exchange.{Order, Event}
 use Rattle.exchange.specs.Steps.{exchangeAt}
-use Rattle.protocol.specs.Calls.{ReaderCall, opening, reader}
-use Rattle.protocol.specs.Session.{Running, idle, noBooks, ceiling, Entry, call, event, Outcome, unchanged as unchangedOf, runs as runsOf, ends, outcomeOf, after as afterOf, given, fresh, step}
+use Rattle.protocol.specs.Calls.{ReaderCall, opening, reader, isPaddedMode, startOf}
+use Rattle.protocol.specs.Session.{Running, idle, ceiling, seen, started, Entry, call, event, Outcome, unchanged as unchangedOf, runs as runsOf, ends, outcomeOf, after as afterOf, given, fresh, step}
 use Rattle.protocol.specs.Session as Meant
-use Rattle.protocol.specs.Follows.{plain, Machine, Obeys, obeys}
-use Rattle.engine.specs.Booking.{bookNumbers, books-in-range, open-flag, few-booked}
+use Rattle.protocol.specs.Follows.{plain, Machine, Obeys, obeys, entries, givenOut, stateAfter}
+use Rattle.protocol.specs.Reference.{offEntry, Plain, Padded, referenceOf, MachineSame, machine-reference, machine-plain}
+use Rattle.engine.specs.Booking.{bookNumbers, books-in-range, open-flag, mode-flag, no-books, few-booked}
+use Rattle.engine.specs.Books.{noBooks, booked as bookedBy}
 use Rattle.engine.specs.Core.{Held, After, unchanged, eventCore}
 use Rattle.engine.specs.Core.{isValid as validCore}
 use Rattle.engine.specs.Moves.{noCall, validCall}
-use Rattle.engine.specs.Sessions.{state, isValid, bookedAfter, sessionAfter, eventAfter, openAfter, startAfter, heldIn, freshSession}
+use Rattle.engine.specs.Sessions.{state, isValid, bookedAfter, sessionAfter, eventAfter, openIn, openAfter, startAfter, heldIn, freshSession}
 use Rattle.engine.specs.Inputs.{Input, opens, asks, tells, entryOf, outputOf, afterInput, act}
 use Rattle.engine.specs.Relation.{Place, Wait, callAt, Fields, coreWith, heldAt, Agrees, coreAt, runningAt, Represents, free, runs, Means}
 use Rattle.engine.specs.Simulation.{Simulates}
@@ -52,10 +55,18 @@ module _ (m : Running) (b : Meant.Books) (few : b .count ≤ ceiling) where
       record { means = record { call = h .represents; booked = h .booked b few; few = few-booked (runsOf c x phase) b few }; told = h .output }
   event-refines t room e a (ends c d) h = record { means = record { call = h .represents; booked = h .booked b few; few = few }; told = h .output }
 
-  opening-refines : (room : ℕ) (a : After Core) (x : Order) (phase : Meant.Phase) → Simulates true m a (runsOf opening x phase)
-      → Refines meant (call opening room) (bookedAfter true (bookNumbers noBooks) a) (runsOf opening x phase)
-  opening-refines room a x phase h =
-      record { means = record { call = h .represents; booked = h .booked noBooks (omega arith); few = few-booked (runsOf opening x phase) noBooks (omega arith) }; told = h .output }
+  opening-refines : (mode room : ℕ) (a : After Core) (x : Order) (phase : Meant.Phase) → mode ≤ 1 → Simulates true m a (runsOf (opening mode) x phase)
+      → Refines meant (call (opening mode) room) (bookedAfter true (noBooks mode) a) (runsOf (opening mode) x phase)
+  opening-refines mode room a x phase fits h =
+      let begun : Meant.Books = Meant.noBooks (isPaddedMode mode) in
+      record {
+        means = record {
+          call = h .represents;
+          booked = ap (bookedBy true (a .output)) (no-books mode fits) ∙ h .booked begun (omega arith);
+          few = few-booked (runsOf (opening mode) x phase) begun (omega arith);
+        };
+        told = h .output;
+      }
 
   call-refines : (q : ReaderCall) (room : ℕ) (a : After Core) (o : Outcome) → Simulates false m a o
       → Refines meant (call (reader q) room) (bookedAfter false (bookNumbers b) a) o
@@ -87,9 +98,10 @@ running-refines p w v agrees b few i = go i (in-range v (callAt p w) b (call-fit
 
     go : (i : Input) → isValid (state (coreAt p w v) (bookNumbers b)) ≡ true → eqb (p .kind) 0 ≡ false
         → Refines (meant (runningAt p w v) b few) (entryOf i) (afterInput (state (coreAt p w v) (bookNumbers b)) (heldAt v) i) (outcomeOf (runningAt p w v) b (entryOf i))
-    go (opens buffer) h k = rw (h, k) (refused-refines (runningAt p w v) b few _ OutOfTurn buffer here)
+    go (opens mode buffer) h k = rw (h, k) (refused-refines (runningAt p w v) b few _ OutOfTurn buffer here)
     go (asks q buffer) h k = rw (h, k) (refused-refines (runningAt p w v) b few _ OutOfTurn buffer here)
-    go (tells e buffer) h k = rw (h, p .opens) (event-refines (runningAt p w v) b few _ (length buffer) e _ _ (event-sims p w v agrees e buffer))
+    go (tells e buffer) h k =
+        rw (h, p .opens, mode-flag b) (event-refines (runningAt p w v) b few _ (length buffer) e _ _ (event-sims p w v agrees (seen (b .padded) e) buffer))
 
 or-true : (t : Bool) → (t || true) ≡ true
 or-true true = refl
@@ -110,11 +122,18 @@ free-refines v b few i = go i (in-range v noCall b refl)
     stays : (e : Entry) (r : Refusal) (buffer : List ℕ) → Refines (meant idle b few) e (unchanged (state (coreWith v noCall) (bookNumbers b)) (heldAt v) r buffer) (unchangedOf r)
     stays e r buffer = refused-refines idle b few e r buffer here
 
+    in-mode : (mode : ℕ) (buffer : List ℕ) (t : Bool) → ltb 1 mode ≡ t
+        → Refines (meant idle b few) (call (opening mode) (length buffer)) (openIn (state (coreWith v noCall) (bookNumbers b)) (heldAt v) mode buffer) (started (opening mode) (startOf (opening mode)))
+    in-mode mode buffer true e = rw (e, lt-leb mode 1 (ltb-true 1 mode e)) (stays _ BadArgument buffer)
+    in-mode mode buffer false e =
+        let fits : mode ≤ 1 = ltb-false 1 mode e in
+        rw (e, le-leb mode 1 fits) (opening-refines idle b few mode (length buffer) _ _ _ fits (open-sims v mode buffer))
+
     go : (i : Input) → isValid (state (coreWith v noCall) (bookNumbers b)) ≡ true
         → Refines (meant idle b few) (entryOf i) (afterInput (state (coreWith v noCall) (bookNumbers b)) (heldAt v) i) (outcomeOf idle b (entryOf i))
-    go (opens buffer) h =
+    go (opens mode buffer) h =
         rw (h, or-true (b .opened))
-        (refines-if (ltb (length buffer) 1024) (λ _. stays _ ShortBuffer buffer) (λ _. opening-refines idle b few (length buffer) _ _ _ (open-sims v buffer)))
+        (refines-if (ltb (length buffer) 1024) (λ _. stays _ ShortBuffer buffer) (λ _. in-mode mode buffer (ltb 1 mode) refl))
     go (asks q buffer) h =
         rw (h, open-flag b, or-false (b .opened))
         (refines-if (b .opened)
@@ -175,3 +194,12 @@ engine = record {
 -- demand 3 of the engine: for every list of entries, from a fresh session
 pub engine-demand3 : (is : List Input) → Obeys engine is
 engine-demand3 is = obeys engine is
+
+-- the padded mode of the engine against its reference; with no padded packet both modes are the same
+pub engine-reference : (is js : List Input) → Padded (entries engine is) → entries engine js ≡ referenceOf (entries engine is) → MachineSame engine is js
+engine-reference is js = machine-reference engine is js
+
+pub engine-plain : (is js : List Input) → Plain (entries engine is) → entries engine js ≡ map offEntry (entries engine is)
+    → (givenOut engine freshSession is ≡ givenOut engine freshSession js)
+    × ((stateAfter engine freshSession is) .state .books .frames ≡ (stateAfter engine freshSession js) .state .books .frames)
+engine-plain is js = machine-plain engine is js

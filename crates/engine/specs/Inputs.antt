@@ -31,22 +31,22 @@ outputOf (Refused r) b = rejects r
 
 -- a call or an event, each with the bytes of the buffer that is lent with it
 pub data Input : Type 0 where
-  opens : List ℕ → Input
+  opens : ℕ → List ℕ → Input  -- mode
   asks : ReaderCall → List ℕ → Input
   tells : Event → List ℕ → Input
 
 abbrev pub bufferOf : Input → List ℕ
-bufferOf (opens b) = b
+bufferOf (opens mode b) = b
 bufferOf (asks c b) = b
 bufferOf (tells e b) = b
 
 abbrev pub entryOf : Input → Entry
-entryOf (opens b) = call opening (length b)
+entryOf (opens mode b) = call (opening mode) (length b)
 entryOf (asks c b) = call (reader c) (length b)
 entryOf (tells e b) = event e (length b)
 
 abbrev pub afterInput : State → Held → Input → After State
-afterInput s f (opens b) = openedAt s f b
+afterInput s f (opens mode b) = openedAt s f mode b
 afterInput s f (asks c b) = startAfter s f (startFor c) b
 afterInput s f (tells e b) = eventAfter s f e b
 

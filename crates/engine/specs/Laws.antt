@@ -1,15 +1,15 @@
 -- Laws of what the session's functions do.
 use mathlib.Core.Path.{_≡_, refl, sym, ap, ap₂, _∙_, subst}
-use mathlib.Core.Bool.{Bool, true, false}
+use mathlib.Core.Bool.{Bool, true, false, cond}
 use mathlib.Core.List.{List, [], _∷_, _++_, append-assoc}
 use Prim.Native.Nat.{ℕ, _+_, _-_, _≤_, _<_}
 use native.Mathlib.Decide.{decLe}
 use native.Mathlib.Omega.{arith}
 use borrow.Rule.Slice.PartMut.{putMid}
 use borrow.Author.Tests.{le-ltb, leb-true}
-use lib.Dec.{leb}
+use lib.Dec.{leb, ltb}
 use lib.ListN.{length, take, drop, getD, length-append, length-drop, take-append-drop, length-take}
-use lib.Seq.{drop-cons, take-length, take-append-seam, drop-append-add, drop-drop, length-take-le, take-take}
+use lib.Seq.{drop-cons, take-length, take-all, take-append-seam, drop-append-add, drop-drop, length-take-le, take-take}
 use Rattle.errors.specs.Choice.{pick}
 use Rattle.errors.specs.Refusals.{answered, refused, numbered}
 use Rattle.errors.specs.declared.Refusal.{Refusal}
@@ -20,13 +20,21 @@ use Rattle.framing.specs.Enclose.{length-frame, start-most}
 use Rattle.framing.specs.Copied.{copied}
 use Rattle.framing.specs.Settings.{rcs956, commandPayload}
 use Rattle.framing.specs.Valid.{both-left, both-right}
+use Rattle.framing.specs.Padded.{extraZeros, unpadded}
+use Rattle.framing.specs.Unpadded.{extra-fits}
+use Rattle.exchange.specs.Exchange.{pkt}
 use Rattle.exchange.specs.Packets.{commandFrame}
-use Rattle.exchange.specs.Steps.{exchangeAt}
+use Rattle.exchange.specs.Steps.{exchangeAt, eventOf}
+use Rattle.exchange.specs.declared.Event.{Event}
+use Rattle.exchange.specs.declared.Event.the-variants.{Ok, Bad, Packet, Time, Fail, Late, Slept}
 use Rattle.exchange.specs.declared.Exchange.{Exchange}
 use Rattle.stages.specs.Put.{put}
 use Rattle.stages.specs.Stages.{Command}
 use Rattle.protocol.specs.Scripts.{type1}
-use Rattle.engine.specs.Core.{isValid, Held, After, endsOf, doneOf, answersOf, sendsOf, running, after}
+use Rattle.protocol.specs.Calls.{isPaddedMode}
+use Rattle.protocol.specs.Session.{seen}
+use Rattle.engine.specs.Books.{extraIn}
+use Rattle.engine.specs.Core.{isValid, Held, After, eventCore, endsOf, doneOf, answersOf, sendsOf, running, after}
 use Rattle.engine.specs.Moves.{validCall}
 use Rattle.engine.specs.declared.call.Call.{Call}
 use Rattle.engine.specs.declared.core.Core.{Core}
@@ -86,3 +94,39 @@ valid-command s h = leb-true (s .command) 512 (both-left (leb (s .command) 512) 
 pub valid-found : (s : Core) → isValid s ≡ true → s .found ≤ 1024
 unfolding isValid
 valid-found s h = leb-true (s .found) 1024 (both-left (leb (s .found) 1024) _ (both-right (leb (s .command) 512) _ h))
+
+-- the part of a packet behind what the mode takes off, n bytes, is what the mode sees of it
+module _ (n mode : ℕ) (packet : List ℕ) (is : n ≡ extraIn mode packet) where
+  part-seen : (e : Event) → eventOf e (drop n packet) ≡ seen (isPaddedMode mode) (eventOf e packet)
+  unfolding extraIn unpadded pick
+  part-seen e = rw is (go (isPaddedMode mode) e)
+    where
+      behind : (u : Bool) → drop (pick u 0 (extraZeros packet)) packet ≡ cond u packet (unpadded packet)
+      behind true = refl
+      behind false = refl
+
+      go : (t : Bool) (e : Event) → eventOf e (drop (pick t (pick (ltb 1024 (length packet)) 0 (extraZeros packet)) 0) packet) ≡ seen t (eventOf e packet)
+      go false e = refl
+      go true Ok = refl
+      go true Bad = refl
+      go true Packet = ap pkt (behind (ltb 1024 (length packet)))
+      go true Time = refl
+      go true Fail = refl
+      go true Late = refl
+      go true Slept = refl
+
+  pub extra-few : n ≤ length packet
+  unfolding extraIn pick
+  extra-few = rw is (go (isPaddedMode mode) (ltb 1024 (length packet)))
+    where
+      go : (t u : Bool) → pick t (pick u 0 (extraZeros packet)) 0 ≤ length packet
+      go true true = omega arith
+      go true false = extra-fits packet
+      go false u = omega arith
+
+  -- the part is `&packet[n..]`
+  pub event-seen : (s : Core) (f : Held) (e : Event) (b : List ℕ)
+      → eventCore s f (eventOf e (take (length packet - n) (drop n packet))) b ≡ eventCore s f (seen (isPaddedMode mode) (eventOf e packet)) b
+  event-seen s f e b =
+      let all : take (length packet - n) (drop n packet) ≡ drop n packet = take-all (length packet - n) (drop n packet) (rw (length-drop n packet) (omega arith)) in
+      ap (λ p. eventCore s f (eventOf e p) b) all ∙ ap (λ d. eventCore s f d b) (part-seen e)

@@ -19,7 +19,7 @@ use Rattle.engine.specs.declared.numbered.Known.{Known}
 use Rattle.engine.specs.declared.numbered.Known.the-variants.{Is, Not}
 
 abbrev pub callInput : Call → List ℕ → Input
-callInput opening b = opens b
+callInput (opening mode) b = opens mode b
 callInput (reader c) b = asks c b
 
 -- the events in the order of their numbers; a packet's bytes go with 2 alone
@@ -46,6 +46,6 @@ reader-input zero n first second third fourth b s f h = absurd (h refl)
 reader-input (suc k) n first second third fourth b s f h = rw (reader-call k n first second third fourth)
 
 pub opening-input : (number : ℕ) (n : Numbers) (first second third fourth b : List ℕ) (s : State) (f : Held) → number ≡ 0
-    → openAfter s f b ≡ afterInput s f (callInput (callOf number n first second third fourth) b)
+    → openAfter s f (n .x) b ≡ afterInput s f (callInput (callOf number n first second third fourth) b)
 unfolding callOf
 opening-input number n first second third fourth b s f h = rw h

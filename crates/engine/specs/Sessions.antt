@@ -5,9 +5,11 @@ use Prim.Native.Nat.{ℕ}
 use lib.Dec.{eqb, ltb}
 use lib.ListN.{length, replicate}
 use Rattle.errors.specs.Choice.{pick}
-use Rattle.errors.specs.declared.Refusal.the-variants.{OutOfTurn, ShortBuffer}
+use Rattle.errors.specs.declared.Refusal.the-variants.{OutOfTurn, ShortBuffer, BadArgument}
 use Rattle.framing.specs.Lists.{both}
 use Rattle.exchange.specs.Exchange.{Event}
+use Rattle.protocol.specs.Calls.{isPaddedMode}
+use Rattle.protocol.specs.Session.{seen}
 use Rattle.stages.specs.Starts.{Start}
 use Rattle.engine.specs.Books.{noBooks, isInRange, isOpen, booked}
 use Rattle.engine.specs.Core.{noCore, Held, held, After, after, unchanged, eventCore, openCore, startOn}
@@ -36,9 +38,10 @@ bookedAfter isOpening b a = after (state (a .state) (booked isOpening (a .output
 
 -- ---- the entries: a session out of range is refused with 1
 
+-- an event is taken as the mode sees it
 unfoldable pub eventAfter : State → Held → Event → List ℕ → After State
 eventAfter s f e b =
-    pick (isValid s) (bookedAfter (eqb (s .core .call .kind) 1) (s .books) (eventCore (s .core) f e b)) (unchanged s f OutOfTurn b)
+    pick (isValid s) (bookedAfter (eqb (s .core .call .kind) 1) (s .books) (eventCore (s .core) f (seen (isPaddedMode (s .books .mode)) e) b)) (unchanged s f OutOfTurn b)
 
 -- a call: 1, 2, then its own refusals
 abbrev pub isFree : State → Bool
@@ -47,9 +50,12 @@ isFree s = both (isValid s) (eqb (s .core .call .kind) 0)
 abbrev pub withRoom : State → Held → List ℕ → After State → After State
 withRoom s f b x = pick (ltb (length b) 1024) (unchanged s f ShortBuffer b) x
 
--- an opening begins the books anew
-unfoldable pub openAfter : State → Held → List ℕ → After State
-openAfter s f b = pick (isFree s) (withRoom s f b (bookedAfter true noBooks (openCore (s .core) f b))) (unchanged s f OutOfTurn b)
+-- an opening begins the books anew, in a mode that there is
+abbrev pub openIn : State → Held → ℕ → List ℕ → After State
+openIn s f mode b = pick (ltb 1 mode) (unchanged s f BadArgument b) (bookedAfter true (noBooks mode) (openCore (s .core) f b))
+
+unfoldable pub openAfter : State → Held → ℕ → List ℕ → After State
+openAfter s f mode b = pick (isFree s) (withRoom s f b (openIn s f mode b)) (unchanged s f OutOfTurn b)
 
 -- a call of an open reader
 abbrev pub isAdmitted : State → Bool
@@ -80,5 +86,5 @@ freshSession =
     record {
       command = replicate 512 0;
       found = replicate 1024 0;
-      state = state noCore noBooks;
+      state = state noCore (noBooks 0);
     }

@@ -10,7 +10,7 @@ use lib.ListN.{length}
 use Rattle.errors.specs.Choice.{pick}
 use Rattle.errors.specs.Refusals.{numbered}
 use Rattle.errors.specs.declared.Refusal.{Refusal}
-use Rattle.errors.specs.declared.Refusal.the-variants.{OutOfTurn, ShortBuffer, OverLong}
+use Rattle.errors.specs.declared.Refusal.the-variants.{OutOfTurn, ShortBuffer, OverLong, BadArgument}
 use Rattle.errors.specs.declared.Fault.{Fault}
 use Rattle.exchange.specs.Exchange.{Order, write, read, drain, pause, Event}
 use Rattle.exchange.specs.declared.Exchange.{Exchange}
@@ -162,12 +162,13 @@ module _ (s : State) (f : Held) (b : List ℕ) where
         );
   }
 
-  open-stays : Stays (openAfter s f b)
+  open-stays : (mode : ℕ) → Stays (openAfter s f mode b)
   unfolding openAfter openCore
-  open-stays =
+  open-stays mode =
       by-pick Stays (isFree s) _ _
       (by-pick Stays (ltb (length b) 1024) _ _ (refuses-once ShortBuffer)
-      (record { early = λ r e. absurd (other-class e (λ z. omega (arith, z))); late = λ r e. absurd (other-class e (λ z. omega (arith, z))) }))
+      (by-pick Stays (ltb 1 mode) _ _ (refuses-once BadArgument)
+      (record { early = λ r e. absurd (other-class e (λ z. omega (arith, z))); late = λ r e. absurd (other-class e (λ z. omega (arith, z))) })))
       (refuses-once OutOfTurn)
 
   start-stays : (x : Start) → Stays (startAfter s f x b)
@@ -181,10 +182,10 @@ module _ (s : State) (f : Held) (b : List ℕ) where
   event-stays : (e : Event) → Stays (eventAfter s f e b)
   unfolding eventAfter
   event-stays e =
-      by-test Stays (isValid s) _ _ (λ valid. booked-stays _ _ valid (event-keeps (s .core) f b e)) (refuses-once OutOfTurn)
+      by-test Stays (isValid s) _ _ (λ valid. booked-stays _ _ valid (event-keeps (s .core) f b _)) (refuses-once OutOfTurn)
 
 all-stay : (s : State) (f : Held) (i : Input) → Stays s f (bufferOf i) (afterInput s f i)
-all-stay s f (opened b) = open-stays s f b
+all-stay s f (opened mode b) = open-stays s f b mode
 all-stay s f (asks q b) = start-stays s f b (startFor q)
 all-stay s f (tells e b) = event-stays s f b e
 

@@ -1,19 +1,26 @@
 // The reader's books: what a session keeps beside its running call.
 use super::core::Output;
+use framing::padded::extra_zeros;
 ghost use mathlib.Core.Path.{_≡_};
-ghost use Rattle.engine.specs.Books.{isInRange, noBooks, isOpen, oneMore, counted, ended, booked as bookedOf};
+ghost use Rattle.engine.specs.Books.{isInRange, noBooks, isOpen, extraIn, oneMore, counted, ended, booked as bookedOf};
 
 pub const CLOSED: u8 = 0;
 
 pub const OPEN: u8 = 1;
 
+// The modes: packets start with 00 00 FF, or up to 16 more zeros may stand before them.
+pub const OFF: u8 = 0;
+
+pub const PADDED: u8 = 1;
+
 // The frame count stops here.
 pub const CEILING: u32 = 4294967295;
 
-// Whether the reader is open, and the command frames ordered since the last opening began.
+// Whether the reader is open, the mode that the last opening chose, and the command frames ordered since that began.
 #[repr(C)]
 pub struct Books {
     pub opened: u8,
+    pub mode: u8,
     pub frames: u32,
 }
 
@@ -25,12 +32,13 @@ fn one_more(frames: u32) -> u32
 }
 
 impl Books {
-    // Of a fresh session, and where an opening begins.
-    pub fn none() -> Books
-        ensures { λ r. ⌜ r ≡ noBooks ⌝ }
+    // Where an opening begins, in its mode. Those of a fresh session have it off.
+    pub fn none(mode: u8) -> Books
+        ensures { λ r. ⌜ r ≡ noBooks mode ⌝ }
     {
         Books {
             opened: CLOSED,
+            mode,
             frames: 0,
         }
     }
@@ -39,7 +47,11 @@ impl Books {
     pub fn is_in_range(self) -> bool
         ensures { λ r. ⌜ r ≡ isInRange self ⌝ }
     {
-        self.opened <= OPEN
+        if self.opened <= OPEN {
+            self.mode <= PADDED
+        } else {
+            false
+        }
     }
 
     // The reader is open.
@@ -49,11 +61,26 @@ impl Books {
         self.opened == OPEN
     }
 
+    // How many bytes the mode takes off a packet's start: its extra zeros, unless it is over-long.
+    pub fn extra_zeros(self, packet: &[u8]) -> usize
+        ensures { λ r. ⌜ r ≡ extraIn (self .mode) (now (packet .entry)) ⌝ }
+    {
+        if self.mode == PADDED {
+            if 1024 < packet.len() {
+                return 0;
+            }
+            extra_zeros(packet)
+        } else {
+            0
+        }
+    }
+
     fn counted(self) -> Books
         ensures { λ r. ⌜ r ≡ counted self ⌝ }
     {
         Books {
             opened: self.opened,
+            mode: self.mode,
             frames: one_more(self.frames),
         }
     }
@@ -65,6 +92,7 @@ impl Books {
         if opening {
             Books {
                 opened,
+                mode: self.mode,
                 frames: self.frames,
             }
         } else {

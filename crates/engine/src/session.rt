@@ -1,5 +1,6 @@
 // The session and its entries: a call or an event goes in with the buffer; the session comes back with an order or an answer.
 use super::books::Books;
+use super::books::OFF;
 use super::core::Core;
 use super::core::Output;
 use super::state::State;
@@ -31,7 +32,7 @@ impl Session {
     {
         let state = State {
             core: Core::none(),
-            books: Books::none(),
+            books: Books::none(OFF),
         };
         Session {
             command: [0; 512],

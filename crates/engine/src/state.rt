@@ -1,5 +1,6 @@
 // A session's numbers: the running call and the reader's books around it. A call is admitted and what comes out is booked here.
 use super::books::Books;
+use super::books::PADDED;
 use super::call::NO_CALL;
 use super::call::OPEN;
 use super::core::Core;
@@ -86,7 +87,8 @@ impl State {
             let core = self.core;
             let books = self.books;
             let call = core.call;
-            let progress = core.event(event, packet, command, found, buffer);
+            let extra = books.extra_zeros(packet);
+            let progress = core.event(event, &packet[extra..], command, found, buffer);
             Effect::booked(books, call.kind == OPEN, progress)
         } else {
             self.refused(Refusal::OutOfTurn)
@@ -118,17 +120,20 @@ impl State {
         }
     }
 
-    // An opening begins the books anew.
-    fn open(self, buffer: &mut [u8]) -> Effect
-        ensures { λ r. ⌜ ((f : Held) → effected r f (now (buffer .exit)) ≡ openAfter self f (now (buffer .entry))) ⌝ }
+    // An opening begins the books anew, in its mode.
+    fn open(self, mode: u8, buffer: &mut [u8]) -> Effect
+        ensures { λ r. ⌜ ((f : Held) → effected r f (now (buffer .exit)) ≡ openAfter self f mode (now (buffer .entry))) ⌝ }
     {
         if self.is_free() {
             if buffer.len() < 1024 {
                 return self.refused(Refusal::ShortBuffer);
             }
+            if mode > PADDED {
+                return self.refused(Refusal::BadArgument);
+            }
             let core = self.core;
             let progress = core.open(buffer);
-            Effect::booked(Books::none(), true, progress)
+            Effect::booked(Books::none(mode), true, progress)
         } else {
             self.refused(Refusal::OutOfTurn)
         }
@@ -149,7 +154,7 @@ impl State {
         ensures { λ r. ⌜ ((f : List ℕ) → effected r (held (now (command .exit)) f) (now (buffer .exit)) ≡ afterInput self (held (now (command .entry)) f) (callInput (callOf number numbers (now (first .entry)) (now (second .entry)) (now (third .entry)) (now (fourth .entry))) (now (buffer .entry)))) ⌝ }
     {
         if number == start::OPEN {
-            return self.open(buffer);
+            return self.open(numbers.x, buffer);
         }
         if self.is_admitted() {
             if buffer.len() < 1024 {

@@ -13,3 +13,6 @@ pub mod Copied
 pub mod Settings
 pub mod Exact
 pub mod RoundTrip
+pub mod Padded
+pub mod Unpadded
+pub mod PaddedAnswers

@@ -1,5 +1,6 @@
 // Frames on the host link of the PN532 family (framing.rs): checksums, the six settings, build and parse.
 pub mod frame;
+pub mod padded;
 pub mod settings;
 mod sums;
 

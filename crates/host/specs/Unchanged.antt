@@ -87,7 +87,7 @@ step-kept s i = record {
     late (later r e) h = refused-ends s i r e
 
 call-kept : (s : Session) (c : Call) (b : List ℕ) → Kept s b (reportOf (stepWith s (callInput c b)))
-call-kept s opening b = step-kept s (opens b)
+call-kept s (opening mode) b = step-kept s (opens mode b)
 call-kept s (reader c) b = step-kept s (asks c b)
 
 event-kept : (s : Session) (e : Option Event) (b : List ℕ) → Kept s b (reportWith s (eventInput e b) b)

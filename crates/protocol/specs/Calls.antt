@@ -55,9 +55,9 @@ pub data ReaderCall : Type 0 where
   device : DeviceCall → ReaderCall
   unknown : ReaderCall
 
--- any call; `opening` is the bench program's `open`, which is a word of this language
+-- any call; `opening` is the bench program's `open`, which is a word of this language, with the number of its mode
 pub data Call : Type 0 where
-  opening : Call
+  opening : ℕ → Call
   reader : ReaderCall → Call
 
 -- what becomes of a call's arguments: a refusal at once (4, 5, 6, 3 in this order), or a script
@@ -72,7 +72,7 @@ dataLimit = 512
 abbrev pub limited : List ℕ → Script → Start
 limited bytes s = cond (ltb dataLimit (length bytes)) (refuses OverLong) (starts s)
 
--- what the Rust asserts, else 4
+-- what the Rust asserts, and a mode that there is, else 4
 abbrev pub asserted : Bool → Start → Start
 asserted holds s = cond holds s (refuses BadArgument)
 
@@ -227,16 +227,23 @@ readerStart (request r) = requestStart r
 readerStart (device d) = deviceStart d
 readerStart unknown = refuses BadArgument
 
+-- the modes of a session (document 02, N2): off, and padded, in which packets may have extra zeros before their start
+abbrev pub paddedMode : ℕ
+paddedMode = 1
+
+abbrev pub isPaddedMode : ℕ → Bool
+isPaddedMode mode = eqb mode paddedMode
+
 abbrev pub startOf : Call → Start
-startOf opening = starts deviceNew
+startOf (opening mode) = asserted (leb mode paddedMode) (starts deviceNew)
 startOf (reader c) = readerStart c
 
 -- the opening, whose script follows `Chipset::new`
 abbrev pub isOpening : Call → Bool
-isOpening opening = true
+isOpening (opening mode) = true
 isOpening (reader c) = false
 
 -- the most command frames that the call orders
 abbrev pub limit : Call → ℕ
-limit opening = 10
+limit (opening mode) = 10
 limit (reader c) = 4

@@ -1,12 +1,13 @@
 -- Every call's script is sound: a line for each call.
 use mathlib.Core.List.{List, []}
 use Prim.Native.Nat.{ℕ}
+use lib.Dec.{leb}
 use Rattle.protocol.specs.Discovery as discovery
 use Rattle.protocol.specs.Calls.{Request, version, resetMode, setParameters, rfConfiguration, rfFieldOff, readRegister, writeRegister, readSingleRegister, writeSingleRegister, inListPassiveTarget, inDataExchange, inCommunicateThru, inJumpForDep, tgInitTarget, tgSetGeneralBytes, tgGetInitiatorCommand, tgResponseToInitiator, tgGetTargetStatus}
 use Rattle.protocol.specs.Calls.{DeviceCall, detectTypeA, detectTypeB, detectTypeF, detectDep, transceive}
 use Rattle.protocol.specs.Calls.{Call, opening, reader, request, device, unknown, requestStart, deviceStart, startOf, limit}
-use Rattle.protocol.specs.Own.{onlyCards, requestForm, deviceForm, formOf}
-use Rattle.protocol.specs.Sound.{Within, Correct, Sound, version-name, correct-rules, sound-rules}
+use Rattle.protocol.specs.Own.{onlyCards, versionAndName, requestForm, deviceForm, formOf}
+use Rattle.protocol.specs.Sound.{Within, Correct, Sound, sound-if, version-name, correct-rules, sound-rules}
 
 request-sound : (r : Request) → Sound (requestForm r) (requestStart r) 4
 request-sound version = search sound-rules depth 60
@@ -39,7 +40,8 @@ device-sound (detectDep text atrReq) = search sound-rules depth 60
 device-sound (transceive text selRes ridRes bytes ms) = search sound-rules depth 60
 
 pub sound : (c : Call) → Sound (formOf c) (startOf c) (limit c)
-sound opening = (search sound-rules depth 60, search (version-name, correct-rules) depth 60 fits 4000)
+sound (opening mode) =
+    sound-if versionAndName (leb mode 1) _ _ 10 (search sound-rules depth 60, search (version-name, correct-rules) depth 60 fits 4000) tt
 sound (reader (request r)) = request-sound r
 sound (reader (device d)) = device-sound d
 sound (reader unknown) = search sound-rules depth 60

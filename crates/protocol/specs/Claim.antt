@@ -11,7 +11,7 @@ use Rattle.protocol.specs.Scripts.{Byte, card, Answer, done, type1, noth
 use Rattle.protocol.specs.Calls.{Call, limit}
 use Rattle.protocol.specs.Own.{Formed, formOf}
 use Rattle.protocol.specs.Session.{Entry, Output, ceiling}
-use Rattle.protocol.specs.Record.{Item, ordered, accepted, Record, Note, recordOf, linesOf, frames, events, allowed, framesSinceOpening}
+use Rattle.protocol.specs.Record.{Item, ordered, accepted, Record, Note, recordOf, asSeen, linesOf, frames, events, allowed, framesSinceOpening}
 
 -- what may stand between a command's write order and the packet that serves it: read orders, the write's `ok`, ACK-led packets
 abbrev pub allowedBetween : Item → Bool
@@ -83,8 +83,8 @@ Once l = (n m j k : ℕ) (bs cs : List ℕ) (s : Serves l n j bs) (t : Serves l 
 
 -- Demand 3, of a list of entries, what was given out for each, and the frame count after them: every call keeps to its frames
 -- and events, its card bytes are at their places, and its other bytes are those of its form; no packet serves two commands; the
--- count is the record's.
+-- count is the record's. Packets are those that the mode of their call sees.
 pub record Demand3 (es : List Entry) (outs : List (Output Byte)) (count : ℕ) : Type 0 where
-  pub calls : Claims ((recordOf es outs) .lines) ((recordOf es outs) .notes)
-  pub once : Once ((recordOf es outs) .lines)
+  pub calls : Claims ((asSeen (recordOf es outs)) .lines) ((recordOf es outs) .notes)
+  pub once : Once ((asSeen (recordOf es outs)) .lines)
   pub counted : count ≡ min (framesSinceOpening ((recordOf es outs) .lines) ((recordOf es outs) .notes)) ceiling

@@ -10,12 +10,13 @@ use lib.ListN.{length}
 use Rattle.exchange.specs.Packets.{isAck}
 use Rattle.exchange.specs.Exchange.{Order, write, read, drain, pause, Event, unfit, pending, ended}
 use Rattle.protocol.specs.Scripts.{Byte, Answer}
-use Rattle.protocol.specs.Calls.{Call, Start, refuses, starts, startOf, isOpening}
-use Rattle.protocol.specs.Session.{CallResult, begin, progress, Running, idle, busy, Books, noBooks, admits, booksFor, ceiling, addFrame, counted, Session, fresh, Entry, call, event}
-use Rattle.protocol.specs.Session.{Outcome, outcome, bufferNeed, packetLimit, packetLength, admitted, eventOutcome, started, callOutcome, outcomeOf, booksAfter, given, step, outputs, sessionAfter}
-use Rattle.protocol.specs.Record.{Item, ordered, accepted, Record, Note, note, Observed, observed, addCall, addEvent, add, observe, recordOf, linesOf, oneIf, frames, framesSinceOpening}
+use Rattle.protocol.specs.Calls.{Call, opening, reader, Start, refuses, starts, startOf, isOpening}
+use Rattle.protocol.specs.Session.{CallResult, begin, progress, Running, idle, busy, Books, admits, booksFor, ceiling, addFrame, counted, Session, fresh, Entry, call, event}
+use Rattle.protocol.specs.Session.{Outcome, outcome, bufferNeed, packetLimit, seen, packetLength, admitted, eventOutcome, started, callOutcome, outcomeOf, booksAfter, given, step, outputs, sessionAfter}
+use Rattle.protocol.specs.Record.{Item, ordered, accepted, Record, Note, note, Observed, observed, addCall, addEvent, add, observe, recordOf, linesOf, seenLines, oneIf, frames, framesSinceOpening}
 use Rattle.protocol.specs.Laws.{split, lines-own, lines-other}
-use Rattle.protocol.specs.Theorem.{Unused, Agrees, AgreesWith, agrees, fresh-agrees}
+use Rattle.protocol.specs.Theorem.{Agrees, AgreesWith, unused, agrees, fresh-agrees}
+use Rattle.protocol.specs.Seen.{Unused, no-lines}
 
 -- an order, on top of m frames of other calls
 counted-right : (k : ℕ) (xs : List Item) (x : Order) (m : ℕ) → k ≡ min (frames xs + m) ceiling → counted x k ≡ min (frames (ordered x ∷ xs) + m) ceiling
@@ -47,18 +48,21 @@ module _ (b : Books) (l : Record) (ns : List Note) (c : Call) (room : ℕ) (u : 
   Starts o = Right ((booksAfter b (call c room) o) .count) (addCall c l ns (given o))
 
   -- the count from which the call starts, and its first order
-  base : (t : Bool) → (cond t noBooks b) .count ≡ min (0 + cond t 0 (framesSinceOpening l ns)) ceiling
-  base true = omega arith
-  base false = omega arith
+  base : (d : Call) → (booksFor d b) .count ≡ min (0 + cond (isOpening d) 0 (framesSinceOpening l ns)) ceiling
+  base (opening mode) = omega arith
+  base (reader d) = omega arith
+
+  no-line : linesOf n l ≡ []
+  no-line = no-lines l n n u (omega arith)
 
   ordered-right : (x : Order) → counted x ((booksFor c b) .count) ≡ min (framesSinceOpening ((n, ordered x) ∷ l) (note c none ∷ ns)) ceiling
   ordered-right x =
-      rw (lines-own n l (ordered x) [] (u n (omega arith)), older l n (ordered x) ns (omega arith))
-      (counted-right ((booksFor c b) .count) [] x (cond (isOpening c) 0 (framesSinceOpening l ns)) (base (isOpening c)))
+      rw (lines-own n l (ordered x) [] no-line, older l n (ordered x) ns (omega arith))
+      (counted-right ((booksFor c b) .count) [] x (cond (isOpening c) 0 (framesSinceOpening l ns)) (base c))
 
   -- a call that ends at once
   ended-right : (a : Answer Byte) → Right ((booksFor c b) .count) (observed l (note c (some a) ∷ ns))
-  ended-right a = let z : frames (linesOf n l) ≡ 0 = ap frames (u n (omega arith)) in rw z (base (isOpening c))
+  ended-right a = let z : frames (linesOf n l) ≡ 0 = ap frames no-line in rw z (base c)
 
   begin-right : (r : CallResult) → Starts (outcome c r)
   begin-right unfit = right
@@ -97,31 +101,33 @@ module _ (c : Call) (b : Books) (l : Record) (y : Note) (ns : List Note) (e : Ev
       rw (own, old) (counted-right (b .count) (accepted e ∷ linesOf k l) x (cond (isOpening (y .call)) 0 (framesSinceOpening l ns)) (omega arith))
   goes-right (ended a) = accepted-right (some a)
 
-  admitted-right : (o : Outcome) → Goes o → Goes (admitted e room o)
-  admitted-right o h =
-      split Goes (ltb room bufferNeed) _ _ (λ _. right) (λ _. split Goes (ltb packetLimit (packetLength e)) _ _ (λ _. right) (λ _. h))
+  -- d: the event as it is seen
+  admitted-right : (d : Event) (o : Outcome) → Goes o → Goes (admitted d room o)
+  admitted-right d o h =
+      split Goes (ltb room bufferNeed) _ _ (λ _. right) (λ _. split Goes (ltb packetLimit (packetLength d)) _ _ (λ _. right) (λ _. h))
 
-  event-right : (r : CallResult) → Goes (eventOutcome c e room r)
-  event-right unfit = right
-  event-right (pending x new) = admitted-right (outcome c (pending x new)) (goes-right (pending x new))
-  event-right (ended a) = admitted-right (outcome c (ended a)) (goes-right (ended a))
+  event-right : (d : Event) (r : CallResult) → Goes (eventOutcome c d room r)
+  event-right d unfit = right
+  event-right d (pending x new) = admitted-right d (outcome c (pending x new)) (goes-right (pending x new))
+  event-right d (ended a) = admitted-right d (outcome c (ended a)) (goes-right (ended a))
 
 -- ---- any list
 
-entry-right : (p : Running) (b : Books) (l : Record) (ns : List Note) (e : Entry) → Agrees p l ns → Right (b .count) (observed l ns)
+entry-right : (p : Running) (b : Books) (l : Record) (ns : List Note) (e : Entry) → Agrees p (seenLines l ns) ns → Unused l (length ns) → Right (b .count) (observed l ns)
     → Right ((booksAfter b e (outcomeOf p b e)) .count) (add (observed l ns) e (given (outcomeOf p b e)))
-entry-right idle b l ns (call c room) i r = call-right b l ns c room (i .1) r (admits b c)
-entry-right idle b l [] (event e room) i r = r
-entry-right idle b l (y ∷ ns) (event e room) i r = r
-entry-right (busy d phase) b l ns (call c room) i r = r
-entry-right (busy c phase) b l [] (event e room) i r = absurd i
-entry-right (busy c phase) b l (y ∷ ns) (event e room) i r = event-right c b l y ns e room r (progress phase e)
+entry-right idle b l ns (call c room) i u r = call-right b l ns c room u r (admits b c)
+entry-right idle b l [] (event e room) i u r = r
+entry-right idle b l (y ∷ ns) (event e room) i u r = r
+entry-right (busy d phase) b l ns (call c room) i u r = r
+entry-right (busy c phase) b l [] (event e room) i u r = absurd i
+entry-right (busy c phase) b l (y ∷ ns) (event e room) i u r =
+    event-right c b l y ns e room r (seen (b .padded) e) (progress phase (seen (b .padded) e))
 
 right-after : (s : Session) (w : Observed) (es : List Entry) → AgreesWith s w → Right (s .books .count) w
     → Right ((sessionAfter s es) .books .count) (observe w es (outputs s es))
 right-after s w [] i r = r
 right-after s w (e ∷ es) i r =
-    right-after ((step s e) .0) (add w e ((step s e) .1)) es (agrees s w e i) (entry-right (s .running) (s .books) (w .lines) (w .notes) e i r)
+    right-after ((step s e) .0) (add w e ((step s e) .1)) es (agrees s w e i) (entry-right (s .running) (s .books) (w .lines) (w .notes) e (i .running) (unused s w i) r)
 
 pub count-right : (es : List Entry) → Right ((sessionAfter fresh es) .books .count) (recordOf es (outputs fresh es))
 count-right es = right-after fresh (observed [] []) es fresh-agrees (omega arith)

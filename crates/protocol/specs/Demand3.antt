@@ -1,7 +1,7 @@
 -- Demand 3: from a fresh session, for every list of entries. The statement is `Demand3` in Claim.
 use mathlib.Core.List.{List}
 use Rattle.protocol.specs.Session.{Entry, fresh, outputs, sessionAfter}
-use Rattle.protocol.specs.Record.{recordOf}
+use Rattle.protocol.specs.Record.{recordOf, asSeen}
 use Rattle.protocol.specs.Claim.{Demand3}
 use Rattle.protocol.specs.Theorem.{all-claims}
 use Rattle.protocol.specs.Once.{once}
@@ -10,6 +10,6 @@ use Rattle.protocol.specs.Count.{count-right}
 pub demand3 : (es : List Entry) → Demand3 es (outputs fresh es) ((sessionAfter fresh es) .books .count)
 demand3 es = record {
   calls = all-claims es;
-  once = once ((recordOf es (outputs fresh es)) .lines);
+  once = once ((asSeen (recordOf es (outputs fresh es))) .lines);
   counted = count-right es;
 }

@@ -61,10 +61,11 @@ module _ (M : Machine) where
   still-means s m h [] = h
   still-means s m h (i ∷ is) = still-means ((M .act s i) .0) ((step m (M .entry i)) .0) ((M .follows s m i h) .0) is
 
+  pub same-given : (is : List (M .Input)) → givenOut (M .new) is ≡ map plain (outputs fresh (entries is))
+  same-given is = same-out (M .new) fresh (M .begins) is
+
+  pub same-count : (is : List (M .Input)) → M .count (stateAfter (M .new) is) ≡ (sessionAfter fresh (entries is)) .books .count
+  same-count is = M .counts (stateAfter (M .new) is) (sessionAfter fresh (entries is)) (still-means (M .new) fresh (M .begins) is)
+
   pub obeys : (is : List (M .Input)) → Obeys is
-  obeys is = record {
-    same = same-out (M .new) fresh (M .begins) is;
-    demand =
-        rw (M .counts (stateAfter (M .new) is) (sessionAfter fresh (entries is)) (still-means (M .new) fresh (M .begins) is))
-        (demand3 (entries is));
-  }
+  obeys is = record { same = same-given is; demand = rw (same-count is) (demand3 (entries is)) }

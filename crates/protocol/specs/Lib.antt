@@ -19,6 +19,8 @@ pub mod Sound
 pub mod CallsSound
 pub mod Invariant
 pub mod Kept
+pub mod Seen
 pub mod Theorem
 pub mod Once
 pub mod Count
+pub mod Reference

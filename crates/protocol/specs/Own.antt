@@ -112,7 +112,7 @@ deviceForm (detectDep text atrReq) = depAndCards
 deviceForm (transceive text selRes ridRes sent ms) = onlyCards
 
 abbrev pub formOf : Call → Form
-formOf opening = versionAndName
+formOf (opening mode) = versionAndName
 formOf (reader (request r)) = requestForm r
 formOf (reader (device d)) = deviceForm d
 formOf (reader unknown) = onlyCards

@@ -10,8 +10,8 @@ use Rattle.framing.specs.Lists.{same}
 use Rattle.exchange.specs.Packets.{commandFrame, resetCode, resetData, isAck, ackLed, isEmpty}
 use Rattle.exchange.specs.Exchange.{Order, write, read, drain, pause, Event, onRead}
 use Rattle.protocol.specs.Scripts.{Byte, Answer}
-use Rattle.protocol.specs.Calls.{Call, isOpening}
-use Rattle.protocol.specs.Session.{Entry, call, event, Output, orders, answers, rejects}
+use Rattle.protocol.specs.Calls.{Call, opening, reader, isOpening, isPaddedMode}
+use Rattle.protocol.specs.Session.{seen, Entry, call, event, Output, orders, answers, rejects}
 
 -- ---- the record
 
@@ -69,6 +69,34 @@ recordOf es outs = observe (observed [] []) es outs
 abbrev pub linesOf : ℕ → Record → List Item
 linesOf n [] = []
 linesOf n (x ∷ l) = cond (eqb n (x .0)) (x .1 ∷ linesOf n l) (linesOf n l)
+
+-- ---- packets as the mode sees them
+
+-- the mode of the newest opening, whether it has ended or not
+abbrev pub modeBy : Call → Bool → Bool
+modeBy (opening mode) t = isPaddedMode mode
+modeBy (reader c) t = t
+
+abbrev pub modeAt : List Note → Bool
+modeAt [] = false
+modeAt (x ∷ ns) = modeBy (x .call) (modeAt ns)
+
+-- the same for call n
+abbrev pub modeOf : ℕ → List Note → Bool
+modeOf n [] = false
+modeOf n (x ∷ ns) = cond (eqb n (length ns)) (modeAt (x ∷ ns)) (modeOf n ns)
+
+abbrev pub seenItem : Bool → Item → Item
+seenItem t (ordered x) = ordered x
+seenItem t (accepted e) = accepted (seen t e)
+
+-- the record, each packet as the mode of its call sees it: "ACK-led", "intact" and "idle reads" are said of this one
+abbrev pub seenLines : Record → List Note → Record
+seenLines [] ns = []
+seenLines (x ∷ l) ns = (x .0, seenItem (modeOf (x .0) ns) (x .1)) ∷ seenLines l ns
+
+abbrev pub asSeen : Observed → Observed
+asSeen w = observed (seenLines (w .lines) (w .notes)) (w .notes)
 
 -- ---- counts, over the lines of a call
 

@@ -3,14 +3,15 @@ use mathlib.Core.Path.{_≡_, refl}
 use mathlib.Core.List.{List, [], _∷_, _++_, map}
 use Prim.Native.Nat.{ℕ}
 use lib.ListN.{replicate}
-use Rattle.errors.specs.declared.Refusal.the-variants.{OutOfTurn, ShortBuffer, OverLong}
+use Rattle.errors.specs.declared.Refusal.the-variants.{OutOfTurn, ShortBuffer, OverLong, BadArgument}
 use Rattle.errors.specs.declared.Fault.the-variants.{Transport, TimeOut, BrokenFrame, Length, FrameKind, Identifier, Code, Status}
 use Rattle.framing.specs.Frames.{ack, total, checksumOf, lengthBytes, normalFrame, extendedFrame, headOf, frameOf}
 use Rattle.errors.specs.Choice.{pick}
 use Rattle.framing.specs.Lists.{starts, same}
+use Rattle.framing.specs.Padded.{isPadded, zerosUpTo, extraZeros, unpadded}
 use Rattle.framing.specs.Parse.{isError, extends, lengthAt, normalAt, extendedAt, normalOf, extendedOf, dataOf, parseOf, payloadOf}
 use Rattle.exchange.specs.Packets.{commandFrame, isAck, hasStart, ackLed, Reply, replyOf, response, failed}
-use Rattle.exchange.specs.Exchange.{write, read, pause, Event, ok, bad, pkt, time, late, slept, pending, reading, waiting, cancelling, advance}
+use Rattle.exchange.specs.Exchange.{write, read, drain, pause, Event, ok, bad, pkt, time, late, slept, pending, reading, waiting, cancelling, advance}
 use Rattle.protocol.specs.Scripts.{done, refused}
 use Rattle.protocol.specs.Calls.{opening, reader, request, version}
 use Rattle.protocol.specs.Session.{Entry, call, event, Output, orders, answers, rejects, fresh, outputs, sessionAfter}
@@ -38,15 +39,15 @@ abbrev Runs : List Pair → Type 0
 Runs ps = map plain (outputs fresh (entriesOf ps)) ≡ givenFor ps
 
 -- document 01's whole case: `open`, `bad`, `version`
-whole-case : Runs ((call opening 1024, writes ack) ∷ on bad (answers (refused Transport)) ∷ (call (reader (request version)) 1024, rejects OutOfTurn) ∷ [])
+whole-case : Runs ((call (opening 0) 1024, writes ack) ∷ on bad (answers (refused Transport)) ∷ (call (reader (request version)) 1024, rejects OutOfTurn) ∷ [])
 whole-case = refl
 
 -- refusals in their order; nothing changes by them
 refusals : Runs
-    ((call opening 1023, rejects ShortBuffer)
+    ((call (opening 0) 1023, rejects ShortBuffer)
     ∷ (event ok 0, rejects OutOfTurn)
-    ∷ (call opening 1024, writes ack)
-    ∷ (call opening 0, rejects OutOfTurn)
+    ∷ (call (opening 0) 1024, writes ack)
+    ∷ (call (opening 0) 0, rejects OutOfTurn)
     ∷ (event time 0, rejects OutOfTurn)
     ∷ (event ok 1023, rejects ShortBuffer)
     ∷ (event ok 1024, orders (read 10))
@@ -59,9 +60,10 @@ refusals = refl
 
 -- ---- an opening and a version, with the packets and orders of the Rust
 
--- a command is acknowledged and answered
-abbrev answeredBy : ℕ → List ℕ → Output ℕ → List Pair
-answeredBy clock packet out = on ok (orders (read 100)) ∷ on (pkt ack) (orders (read clock)) ∷ on (pkt packet) out ∷ []
+-- a command is acknowledged and answered, with z extra zeros before each packet
+abbrev answeredBy : ℕ → ℕ → List ℕ → Output ℕ → List Pair
+answeredBy z clock packet out =
+    on ok (orders (read 100)) ∷ on (pkt (replicate z 0 ++ ack)) (orders (read clock)) ∷ on (pkt (replicate z 0 ++ packet)) out ∷ []
 
 abbrev configured : List ℕ
 configured = 0x00 ∷ 0x00 ∷ 0xFF ∷ 0x02 ∷ 0xFE ∷ 0xD5 ∷ 0x33 ∷ 0xF8 ∷ 0x00 ∷ []
@@ -82,51 +84,72 @@ abbrev afterReset : Output ℕ → List Pair
 afterReset out = on ok (orders (pause 10000)) ∷ on slept out ∷ []
 
 -- with one empty packet in the opening's drain
-abbrev openingRun : List Pair
-openingRun =
-    ((call opening 1024, writes ack) ∷ on ok (orders (read 10)) ∷ on (pkt []) (orders (read 10)) ∷ on time resetMode ∷ [])
-    ++ (answeredBy 100 resetDone (writes ack)
+abbrev openingRun : ℕ → ℕ → List Pair
+openingRun mode z =
+    ((call (opening mode) 1024, writes ack) ∷ on ok (orders (read 10)) ∷ on (pkt []) (orders (read 10)) ∷ on time resetMode ∷ [])
+    ++ (answeredBy z 100 resetDone (writes ack)
     ++ (afterReset getVersion
-    ++ (answeredBy 100 versionIs (writes (0x00 ∷ 0x00 ∷ 0xFF ∷ 0x04 ∷ 0xFC ∷ 0xD4 ∷ 0x32 ∷ 0x01 ∷ 0x02 ∷ 0xF7 ∷ 0x00 ∷ []))
-    ++ (answeredBy 100 configured (writes (0x00 ∷ 0x00 ∷ 0xFF ∷ 0x06 ∷ 0xFA ∷ 0xD4 ∷ 0x32 ∷ 0x02 ∷ 0x0B ∷ 0x0B ∷ 0x0A ∷ 0xD8 ∷ 0x00 ∷ []))
-    ++ (answeredBy 100 configured (writes (0x00 ∷ 0x00 ∷ 0xFF ∷ 0x04 ∷ 0xFC ∷ 0xD4 ∷ 0x32 ∷ 0x04 ∷ 0x00 ∷ 0xF6 ∷ 0x00 ∷ []))
-    ++ (answeredBy 100 configured (writes (0x00 ∷ 0x00 ∷ 0xFF ∷ 0x06 ∷ 0xFA ∷ 0xD4 ∷ 0x32 ∷ 0x05 ∷ 0x00 ∷ 0x00 ∷ 0x01 ∷ 0xF4 ∷ 0x00 ∷ []))
-    ++ (answeredBy 100 configured
+    ++ (answeredBy z 100 versionIs (writes (0x00 ∷ 0x00 ∷ 0xFF ∷ 0x04 ∷ 0xFC ∷ 0xD4 ∷ 0x32 ∷ 0x01 ∷ 0x02 ∷ 0xF7 ∷ 0x00 ∷ []))
+    ++ (answeredBy z 100 configured (writes (0x00 ∷ 0x00 ∷ 0xFF ∷ 0x06 ∷ 0xFA ∷ 0xD4 ∷ 0x32 ∷ 0x02 ∷ 0x0B ∷ 0x0B ∷ 0x0A ∷ 0xD8 ∷ 0x00 ∷ []))
+    ++ (answeredBy z 100 configured (writes (0x00 ∷ 0x00 ∷ 0xFF ∷ 0x04 ∷ 0xFC ∷ 0xD4 ∷ 0x32 ∷ 0x04 ∷ 0x00 ∷ 0xF6 ∷ 0x00 ∷ []))
+    ++ (answeredBy z 100 configured (writes (0x00 ∷ 0x00 ∷ 0xFF ∷ 0x06 ∷ 0xFA ∷ 0xD4 ∷ 0x32 ∷ 0x05 ∷ 0x00 ∷ 0x00 ∷ 0x01 ∷ 0xF4 ∷ 0x00 ∷ []))
+    ++ (answeredBy z 100 configured
     (writes (0x00 ∷ 0x00 ∷ 0xFF ∷ 0x0E ∷ 0xF2 ∷ 0xD4 ∷ 0x32 ∷ 0x0A ∷ 0x5A ∷ 0xF4 ∷ 0x3F ∷ 0x11 ∷ 0x4D ∷ 0x85 ∷ 0x61 ∷ 0x6F ∷ 0x26 ∷ 0x62 ∷ 0x87 ∷ 0xA1 ∷ 0x00 ∷ []))
-    ++ (answeredBy 100 configured (writes (0x00 ∷ 0x00 ∷ 0xFF ∷ 0x03 ∷ 0xFD ∷ 0xD4 ∷ 0x12 ∷ 0x08 ∷ 0x12 ∷ 0x00 ∷ []))
-    ++ (answeredBy 100 (0x00 ∷ 0x00 ∷ 0xFF ∷ 0x02 ∷ 0xFE ∷ 0xD5 ∷ 0x13 ∷ 0x18 ∷ 0x00 ∷ []) resetMode
-    ++ (answeredBy 100 resetDone (writes ack)
+    ++ (answeredBy z 100 configured (writes (0x00 ∷ 0x00 ∷ 0xFF ∷ 0x03 ∷ 0xFD ∷ 0xD4 ∷ 0x12 ∷ 0x08 ∷ 0x12 ∷ 0x00 ∷ []))
+    ++ (answeredBy z 100 (0x00 ∷ 0x00 ∷ 0xFF ∷ 0x02 ∷ 0xFE ∷ 0xD5 ∷ 0x13 ∷ 0x18 ∷ 0x00 ∷ []) resetMode
+    ++ (answeredBy z 100 resetDone (writes ack)
     ++ (afterReset (writes (0x00 ∷ 0x00 ∷ 0xFF ∷ 0x05 ∷ 0xFB ∷ 0xD4 ∷ 0x08 ∷ 0x03 ∷ 0x28 ∷ 0x59 ∷ 0xA0 ∷ 0x00 ∷ []))
-    ++ answeredBy 250 (0x00 ∷ 0x00 ∷ 0xFF ∷ 0x03 ∷ 0xFD ∷ 0xD5 ∷ 0x09 ∷ 0x00 ∷ 0x22 ∷ 0x00 ∷ [])
+    ++ answeredBy z 250 (0x00 ∷ 0x00 ∷ 0xFF ∷ 0x03 ∷ 0xFD ∷ 0xD5 ∷ 0x09 ∷ 0x00 ∷ 0x22 ∷ 0x00 ∷ [])
     (answers (done (0x33 ∷ 0x01 ∷ 0x30 ∷ 0x52 ∷ 0x43 ∷ 0x53 ∷ 0x39 ∷ 0x35 ∷ 0x36 ∷ 0x76 ∷ 0x31 ∷ 0x2E ∷ 0x33 ∷ 0x30 ∷ []))))))))))))))
 
-abbrev versionRun : List Pair
-versionRun = (call (reader (request version)) 1024, getVersion) ∷ answeredBy 100 versionIs (answers (done (0x33 ∷ 0x01 ∷ 0x30 ∷ [])))
+abbrev versionRun : ℕ → List Pair
+versionRun z = (call (reader (request version)) 1024, getVersion) ∷ answeredBy z 100 versionIs (answers (done (0x33 ∷ 0x01 ∷ 0x30 ∷ [])))
 
-abbrev run : List Pair
-run = openingRun ++ versionRun
+abbrev run : ℕ → ℕ → List Pair
+run mode z = openingRun mode z ++ versionRun z
 
 -- to unfold this is to unfold the formats
 formats : Unit {0}
-unfolding total checksumOf lengthBytes normalFrame extendedFrame headOf frameOf pick starts same isError extends lengthAt normalAt extendedAt normalOf extendedOf dataOf parseOf payloadOf commandFrame isAck hasStart ackLed replyOf
+unfolding isPadded zerosUpTo extraZeros unpadded total checksumOf lengthBytes normalFrame extendedFrame headOf frameOf pick starts same isError extends lengthAt normalAt extendedAt normalOf extendedOf dataOf parseOf payloadOf commandFrame isAck hasStart ackLed replyOf
 formats = tt
 
-opened : Runs run
+opened : Runs (run 0 0)
 unfolding formats
 opened = refl
 
+-- the same from a board that pads the start
+padded : Runs (run 1 3)
+unfolding formats
+padded = refl
+
+-- 17 zeros are no extra zeros, and 16 are none with the mode off; a mode of 2 is a bad argument
+abbrev untilRead : ℕ → List Pair
+untilRead mode =
+    (call (opening mode) 1024, writes ack) ∷ on ok (orders (read 10)) ∷ on time resetMode ∷ on ok (orders (read 100)) ∷ []
+
+no-start : Runs (untilRead 1 ++ (on (pkt (replicate 17 0 ++ ack)) (writes ack) ∷ on ok (orders drain) ∷ []))
+unfolding formats
+no-start = refl
+
+mode-off : Runs (untilRead 0 ++ (on (pkt (replicate 16 0 ++ ack)) (writes ack) ∷ on ok (orders drain) ∷ []))
+unfolding formats
+mode-off = refl
+
+no-mode : Runs ((call (opening 2) 1023, rejects ShortBuffer) ∷ (call (opening 2) 1024, rejects BadArgument) ∷ [])
+no-mode = refl
+
 -- the record of the opening: ten frames, two resets, one idle read, 37 events of the 47 allowed
 abbrev openingLines : List Item
-openingLines = linesOf 0 ((recordOf (entriesOf run) (outputs fresh (entriesOf run))) .lines)
+openingLines = linesOf 0 ((recordOf (entriesOf (run 0 0)) (outputs fresh (entriesOf (run 0 0)))) .lines)
 
 abbrev counts : List Item → List ℕ
-counts xs = frames xs ∷ resets xs ∷ idleReads xs ∷ events xs ∷ allowed opening xs ∷ []
+counts xs = frames xs ∷ resets xs ∷ idleReads xs ∷ events xs ∷ allowed (opening 0) xs ∷ []
 
 opening-counts : counts openingLines ≡ 10 ∷ 2 ∷ 1 ∷ 37 ∷ 47 ∷ []
 unfolding formats
 opening-counts = refl
 
-count-after : (sessionAfter fresh (entriesOf run)) .books .count ≡ 11
+count-after : (sessionAfter fresh (entriesOf (run 0 0))) .books .count ≡ 11
 unfolding formats
 count-after = refl
 

@@ -8,11 +8,12 @@ use Rattle.errors.specs.declared.Refusal.{Refusal}
 use Rattle.errors.specs.declared.Refusal.the-variants.{OutOfTurn, ShortBuffer, OverLong}
 use Rattle.errors.specs.declared.Fault.the-variants.{Transport}
 use Rattle.framing.specs.Frames.{ack}
+use Rattle.framing.specs.Padded.{unpadded}
 use Rattle.exchange.specs.Packets.{commandFrame, resetCode, resetData, isAck, Reply}
-use Rattle.exchange.specs.Exchange.{Order, write, read, drain, pause, Event}
+use Rattle.exchange.specs.Exchange.{Order, write, read, drain, pause, Event, ok, bad, pkt, time, fail, late, slept}
 use Rattle.exchange.specs.Exchange.{Result, unfit, pending, ended, onWrite, onRead, onPause, Step, sending, advance, ExchangeResult}
 use Rattle.protocol.specs.Scripts.{Byte, Answer, done, type1, nothing, refused, Script, finish, command, reset, fieldPause}
-use Rattle.protocol.specs.Calls.{Call, Start, refuses, starts, startOf, isOpening}
+use Rattle.protocol.specs.Calls.{Call, opening, reader, Start, refuses, starts, startOf, isOpening, isPaddedMode}
 
 -- ---- a running call
 
@@ -70,22 +71,25 @@ pub data Running : Type 0 where
 
 -- ---- the reader's books
 
--- "count": command frames ordered since the last opening began, its own included, up to the ceiling
+-- "padded": the mode that the last opening chose. "count": command frames ordered since that began, its own included, up to the
+-- ceiling
 pub record Books : Type 0 where
   pub opened : Bool
+  pub padded : Bool
   pub count : ℕ
 
--- of a fresh session, and where an opening begins
-abbrev pub noBooks : Books
-noBooks = record { opened = false; count = 0 }
+-- where an opening begins; those of a fresh session have the mode off
+abbrev pub noBooks : Bool → Books
+noBooks padded = record { opened = false; padded = padded; count = 0 }
 
 -- a call is admitted in an open reader, an opening in any
 abbrev pub admits : Books → Call → Bool
 admits b c = b .opened || isOpening c
 
--- what a call's doings are booked on: an opening begins the books anew
+-- what a call's doings are booked on: an opening begins the books anew, in its mode
 abbrev pub booksFor : Call → Books → Books
-booksFor c b = cond (isOpening c) noBooks b
+booksFor (opening mode) b = noBooks (isPaddedMode mode)
+booksFor (reader c) b = b
 
 abbrev pub ceiling : ℕ
 ceiling = 4294967295
@@ -102,7 +106,7 @@ counted drain n = n
 counted (pause us) n = n
 
 abbrev pub bookOrder : Order → Books → Books
-bookOrder x b = record { opened = b .opened; count = counted x (b .count) }
+bookOrder x b = record { opened = b .opened; padded = b .padded; count = counted x (b .count) }
 
 -- an opening that succeeds leaves the reader open, one that fails unopened; any other call leaves it as it was
 abbrev pub answered : Answer Byte → Bool
@@ -112,7 +116,7 @@ answered nothing = false
 answered (refused r) = false
 
 abbrev pub bookAnswer : Call → Answer Byte → Books → Books
-bookAnswer c a b = record { opened = cond (isOpening c) (answered a) (b .opened); count = b .count }
+bookAnswer c a b = record { opened = cond (isOpening c) (answered a) (b .opened); padded = b .padded; count = b .count }
 
 -- ---- the session
 
@@ -121,7 +125,27 @@ pub record Session : Type 0 where
   pub books : Books
 
 abbrev pub fresh : Session
-fresh = record { running = idle; books = noBooks }
+fresh = record { running = idle; books = noBooks false }
+
+-- ---- packets
+
+-- a packet, at most
+abbrev pub packetLimit : ℕ
+packetLimit = 1024
+
+-- an event as the mode sees it: in the padded one a packet, if it is not over-long, is seen without its extra zeros
+abbrev pub withoutZeros : Event → Event
+withoutZeros ok = ok
+withoutZeros bad = bad
+withoutZeros (pkt packet) = pkt (cond (ltb packetLimit (length packet)) packet (unpadded packet))
+withoutZeros time = time
+withoutZeros fail = fail
+withoutZeros late = late
+withoutZeros slept = slept
+
+abbrev pub seen : Bool → Event → Event
+seen false e = e
+seen true e = withoutZeros e
 
 -- ---- the list
 
@@ -129,6 +153,10 @@ fresh = record { running = idle; books = noBooks }
 pub data Entry : Type 0 where
   call : Call → ℕ → Entry
   event : Event → ℕ → Entry
+
+abbrev pub seenEntry : Bool → Entry → Entry
+seenEntry padded (call c room) = call c room
+seenEntry padded (event e room) = event (seen padded e) room
 
 -- what is given out, as the bench program prints it; `rejects` is a refusal at once, a later one is an answer
 pub data Output (B : Type 0) : Type 0 where
@@ -147,12 +175,9 @@ outcome c unfit = unchanged OutOfTurn
 outcome c (pending x phase) = runs c x phase
 outcome c (ended a) = ends c a
 
--- the engine's buffer, at least; a packet, at most
+-- the engine's buffer, at least
 abbrev pub bufferNeed : ℕ
 bufferNeed = 1024
-
-abbrev pub packetLimit : ℕ
-packetLimit = 1024
 
 abbrev pub withRoom : ℕ → Outcome → Outcome
 withRoom room o = cond (ltb room bufferNeed) (unchanged ShortBuffer) o
@@ -181,7 +206,7 @@ abbrev pub outcomeOf : Running → Books → Entry → Outcome
 outcomeOf idle b (call c room) = callOutcome (admits b c) c room
 outcomeOf idle b (event e room) = unchanged OutOfTurn
 outcomeOf (busy c phase) b (call d room) = unchanged OutOfTurn
-outcomeOf (busy c phase) b (event e room) = eventOutcome c e room (progress phase e)
+outcomeOf (busy c phase) b (event e room) = eventOutcome c (seen (b .padded) e) room (progress phase (seen (b .padded) e))
 
 -- the running call after it, and the books
 abbrev pub runningAfter : Running → Outcome → Running

@@ -1,5 +1,5 @@
 -- The claims on every call hold after any list of entries.
-use mathlib.Core.Path.{_≡_, refl, _∙_}
+use mathlib.Core.Path.{_≡_, refl, sym, subst}
 use mathlib.Core.Bool.{Bool, true, false}
 use mathlib.Core.List.{List, [], _∷_}
 use mathlib.Core.Option.{Option, none, some}
@@ -12,8 +12,8 @@ use Rattle.exchange.specs.Exchange.{write, Event, unfit, pending, ended}
 use Rattle.protocol.specs.Scripts.{Byte, Answer, Script}
 use Rattle.protocol.specs.Calls.{Call, Start, refuses, starts, startOf, isOpening, limit}
 use Rattle.protocol.specs.Session.{Phase, CallResult, begin, progress, Running, idle, busy, Books, admits, Session, fresh, Entry, call, event}
-use Rattle.protocol.specs.Session.{Outcome, outcome, bufferNeed, packetLimit, withRoom, packetLength, admitted, eventOutcome, started, callOutcome, outcomeOf, runningAfter, given, step, outputs}
-use Rattle.protocol.specs.Record.{Item, ordered, accepted, Record, Note, Observed, observed, addCall, addEvent, add, observe, recordOf, linesOf, frames, allowed}
+use Rattle.protocol.specs.Session.{Outcome, outcome, bufferNeed, packetLimit, seen, seenEntry, withRoom, packetLength, admitted, eventOutcome, started, callOutcome, outcomeOf, runningAfter, given, step, outputs}
+use Rattle.protocol.specs.Record.{Item, ordered, accepted, Record, Note, Observed, observed, addCall, addEvent, add, observe, recordOf, linesOf, modeAt, asSeen, frames, allowed}
 use Rattle.protocol.specs.Claim.{Running as Claimed, CardByte, Claim, Claims}
 use Rattle.protocol.specs.Own.{formOf}
 use Rattle.protocol.specs.Sound.{Sound}
@@ -21,15 +21,9 @@ use Rattle.protocol.specs.CallsSound.{sound}
 use Rattle.protocol.specs.Laws.{split, lines-own, lines-other}
 use Rattle.protocol.specs.Invariant.{phase-due, Left, Sourced, Invariant, Kept, later-card, later-sourced, form-by, bare, entered}
 use Rattle.protocol.specs.Kept.{KeptBy, kept}
+use Rattle.protocol.specs.Seen.{Unused, no-lines, more-unused, unused-seen, add-seen, mode-after}
 
 -- ---- lines of a later call
-
--- from the number n on there are no lines
-abbrev pub Unused : Record → ℕ → Type 0
-Unused l n = (m : ℕ) → n ≤ m → linesOf m l ≡ []
-
-unused-later : (l : Record) (n : ℕ) (x : Item) → Unused l (suc n) → Unused ((n, x) ∷ l) (suc n)
-unused-later l n x u m h = lines-other m n l x (λ e. omega arith) ∙ u m h
 
 claim-later : (l : Record) (m n : ℕ) (x : Item) (c : Call) (a : Option (Answer Byte)) → m < n → Claim l m c a → Claim ((n, x) ∷ l) m c a
 claim-later l m n x c none h k =
@@ -66,8 +60,18 @@ Agrees (busy c phase) l (y ∷ ns) = Current c phase l y (length ns) × Claims l
 abbrev AgreesAt : Running → Observed → Type 0
 AgreesAt p w = Agrees p (w .lines) (w .notes)
 
-abbrev pub AgreesWith : Session → Observed → Type 0
-AgreesWith s w = AgreesAt (s .running) w
+-- the record as the modes see it, and the mode
+pub record AgreesWith (s : Session) (w : Observed) : Type 0 where
+  pub running : AgreesAt (s .running) (asSeen w)
+  pub mode : s .books .padded ≡ modeAt (w .notes)
+
+none-unused : (p : Running) (l : Record) (ns : List Note) → Agrees p l ns → Unused l (length ns)
+none-unused idle l ns i = i .1
+none-unused (busy c phase) l [] i = absurd i
+none-unused (busy c phase) l (y ∷ ns) i = i .2
+
+pub unused : (s : Session) (w : Observed) → AgreesWith s w → Unused (w .lines) (length (w .notes))
+unused s w i = unused-seen (w .lines) (w .notes) _ (none-unused (s .running) _ (w .notes) (i .running))
 
 -- a call begins
 begun : (l : Record) (ns : List Note) (c : Call) (r : CallResult) → Claims l ns → Unused l (length ns)
@@ -76,9 +80,9 @@ begun l ns c unfit h u q = (h, u)
 begun l ns c (pending x phase) h u q = (
   record { sameCall = refl; unanswered = refl; ownLines = ordered x ∷ []; invariant = q },
   claims-later l (length ns) (ordered x) ns (omega arith) h,
-  unused-later l (length ns) (ordered x) (λ m z. u m (omega arith)),
+  (omega arith, more-unused l (length ns) u),
 )
-begun l ns c (ended a) h u q = ((q, h), λ m z. u m (omega arith))
+begun l ns c (ended a) h u q = ((q, h), more-unused l (length ns) u)
 
 -- a call goes on or ends
 module _ (c : Call) (phase : Phase) (l : Record) (y : Note) (ns : List Note) (e : Event) (i : Agrees (busy c phase) l (y ∷ ns)) where
@@ -92,14 +96,14 @@ module _ (c : Call) (phase : Phase) (l : Record) (y : Note) (ns : List Note) (e 
   one-later = claims-later l n (accepted e) ns (omega arith) (i .1)
 
   none-used : Unused ((n, accepted e) ∷ l) (suc n)
-  none-used = unused-later l n (accepted e) (i .2)
+  none-used = (omega arith, i .2)
 
   result-agrees : (r : CallResult) → KeptBy n c l (i .0 .ownLines) e r → Agreed (outcome c r)
   result-agrees unfit q = i
   result-agrees (pending x new) q = (
     record { sameCall = i .0 .sameCall; unanswered = i .0 .unanswered; ownLines = ordered x ∷ accepted e ∷ i .0 .ownLines; invariant = q },
     claims-later ((n, accepted e) ∷ l) n (ordered x) ns (omega arith) one-later,
-    unused-later ((n, accepted e) ∷ l) n (ordered x) none-used,
+    (omega arith, none-used),
   )
   result-agrees (ended a) q = ((rw (i .0 .sameCall) q, one-later), none-used)
 
@@ -132,12 +136,15 @@ module _ (l : Record) (ns : List Note) (c : Call) (i : Agrees idle l ns) where
   no-source : Sourced (length ns) c l []
   no-source k p b e = absurd (let z : _≡_ {A = ℕ} 0 1 = cc in omega arith)
 
+  no-line : linesOf (length ns) l ≡ []
+  no-line = no-lines l (length ns) (length ns) (i .1) (omega arith)
+
   begin-kept : (b : Bool) (s : Script) → isOpening c ≡ b → Left (formOf c) s (limit c) [] → Kept (length ns) c l [] (begin b s)
   begin-kept true s e h =
       let f : frames (ordered (write ack) ∷ []) ≡ 0 = bare (length ns) c [] in
       let a : 2 ≤ allowed c (ordered (write ack) ∷ []) = rw e (omega arith) in
       record {
-        lines = lines-own (length ns) l (ordered (write ack)) [] (i .1 (length ns) (omega arith));
+        lines = lines-own (length ns) l (ordered (write ack)) [] no-line;
         responses = [];
         budget = omega arith;
         left = limit c;
@@ -147,7 +154,7 @@ module _ (l : Record) (ns : List Note) (c : Call) (i : Agrees idle l ns) where
         source = later-sourced (length ns) c [] no-source;
       }
   begin-kept false s e h =
-      entered (length ns) c l [] [] (i .1 (length ns) (omega arith)) s (limit c) (omega arith) (omega arith) h refl no-source
+      entered (length ns) c l [] [] no-line s (limit c) (omega arith) (omega arith) h refl no-source
 
   started-agrees : (s : Start) → Sound (formOf c) s (limit c) → Starts (started c s)
   started-agrees (refuses r) h = i
@@ -162,15 +169,23 @@ module _ (l : Record) (ns : List Note) (c : Call) (i : Agrees idle l ns) where
 -- ---- any list
 
 step-agrees : (p : Running) (b : Books) (l : Record) (ns : List Note) (e : Entry) → Agrees p l ns
-    → AgreesAt (runningAfter p (outcomeOf p b e)) (add (observed l ns) e (given (outcomeOf p b e)))
+    → AgreesAt (runningAfter p (outcomeOf p b e)) (add (observed l ns) (seenEntry (b .padded) e) (given (outcomeOf p b e)))
 step-agrees idle b l ns (call c room) i = call-agrees l ns c i (admits b c) room
 step-agrees idle b l [] (event e room) i = i
 step-agrees idle b l (y ∷ ns) (event e room) i = i
 step-agrees (busy d phase) b l ns (call c room) i = i
-step-agrees (busy c phase) b l ns (event e room) i = event-agrees c phase l ns e room i
+step-agrees (busy c phase) b l ns (event e room) i = event-agrees c phase l ns (seen (b .padded) e) room i
 
 pub agrees : (s : Session) (w : Observed) (e : Entry) → AgreesWith s w → AgreesWith ((step s e) .0) (add w e ((step s e) .1))
-agrees s w e i = step-agrees (s .running) (s .books) (w .lines) (w .notes) e i
+agrees s w e i =
+    let out = (step s e) .1 in
+    let p = ((step s e) .0) .running in
+    let seen-step : AgreesAt p (add (asSeen w) (seenEntry (s .books .padded) e) out) = step-agrees (s .running) (s .books) _ (w .notes) e (i .running) in
+    let by-notes : AgreesAt p (add (asSeen w) (seenEntry (modeAt (w .notes)) e) out) = subst (λ t. AgreesAt p (add (asSeen w) (seenEntry t e) out)) (i .mode) seen-step in
+    record {
+      running = subst (AgreesAt p) (sym (add-seen (w .lines) (w .notes) e out (unused s w i))) by-notes;
+      mode = mode-after (s .books) (w .lines) (w .notes) e (outcomeOf (s .running) (s .books) e) (i .mode);
+    }
 
 -- what the invariant says of the running call
 still-runs : (n : ℕ) (c : Call) (l : Record) (xs : List Item) (phase : Phase) → Invariant n c l xs phase → Claimed l n c
@@ -187,12 +202,12 @@ claims (busy c phase) l (y ∷ ns) i =
     (rw (i .0 .unanswered) s, i .1)
 
 claims-after : (s : Session) (w : Observed) (es : List Entry) → AgreesWith s w
-    → Claims ((observe w es (outputs s es)) .lines) ((observe w es (outputs s es)) .notes)
-claims-after s w [] i = claims (s .running) (w .lines) (w .notes) i
+    → Claims ((asSeen (observe w es (outputs s es))) .lines) ((observe w es (outputs s es)) .notes)
+claims-after s w [] i = claims (s .running) _ (w .notes) (i .running)
 claims-after s w (e ∷ es) i = claims-after ((step s e) .0) (add w e ((step s e) .1)) es (agrees s w e i)
 
 pub fresh-agrees : AgreesWith fresh (observed [] [])
-fresh-agrees = (tt, λ m h. refl)
+fresh-agrees = record { running = (tt, tt); mode = refl }
 
-pub all-claims : (es : List Entry) → Claims ((recordOf es (outputs fresh es)) .lines) ((recordOf es (outputs fresh es)) .notes)
+pub all-claims : (es : List Entry) → Claims ((asSeen (recordOf es (outputs fresh es))) .lines) ((recordOf es (outputs fresh es)) .notes)
 all-claims es = claims-after fresh (observed [] []) es fresh-agrees

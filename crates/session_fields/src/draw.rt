@@ -110,9 +110,20 @@ fn opened(x: u64) -> u8 {
     }
 }
 
+// Off or padded in most, out of range in few.
+fn mode(x: u64) -> u8 {
+    match x % 32 {
+        0 => 2,
+        1 => 255,
+        2..=16 => 0,
+        _ => 1,
+    }
+}
+
 fn books(seed: u64) -> Books {
     Books {
         opened: opened(number(seed, 9)),
+        mode: mode(number(seed, 14)),
         frames: wide(number(seed, 10)),
     }
 }

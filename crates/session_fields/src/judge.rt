@@ -81,6 +81,9 @@ fn in_range(state: State) -> bool {
     if books.opened > 1 {
         return false;
     }
+    if books.mode > 1 {
+        return false;
+    }
     core_in_range(core)
 }
 
@@ -120,6 +123,9 @@ fn same_core(before: Core, after: Core) -> bool {
 
 fn same_books(before: Books, after: Books) -> bool {
     if before.opened != after.opened {
+        return false;
+    }
+    if before.mode != after.mode {
         return false;
     }
     before.frames == after.frames

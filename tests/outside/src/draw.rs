@@ -79,6 +79,7 @@ impl Draw {
     pub fn fresh(&mut self) -> Box<RawSession> {
         let mut session = Box::new(raw::fresh());
         session.state.books.opened = !self.once(8) as u8;
+        session.state.books.mode = self.below(2) as u8;
         session
     }
 
@@ -106,6 +107,7 @@ impl Draw {
         core.call.stage = self.small(9);
         core.call.phase = if self.once(2) { 0 } else { self.small(5) };
         books.opened = self.opened();
+        books.mode = self.small(1);
         books.frames = self.pick(&[0, 1, 77, u32::MAX - 1, u32::MAX, u32::MAX]);
         session
     }
@@ -151,8 +153,18 @@ impl Draw {
         }
     }
 
-    /// A packet: an ACK, the response to the session's command, the same with a fault, or any bytes.
+    /// A packet, in every other case behind 0 to 18 zeros.
     pub fn packet(&mut self, code: u8) -> Box<[u8]> {
+        let packet = self.unpadded(code);
+        if self.once(2) {
+            return packet;
+        }
+        let zeros = self.below(19) as usize;
+        [&vec![0; zeros], &packet[..]].concat().into_boxed_slice()
+    }
+
+    /// An ACK, the response to the session's command, the same with a fault, or any bytes.
+    fn unpadded(&mut self, code: u8) -> Box<[u8]> {
         match self.below(12) {
             0 => Box::new([0, 0, 0xFF, 0, 0xFF, 0]),
             1 => Box::new([0, 0, 0xFF, 0, 0xFF, 0, self.byte()]),

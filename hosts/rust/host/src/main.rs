@@ -5,6 +5,9 @@
 
 use rcs956::{BUFFER_SIZE, Call, Reader, Received, Step, Transport, run};
 
+/// The line of a search for a card of Type F.
+const SEARCH: &str = "detect_type_f 212F FFFF 00 00";
+
 struct Script<'a> {
     lines: std::str::Lines<'a>,
 }
@@ -12,6 +15,15 @@ struct Script<'a> {
 impl Script<'_> {
     fn next(&mut self) -> &str {
         self.lines.next().unwrap_or_else(|| stop("a line", "nothing"))
+    }
+
+    /// An opening, in the mode that its line names.
+    fn opening(&mut self) -> Call<'static> {
+        match self.next() {
+            "open" => Call::Open { padded: false },
+            "open padded" => Call::Open { padded: true },
+            line => stop("open or open padded", line),
+        }
     }
 
     /// The next line has to be this one.
@@ -82,16 +94,17 @@ fn main() {
     let mut script = Script { lines: text.lines() };
     let mut reader = Reader::new();
     let search = Call::DetectTypeF { bitrate: b"212F", system_code: 0xFFFF, request_code: 0, time_slots: 0 };
-    // A write that fails leaves the reader unopened; then a whole opening, and a search that finds a card at the second try.
-    let calls = [
-        ("open", Call::Open),
-        ("version", Call::Version),
-        ("open", Call::Open),
-        ("detect_type_f 212F FFFF 00 00", search),
-        ("detect_type_f 212F FFFF 00 00", search),
-    ];
-    for (line, call) in calls {
-        script.take(line);
+    // A write that fails leaves the reader unopened; then a whole opening, and a search that finds a card at the second try. `None` is
+    // an opening: its line names the mode.
+    let calls = [None, Some(("version", Call::Version)), None, Some((SEARCH, search)), Some((SEARCH, search))];
+    for next in calls {
+        let call = match next {
+            None => script.opening(),
+            Some((line, call)) => {
+                script.take(line);
+                call
+            }
+        };
         let _end = run(reader.call(call), &mut script);
     }
 }

@@ -2,10 +2,11 @@
 
 use crate::raw::{Arguments, Numbers};
 
-/// A call and its arguments. Bitrates are texts such as `b"106A"`; an argument of no bytes is absent where it may be.
+/// A call and its arguments. Bitrates are texts such as `b"106A"`; an argument of no bytes is absent where it may be. An opening that is
+/// `padded` is for a board that puts up to 16 more zeros before the start of a packet.
 #[derive(Clone, Copy, Debug, PartialEq, Eq)]
 pub enum Call<'a> {
-    Open,
+    Open { padded: bool },
     Version,
     ResetMode,
     SetParameters { flags: u8 },
@@ -63,7 +64,7 @@ impl<'a> Call<'a> {
     /// The call's number and arguments.
     pub fn arguments(self) -> Arguments<'a> {
         match self {
-            Call::Open => Arguments::of(0),
+            Call::Open { padded } => Arguments::of(0).x(padded as u8),
             Call::Version => Arguments::of(1),
             Call::ResetMode => Arguments::of(2),
             Call::SetParameters { flags } => Arguments::of(3).x(flags),

@@ -58,12 +58,14 @@ pub struct Core {
     pub call: CallState,
 }
 
-/// The reader's books. An opening that is accepted begins them anew: both are 0.
+/// The reader's books. An opening that is accepted begins them anew: its mode, and else 0.
 #[repr(C)]
 #[derive(Clone, Debug, Default, PartialEq, Eq)]
 pub struct Books {
     /// 1 where the reader is open, else 0, also while an opening runs; any other value is out of range.
     pub opened: u8,
+    /// 1 where the last opening that was accepted chose the padded mode, else 0; any other value is out of range.
+    pub mode: u8,
     /// Command frames ordered since the last opening began.
     pub frames: u32,
 }

@@ -149,6 +149,11 @@ impl Reader {
         self.session.state.books.opened == 1
     }
 
+    /// The last opening that was accepted has chosen the padded mode.
+    pub fn is_padded(&self) -> bool {
+        self.session.state.books.mode == 1
+    }
+
     /// Command frames ordered since the last opening began, up to 4,294,967,295.
     pub fn frames(&self) -> u32 {
         self.session.state.books.frames

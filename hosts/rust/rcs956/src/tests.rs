@@ -1,4 +1,4 @@
-use crate::raw::{self, Arguments, Books, Core, ExchangeState, Outcome, RawSession, State};
+use crate::raw::{self, Arguments, Books, Core, ExchangeState, Numbers, Outcome, RawSession, State};
 use crate::*;
 use std::mem::{offset_of, size_of};
 
@@ -49,6 +49,7 @@ fn layout() {
     assert_eq!(offset_of!(Core, call), 24);
     assert_eq!(offset_of!(ExchangeState, clock), 4);
     assert_eq!(offset_of!(Books, opened), 0);
+    assert_eq!(offset_of!(Books, mode), 1);
     assert_eq!(offset_of!(Books, frames), 4);
     assert_eq!(size_of::<Outcome>(), 16);
     assert_eq!(offset_of!(Outcome, time), 4);
@@ -63,7 +64,7 @@ fn fresh_is_zeroed() {
 #[test]
 fn whole_case() {
     let mut reader = Reader::new();
-    let step = reader.call(Call::Open);
+    let step = reader.call(Call::Open { padded: false });
     assert_eq!(step.to_string(), "write 0000FF00FF00");
     let Step::Write(order) = step else { panic!() };
     assert_eq!(order.failed().to_string(), "refused 7");
@@ -73,7 +74,7 @@ fn whole_case() {
 
 /// Drives a fresh reader to the first read of the opening.
 fn opening_read(reader: &mut Reader) -> Read<'_> {
-    let Step::Write(order) = reader.call(Call::Open) else { panic!() };
+    let Step::Write(order) = reader.call(Call::Open { padded: false }) else { panic!() };
     let Step::Read(order) = order.ok() else { panic!() };
     order
 }
@@ -94,7 +95,7 @@ fn dropped_order_is_due() {
     let mut reader = Reader::new();
     assert!(reader.due().is_none());
     let _ = opening_read(&mut reader);
-    assert!(matches!(reader.call(Call::Open), Step::Refused(Refusal::OutOfTurn)));
+    assert!(matches!(reader.call(Call::Open { padded: false }), Step::Refused(Refusal::OutOfTurn)));
     let Some(Step::Read(order)) = reader.due() else { panic!() };
     let Step::Write(order) = order.timed_out() else { panic!() };
     assert_eq!(order.bytes(), [0, 0, 0xFF, 3, 0xFD, 0xD4, 0x18, 1, 0x13, 0]);
@@ -108,7 +109,7 @@ fn reads_share_the_clock() {
     // The opening's reads, then those of the reset and of the version: an ACK, two more, the deadline.
     let received = [Packet(6), Packet(6), TimedOut, Packet(6), Packet(6), Packet(6), Late, Packet(6), Packet(6), Late];
     let mut scripted = Scripted::new(&received, ACK);
-    assert_eq!(run(reader.call(Call::Open), &mut scripted).to_string(), "refused 8");
+    assert_eq!(run(reader.call(Call::Open { padded: false }), &mut scripted).to_string(), "refused 8");
     assert_eq!(scripted.shared, [false, false, false, false, false, true, true, false, false, true]);
     assert_eq!(reader.frames(), 2);
 }
@@ -119,7 +120,7 @@ fn drains_share_their_time() {
     let mut reader = Reader::new();
     // No packet in the opening's reads and for the reset; the version's answer does not start as a frame.
     let mut scripted = Scripted::new(&[TimedOut, TimedOut, Packet(6), Packet(6), Failed, Late], [1; 6]);
-    assert_eq!(run(reader.call(Call::Open), &mut scripted).to_string(), "refused 9");
+    assert_eq!(run(reader.call(Call::Open { padded: false }), &mut scripted).to_string(), "refused 9");
     assert_eq!(scripted.shared, [false, false, false, false, true, true]);
     let end = ["write 0000FF02FED4022A00", "read 100", "write 0000FF00FF00", "drain", "drain", "drain", "refused 9"];
     assert!(scripted.lines.ends_with(&end.map(String::from)));
@@ -148,7 +149,7 @@ fn lines_of_ends() {
 /// A session in which no call runs, with these books.
 fn session_with(opened: u8, frames: u32) -> RawSession {
     let mut session = raw::fresh();
-    session.state.books = Books { opened, frames };
+    session.state.books = Books { opened, frames, ..Books::default() };
     session
 }
 
@@ -160,7 +161,7 @@ fn refused(number: u8) -> Outcome {
 fn opening_begins_the_books_anew() {
     for opened in [0, 1] {
         let mut session = session_with(opened, 77);
-        let outcome = raw::call(&mut session, &Call::Open.arguments(), &mut [0; 1024]);
+        let outcome = raw::call(&mut session, &Call::Open { padded: false }.arguments(), &mut [0; 1024]);
         assert_eq!((outcome.kind, session.state.books), (raw::kind::WRITE, Books::default()));
     }
 }
@@ -169,15 +170,40 @@ fn opening_begins_the_books_anew() {
 fn opened_out_of_range() {
     for opened in 2..=255 {
         let mut session = session_with(opened, 77);
-        assert_eq!(raw::call(&mut session, &Call::Open.arguments(), &mut [0; 1024]), refused(1));
+        assert_eq!(raw::call(&mut session, &Call::Open { padded: false }.arguments(), &mut [0; 1024]), refused(1));
         assert_eq!(raw::call(&mut session, &Call::Version.arguments(), &mut [0; 1024]), refused(1));
         assert_eq!(session, session_with(opened, 77));
         // The opening waits for its ACK to be written.
         let mut session = raw::fresh();
-        assert_eq!(raw::call(&mut session, &Call::Open.arguments(), &mut [0; 1024]).kind, raw::kind::WRITE);
+        assert_eq!(raw::call(&mut session, &Call::Open { padded: false }.arguments(), &mut [0; 1024]).kind, raw::kind::WRITE);
         session.state.books.opened = opened;
         let before = session.clone();
         assert_eq!(raw::event(&mut session, raw::event::OK, &[], &mut [0; 1024]), refused(1));
+        assert_eq!(session, before);
+    }
+}
+
+#[test]
+fn opening_chooses_the_mode() {
+    for padded in [false, true] {
+        let mut session = session_with(1, 77);
+        session.state.books.mode = !padded as u8;
+        let outcome = raw::call(&mut session, &Call::Open { padded }.arguments(), &mut [0; 1024]);
+        let books = Books { mode: padded as u8, ..Books::default() };
+        assert_eq!((outcome.kind, session.state.books), (raw::kind::WRITE, books));
+    }
+}
+
+#[test]
+fn no_such_mode() {
+    for mode in 2..=255 {
+        let mut session = session_with(1, 77);
+        let opening = Arguments { numbers: Numbers { x: mode, ..Numbers::default() }, ..Call::Open { padded: false }.arguments() };
+        assert_eq!(raw::call(&mut session, &opening, &mut [0; 1024]), refused(4));
+        assert_eq!(session, session_with(1, 77));
+        session.state.books.mode = mode;
+        let before = session.clone();
+        assert_eq!(raw::call(&mut session, &Call::Open { padded: false }.arguments(), &mut [0; 1024]), refused(1));
         assert_eq!(session, before);
     }
 }

@@ -78,7 +78,8 @@ impl<'a> Words<'a> {
     /// The call of the line.
     fn call(&self) -> Option<Call<'_>> {
         Some(match (self.words[0], self.words.len()) {
-            (b"open", 1) => Call::Open,
+            (b"open", 1) => Call::Open { padded: false },
+            (b"open", 2) if self.words[1] == b"padded" => Call::Open { padded: true },
             (b"version", 1) => Call::Version,
             (b"reset_mode", 1) => Call::ResetMode,
             (b"set_parameters", 2) => Call::SetParameters { flags: self.byte(1)? },

@@ -87,7 +87,7 @@ fn core_in_range(session: &RawSession) -> bool {
 }
 
 fn books_in_range(session: &RawSession) -> bool {
-    session.state.books.opened <= 1
+    session.state.books.opened <= 1 && session.state.books.mode <= 1
 }
 
 fn in_range(session: &RawSession) -> bool {
@@ -124,6 +124,19 @@ fn opened_due(entry: &Entry, before: &RawSession, outcome: Outcome) -> u8 {
     }
 }
 
+/// What the mode must be behind a step: the opening's once one has begun.
+fn mode_due(entry: &Entry, before: &RawSession, outcome: Outcome) -> u8 {
+    match entry {
+        Entry::Call { arguments: [0, _, _, x, _], .. } if outcome.kind == kind::WRITE => *x as u8,
+        _ => before.state.books.mode,
+    }
+}
+
+/// Whether an opening names no mode.
+fn no_mode(entry: &Entry) -> bool {
+    matches!(entry, Entry::Call { arguments: [0, _, _, x, _], .. } if *x > 1)
+}
+
 /// What the session must be behind a step.
 fn session_faults(entry: &Entry, before: &RawSession, after: &RawSession, outcome: Outcome) -> Vec<&'static str> {
     let refused = outcome.kind == kind::REFUSED;
@@ -138,6 +151,8 @@ fn session_faults(entry: &Entry, before: &RawSession, after: &RawSession, outcom
         (!ends && !running, "an order, and no call runs"),
         (books.frames != frames_due(entry, before.state.books.frames, outcome), "the frame count is wrong"),
         (!early && books.opened != opened_due(entry, before, outcome), "`opened` is wrong"),
+        (books.mode != mode_due(entry, before, outcome), "the mode is wrong"),
+        (no_mode(entry) && !(refused && [1, 2, 4].contains(&outcome.refusal)), "an opening in no mode is not refused"),
     ];
     checks.iter().filter(|(fault, _)| *fault).map(|(_, text)| *text).collect()
 }
@@ -166,7 +181,7 @@ fn outcome_faults(outcome: Outcome, before: &[u8], after: &[u8]) -> Vec<&'static
     checks.iter().filter(|(fault, _)| *fault).map(|(_, text)| *text).collect()
 }
 
-/// The outcomes met: kinds 0 to 6, then refusals 1 to 19. Last, the steps in which `opened` alone was out of range.
+/// The outcomes met: kinds 0 to 6, then refusals 1 to 19. Last, the steps in which the books alone were out of range.
 #[derive(Default)]
 struct Tally {
     steps: u64,
@@ -185,7 +200,7 @@ impl Tally {
         for (k, count) in self.counts.iter().enumerate() {
             match (words.get(k), k) {
                 (Some(word), _) => println!("  {word}: {count}"),
-                (None, 26) => println!("  refused 1 for `opened` alone: {count}"),
+                (None, 26) => println!("  refused 1 for the books alone: {count}"),
                 (None, _) => println!("  refused {}: {count}", k - 6),
             }
         }

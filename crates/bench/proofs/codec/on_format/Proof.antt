@@ -41,8 +41,14 @@ returns-2 : tie.Need-returns-2
 unfolding onFormat
 returns-2 c = search (placed-true, placed-false, told, needs) depth 14
 
-unreadable-requires : tie.Need-unreadable-requires
-unreadable-requires c κs = search needs
+slice-aggregate-is-3 : tie.Need-slice-aggregate-is-3
+slice-aggregate-is-3 c = search needs
+
+is-requires-3 : tie.Need-is-requires-3
+is-requires-3 c κs = search needs
+
+parse-padded-requires : tie.Need-parse-padded-requires
+parse-padded-requires c κs = search needs
 
 same-length-4 : tie.Need-same-length-4
 same-length-4 c = search needs
@@ -50,6 +56,16 @@ same-length-4 c = search needs
 returns-3 : tie.Need-returns-3
 unfolding onFormat
 returns-3 c = search (placed-true, placed-false, told, needs) depth 14
+
+unreadable-requires : tie.Need-unreadable-requires
+unreadable-requires c κs = search needs
+
+same-length-5 : tie.Need-same-length-5
+same-length-5 c = search needs
+
+returns-4 : tie.Need-returns-4
+unfolding onFormat
+returns-4 c = search (placed-true, placed-false, told, needs) depth 14
 
 pub on-format-spec : {M : Type 1} → statement M
 on-format-spec =
@@ -66,6 +82,11 @@ on-format-spec =
     parse-requires
     same-length-3
     returns-2
-    unreadable-requires
+    slice-aggregate-is-3
+    is-requires-3
+    parse-padded-requires
     same-length-4
-    returns-3)
+    returns-3
+    unreadable-requires
+    same-length-5
+    returns-4)

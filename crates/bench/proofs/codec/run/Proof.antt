@@ -9,7 +9,7 @@ use Rattle.bench.proofs.codec.run.Statement.{statement}
 use Rattle.bench.proofs.codec.run.Tie as tie
 
 abbrev Inv-loop : tie.InvT-loop
-Inv-loop buffer₀ line₀ out₀ held₀ turns₀ buffer line out held turns = (length buffer ≡ 65536) × (length line ≡ 262144) × (length out ≡ 262176)
+Inv-loop buffer₀ line₀ out₀ held₀ turns₀ buffer line out held turns = (length buffer ≡ 65536) × (length line ≡ 262144) × (length out ≡ 262208)
 
 abbrev μ-loop : tie.MeasureT-loop
 μ-loop buffer₀ line₀ out₀ held₀ turns₀ buffer line out held turns = turns
@@ -21,7 +21,7 @@ nothing-requires : tie.Need-nothing-requires Inv-loop μ-loop
 nothing-requires c κs = search needs
 
 loop-holds : tie.Need-loop-holds Inv-loop μ-loop
-loop-holds c = (sym (c .before .large-buffer .ensures), length-replicate {A = ℕ} 262144 0, length-replicate {A = ℕ} 262176 0)
+loop-holds c = (sym (c .before .large-buffer .ensures), length-replicate {A = ℕ} 262144 0, length-replicate {A = ℕ} 262208 0)
 
 slice-aggregate-next : tie.Need-slice-aggregate-next Inv-loop μ-loop
 slice-aggregate-next c = search needs

@@ -50,6 +50,12 @@ read-wait-requires c κs = search needs
 with-wait-requires : tie.Need-with-wait-requires
 with-wait-requires c κs = search needs
 
+read-padded-requires : tie.Need-read-padded-requires
+read-padded-requires c κs = search needs
+
+with-x-requires-4 : tie.Need-with-x-requires-4
+with-x-requires-4 c κs = search needs
+
 returns : tie.Need-returns
 unfolding numberArg pick
 returns c = λ f. rw (c .before .before .match .keys1) (c .with-x .ensures f ∙ c .before .read-byte .ensures _)
@@ -79,8 +85,12 @@ unfolding numberArg pick
 returns-7 c = λ f. rw (c .before .before .match .keys7) (c .with-wait .ensures f ∙ c .before .read-wait .ensures _)
 
 returns-8 : tie.Need-returns-8
+unfolding numberArg pick
+returns-8 c = λ f. rw (c .before .before .match .keys8) (c .with-x4 .ensures f ∙ c .before .read-padded .ensures _)
+
+returns-9 : tie.Need-returns-9
 unfolding numberArg
-returns-8 c = λ f. let r = c .match .rest in at-false _ _ _ _ (ne-eqb _ _ (r .0 .0 .0 .0 .0 .0 .1)) (at-false _ _ _ _ (ne-eqb _ _ (r .0 .0 .0 .0 .0 .1)) (at-false _ _ _ _ (ne-eqb _ _ (r .0 .0 .0 .0 .1)) (at-false _ _ _ _ (ne-eqb _ _ (r .0 .0 .0 .1)) (at-false _ _ _ _ (ne-eqb _ _ (r .0 .0 .1)) (at-false _ _ _ _ (ne-eqb _ _ (r .0 .1)) (at-false _ _ _ _ (ne-eqb _ _ (r .1)) refl))))))
+returns-9 c = λ f. let r = c .match .rest in at-false _ _ _ _ (ne-eqb _ _ (r .0 .0 .0 .0 .0 .0 .0 .1)) (at-false _ _ _ _ (ne-eqb _ _ (r .0 .0 .0 .0 .0 .0 .1)) (at-false _ _ _ _ (ne-eqb _ _ (r .0 .0 .0 .0 .0 .1)) (at-false _ _ _ _ (ne-eqb _ _ (r .0 .0 .0 .0 .1)) (at-false _ _ _ _ (ne-eqb _ _ (r .0 .0 .0 .1)) (at-false _ _ _ _ (ne-eqb _ _ (r .0 .0 .1)) (at-false _ _ _ _ (ne-eqb _ _ (r .0 .1)) (at-false _ _ _ _ (ne-eqb _ _ (r .1)) refl)))))))
 
 pub number-spec : {M : Type 1} → statement M
 number-spec =
@@ -100,6 +110,8 @@ number-spec =
     with-ms-requires
     read-wait-requires
     with-wait-requires
+    read-padded-requires
+    with-x-requires-4
     returns
     returns-2
     returns-3
@@ -107,4 +119,5 @@ number-spec =
     returns-5
     returns-6
     returns-7
-    returns-8)
+    returns-8
+    returns-9)

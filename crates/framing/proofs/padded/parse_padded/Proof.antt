@@ -1,0 +1,47 @@
+-- `framing::padded::parse_padded` meets its contract.
+use native.Mathlib.Omega.{arith}
+use Rattle.framing.specs.PaddedAnswers.{start-low, zeros-most, zeros-fit, padded-told}
+use borrow.Author.Needs.{needs}
+use Rattle.framing.proofs.padded.parse_padded.Statement.{statement}
+use Rattle.framing.proofs.padded.parse_padded.Tie as tie
+
+zeros-in-requires : tie.Need-zeros-in-requires
+zeros-in-requires c κs = search needs
+
+sub-parse : tie.Need-sub-parse
+sub-parse c =
+    let a = c .before .before .args in
+    omega (arith, c .zeros-in .ensures, zeros-fit (a .padded) (a .packet .now))
+
+part-parse-start : tie.Need-part-parse-start
+part-parse-start c =
+    let a = c .before .before .args in
+    omega (arith, c .zeros-in .ensures, zeros-fit (a .padded) (a .packet .now))
+
+part-parse-end : tie.Need-part-parse-end
+part-parse-end c = search needs
+
+parse-requires : tie.Need-parse-requires
+parse-requires c κs = search needs
+
+behind-requires : tie.Need-behind-requires
+behind-requires c κs =
+    let a = c .before .before .before .before .args in
+    (omega (arith, c .before .before .zeros-in .ensures, zeros-most (a .padded) (a .packet .now)), rw (c .parse .ensures) (start-low (a .format) _))
+
+returns : tie.Need-returns
+returns c =
+    let a = c .before .before .before .before .before .args in
+    padded-told (a .format) (a .padded) (a .packet .now) _ _ _ (c .before .before .before .zeros-in .ensures) (c .before .parse .ensures) (c .behind .ensures)
+
+pub parse-padded-spec : {M : Type 1} → statement M
+parse-padded-spec =
+    tie.close
+    (tie.spec
+    zeros-in-requires
+    sub-parse
+    part-parse-start
+    part-parse-end
+    parse-requires
+    behind-requires
+    returns)
