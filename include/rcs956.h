@@ -16,6 +16,7 @@
  *     RCS956_DONE_TYPE1  the same, of a Type 1 tag                       the call has ended
  *     RCS956_NONE        has none: no card, no command                   the call has ended
  *     RCS956_REFUSED     has `refusal`, and `status` with 15             see below
+ *     RCS956_LIST_REFUSED the same of a list, and `finished`             the call has ended
  *
  * Deadlines. Behind a command's frame the first read has its own time. The second and later ones share one: the command's clock,
  * which starts at the second. Drains that follow each other share their 50 ms. Where a shared time is over before a read, the
@@ -57,7 +58,7 @@ extern "C" {
 /* Two arguments: a pointer, and the length 0. */
 #define RCS956_NO_BYTES (const uint8_t *)"", 0
 
-/* Kinds of outcomes: four orders, three ends and the refusal. */
+/* Kinds of outcomes: four orders, three ends, the refusal, and the refusal that ends a list. */
 #define RCS956_WRITE 0
 #define RCS956_READ 1
 #define RCS956_DRAIN 2
@@ -66,6 +67,7 @@ extern "C" {
 #define RCS956_DONE_TYPE1 5
 #define RCS956_NONE 6
 #define RCS956_REFUSED 7
+#define RCS956_LIST_REFUSED 8
 
 /* Events. */
 #define RCS956_EVENT_OK 0     /* the bytes are written */
@@ -122,6 +124,7 @@ extern "C" {
 #define RCS956_CALL_DETECT_TYPE_F 21
 #define RCS956_CALL_DETECT_DEP 22
 #define RCS956_CALL_TRANSCEIVE 23
+#define RCS956_CALL_POLL_TYPE_F 24
 
 /* Modes of an opening, for the session until the next one that is accepted. */
 #define RCS956_MODE_OFF 0    /* a packet starts with 00 00 FF */
@@ -135,7 +138,7 @@ typedef struct rcs956_exchange_state {
 
 /* The running call; kind 0 is none. */
 typedef struct rcs956_call_state {
-    uint8_t kind, stage, phase;
+    uint8_t kind, stage, cursor, phase;
 } rcs956_call_state;
 
 /* The numbers of the running call. */
@@ -167,10 +170,11 @@ typedef struct rcs956_session {
 /* What comes out of a call or an event. What does not apply is 0. */
 typedef struct rcs956_outcome {
     uint8_t kind;
-    uint8_t refusal; /* of a refusal its number, 1 to 19 */
-    uint8_t status;  /* of refusal 15 the status byte */
-    uint32_t time;   /* of a read its ms, of a pause its microseconds */
-    size_t len;      /* of a write order and of an answer the bytes at the buffer's start */
+    uint8_t refusal;  /* of a refusal its number, 1 to 19 */
+    uint8_t status;   /* of refusal 15 the status byte */
+    uint8_t finished; /* of a list's refusal how many of its codes were finished */
+    uint32_t time;    /* of a read its ms, of a pause its microseconds */
+    size_t len;       /* of a write order and of an answer the bytes at the buffer's start */
 } rcs956_outcome;
 
 /* A call's arguments that are numbers. What a call does not use counts for nothing. */
@@ -188,7 +192,9 @@ typedef char rcs956_core_exchange_is_at_16[offsetof(rcs956_core, exchange) == 16
 typedef char rcs956_core_call_is_at_24[offsetof(rcs956_core, call) == 24 ? 1 : -1];
 typedef char rcs956_books_mode_is_at_1[offsetof(rcs956_books, mode) == 1 ? 1 : -1];
 typedef char rcs956_books_frames_is_at_4[offsetof(rcs956_books, frames) == 4 ? 1 : -1];
+typedef char rcs956_call_has_4_bytes[sizeof(rcs956_call_state) == 4 ? 1 : -1];
 typedef char rcs956_outcome_has_16_bytes[sizeof(rcs956_outcome) == 16 ? 1 : -1];
+typedef char rcs956_outcome_time_is_at_4[offsetof(rcs956_outcome, time) == 4 ? 1 : -1];
 typedef char rcs956_numbers_has_8_bytes[sizeof(rcs956_numbers) == 8 ? 1 : -1];
 
 /* A session in which no call runs, of a reader that is not open. */
@@ -409,6 +415,17 @@ static inline rcs956_outcome rcs956_detect_type_f(rcs956_session *session, const
 {
     return rcs956_call(session, RCS956_CALL_DETECT_TYPE_F, rcs956_numbers_of(0, system_code, request_code, time_slots), bitrate,
                        bitrate_len, RCS956_NO_BYTES, RCS956_NO_BYTES, RCS956_NO_BYTES, buffer, buffer_len);
+}
+
+/*
+ * Type F for each of 1 to 16 system codes, two bytes each, high byte first, with request code 01 and time slots 00. Answer: for each
+ * code 01, IDm (8) and PMm (8), or 00 where no card was met. A refusal above 6 but 17 ends the list: RCS956_LIST_REFUSED.
+ */
+static inline rcs956_outcome rcs956_poll_type_f(rcs956_session *session, const uint8_t *bitrate, size_t bitrate_len,
+                                                const uint8_t *codes, size_t codes_len, uint8_t *buffer, size_t buffer_len)
+{
+    return rcs956_call(session, RCS956_CALL_POLL_TYPE_F, rcs956_numbers_of(0, 0, 0, 0), bitrate, bitrate_len, codes, codes_len,
+                       RCS956_NO_BYTES, RCS956_NO_BYTES, buffer, buffer_len);
 }
 
 /* A DEP partner; ATR_REQ has 16 to 64 bytes. Answer: ATR_RES, or none. */

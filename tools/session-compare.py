@@ -1,7 +1,7 @@
 #!/usr/bin/env python3
 """Compares the program `session` with the oracle on generated scripts of some or all calls.
 
-    python3 session-compare.py FOLDER PROGRAM [--calls opening|commands|all] [--requests N2] [--seed 1] [--first 0] [--cases 1000]
+    python3 session-compare.py FOLDER PROGRAM [--calls opening|commands|all] [--requests N1,N2] [--seed 1] [--first 0] [--cases 1000]
         [--jobs 2] [--coverage]
 
 FOLDER has the oracle's bench program `oracle` and its scripts fuzz.py and diff.py. A script is made by talking to the
@@ -139,7 +139,7 @@ def main():
     parser.add_argument("folder")
     parser.add_argument("program")
     parser.add_argument("--calls", choices=("opening", "commands", "all"), default="all")
-    parser.add_argument("--requests", default="N2")
+    parser.add_argument("--requests", default="N1,N2")
     parser.add_argument("--seed", default="1")
     parser.add_argument("--first", type=int, default=0)
     parser.add_argument("--cases", type=int, default=1000)

@@ -106,6 +106,7 @@ struct Exchange {
 struct Call {
     kind: u8,
     stage: u8,
+    cursor: u8,
     phase: u8,
 }
 
@@ -114,6 +115,7 @@ pub struct Outcome {
     pub kind: u8,
     pub refusal: u8,
     pub status: u8,
+    pub finished: u8,
     pub time: u32,
     pub len: usize,
 }

@@ -52,6 +52,8 @@ static void print_line(rcs956_outcome outcome, const uint8_t *buffer)
         printf("refused %d", outcome.refusal);
         if (outcome.refusal == RCS956_STATUS)
             printf(" %02X", outcome.status);
+        if (outcome.kind == RCS956_LIST_REFUSED)
+            printf(" finished %d", outcome.finished);
         putchar('\n');
     }
 }

@@ -1,7 +1,7 @@
 #!/usr/bin/env python3
 """Compares the program `lines`, frame counts included, with the Rust driver itself on generated scripts.
 
-    python3 compare.py ORACLE_FOLDER LINES [--requests N2] [--seed 1] [--first 0] [--cases 5000] [--jobs 2]
+    python3 compare.py ORACLE_FOLDER LINES [--requests N1,N2] [--seed 1] [--first 0] [--cases 5000] [--jobs 2]
 
 ORACLE_FOLDER has the Rust driver as a program of bench lines, `oracle` or `target/release/oracle`, and the generator fuzz.py. A
 script is made by talking to the oracle; every fourth one is of openings and versions alone (tools/session-compare.py). --requests
@@ -77,7 +77,7 @@ def main():
     parser = argparse.ArgumentParser(description=__doc__, formatter_class=argparse.RawDescriptionHelpFormatter)
     parser.add_argument("folder")
     parser.add_argument("program")
-    parser.add_argument("--requests", default="N2")
+    parser.add_argument("--requests", default="N1,N2")
     parser.add_argument("--seed", default="1")
     parser.add_argument("--first", type=int, default=0)
     parser.add_argument("--cases", type=int, default=5000)

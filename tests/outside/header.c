@@ -24,7 +24,7 @@ rcs956_outcome rcs956_call(rcs956_session *s, uint8_t number, rcs956_numbers n, 
                            size_t fourth_len, uint8_t *buf, size_t buf_len)
 {
     struct got now = {number, n.ms, n.word, n.x, n.y, {first_len, second_len, third_len, fourth_len}, {first, second, third, fourth}};
-    rcs956_outcome none = {RCS956_NONE, 0, 0, 0, 0};
+    rcs956_outcome none = {RCS956_NONE, 0, 0, 0, 0, 0};
     got = now;
     if (s != &session || buf != buffer || buf_len != sizeof buffer)
         printf("wrong: session or buffer of call %d\n", number), wrong = 1;
@@ -75,6 +75,7 @@ int main(void)
     expect(rcs956_detect_type_f(s, a, 1, 60000, 5, 6, END), 0, 60000, 5, 6, 1);
     expect(rcs956_detect_dep(s, a, 1, b, 2, END), 0, 0, 0, 0, 2);
     expect(rcs956_transceive(s, a, 1, b, 2, true, c, 3, true, 60000, END), 0, 60000, 1, 1, 3);
+    expect(rcs956_poll_type_f(s, a, 1, b, 2, END), 0, 0, 0, 0, 2);
     printf("header: %d calls, %s\n", calls, wrong ? "some wrong" : "all right");
     return wrong;
 }

@@ -8,7 +8,7 @@ ghost use Rattle.bench_input.specs.Arguments.{word};
 ghost use Rattle.bench_input.specs.Table.{table as tableOf, rowAt, isFor, rowFor};
 ghost use Rattle.bench_input.specs.Readings.{texts, foundIn, Within};
 
-pub(crate) const TABLE: [u8; 606] = *b"\
+pub(crate) const TABLE: [u8; 624] = *b"\
     open  00 \
     open z 00 \
     version  01 \
@@ -34,6 +34,7 @@ pub(crate) const TABLE: [u8; 606] = *b"\
     detect_type_f Bwxy 15 \
     detect_dep BN 16 \
     transceive BNptH 17 \
+    poll_type_f B2 18 \
     ok  80 \
     bad  81 \
     pkt  82 \

@@ -15,13 +15,13 @@ use Rattle.errors.specs.declared.Fault.{Fault}
 use Rattle.errors.specs.declared.Refusal.{Refusal}
 use Rattle.targets.specs.Bitrates.{ascii}
 use Rattle.engine.specs.declared.core.Output.{Output}
-use Rattle.engine.specs.declared.core.Output.the-variants.{Ack, Command, Read, Drain, Pause, Done, Type1, Nothing, Failed, Refused}
+use Rattle.engine.specs.declared.core.Output.the-variants.{Ack, Command, Read, Drain, Pause, Done, Type1, Nothing, Failed, FailedAfter, Refused}
 use Rattle.bench.specs.DecimalLaws.{decimal-short}
 use Rattle.bench.specs.Hex.{hexOf}
 use Rattle.bench.specs.HexLaws.{hex-short}
 use Rattle.bench.specs.TextLaws.{next-place, put-behind}
 use Rattle.bench.specs.Texts.{Placed, placed, placedAt, decimalOf}
-use Rattle.bench_session.specs.Outputs.{outRoom, textLimit, doneText, type1Text, refusedText, textOf}
+use Rattle.bench_session.specs.Outputs.{outRoom, textLimit, doneText, type1Text, refusedText, listRefusedText, textOf}
 
 -- the first n bytes
 pub first-part : (n : ℕ) (p : List ℕ) → n < length p → n ≡ length (take n p)
@@ -91,14 +91,41 @@ module _ (n : Numbered) (b : List ℕ) (x : Placed) where
   unfolding refusedText pick
   refused-other h e = rw (ne-eqb (n .number) 15 h) e
 
+either-short : (k : ℕ) (t : Bool) (a c : List ℕ) → length a ≤ k → length c ≤ k → length (pick t a c) ≤ k
+unfolding pick
+either-short k true a c h l = h
+either-short k false a c h l = l
+
+refused-short : (n : Numbered) → length (refusedText n) ≤ 32
+unfolding refusedText
+refused-short n =
+    either-short 32 (eqb (n .number) 15) _ _
+    (rw (length-append (ascii "refused " ++ decimalOf (n .number) ++ ascii " ") (hexOf (n .status ∷ [])), length-append (ascii "refused " ++ decimalOf (n .number)) (ascii " "), length-append (ascii "refused ") (decimalOf (n .number)))
+    (omega (arith, decimal-short (n .number), hex-short (n .status ∷ []))))
+    (rw (length-append (ascii "refused ") (decimalOf (n .number))) (omega (arith, decimal-short (n .number))))
+
+-- the number of codes finished behind a list's refusal
+module _ (n : Numbered) (r : ℕ) (b o : List ℕ) (before : placed r o ≡ placedAt 0 (refusedText n) b) (room : outRoom ≤ length b) where
+  pub finished-room : length o ≡ length b → r + 10 ≤ length o
+  finished-room l = omega (arith, refused-short n, next-place (refusedText n) b o r before)
+
+  module _ (r′ : ℕ) (o′ : List ℕ) (word : placed r′ o′ ≡ placedAt r (ascii " finished ") o) where
+    named : placed r′ o′ ≡ placedAt 0 (refusedText n ++ ascii " finished ") b
+    named = put-behind (refusedText n) b o r before (ascii " finished ") (placed r′ o′) word (omega (arith, refused-short n))
+
+    named-short : length (refusedText n ++ ascii " finished ") ≤ 42
+    named-short = rw (length-append (refusedText n) (ascii " finished ")) (omega (arith, refused-short n))
+
+    pub count-room : length o ≡ length b → length o′ ≡ length o → r′ + 20 ≤ length o′
+    count-room l m = omega (arith, named-short, next-place (refusedText n ++ ascii " finished ") b o′ r′ named)
+
+    pub count-done : (k : ℕ) (x : Placed) → x ≡ placedAt r′ (decimalOf k) o′ → x ≡ placedAt 0 (listRefusedText n k) b
+    unfolding listRefusedText
+    count-done k x e = put-behind (refusedText n ++ ascii " finished ") b o′ r′ named (decimalOf k) x e (omega (arith, named-short, decimal-short k))
+
 -- a text within the limit
 abbrev Fits : List ℕ → Type 0
 Fits t = length t ≤ textLimit
-
-pick-fits : (t : Bool) (a c : List ℕ) → Fits a → Fits c → Fits (pick t a c)
-unfolding pick
-pick-fits true a c h k = h
-pick-fits false a c h k = k
 
 bytes-fit : (t p : List ℕ) → length t ≤ 6 → length p ≤ 1024 → Fits (t ++ hexOf p)
 bytes-fit t p h k = rw (length-append t (hexOf p)) (omega (arith, hex-short p))
@@ -107,12 +134,12 @@ number-fits : (t : List ℕ) (n : ℕ) → length t ≤ 8 → Fits (t ++ decimal
 number-fits t n h = rw (length-append t (decimalOf n)) (omega (arith, decimal-short n))
 
 refused-fits : (n : Numbered) → Fits (refusedText n)
-unfolding refusedText
-refused-fits n =
-    pick-fits (eqb (n .number) 15) _ _
-    (rw (length-append (ascii "refused " ++ decimalOf (n .number) ++ ascii " ") (hexOf (n .status ∷ [])), length-append (ascii "refused " ++ decimalOf (n .number)) (ascii " "), length-append (ascii "refused ") (decimalOf (n .number)))
-    (omega (arith, decimal-short (n .number), hex-short (n .status ∷ []))))
-    (number-fits (ascii "refused ") (n .number) (omega arith))
+refused-fits n = omega (arith, refused-short n)
+
+list-refused-fits : (n : Numbered) (k : ℕ) → Fits (listRefusedText n k)
+unfolding listRefusedText
+list-refused-fits n k =
+    rw (length-append (refusedText n ++ ascii " finished ") (decimalOf k), length-append (refusedText n) (ascii " finished ")) (omega (arith, refused-short n, decimal-short k))
 
 pub text-fits : (o : Output) (b : List ℕ) → length b ≤ 1024 → length (textOf o b) ≤ textLimit
 unfolding textOf doneText type1Text
@@ -121,11 +148,12 @@ text-fits (Command n) b h = bytes-fit (ascii "write ") (take n b) (omega arith) 
 text-fits (Read ms) b h = number-fits (ascii "read ") ms (omega arith)
 text-fits Drain b h = omega arith
 text-fits (Pause us) b h = number-fits (ascii "pause ") us (omega arith)
-text-fits (Done n) b h = pick-fits (eqb (length (take n b)) 0) _ _ (omega arith) (bytes-fit (ascii "done ") (take n b) (omega arith) (omega (arith, length-take n b)))
+text-fits (Done n) b h = either-short textLimit (eqb (length (take n b)) 0) _ _ (omega arith) (bytes-fit (ascii "done ") (take n b) (omega arith) (omega (arith, length-take n b)))
 text-fits (Type1 n) b h =
     rw (length-append (ascii "done " ++ hexOf (take n b)) (ascii " type1"), length-append (ascii "done ") (hexOf (take n b))) (omega (arith, hex-short (take n b), length-take n b))
 text-fits Nothing b h = omega arith
 text-fits (Failed e) b h = refused-fits (faultNumbered e)
+text-fits (FailedAfter e n) b h = list-refused-fits (faultNumbered e) n
 text-fits (Refused e) b h = refused-fits (numbered e)
 
 -- the text that was printed, and its bound
@@ -178,4 +206,8 @@ module _ (f : Output) (b out : List ℕ) (x : Placed) where
   unfolding textOf
   text-refused e n h q d = rw h (rw q at d)
 
-pub ruleset texts = (text-ack, text-command, text-read, text-drain, text-pause, text-done, text-type1, text-none, text-failed, text-refused)
+  pub text-listed : (e : Fault) (k : ℕ) (n : Numbered) → f ≡ FailedAfter e k → n ≡ faultNumbered e → x ≡ placedAt 0 (listRefusedText n k) out → x ≡ placedAt 0 (textOf f b) out
+  unfolding textOf
+  text-listed e k n h q d = rw h (rw q at d)
+
+pub ruleset texts = (text-ack, text-command, text-read, text-drain, text-pause, text-done, text-type1, text-none, text-failed, text-listed, text-refused)

@@ -8,7 +8,7 @@ use Rattle.errors.specs.Refusals.{numbered, faultNumbered}
 use Rattle.errors.specs.declared.Numbered.{Numbered}
 use Rattle.targets.specs.Bitrates.{ascii}
 use Rattle.engine.specs.declared.core.Output.{Output}
-use Rattle.engine.specs.declared.core.Output.the-variants.{Ack, Command, Read, Drain, Pause, Done, Type1, Nothing, Failed, Refused}
+use Rattle.engine.specs.declared.core.Output.the-variants.{Ack, Command, Read, Drain, Pause, Done, Type1, Nothing, Failed, FailedAfter, Refused}
 use Rattle.bench.specs.Texts.{decimalOf}
 use Rattle.bench.specs.Hex.{hexOf}
 
@@ -32,6 +32,10 @@ type1Text p = ascii "done " ++ hexOf p ++ ascii " type1"
 unfoldable pub refusedText : Numbered → List ℕ
 refusedText n = pick (eqb (n .number) 15) (ascii "refused " ++ decimalOf (n .number) ++ ascii " " ++ hexOf (n .status ∷ [])) (ascii "refused " ++ decimalOf (n .number))
 
+-- the refusal that ends a list, and the number of its codes that were finished
+unfoldable pub listRefusedText : Numbered → ℕ → List ℕ
+listRefusedText n finished = refusedText n ++ ascii " finished " ++ decimalOf finished
+
 -- an output whose bytes stand at the start of b
 unfoldable pub textOf : Output → List ℕ → List ℕ
 textOf Ack b = ascii "write " ++ hexOf (take 6 b)
@@ -43,4 +47,5 @@ textOf (Done n) b = doneText (take n b)
 textOf (Type1 n) b = type1Text (take n b)
 textOf Nothing b = ascii "none"
 textOf (Failed e) b = refusedText (faultNumbered e)
+textOf (FailedAfter e n) b = listRefusedText (faultNumbered e) n
 textOf (Refused e) b = refusedText (numbered e)

@@ -10,7 +10,7 @@ ghost use Prim.Native.Nat.{_≤_};
 ghost use lib.ListN.{length, take};
 ghost use Rattle.bench.specs.Texts.{placed, placedAt, decimalOf};
 ghost use Rattle.bench.specs.Hex.{hexOf};
-ghost use Rattle.bench_session.specs.Outputs.{outRoom, textLimit, doneText, type1Text, refusedText, textOf};
+ghost use Rattle.bench_session.specs.Outputs.{outRoom, textLimit, doneText, type1Text, refusedText, listRefusedText, textOf};
 
 // The first n bytes; all of them where there are fewer.
 fn first(n: usize, bytes: &[u8]) -> &[u8]
@@ -69,6 +69,16 @@ fn put_refused(numbered: Numbered, out: &mut [u8]) -> usize
     at
 }
 
+// The refusal that ends a list, and how many of its codes were finished.
+fn put_list_refused(numbered: Numbered, finished: u8, out: &mut [u8]) -> usize
+    requires { ⌜ outRoom ≤ length (now out) ⌝ }
+    ensures { λ r. ⌜ placed r (now (out .exit)) ≡ placedAt 0 (listRefusedText numbered finished) (now (out .entry)) ⌝ }
+{
+    let at = put_refused(numbered, out);
+    let next = text::put(b" finished ", out, at);
+    text::put_decimal(finished as u64, out, next)
+}
+
 fn put_output(output: Output, bytes: &[u8], out: &mut [u8; OUT]) -> usize
     requires { ⌜ length (now bytes) ≤ 1024 ⌝ }
     ensures { λ r. ⌜ (placed r (now (out .exit)) ≡ placedAt 0 (textOf output (now (bytes .entry))) (now (out .entry))) × (r ≤ textLimit) × (length (now (out .exit)) ≡ outRoom) ⌝ }
@@ -83,6 +93,7 @@ fn put_output(output: Output, bytes: &[u8], out: &mut [u8; OUT]) -> usize
         Output::Type1(n) => put_type1(first(n, bytes), out),
         Output::Nothing => text::put(b"none", out, 0),
         Output::Failed(fault) => put_refused(fault.numbered(), out),
+        Output::FailedAfter(fault, n) => put_list_refused(fault.numbered(), n, out),
         Output::Refused(refusal) => put_refused(refusal.numbered(), out),
     }
 }

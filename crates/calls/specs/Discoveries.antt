@@ -47,25 +47,25 @@ sens-res-few list = go (ltb (length list) 4)
     go false = omega arith
 
 rid-done : (pending list cs : List ℕ)
-    → Leads 17 pending (sensRes list) (withLength (sensRes list) 2 (ends (type1 (take 2 (sensRes list) ++ drop 1 cs)))) (cardType1 list cs)
+    → Leads 17 0 pending (sensRes list) (withLength (sensRes list) 2 (ends (type1 (take 2 (sensRes list) ++ drop 1 cs)))) (cardType1 list cs)
 unfolding sensRes withLength pick
 rid-done pending list cs = go (ltb (length list) 4)
   where
     go : (t : Bool)
-        → Leads 17 pending (sensRes list) (pick (ltb (length (pick t [] (getD list 3 0 ∷ getD list 2 0 ∷ []))) 2) (ends (refused ShortResponse)) (ends (type1 (take 2 (pick t [] (getD list 3 0 ∷ getD list 2 0 ∷ [])) ++ drop 1 cs))))
+        → Leads 17 0 pending (sensRes list) (pick (ltb (length (pick t [] (getD list 3 0 ∷ getD list 2 0 ∷ []))) 2) (ends (refused ShortResponse)) (ends (type1 (take 2 (pick t [] (getD list 3 0 ∷ getD list 2 0 ∷ [])) ++ drop 1 cs))))
         (ifElse t (refuse ShortResponse) (finish (type1 (byteAt 2 list 3 ∷ byteAt 2 list 2 ∷ rest 3 cs 1))))
     go true = refusal ShortResponse
     go false = ending _ (ap (λ l. type1 (getD list 3 0 ∷ getD list 2 0 ∷ l)) (rest-values 3 cs 1))
 
 module _ (pending list : List ℕ) where
-  typeA-5 : Stands 17 5 pending (cardBytes list) (rxWritten list)
+  typeA-5 : Stands 17 5 0 pending (cardBytes list) (rxWritten list)
   unfolding decidedOf failedOf typeADecision foundWritten typeAFailure pick
   typeA-5 = record {
     answered = λ cs few. leads-if (anyNonzero cs) (λ _. refusal (Status 0xFE)) (λ _. ending _ (card-plain list));
     failing = λ r. refusal r;
   }
 
-  typeA-3 : Stands 17 3 pending (sensRes list) (ridAnswered list)
+  typeA-3 : Stands 17 3 0 pending (sensRes list) (ridAnswered list)
   unfolding decidedOf failedOf typeADecision typeAFailure ridOf ridFailure pick
   typeA-3 = record {
     answered = λ cs few.
@@ -75,7 +75,7 @@ module _ (pending list : List ℕ) where
     failing = λ r. leads-status r (λ _ _. none-found) (refusal r);
   }
 
-typeA-4 : (pending list : List ℕ) → Stands 17 4 pending (cardBytes list) (rxRead list)
+typeA-4 : (pending list : List ℕ) → Stands 17 4 0 pending (cardBytes list) (rxRead list)
 unfolding decidedOf failedOf typeADecision rxModeRead typeAFailure commandOf isResetOf typeACommand pick
 typeA-4 pending list = record {
   answered = λ cs few.
@@ -84,7 +84,7 @@ typeA-4 pending list = record {
 }
 
 typeA-2 : (pending found : List ℕ)
-    → Stands 17 2 pending found (either (λ list. ifElse (eqb (getD list 0 0) 0) (finish nothing) (ifElse (ltb (length list) 2) (refuse ShortResponse) (command 0x40 100 (0x01 ∷ 0x78 ∷ 0x00 ∷ 0x00 ∷ 0x00 ∷ 0x00 ∷ 0x00 ∷ 0x00 ∷ []) (ridAnswered list)))) refuse)
+    → Stands 17 2 0 pending found (either (λ list. ifElse (eqb (getD list 0 0) 0) (finish nothing) (ifElse (ltb (length list) 2) (refuse ShortResponse) (command 0x40 100 (0x01 ∷ 0x78 ∷ 0x00 ∷ 0x00 ∷ 0x00 ∷ 0x00 ∷ 0x00 ∷ 0x00 ∷ []) (ridAnswered list)))) refuse)
 unfolding decidedOf failedOf typeADecision typeAFailure listedType1 commandOf isResetOf typeACommand pick
 typeA-2 pending found = record {
   answered = λ cs few.
@@ -93,7 +93,7 @@ typeA-2 pending found = record {
   failing = λ r. refusal r;
 }
 
-typeA-1 : (pending found : List ℕ) → Stands 17 1 pending found (either (λ bs. ifElse (eqb (getD bs 0 0) 0x26) (finish nothing) tryType1) (λ _. tryType1))
+typeA-1 : (pending found : List ℕ) → Stands 17 1 0 pending found (either (λ bs. ifElse (eqb (getD bs 0 0) 0x26) (finish nothing) tryType1) (λ _. tryType1))
 unfolding decidedOf failedOf typeADecision fifoRead typeAFailure commandOf isResetOf typeACommand pick
 typeA-1 pending found = record {
   answered = λ cs few. leads-if (eqb (getD cs 0 0) 0x26) (λ _. none-found) (λ _. go-on 2 0x4A 1000 _ refl refl refl (typeA-2 pending found));
@@ -101,7 +101,7 @@ typeA-1 pending found = record {
 }
 
 typeA-0 : (pending found : List ℕ)
-    → Stands 17 0 pending found (either (λ list. ifElse (eqb (getD list 0 0) 0) noTarget (ifElse (ltb (length list) 2) (refuse ShortResponse) (foundA list))) refuse)
+    → Stands 17 0 0 pending found (either (λ list. ifElse (eqb (getD list 0 0) 0) noTarget (ifElse (ltb (length list) 2) (refuse ShortResponse) (foundA list))) refuse)
 unfolding decidedOf failedOf typeADecision typeAFailure listedA commandOf isResetOf typeACommand pick
 typeA-0 pending found = record {
   answered = λ cs few.
@@ -119,14 +119,14 @@ module _ (afi : ℕ) where
   wakes = 0x05 ∷ afi ∷ 0x08 ∷ []
 
   typeB-2 : (found : List ℕ)
-      → Stands 18 2 wakes found (either (λ bs. ifElse (eqb (statusByte bs) 0) (finish (done (rest 2 bs 1))) (finish nothing)) (λ _. finish nothing))
+      → Stands 18 2 0 wakes found (either (λ bs. ifElse (eqb (statusByte bs) 0) (finish (done (rest 2 bs 1))) (finish nothing)) (λ _. finish nothing))
   unfolding decidedOf failedOf typeBDecision wokenUp typeBFailure pick
   typeB-2 found = record {
     answered = λ cs few. leads-if (eqb (statusByte cs) 0) (λ _. ending _ (ap done (rest-values 2 cs 1))) (λ _. none-found);
     failing = λ r. none-found;
   }
 
-  typeB-1 : (found : List ℕ) → Stands 18 1 wakes found (λ _. wakeUp afi)
+  typeB-1 : (found : List ℕ) → Stands 18 1 0 wakes found (λ _. wakeUp afi)
   unfolding decidedOf failedOf typeBDecision typeBFailure commandOf isResetOf typeBCommand pick
   typeB-1 found = record {
     answered = λ cs few. go-on 2 0x42 500 _ refl refl refl (typeB-2 found);
@@ -134,7 +134,7 @@ module _ (afi : ℕ) where
   }
 
   typeB-0 : (code : ℕ) (found : List ℕ)
-      → Stands 18 0 (1 ∷ code ∷ afi ∷ []) found (either (λ list. ifElse (eqb (getD list 0 0) 0) (finish nothing) (ifElse (ltb (length list) 2) (refuse ShortResponse) (foundB afi list))) refuse)
+      → Stands 18 0 0 (1 ∷ code ∷ afi ∷ []) found (either (λ list. ifElse (eqb (getD list 0 0) 0) (finish nothing) (ifElse (ltb (length list) 2) (refuse ShortResponse) (foundB afi list))) refuse)
   unfolding decidedOf failedOf typeBDecision typeBFailure listedB isoDep commandOf isResetOf typeBCommand pick
   typeB-0 code found = record {
     answered = λ cs few.
@@ -153,7 +153,7 @@ module _ (afi : ℕ) where
 module _ (code : ℕ) (req : List ℕ) where
   -- the poll is command j of the call
   typeF-2 : (j : ℕ) (found : List ℕ)
-      → Stands 19 2 (1 ∷ code ∷ req) found (either (λ list. ifElse (eqb (getD list 0 0) 0) (refuse NoCard) (ifElse (ltb (length list) 2) (refuse ShortResponse) (ifElse (ltb (length list) 20) (refuse ShortResponse) (finish (done (rest j list 4)))))) refuse)
+      → Stands 19 2 0 (1 ∷ code ∷ req) found (either (λ list. ifElse (eqb (getD list 0 0) 0) (refuse NoCard) (ifElse (ltb (length list) 2) (refuse ShortResponse) (ifElse (ltb (length list) 20) (refuse ShortResponse) (finish (done (rest j list 4)))))) refuse)
   unfolding decidedOf failedOf typeFDecision polled pick
   typeF-2 j found = record {
     answered = λ cs few.
@@ -162,7 +162,7 @@ module _ (code : ℕ) (req : List ℕ) where
     failing = λ r. refusal r;
   }
 
-  typeF-1 : (found : List ℕ) → Stands 19 1 (1 ∷ code ∷ req) found (either (λ _. fieldPause (poll 2 code req)) refuse)
+  typeF-1 : (found : List ℕ) → Stands 19 1 0 (1 ∷ code ∷ req) found (either (λ _. fieldPause (poll 2 code req)) refuse)
   unfolding decidedOf failedOf typeFDecision commandOf isResetOf typeFCommand pick
   typeF-1 found = record {
     answered = λ cs few. leads-pause 2 _ refl (go-on 2 0x4A 1000 _ refl refl refl (typeF-2 2 found));
@@ -170,7 +170,7 @@ module _ (code : ℕ) (req : List ℕ) where
   }
 
   typeF-0 : (found : List ℕ)
-      → Stands 19 0 (1 ∷ code ∷ req) found (either (λ bs. ifElse (ltb (length bs) 1) (refuse ShortResponse) (ifElse (eqb (getD bs 0 0 % 4) 0) (command 0x32 100 (0x01 ∷ 0x01 ∷ []) (either (λ _. fieldPause (poll 2 code req)) refuse)) (poll 1 code req))) refuse)
+      → Stands 19 0 0 (1 ∷ code ∷ req) found (either (λ bs. ifElse (ltb (length bs) 1) (refuse ShortResponse) (ifElse (eqb (getD bs 0 0 % 4) 0) (command 0x32 100 (0x01 ∷ 0x01 ∷ []) (either (λ _. fieldPause (poll 2 code req)) refuse)) (poll 1 code req))) refuse)
   unfolding decidedOf failedOf typeFDecision txControlRead commandOf isResetOf typeFCommand pick
   typeF-0 found = record {
     answered = λ cs few.
@@ -184,7 +184,7 @@ module _ (code : ℕ) (req : List ℕ) where
 abbrev modeWritten : List ℕ → Reply → Script
 modeWritten list = either (λ bs. ifElse (anyNonzero bs) (refuse (Status 0xFE)) (finish (done (own 0xD5 ∷ own 0x01 ∷ rest 1 list 2)))) refuse
 
-dep-2 : (pending list : List ℕ) → Stands 20 2 pending (0xD5 ∷ 0x01 ∷ drop 2 list) (modeWritten list)
+dep-2 : (pending list : List ℕ) → Stands 20 2 0 pending (0xD5 ∷ 0x01 ∷ drop 2 list) (modeWritten list)
 unfolding decidedOf failedOf depDecision foundWritten depFailure pick
 dep-2 pending list = record {
   answered = λ cs few.
@@ -193,7 +193,7 @@ dep-2 pending list = record {
 }
 
 dep-1 : (pending found : List ℕ)
-    → Stands 20 1 pending found (either (λ bs. ifElse (eqb (statusByte bs) 0) (ifElse (ltb (length bs) 2) (refuse ShortResponse) (command 0x08 250 (0x63 ∷ 0x01 ∷ 0x3B ∷ []) (modeWritten bs))) (noPartnerScript (Status (statusByte bs)))) noPartnerScript)
+    → Stands 20 1 0 pending found (either (λ bs. ifElse (eqb (statusByte bs) 0) (ifElse (ltb (length bs) 2) (refuse ShortResponse) (command 0x08 250 (0x63 ∷ 0x01 ∷ 0x3B ∷ []) (modeWritten bs))) (noPartnerScript (Status (statusByte bs)))) noPartnerScript)
 unfolding decidedOf failedOf depDecision jumpedTo depFailure jumpFailure noPartner commandOf isResetOf depCommand pick
 dep-1 pending found = record {
   answered = λ cs few.
@@ -203,7 +203,7 @@ dep-1 pending found = record {
 }
 
 dep-0 : (code : ℕ) (nfcid3 gi found : List ℕ)
-    → Stands 20 0 (jumpData 1 code [] nfcid3 gi) found (either (λ _. command 0x56 3000 (jumpData 1 code [] nfcid3 gi) (either (λ bs. ifElse (eqb (statusByte bs) 0) (ifElse (ltb (length bs) 2) (refuse ShortResponse) (command 0x08 250 (0x63 ∷ 0x01 ∷ 0x3B ∷ []) (modeWritten bs))) (noPartnerScript (Status (statusByte bs)))) noPartnerScript)) refuse)
+    → Stands 20 0 0 (jumpData 1 code [] nfcid3 gi) found (either (λ _. command 0x56 3000 (jumpData 1 code [] nfcid3 gi) (either (λ bs. ifElse (eqb (statusByte bs) 0) (ifElse (ltb (length bs) 2) (refuse ShortResponse) (command 0x08 250 (0x63 ∷ 0x01 ∷ 0x3B ∷ []) (modeWritten bs))) (noPartnerScript (Status (statusByte bs)))) noPartnerScript)) refuse)
 unfolding decidedOf failedOf depDecision depFailure commandOf isResetOf depCommand pick
 dep-0 code nfcid3 gi found = record {
   answered = λ cs few. go-on 1 0x56 3000 _ refl refl refl (dep-1 (jumpData 1 code [] nfcid3 gi) found);
@@ -212,19 +212,19 @@ dep-0 code nfcid3 gi found = record {
 
 -- ---- each from its first command on
 
-pub typeA-leads : (code : ℕ) (uid found : List ℕ) → Leads 17 (1 ∷ code ∷ cascaded uid) found (send 0) (detectTypeA code uid)
+pub typeA-leads : (code : ℕ) (uid found : List ℕ) → Leads 17 0 (1 ∷ code ∷ cascaded uid) found (send 0) (detectTypeA code uid)
 unfolding commandOf isResetOf typeACommand pick
 typeA-leads code uid found = go-on 0 0x4A 1000 _ refl refl refl (typeA-0 _ found)
 
-pub typeB-leads : (code afi : ℕ) (found : List ℕ) → Leads 18 (1 ∷ code ∷ afi ∷ []) found (send 0) (detectTypeB code afi)
+pub typeB-leads : (code afi : ℕ) (found : List ℕ) → Leads 18 0 (1 ∷ code ∷ afi ∷ []) found (send 0) (detectTypeB code afi)
 unfolding commandOf isResetOf typeBCommand pick
 typeB-leads code afi found = go-on 0 0x4A 1000 _ refl refl refl (typeB-0 afi code found)
 
-pub typeF-leads : (code : ℕ) (req found : List ℕ) → Leads 19 (1 ∷ code ∷ req) found (send 0) (detectTypeF code req)
+pub typeF-leads : (code : ℕ) (req found : List ℕ) → Leads 19 0 (1 ∷ code ∷ req) found (send 0) (detectTypeF code req)
 unfolding commandOf isResetOf typeFCommand pick
 typeF-leads code req found = go-on 0 0x06 250 _ refl refl refl (typeF-0 code req found)
 
 pub dep-leads : (code : ℕ) (req found : List ℕ)
-    → Leads 20 (jumpData 1 code [] (take 10 (drop 2 req)) (drop 16 req)) found (send 0) (detectDep code req)
+    → Leads 20 0 (jumpData 1 code [] (take 10 (drop 2 req)) (drop 16 req)) found (send 0) (detectDep code req)
 unfolding commandOf isResetOf depCommand pick
 dep-leads code req found = go-on 0 0x32 100 _ refl refl refl (dep-0 code (take 10 (drop 2 req)) (drop 16 req) found)

@@ -6,4 +6,5 @@ pub mod Refines
 pub mod Single
 pub mod Opening
 pub mod Discoveries
+pub mod Polls
 pub mod Starts

@@ -88,11 +88,11 @@ module _ (pending : List ℕ) where
     answer = openedBytes a b c
 
     -- a command whose response is not looked at
-    passed : (n : ℕ) (s : Script) → ((cs : List ℕ) → decidedOf 1 n pending answer cs ≡ send (n + 1)) → ((r : Fault) → failedOf 1 n r ≡ ends (refused r))
-        → Leads 1 pending answer (send (n + 1)) s → Stands 1 n pending answer (either (λ _. s) refuse)
+    passed : (n : ℕ) (s : Script) → ((cs : List ℕ) → decidedOf 1 n 0 pending answer cs ≡ send (n + 1)) → ((r : Fault) → failedOf 1 n 0 pending answer r ≡ ends (refused r))
+        → Leads 1 0 pending answer (send (n + 1)) s → Stands 1 n 0 pending answer (either (λ _. s) refuse)
     passed n s h k l = record { answered = λ cs _. rw (h cs) l; failing = λ r. rw (k r) (refusal r) }
 
-    stage-9 : Leads 1 pending answer (send 9) (s9 a b c)
+    stage-9 : Leads 1 0 pending answer (send 9) (s9 a b c)
     unfolding commandOf isResetOf decidedOf failedOf openingCommand settingsCommand isResetStage openingDecision foundWritten pick
     stage-9 =
         go-on 9 0x08 250 _ refl refl refl
@@ -101,35 +101,35 @@ module _ (pending : List ℕ) where
           failing = λ r. refusal r;
         }
 
-    stage-8 : Leads 1 pending answer (send 8) (reset (s9 a b c))
+    stage-8 : Leads 1 0 pending answer (send 8) (reset (s9 a b c))
     unfolding commandOf isResetOf decidedOf openingCommand settingsCommand isResetStage openingDecision pick
     stage-8 = leads-reset 8 _ refl refl refl stage-9
 
-    stage-7 : Leads 1 pending answer (send 7) (s7 a b c)
+    stage-7 : Leads 1 0 pending answer (send 7) (s7 a b c)
     unfolding commandOf isResetOf decidedOf failedOf openingCommand settingsCommand isResetStage openingDecision pick
     stage-7 = go-on 7 0x12 100 _ refl refl refl (passed 7 _ (λ _. refl) (λ _. refl) stage-8)
 
-    stage-6 : Leads 1 pending answer (send 6) (s6 a b c)
+    stage-6 : Leads 1 0 pending answer (send 6) (s6 a b c)
     unfolding commandOf isResetOf decidedOf failedOf openingCommand settingsCommand isResetStage openingDecision pick
     stage-6 = go-on 6 0x32 100 _ refl refl refl (passed 6 _ (λ _. refl) (λ _. refl) stage-7)
 
-    stage-5 : Leads 1 pending answer (send 5) (s5 a b c)
+    stage-5 : Leads 1 0 pending answer (send 5) (s5 a b c)
     unfolding commandOf isResetOf decidedOf failedOf openingCommand settingsCommand isResetStage openingDecision pick
     stage-5 = go-on 5 0x32 100 _ refl refl refl (passed 5 _ (λ _. refl) (λ _. refl) stage-6)
 
-    stage-4 : Leads 1 pending answer (send 4) (s4 a b c)
+    stage-4 : Leads 1 0 pending answer (send 4) (s4 a b c)
     unfolding commandOf isResetOf decidedOf failedOf openingCommand isResetStage openingDecision pick
     stage-4 = go-on 4 0x32 100 _ refl refl refl (passed 4 _ (λ _. refl) (λ _. refl) stage-5)
 
-    stage-3 : Leads 1 pending answer (send 3) (s3 a b c)
+    stage-3 : Leads 1 0 pending answer (send 3) (s3 a b c)
     unfolding commandOf isResetOf decidedOf failedOf openingCommand isResetStage openingDecision pick
     stage-3 = go-on 3 0x32 100 _ refl refl refl (passed 3 _ (λ _. refl) (λ _. refl) stage-4)
 
-    stage-2 : Leads 1 pending answer (send 2) (rfFieldOff (s3 a b c))
+    stage-2 : Leads 1 0 pending answer (send 2) (rfFieldOff (s3 a b c))
     unfolding commandOf isResetOf decidedOf failedOf openingCommand isResetStage openingDecision pick
     stage-2 = go-on 2 0x32 100 _ refl refl refl (passed 2 _ (λ _. refl) (λ _. refl) stage-3)
 
-  stage-1 : (found : List ℕ) → Leads 1 pending found (send 1) (getFirmwareVersion (λ a b c. rfFieldOff (s3 a b c)))
+  stage-1 : (found : List ℕ) → Leads 1 0 pending found (send 1) (getFirmwareVersion (λ a b c. rfFieldOff (s3 a b c)))
   unfolding commandOf isResetOf decidedOf failedOf openingCommand isResetStage openingDecision versionKept pick
   stage-1 found =
       go-on 1 0x02 100 _ refl refl refl
@@ -140,20 +140,20 @@ module _ (pending : List ℕ) where
       }
 
   -- `Device::new`
-  pub opening-leads : (found : List ℕ) → Leads 1 pending found (send 0) deviceNew
+  pub opening-leads : (found : List ℕ) → Leads 1 0 pending found (send 0) deviceNew
   unfolding commandOf isResetOf decidedOf openingCommand isResetStage openingDecision pick
   opening-leads found = leads-reset 0 _ refl refl refl (stage-1 found)
 
 -- ---- a failed write of ACK refuses
 
-pub opening-fails : (kind stage : ℕ) (r : Fault) → eqb kind 1 ≡ true → failedOf kind stage r ≡ ends (refused r)
+pub opening-fails : (kind stage cursor : ℕ) (pending found : List ℕ) (r : Fault) → eqb kind 1 ≡ true → failedOf kind stage cursor pending found r ≡ ends (refused r)
 unfolding failedOf pick
-opening-fails kind stage r h = rw (eqb-true kind 1 h)
+opening-fails kind stage cursor pending found r h = rw (eqb-true kind 1 h)
 
-pub reset-fails : (kind stage : ℕ) (r : Fault) → isResetOf kind stage ≡ true → failedOf kind stage r ≡ ends (refused r)
+pub reset-fails : (kind stage cursor : ℕ) (pending found : List ℕ) (r : Fault) → isResetOf kind stage ≡ true → failedOf kind stage cursor pending found r ≡ ends (refused r)
 unfolding isResetOf failedOf pick
-reset-fails kind stage r = go (eqb kind 1) refl
+reset-fails kind stage cursor pending found r = go (eqb kind 1) refl
   where
-    go : (t : Bool) → eqb kind 1 ≡ t → pick t (isResetStage stage) (eqb kind 3) ≡ true → failedOf kind stage r ≡ ends (refused r)
-    go true e h = opening-fails kind stage r e
+    go : (t : Bool) → eqb kind 1 ≡ t → pick t (isResetStage stage) (eqb kind 3) ≡ true → failedOf kind stage cursor pending found r ≡ ends (refused r)
+    go true e h = opening-fails kind stage cursor pending found r e
     go false e h = rw (eqb-true kind 3 h)

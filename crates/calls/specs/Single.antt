@@ -31,7 +31,7 @@ pub record Judged (s : Script) (a : Answer ℕ) : Type 0 where
   pub plain : plainAnswer answer ≡ a
 
 -- so it is what the response leads to
-pub leads : {kind : ℕ} {pending found : List ℕ} {s : Script} {a : Answer ℕ} → Judged s a → Leads kind pending found (endsWith a) s
+pub leads : {kind cursor : ℕ} {pending found : List ℕ} {s : Script} {a : Answer ℕ} → Judged s a → Leads kind cursor pending found (endsWith a) s
 leads j = rw (j .is) (leads-end (j .answer) _ (j .plain))
 
 ends : (a : Answer Byte) {b : Answer ℕ} → plainAnswer a ≡ b → Judged (finish a) b

@@ -22,8 +22,8 @@ use Rattle.protocol.specs.Chipset.{jumpData, initData}
 use Rattle.protocol.specs.Discovery.{cascaded, sensfReq, detectTypeA as typeAScript, detectDep as depScript, transceiveType1, transceiveType2, transceiveThru}
 use Rattle.protocol.specs.Scripts.{ifElse}
 use Rattle.protocol.specs.Calls.{Request, version, resetMode, setParameters, rfConfiguration, rfFieldOff, readRegister, writeRegister, readSingleRegister, writeSingleRegister, inListPassiveTarget, inDataExchange, inCommunicateThru, inJumpForDep, tgInitTarget, tgSetGeneralBytes, tgGetInitiatorCommand, tgResponseToInitiator, tgGetTargetStatus}
-use Rattle.protocol.specs.Calls.{DeviceCall, detectTypeA, detectTypeB, detectTypeF, detectDep, transceive}
-use Rattle.protocol.specs.Calls.{ReaderCall, request, device, unknown, Start, starts, requestStart, deviceStart, readerStart, finished, registers, initFits, activeByte, typeACode, typeBCode, typeFCode, depCode, is106A, type2SelRes, isSendable, clockOf, transceiveStart}
+use Rattle.protocol.specs.Calls.{DeviceCall, detectTypeA, detectTypeB, detectTypeF, pollTypeF, detectDep, transceive}
+use Rattle.protocol.specs.Calls.{ReaderCall, request, device, unknown, Start, starts, requestStart, deviceStart, readerStart, finished, registers, systemCodesFit, initFits, activeByte, typeACode, typeBCode, typeFCode, depCode, is106A, type2SelRes, isSendable, clockOf, transceiveStart}
 use Rattle.protocol.specs.Calls.{refuses as refusesStart, limited as limitedStart, asserted as assertedStart, onCode as codeStart, withBitrate as bitrateStart}
 use Rattle.stages.specs.Stages.{cmd, send, ends, refuse as refuseWith}
 use Rattle.stages.specs.Starts.{refuses, sends, staged, limited, stagedLimited, asserted}
@@ -33,48 +33,49 @@ use Rattle.chipset.specs.Commands.{firstOf}
 use Rattle.chipset.specs.Laws.{few-words, few-triples}
 use Rattle.chipset.specs.Responses.{answerOf}
 use Rattle.device.specs.Transceive.{type1First, thruFirst, transceiveFirst}
-use Rattle.discovery.specs.Firsts.{typeAFirst, typeBFirst, typeFFirst, depFirst, depAsserted}
-use Rattle.discovery.specs.FirstLaws.{jump-few}
+use Rattle.discovery.specs.Firsts.{typeAFirst, typeBFirst, typeFFirst, pollFirst, pollAsserted, depFirst, depAsserted}
+use Rattle.discovery.specs.FirstLaws.{jump-few, list-few}
 use Rattle.calls.specs.Firsts.{deviceFirst, startFor}
 use Rattle.calls.specs.Tables.{commandOf, isResetOf, decidedOf, failedOf}
 use Rattle.calls.specs.Refines.{Leads, leads-reset, Stands, refusal}
 use Rattle.calls.specs.Single.{Judged, leads, answers, empty, by-status, judged-version, judged-write, judged-first, judged-list, judged-exchange, judged-thru, judged-type2, judged-type1, judged-jump, judged-initiator, judged-target}
 use Rattle.calls.specs.Discoveries.{typeA-leads, typeB-leads, typeF-leads, dep-leads}
+use Rattle.calls.specs.Polls.{poll-leads}
 
 -- a kind of a call of an open reader
 pub record Kind (kind : ℕ) : Type 0 where
   pub running : eqb kind 0 ≡ false
   pub noOpening : eqb kind 1 ≡ false
-  pub within : leb kind 20 ≡ true
+  pub within : leb kind 21 ≡ true
 
-a-kind : {kind : ℕ} → eqb kind 0 ≡ false → eqb kind 1 ≡ false → leb kind 20 ≡ true → Kind kind
+a-kind : {kind : ℕ} → eqb kind 0 ≡ false → eqb kind 1 ≡ false → leb kind 21 ≡ true → Kind kind
 a-kind p q r = record { running = p; noOpening = q; within = r }
 
 -- both refuse; the script's first command is the one sent; or the command of stage 0 leads to the script
 pub data Starting : Start → stages.Start → Type 0 where
   refusedNow : (r : Refusal) → Starting (refusesStart r) (refuses r)
   first : (kind code clock : ℕ) (bytes : List ℕ) (k : Reply → Script) → Kind kind → isResetOf kind 0 ≡ false → length bytes ≤ 512
-      → ((found : List ℕ) → Stands kind 0 bytes found k) → Starting (starts (command code clock bytes k)) (sends kind (cmd code clock bytes))
-  leading : (kind : ℕ) (pending : List ℕ) (s : Script) → Kind kind → length pending ≤ 512 → ((found : List ℕ) → Leads kind pending found (send 0) s)
+      → ((found : List ℕ) → Stands kind 0 0 bytes found k) → Starting (starts (command code clock bytes k)) (sends kind (cmd code clock bytes))
+  leading : (kind : ℕ) (pending : List ℕ) (s : Script) → Kind kind → length pending ≤ 512 → ((found : List ℕ) → Leads kind 0 pending found (send 0) s)
       → Starting (starts s) (staged kind pending)
 
 -- ---- a call of one command
 
 -- the response leads to the answer a
 pub record Reads (kind : ℕ) (bytes : List ℕ) (f : List ℕ → Script) (a : List ℕ → Answer ℕ) : Type 0 where
-  decides : (found bs : List ℕ) → decidedOf kind 0 bytes found bs ≡ ends (a bs)
-  fails : (r : Fault) → failedOf kind 0 r ≡ refuseWith r
+  decides : (found bs : List ℕ) → decidedOf kind 0 0 bytes found bs ≡ ends (a bs)
+  fails : (found : List ℕ) (r : Fault) → failedOf kind 0 0 bytes found r ≡ refuseWith r
   judged : (bs : List ℕ) → Judged (f bs) (a bs)
 
-reads : {kind : ℕ} {bytes : List ℕ} {f : List ℕ → Script} {a : List ℕ → Answer ℕ} → ((found bs : List ℕ) → decidedOf kind 0 bytes found bs ≡ ends (a bs))
-    → ((r : Fault) → failedOf kind 0 r ≡ refuseWith r) → ((bs : List ℕ) → Judged (f bs) (a bs)) → Reads kind bytes f a
+reads : {kind : ℕ} {bytes : List ℕ} {f : List ℕ → Script} {a : List ℕ → Answer ℕ} → ((found bs : List ℕ) → decidedOf kind 0 0 bytes found bs ≡ ends (a bs))
+    → ((found : List ℕ) (r : Fault) → failedOf kind 0 0 bytes found r ≡ refuseWith r) → ((bs : List ℕ) → Judged (f bs) (a bs)) → Reads kind bytes f a
 reads p q r = record { decides = p; fails = q; judged = r }
 
 single : (kind code clock : ℕ) (bytes : List ℕ) (f : List ℕ → Script) (a : List ℕ → Answer ℕ) → Kind kind → isResetOf kind 0 ≡ false → length bytes ≤ 512 → Reads kind bytes f a
     → Starting (starts (command code clock bytes (either f refuse))) (sends kind (cmd code clock bytes))
 single kind code clock bytes f a h q few k =
     first kind code clock bytes (either f refuse) h q few
-    (λ found. record { answered = λ cs _. rw (k .decides found cs) (leads (k .judged cs)); failing = λ e. rw (k .fails e) (refusal e) })
+    (λ found. record { answered = λ cs _. rw (k .decides found cs) (leads (k .judged cs)); failing = λ e. rw (k .fails found e) (refusal e) })
 
 single-limited : (kind code clock : ℕ) (bytes : List ℕ) (f : List ℕ → Script) (a : List ℕ → Answer ℕ) → Kind kind → isResetOf kind 0 ≡ false → Reads kind bytes f a
     → Starting (limitedStart bytes (command code clock bytes (either f refuse))) (limited kind (cmd code clock bytes))
@@ -94,25 +95,25 @@ begins-asserted false h = refusedNow BadArgument
 -- one line for each call
 request-begins : (q : Request) → Starting (requestStart q) (firstOf q)
 unfolding firstOf answerOf decidedOf failedOf isResetOf commandOf pick
-request-begins version = single 2 0x02 100 [] _ _ (a-kind refl refl refl) refl (omega arith) (reads (λ _ _. refl) (λ _. refl) judged-version)
+request-begins version = single 2 0x02 100 [] _ _ (a-kind refl refl refl) refl (omega arith) (reads (λ _ _. refl) (λ _ _. refl) judged-version)
 request-begins resetMode = leading 3 [] _ (a-kind refl refl refl) (omega arith) (λ found. leads-reset 0 _ refl refl refl (leads empty))
-request-begins (setParameters flags) = single 4 0x12 100 _ _ _ (a-kind refl refl refl) refl (omega arith) (reads (λ _ _. refl) (λ _. refl) (λ _. empty))
-request-begins (rfConfiguration item bytes) = single-limited 4 0x32 100 (item ∷ bytes) _ _ (a-kind refl refl refl) refl (reads (λ _ _. refl) (λ _. refl) (λ _. empty))
-request-begins rfFieldOff = single 4 0x32 100 _ _ _ (a-kind refl refl refl) refl (omega arith) (reads (λ _ _. refl) (λ _. refl) (λ _. empty))
-request-begins (readRegister addresses) = begins-asserted (registers 2 addresses) (λ h. single 5 0x06 250 addresses _ _ (a-kind refl refl refl) refl (few-words addresses h) (reads (λ _ _. refl) (λ _. refl) (answers 0)))
-request-begins (writeRegister values) = begins-asserted (registers 3 values) (λ h. single 6 0x08 250 values _ _ (a-kind refl refl refl) refl (few-triples values h) (reads (λ _ _. refl) (λ _. refl) judged-write))
-request-begins (readSingleRegister address) = single 7 0x06 250 _ _ _ (a-kind refl refl refl) refl (omega arith) (reads (λ _ _. refl) (λ _. refl) judged-first)
-request-begins (writeSingleRegister address value) = single 6 0x08 250 _ _ _ (a-kind refl refl refl) refl (omega arith) (reads (λ _ _. refl) (λ _. refl) judged-write)
-request-begins (inListPassiveTarget maxTg bitrate bytes) = single-limited 8 0x4A 1000 (maxTg ∷ bitrate ∷ bytes) _ _ (a-kind refl refl refl) refl (reads (λ _ _. refl) (λ _. refl) judged-list)
-request-begins (inDataExchange bytes ms) = single-limited 9 0x40 ms (0x01 ∷ bytes) _ _ (a-kind refl refl refl) refl (reads (λ _ _. refl) (λ _. refl) judged-exchange)
-request-begins (inCommunicateThru bytes ms) = single-limited 10 0x42 ms bytes _ _ (a-kind refl refl refl) refl (reads (λ _ _. refl) (λ _. refl) judged-thru)
-request-begins (inJumpForDep active br passive nfcid3 gi) = single-limited 11 0x56 3000 (jumpData (activeByte active) br passive nfcid3 gi) _ _ (a-kind refl refl refl) refl (reads (λ _ _. refl) (λ _. refl) judged-jump)
+request-begins (setParameters flags) = single 4 0x12 100 _ _ _ (a-kind refl refl refl) refl (omega arith) (reads (λ _ _. refl) (λ _ _. refl) (λ _. empty))
+request-begins (rfConfiguration item bytes) = single-limited 4 0x32 100 (item ∷ bytes) _ _ (a-kind refl refl refl) refl (reads (λ _ _. refl) (λ _ _. refl) (λ _. empty))
+request-begins rfFieldOff = single 4 0x32 100 _ _ _ (a-kind refl refl refl) refl (omega arith) (reads (λ _ _. refl) (λ _ _. refl) (λ _. empty))
+request-begins (readRegister addresses) = begins-asserted (registers 2 addresses) (λ h. single 5 0x06 250 addresses _ _ (a-kind refl refl refl) refl (few-words addresses h) (reads (λ _ _. refl) (λ _ _. refl) (answers 0)))
+request-begins (writeRegister values) = begins-asserted (registers 3 values) (λ h. single 6 0x08 250 values _ _ (a-kind refl refl refl) refl (few-triples values h) (reads (λ _ _. refl) (λ _ _. refl) judged-write))
+request-begins (readSingleRegister address) = single 7 0x06 250 _ _ _ (a-kind refl refl refl) refl (omega arith) (reads (λ _ _. refl) (λ _ _. refl) judged-first)
+request-begins (writeSingleRegister address value) = single 6 0x08 250 _ _ _ (a-kind refl refl refl) refl (omega arith) (reads (λ _ _. refl) (λ _ _. refl) judged-write)
+request-begins (inListPassiveTarget maxTg bitrate bytes) = single-limited 8 0x4A 1000 (maxTg ∷ bitrate ∷ bytes) _ _ (a-kind refl refl refl) refl (reads (λ _ _. refl) (λ _ _. refl) judged-list)
+request-begins (inDataExchange bytes ms) = single-limited 9 0x40 ms (0x01 ∷ bytes) _ _ (a-kind refl refl refl) refl (reads (λ _ _. refl) (λ _ _. refl) judged-exchange)
+request-begins (inCommunicateThru bytes ms) = single-limited 10 0x42 ms bytes _ _ (a-kind refl refl refl) refl (reads (λ _ _. refl) (λ _ _. refl) judged-thru)
+request-begins (inJumpForDep active br passive nfcid3 gi) = single-limited 11 0x56 3000 (jumpData (activeByte active) br passive nfcid3 gi) _ _ (a-kind refl refl refl) refl (reads (λ _ _. refl) (λ _ _. refl) judged-jump)
 request-begins (tgInitTarget mode mifare felica nfcid3t gt ms) =
-    begins-asserted (initFits mode mifare felica nfcid3t) (λ _. single-limited 5 0x8C ms (initData mode mifare felica nfcid3t gt) _ _ (a-kind refl refl refl) refl (reads (λ _ _. refl) (λ _. refl) (answers 0)))
-request-begins (tgSetGeneralBytes gb) = single-limited 12 0x92 100 gb _ _ (a-kind refl refl refl) refl (reads (λ _ _. refl) (λ _. refl) (λ bs. by-status bs empty))
-request-begins (tgGetInitiatorCommand ms) = single 13 0x88 ms _ _ _ (a-kind refl refl refl) refl (omega arith) (reads (λ _ _. refl) (λ _. refl) judged-initiator)
-request-begins (tgResponseToInitiator bytes) = single-limited 12 0x90 1000 bytes _ _ (a-kind refl refl refl) refl (reads (λ _ _. refl) (λ _. refl) (λ bs. by-status bs empty))
-request-begins tgGetTargetStatus = single 14 0x8A 100 _ _ _ (a-kind refl refl refl) refl (omega arith) (reads (λ _ _. refl) (λ _. refl) judged-target)
+    begins-asserted (initFits mode mifare felica nfcid3t) (λ _. single-limited 5 0x8C ms (initData mode mifare felica nfcid3t gt) _ _ (a-kind refl refl refl) refl (reads (λ _ _. refl) (λ _ _. refl) (answers 0)))
+request-begins (tgSetGeneralBytes gb) = single-limited 12 0x92 100 gb _ _ (a-kind refl refl refl) refl (reads (λ _ _. refl) (λ _ _. refl) (λ bs. by-status bs empty))
+request-begins (tgGetInitiatorCommand ms) = single 13 0x88 ms _ _ _ (a-kind refl refl refl) refl (omega arith) (reads (λ _ _. refl) (λ _ _. refl) judged-initiator)
+request-begins (tgResponseToInitiator bytes) = single-limited 12 0x90 1000 bytes _ _ (a-kind refl refl refl) refl (reads (λ _ _. refl) (λ _ _. refl) (λ bs. by-status bs empty))
+request-begins tgGetTargetStatus = single 14 0x8A 100 _ _ _ (a-kind refl refl refl) refl (omega arith) (reads (λ _ _. refl) (λ _ _. refl) judged-target)
 
 -- ---- a discovery, or transceive
 
@@ -148,23 +149,26 @@ unfolding type1First thruFirst answerOf decidedOf failedOf isResetOf pick
 transceive-begins rate selRes true bytes ms = go (isSendable bytes)
   where
     go : (t : Bool) → Starting (cond t (limitedStart (0x01 ∷ bytes) (transceiveType1 bytes ms)) (refusesStart NotSendable)) (pick t (limited 16 (cmd 0x40 ms (0x01 ∷ bytes))) (refuses NotSendable))
-    go true = single-limited 16 0x40 ms (0x01 ∷ bytes) _ _ (a-kind refl refl refl) refl (reads (λ _ _. refl) (λ _. refl) judged-type1)
+    go true = single-limited 16 0x40 ms (0x01 ∷ bytes) _ _ (a-kind refl refl refl) refl (reads (λ _ _. refl) (λ _ _. refl) judged-type1)
     go false = refusedNow NotSendable
 transceive-begins rate selRes false bytes ms = go (is106A rate && type2SelRes selRes)
   where
     go : (t : Bool) → Starting (limitedStart bytes (ifElse t (transceiveType2 bytes ms) (transceiveThru bytes ms))) (limited (pick t 15 10) (cmd 0x42 ms bytes))
-    go true = single-limited 15 0x42 ms bytes _ _ (a-kind refl refl refl) refl (reads (λ _ _. refl) (λ _. refl) judged-type2)
-    go false = single-limited 10 0x42 ms bytes _ _ (a-kind refl refl refl) refl (reads (λ _ _. refl) (λ _. refl) judged-thru)
+    go true = single-limited 15 0x42 ms bytes _ _ (a-kind refl refl refl) refl (reads (λ _ _. refl) (λ _ _. refl) judged-type2)
+    go false = single-limited 10 0x42 ms bytes _ _ (a-kind refl refl refl) refl (reads (λ _ _. refl) (λ _ _. refl) judged-thru)
 
 -- one line for each call
 device-begins : (d : DeviceCall) → Starting (deviceStart d) (deviceFirst d)
-unfolding deviceFirst typeBFirst typeFFirst depAsserted transceiveFirst
+unfolding deviceFirst typeBFirst typeFFirst pollAsserted pollFirst depAsserted transceiveFirst
 device-begins (detectTypeA text uid) = by-code typeACode text _ _ (typeA-begins uid)
 device-begins (detectTypeB text sensbReq) =
     by-code typeBCode text _ _ (λ code. leading 18 _ _ (a-kind refl refl refl) (omega arith) (typeB-leads code (getD sensbReq 0 0)))
 device-begins (detectTypeF text systemCode requestCode timeSlots) =
     by-code typeFCode text _ _
     (λ code. leading 19 _ _ (a-kind refl refl refl) (omega arith) (typeF-leads code (sensfReq systemCode requestCode timeSlots)))
+device-begins (pollTypeF text words) =
+    begins-asserted (systemCodesFit words)
+    (λ h. by-code typeFCode text _ _ (λ code. leading 21 _ _ (a-kind refl refl refl) (omega (arith, list-few words h)) (poll-leads code words h)))
 device-begins (detectDep text atrReq) =
     begins-asserted (both (leb 16 (length atrReq)) (leb (length atrReq) 64))
     (λ h. by-code depCode text _ _ (dep-begins atrReq (leb-true (length atrReq) 64 (both-right (leb 16 (length atrReq)) _ h))))

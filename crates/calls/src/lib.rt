@@ -9,23 +9,27 @@ use device::transceive;
 use device::transceive::TYPE_1;
 use device::transceive::TYPE_2;
 use discovery::DEP;
+use discovery::POLL_TYPE_F;
 use discovery::TYPE_A;
 use discovery::TYPE_B;
 use discovery::TYPE_F;
 use discovery::dep;
+use discovery::poll_type_f;
 use discovery::type_a;
 use discovery::type_b;
 use discovery::type_f;
 use errors::Fault;
 use stages::Command;
 use stages::Decision;
+ghost use mathlib.Core.List.{List};
 ghost use mathlib.Core.Path.{_≡_};
-ghost use Rattle.stages.specs.Decided.{Decides, Always, Commands};
+ghost use Prim.Native.Nat.{ℕ};
+ghost use Rattle.stages.specs.Decided.{Decides, Sends};
 ghost use Rattle.calls.specs.Tables.{commandOf, isResetOf, decidedOf, failedOf};
 
-// The command of a stage.
-pub fn command(kind: u8, stage: u8) -> Command
-    ensures { λ r. ⌜ Commands r (commandOf kind stage) ⌝ }
+// The command of a stage; `cursor` is where the call stands in a list of its own, and `pending` is the pending command.
+pub fn command(kind: u8, stage: u8, cursor: u8, pending: &[u8]) -> Command
+    ensures { λ r. ⌜ Sends r (now (pending .entry)) (commandOf kind stage cursor (now (pending .entry))) ⌝ }
 {
     match kind {
         OPENING => device::command(stage),
@@ -33,6 +37,7 @@ pub fn command(kind: u8, stage: u8) -> Command
         TYPE_A => type_a::command(stage),
         TYPE_B => type_b::command(stage),
         TYPE_F => type_f::command(stage),
+        POLL_TYPE_F => poll_type_f::command(stage, cursor, pending),
         _ => dep::command(stage),
     }
 }
@@ -48,10 +53,16 @@ pub fn is_reset(kind: u8, stage: u8) -> bool
     }
 }
 
-// What follows the response to a stage's command, or its reset; `pending` is the pending command, and `found` are the bytes that were
-// kept of an earlier response.
-pub fn decided(kind: u8, stage: u8, pending: &[u8], found: &[u8], response: &[u8]) -> Decision
-    ensures { λ r. ⌜ Decides (now (found .entry)) (now (response .entry)) r (decidedOf kind stage (now (pending .entry)) (now (found .entry)) (now (response .entry))) ⌝ }
+// What follows the response to a stage's command, or its reset; `found` are the bytes that were kept of earlier responses.
+pub fn decided(
+    kind: u8,
+    stage: u8,
+    cursor: u8,
+    pending: &[u8],
+    found: &[u8],
+    response: &[u8],
+) -> Decision
+    ensures { λ r. ⌜ Decides (now (found .entry)) (now (response .entry)) r (decidedOf kind stage cursor (now (pending .entry)) (now (found .entry)) (now (response .entry))) ⌝ }
 {
     match kind {
         OPENING => device::decided(stage, found, response),
@@ -61,18 +72,27 @@ pub fn decided(kind: u8, stage: u8, pending: &[u8], found: &[u8], response: &[u8
         TYPE_B => type_b::decided(stage, pending, response),
         TYPE_F => type_f::decided(stage, response),
         DEP => dep::decided(stage, found, response),
+        POLL_TYPE_F => poll_type_f::decided(stage, cursor, pending, found, response),
         _ => response::decided(kind, response),
     }
 }
 
 // What follows a command that failed.
-pub fn failed(kind: u8, stage: u8, fault: Fault) -> Decision
-    ensures { λ r. ⌜ Always r (failedOf kind stage fault) ⌝ }
+pub fn failed(
+    kind: u8,
+    stage: u8,
+    cursor: u8,
+    pending: &[u8],
+    found: &[u8],
+    fault: Fault,
+) -> Decision
+    ensures { λ r. ⌜ ((b : List ℕ) → Decides (now (found .entry)) b r (failedOf kind stage cursor (now (pending .entry)) (now (found .entry)) fault)) ⌝ }
 {
     match kind {
         TYPE_A => type_a::failed(stage, fault),
         TYPE_B => type_b::failed(stage, fault),
         DEP => dep::failed(stage, fault),
+        POLL_TYPE_F => poll_type_f::failed(cursor, pending, found, fault),
         _ => Decision::Refused(fault),
     }
 }

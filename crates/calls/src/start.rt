@@ -6,6 +6,7 @@ use chipset::target;
 use device::transceive::Timeout;
 use device::transceive::transceive;
 use discovery::dep::detect_dep;
+use discovery::poll_type_f::poll_type_f;
 use discovery::type_a::detect_type_a;
 use discovery::type_b::detect_type_b;
 use discovery::type_f::detect_type_f;
@@ -77,6 +78,8 @@ pub const DETECT_TYPE_F: u8 = 21;
 pub const DETECT_DEP: u8 = 22;
 
 pub const TRANSCEIVE: u8 = 23;
+
+pub const POLL_TYPE_F: u8 = 24;
 
 // Calls 1 to 8: the chip's version, mode, parameters and registers.
 fn chip(number: u8, numbers: Numbers, first: &[u8], command: &mut [u8; 512]) -> Start
@@ -156,7 +159,7 @@ fn timeout(given: bool, ms: u16) -> Timeout
     }
 }
 
-// Calls 19 to 23: the discoveries and transceive. A number that has no call is refused with 4.
+// Calls 19 to 24: the discoveries and transceive. A number that has no call is refused with 4.
 fn on_device(
     number: u8,
     numbers: Numbers,
@@ -180,6 +183,7 @@ fn on_device(
             let ms = timeout(is_set(y), word);
             transceive(first, second, is_set(x), third, ms, command)
         }
+        POLL_TYPE_F => poll_type_f(first, second, command),
         _ => start::refused(Refusal::BadArgument),
     }
 }

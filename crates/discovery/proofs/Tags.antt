@@ -1,5 +1,5 @@
 -- What the arm for all other variants, or for several numbers, knows.
-use mathlib.Core.Path.{_≡_, refl}
+use mathlib.Core.Path.{_≡_, refl, ap}
 use mathlib.Core.Bool.{Bool, true, false, _&&_, _||_}
 use mathlib.Core.List.{List, [], _∷_}
 use mathlib.Core.Logic.{inl, inr}
@@ -14,10 +14,16 @@ use types.Run.{OneOf, miss}
 use Rattle.errors.specs.Refusals.{byStatus}
 use Rattle.errors.specs.declared.Fault.{Fault}
 use Rattle.errors.specs.declared.Fault.the-variants.{Transport, TimeOut, FalseStart, BrokenFrame, Length, FrameKind, Identifier, Code, Status, ShortResponse, NoCard, CrcA, Rate}
+use Rattle.stages.specs.Stages as stages
+use Rattle.stages.specs.Decided.{Decides}
+use Rattle.stages.specs.declared.Decision.{Decision}
+use Rattle.stages.specs.declared.Decision.the-variants.{Send, Keep, Next, Put, Pause, Done, Type1, Nothing, Refused, RefusedAfter}
 use Rattle.targets.specs.declared.Bitrate.{Bitrate}
 use Rattle.targets.specs.declared.Bitrate.the-variants.{B106A, B212F, B424F, B106B, B212B, B424B, B848B, Other}
 use Rattle.targets.proofs.Bitrate.{the-type}
+use Rattle.protocol.specs.Discovery.{byNoCard}
 use Rattle.protocol.specs.Calls.{typeACode, typeBCode, typeFCode, depCode, is106A, isSendable}
+use Rattle.discovery.specs.Decisions.{onEnd}
 
 pub no-type-a : (b : Bitrate) → OneOf (4 ∷ 5 ∷ 6 ∷ 7 ∷ []) (tagOf the-type b) → none ≡ typeACode b
 no-type-a B106A h = absurd (miss (4 ∷ 5 ∷ 6 ∷ 7 ∷ []) 0 tt h)
@@ -83,3 +89,34 @@ not-status f a ShortResponse h = refl
 not-status f a NoCard h = refl
 not-status f a CrcA h = refl
 not-status f a Rate h = refl
+
+-- no 17
+pub not-no-card : {A : Type 0} (x a : A) (fault : Fault) → OneOf (0 ∷ 1 ∷ 2 ∷ 3 ∷ 4 ∷ 5 ∷ 6 ∷ 7 ∷ 8 ∷ 9 ∷ 11 ∷ 12 ∷ []) (tagOf Rattle.errors.proofs.Fault.the-type fault)
+    → byNoCard x a fault ≡ a
+not-no-card x a Transport h = refl
+not-no-card x a TimeOut h = refl
+not-no-card x a FalseStart h = refl
+not-no-card x a BrokenFrame h = refl
+not-no-card x a Length h = refl
+not-no-card x a FrameKind h = refl
+not-no-card x a Identifier h = refl
+not-no-card x a Code h = refl
+not-no-card x a (Status s) h = refl
+not-no-card x a ShortResponse h = refl
+not-no-card x a NoCard h = absurd (miss (0 ∷ 1 ∷ 2 ∷ 3 ∷ 4 ∷ 5 ∷ 6 ∷ 7 ∷ 8 ∷ 9 ∷ 11 ∷ 12 ∷ []) 10 tt h)
+not-no-card x a CrcA h = refl
+not-no-card x a Rate h = refl
+
+-- no end with bytes or with a fault
+pub not-ended : (f b : List ℕ) (F : List ℕ → stages.Decision) (G : Fault → stages.Decision) (r : Decision) (d : stages.Decision)
+    → OneOf (0 ∷ 1 ∷ 2 ∷ 3 ∷ 4 ∷ 6 ∷ 7 ∷ 9 ∷ []) (tagOf Rattle.stages.proofs.Decision.the-type r) → Decides f b r d → Decides f b r (onEnd F G d)
+not-ended f b F G (Send n) d h k = record { is = ap (onEnd F G) (k .is); fits = k .fits }
+not-ended f b F G (Keep n l) d h k = record { is = ap (onEnd F G) (k .is); fits = k .fits }
+not-ended f b F G (Next n c l) d h k = record { is = ap (onEnd F G) (k .is); fits = k .fits }
+not-ended f b F G (Put n x) d h k = record { is = ap (onEnd F G) (k .is); fits = k .fits }
+not-ended f b F G (Pause us n) d h k = record { is = ap (onEnd F G) (k .is); fits = k .fits }
+not-ended f b F G (Done l) d h k = absurd (miss (0 ∷ 1 ∷ 2 ∷ 3 ∷ 4 ∷ 6 ∷ 7 ∷ 9 ∷ []) 5 tt h)
+not-ended f b F G (Type1 l) d h k = record { is = ap (onEnd F G) (k .is); fits = k .fits }
+not-ended f b F G Nothing d h k = record { is = ap (onEnd F G) (k .is); fits = k .fits }
+not-ended f b F G (Refused r) d h k = absurd (miss (0 ∷ 1 ∷ 2 ∷ 3 ∷ 4 ∷ 6 ∷ 7 ∷ 9 ∷ []) 8 tt h)
+not-ended f b F G (RefusedAfter r n) d h k = record { is = ap (onEnd F G) (k .is); fits = k .fits }

@@ -1,18 +1,19 @@
 -- What follows each reply of a discovery, by its stage, and the command of each stage.
-use mathlib.Core.Bool.{_||_}
+use mathlib.Core.Bool.{Bool, _||_}
 use mathlib.Core.List.{List, [], _∷_, _++_}
-use Prim.Native.Nat.{ℕ, _/_, _%_}
-use lib.Dec.{eqb, ltb}
+use Prim.Native.Nat.{ℕ, _+_, _*_, _/_, _%_}
+use lib.Dec.{eqb, leb, ltb}
 use lib.ListN.{length, take, drop, getD}
 use Rattle.errors.specs.Choice.{pick}
 use Rattle.errors.specs.Refusals.{byStatus}
 use Rattle.errors.specs.declared.Fault.{Fault}
 use Rattle.errors.specs.declared.Fault.the-variants.{Status, NoCard}
-use Rattle.protocol.specs.Scripts.{done, type1, nothing}
+use Rattle.framing.specs.Lists.{both}
+use Rattle.protocol.specs.Scripts.{done, type1, nothing, refused, refusedAfter}
 use Rattle.protocol.specs.Chipset.{statusByte, maskedStatus}
-use Rattle.protocol.specs.Discovery.{isType2}
+use Rattle.protocol.specs.Discovery.{isType2, sensfReq, byNoCard}
 use Rattle.chipset.specs.Responses.{foundWritten}
-use Rattle.stages.specs.Stages.{Command, cmd, Decision, send, keep, put, pause, ends, refuse, withLength}
+use Rattle.stages.specs.Stages.{Command, cmd, Decision, send, keep, next, put, pause, ends, refuse, withLength}
 
 -- ---- Type A: 0 list, 1 FIFO, 2 list of Type 1, 3 RID, 4 RX mode read, 5 RX mode written
 
@@ -107,6 +108,51 @@ polled bs = pick (eqb (getD bs 0 0) 0) (refuse NoCard) (withLength bs 2 (withLen
 
 unfoldable pub typeFDecision : ℕ → List ℕ → Decision
 typeFDecision stage bs = pick (eqb stage 0) (txControlRead bs) (pick (eqb stage 1) (pause 20400 2) (polled bs))
+
+-- ---- several system codes: Type F's stages for each. The pending command is the bitrate's code and the words of the system codes; the
+-- cursor is the number of codes finished.
+
+-- the poll of the cursor's code
+abbrev pub pollOf : ℕ → List ℕ → List ℕ
+pollOf cursor pending = 1 ∷ getD pending 0 0 ∷ sensfReq (256 * getD pending (2 * cursor + 1) 0 + getD pending (2 * cursor + 2) 0) 0x01 0x00
+
+unfoldable pub pollCommand : ℕ → ℕ → List ℕ → Command
+pollCommand stage cursor pending = typeFCommand stage (pollOf cursor pending)
+
+-- what the finished codes add to the answer: nothing before the first, and 17 bytes at most for each of 15
+unfoldable pub soFar : ℕ → List ℕ → List ℕ
+soFar cursor found = pick (eqb cursor 0) [] (take 255 found)
+
+-- a code follows, of 16 at most
+unfoldable pub hasNext : ℕ → List ℕ → Bool
+hasNext cursor pending = both (ltb cursor 15) (leb (2 * cursor + 5) (length pending))
+
+-- a code is finished, and adds these bytes
+unfoldable pub codeFinished : ℕ → List ℕ → List ℕ → List ℕ → Decision
+codeFinished cursor pending found bytes =
+    pick (hasNext cursor pending) (next 0 (cursor + 1) (soFar cursor found ++ bytes)) (ends (done (soFar cursor found ++ bytes)))
+
+-- no card is the mark 00; any other fault ends the list
+unfoldable pub pollFailure : ℕ → List ℕ → List ℕ → Fault → Decision
+pollFailure cursor pending found fault = byNoCard (codeFinished cursor pending found (0x00 ∷ [])) (ends (refusedAfter fault cursor)) fault
+
+-- a decision whose ends with bytes and with a fault are others
+abbrev pub onEnd : (List ℕ → Decision) → (Fault → Decision) → Decision → Decision
+onEnd f g (send n) = send n
+onEnd f g (keep n l) = keep n l
+onEnd f g (next n c l) = next n c l
+onEnd f g (put n l) = put n l
+onEnd f g (pause us n) = pause us n
+onEnd f g (ends (done bytes)) = f bytes
+onEnd f g (ends (type1 bytes)) = ends (type1 bytes)
+onEnd f g (ends nothing) = ends nothing
+onEnd f g (ends (refused fault)) = g fault
+onEnd f g (ends (refusedAfter fault n)) = ends (refusedAfter fault n)
+
+-- Type F's; a card is the mark 01, IDm and PMm
+unfoldable pub pollDecision : ℕ → ℕ → List ℕ → List ℕ → List ℕ → Decision
+pollDecision stage cursor pending found bs =
+    onEnd (λ bytes. codeFinished cursor pending found (0x01 ∷ take 16 bytes)) (pollFailure cursor pending found) (typeFDecision stage bs)
 
 -- ---- DEP: 0 time-outs, 1 jump, 2 MODE
 

@@ -3,16 +3,18 @@ use mathlib.Core.Path.{_≡_, refl, ap, ap₂, _∙_}
 use mathlib.Core.Bool.{true, false}
 use mathlib.Core.List.{List, [], _∷_, _++_, append-nil}
 use mathlib.Core.Option.{Option}
-use Prim.Native.Nat.{ℕ, _+_, _*_, _-_, _≤_, _<_}
+use Prim.Native.Nat.{ℕ, _+_, _*_, _-_, _/_, _%_, _≤_, _<_}
 use native.Mathlib.Omega.{arith}
-use borrow.Author.Tests.{lt-ltb, le-ltb, lt-leb, le-leb}
-use lib.Dec.{leb}
+use borrow.Author.Tests.{lt-ltb, le-ltb, lt-leb, le-leb, leb-true, eqb-true}
+use lib.Dec.{eqb, leb}
 use lib.ListN.{length, take, drop, getD, length-append, length-take, length-drop}
 use lib.Seq.{take-all}
 use Rattle.errors.specs.declared.Refusal.the-variants.{Bitrate as BadBitrate}
 use Rattle.framing.specs.Lists.{both}
+use Rattle.framing.specs.Valid.{both-left, both-right}
 use Rattle.protocol.specs.Chipset.{bit, jumpData}
 use Rattle.protocol.specs.Discovery.{cascaded}
+use Rattle.protocol.specs.Calls.{systemCodesFit}
 use Rattle.chipset.specs.Laws.{bit-none, bit-some}
 use Rattle.stages.specs.Starts.{Start, refuses, Starts}
 use Rattle.stages.specs.Bitrates.{onCode}
@@ -55,6 +57,15 @@ cascaded-twice (x ∷ y ∷ z ∷ l) h =
 
 pub same-afi : (r : code.Start) (c₀ c₁ : List ℕ) (code x y : ℕ) → x ≡ y → Starts r c₀ c₁ (typeBFirst x code) → Starts r c₀ c₁ (typeBFirst y code)
 same-afi r c₀ c₁ code x y e s = rw (← e) s
+
+-- ---- poll_type_f: 2 to 32 bytes
+
+pub list-few : (words : List ℕ) → systemCodesFit words ≡ true → length words ≤ 32
+list-few words h =
+    let even = eqb-true (length words % 2) 0 (both-left (eqb (length words % 2) 0) _ h) in
+    let some-fit = both-right (eqb (length words % 2) 0) _ h in
+    let few = leb-true (length words / 2) 16 (both-right (leb 1 (length words / 2)) _ some-fit) in
+    omega (arith, even, few)
 
 -- ---- detect_dep: the lengths of ATR_REQ, and the jump
 

@@ -7,7 +7,7 @@ use lib.ListN.{length, take, drop}
 use Rattle.framing.specs.Lists.{both}
 use Rattle.protocol.specs.Chipset.{jumpData}
 use Rattle.protocol.specs.Discovery.{cascaded}
-use Rattle.protocol.specs.Calls.{depCode}
+use Rattle.protocol.specs.Calls.{typeFCode, depCode, systemCodesFit}
 use Rattle.stages.specs.Starts.{Start, staged, stagedLimited, asserted}
 use Rattle.stages.specs.Bitrates.{codeFor}
 use Rattle.discovery.specs.declared.rates.Supported.{Supported}
@@ -24,6 +24,13 @@ typeBFirst afi code = staged 18 (1 ∷ code ∷ afi ∷ [])
 -- the poll
 unfoldable pub typeFFirst : List ℕ → ℕ → Start
 typeFFirst req code = staged 19 (1 ∷ code ∷ req)
+
+-- the bitrate's code and the words of the system codes
+unfoldable pub pollFirst : List ℕ → ℕ → Start
+pollFirst words code = staged 21 (code ∷ words)
+
+unfoldable pub pollAsserted : List ℕ → List ℕ → Start
+pollAsserted text words = asserted (systemCodesFit words) (codeFor typeFCode text (pollFirst words))
 
 -- the jump
 unfoldable pub depFirst : List ℕ → ℕ → Start

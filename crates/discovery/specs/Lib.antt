@@ -3,3 +3,4 @@ pub mod Decisions
 pub mod Firsts
 pub mod Laws
 pub mod FirstLaws
+pub mod PollLaws

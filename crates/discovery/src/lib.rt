@@ -1,5 +1,6 @@
 // The discoveries (discovery.rs): how each starts, the command of each stage, and what follows each reply.
 pub mod dep;
+pub mod poll_type_f;
 mod rates;
 pub mod type_a;
 pub mod type_b;
@@ -13,3 +14,5 @@ pub const TYPE_B: u8 = 18;
 pub const TYPE_F: u8 = 19;
 
 pub const DEP: u8 = 20;
+
+pub const POLL_TYPE_F: u8 = 21;

@@ -10,7 +10,7 @@ use Rattle.framing.specs.Padded.{extraZeros}
 use Rattle.protocol.specs.Calls.{isPaddedMode}
 use Rattle.engine.specs.declared.books.Books.{Books}
 use Rattle.engine.specs.declared.core.Output.{Output}
-use Rattle.engine.specs.declared.core.Output.the-variants.{Ack, Command, Read, Drain, Pause, Done, Type1, Nothing, Failed, Refused}
+use Rattle.engine.specs.declared.core.Output.the-variants.{Ack, Command, Read, Drain, Pause, Done, Type1, Nothing, Failed, FailedAfter, Refused}
 
 abbrev pub books : ℕ → ℕ → ℕ → Books
 books opened mode frames = record { opened = opened; mode = mode; frames = frames }
@@ -49,4 +49,5 @@ booked isOpening (Done n) b = ended b isOpening 1
 booked isOpening (Type1 n) b = ended b isOpening 1
 booked isOpening Nothing b = ended b isOpening 0
 booked isOpening (Failed r) b = ended b isOpening 0
+booked isOpening (FailedAfter r n) b = ended b isOpening 0
 booked isOpening (Refused r) b = b

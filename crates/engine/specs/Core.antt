@@ -16,12 +16,12 @@ use Rattle.exchange.specs.Exchange.{Order, write, read, drain, pause}
 use Rattle.exchange.specs.Packets.{commandFrame}
 use Rattle.exchange.specs.Steps.{exchangeAt}
 use Rattle.exchange.specs.declared.Exchange.{Exchange}
-use Rattle.protocol.specs.Scripts.{Answer, done, type1, nothing, refused}
+use Rattle.protocol.specs.Scripts.{Answer, done, type1, nothing, refused, refusedAfter}
 use Rattle.stages.specs.Put.{put}
-use Rattle.stages.specs.Stages.{Command, Decision, send, keep, put as putBy, pause as pauseFor, ends}
+use Rattle.stages.specs.Stages.{Command, Decision, send, keep, next, put as putBy, pause as pauseFor, ends}
 use Rattle.stages.specs.Starts.{Start, staged, sends as sendsFirst, refuses as refusesAtOnce}
 use Rattle.calls.specs.Tables.{commandOf, decidedOf, failedOf}
-use Rattle.engine.specs.Moves.{noCall, firstCall, validCall, packetLength, fits, at, toStage, Moved, unfitting, orders, sends, resetDone, replies, refuses, moveOf}
+use Rattle.engine.specs.Moves.{noCall, firstCall, validCall, packetLength, fits, at, toStage, toCursor, Moved, unfitting, orders, sends, resetDone, replies, refuses, moveOf}
 use Rattle.engine.specs.declared.call.Call.{Call}
 use Rattle.engine.specs.declared.core.Core.{Core}
 use Rattle.engine.specs.declared.core.Progress.{Progress}
@@ -104,7 +104,11 @@ sendsOf s f c m b =
 
 -- the command of a call's stage
 unfoldable pub stageOf : Core → Held → Call → List ℕ → After Core
-stageOf s f c b = sendsOf s f c (commandOf (c .kind) (c .stage) (pendingOf s f)) b
+stageOf s f c b = sendsOf s f c (commandOf (c .kind) (c .stage) (c .cursor) (pendingOf s f)) b
+
+-- bytes are kept, and the command of a call's stage follows
+abbrev pub keepsOf : Core → Held → Call → List ℕ → List ℕ → After Core
+keepsOf s f c bytes b = stageOf (withFound s (length bytes)) (putFound bytes f) c b
 
 abbrev pub endsOf : Core → Held → Output → List ℕ → After Core
 endsOf s f o b = after (idle s) f o b
@@ -117,21 +121,23 @@ answersOf s f (done bytes) b = doneOf s f bytes b
 answersOf s f (type1 bytes) b = endsOf s f (out.Type1 (length bytes)) (put bytes b)
 answersOf s f nothing b = endsOf s f out.Nothing b
 answersOf s f (refused r) b = endsOf s f (out.Failed r) b
+answersOf s f (refusedAfter r n) b = endsOf s f (out.FailedAfter r n) b
 
 -- what a call decided
 unfoldable pub followsOf : Core → Held → Decision → List ℕ → After Core
 followsOf s f (send n) b = stageOf s f (toStage (s .call) n) b
-followsOf s f (keep n bytes) b = stageOf (withFound s (length bytes)) (putFound bytes f) (toStage (s .call) n) b
+followsOf s f (keep n bytes) b = keepsOf s f (toStage (s .call) n) bytes b
+followsOf s f (next n cursor bytes) b = keepsOf s f (toCursor (s .call) n cursor) bytes b
 followsOf s f (putBy n bytes) b = stageOf (withCommand s (length bytes)) (putCommand bytes f) (toStage (s .call) n) b
 followsOf s f (pauseFor us n) b = ordersOf s f (pause us) (at (toStage (s .call) n) 5) (s .exchange) b
 followsOf s f (ends a) b = answersOf s f a b
 
 -- on the response to the call's command, or its reset, and on its failure
 unfoldable pub repliesOf : Core → Held → List ℕ → List ℕ → After Core
-repliesOf s f bytes b = followsOf s f (decidedOf (s .call .kind) (s .call .stage) (pendingOf s f) (foundOf s f) bytes) b
+repliesOf s f bytes b = followsOf s f (decidedOf (s .call .kind) (s .call .stage) (s .call .cursor) (pendingOf s f) (foundOf s f) bytes) b
 
 unfoldable pub failsOf : Core → Held → Fault → List ℕ → After Core
-failsOf s f r b = followsOf s f (failedOf (s .call .kind) (s .call .stage) r) b
+failsOf s f r b = followsOf s f (failedOf (s .call .kind) (s .call .stage) (s .call .cursor) (pendingOf s f) (foundOf s f) r) b
 
 unfoldable pub movedOf : Core → Held → Moved → List ℕ → After Core
 movedOf s f unfitting b = unchanged s f OutOfTurn b
@@ -158,7 +164,7 @@ eventCore s f e b = pick (eqb (s .call .kind) 0) (unchanged s f OutOfTurn b) (ad
 
 -- `Chipset::new` begins
 unfoldable pub openCore : Core → Held → List ℕ → After Core
-openCore s f b = ordersOf (withFound s 0) f (write ack) (record { kind = 1; stage = 0; phase = 3 }) (s .exchange) b
+openCore s f b = ordersOf (withFound s 0) f (write ack) (record { kind = 1; stage = 0; cursor = 0; phase = 3 }) (s .exchange) b
 
 -- a call's own refusals, or its first command, with what is put by
 unfoldable pub startOn : Core → Held → Start → List ℕ → After Core

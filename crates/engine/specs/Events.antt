@@ -47,35 +47,35 @@ module _ (p : Place) (w : Wait p) (v : Fields) (agrees : Agrees p v) where
   -- what is decided leads to the script
   advances-lead : (mv : Moved) (d : Decision) (s : Script) → fits mv ≡ true
       → ((b : List ℕ) → movedOf (coreAt p w v) (heldAt v) mv b ≡ followsOf (coreAt p w v) (heldAt v) d b)
-      → (replyLength mv ≤ 1024 → Leads (p .kind) (p .pending) (p .found) d s) → Advances p w v agrees mv (enter s)
+      → (replyLength mv ≤ 1024 → Leads (p .kind) (p .cursor) (p .pending) (p .found) d s) → Advances p w v agrees mv (enter s)
   advances-lead mv d s h is l =
       advances-enter p w v agrees mv s h (λ b few. rw (is b) (lead-sims p _ v (p .stage) _ d s b (agrees .pending) (agrees .found) (l few)))
 
   -- the command of the call's stage follows
-  advances-send : (s : Script) → Leads (p .kind) (p .pending) (p .found) (send (p .stage)) s
-      → Advances p w v agrees (sends (record { kind = p .kind; stage = p .stage; phase = 0 })) (enter s)
+  advances-send : (s : Script) → Leads (p .kind) (p .cursor) (p .pending) (p .found) (send (p .stage)) s
+      → Advances p w v agrees (sends (record { kind = p .kind; stage = p .stage; cursor = p .cursor; phase = 0 })) (enter s)
   unfolding movedOf followsOf
   advances-send s l = advances-lead (sends _) (send (p .stage)) s refl (λ b. refl) (λ _. l)
 
   -- a write failed, and the call ends
-  advances-failed : (r : Fault) → failedOf (p .kind) (p .stage) r ≡ refuse r → Advances p w v agrees (refuses r) (ended (refused r))
+  advances-failed : (r : Fault) → failedOf (p .kind) (p .stage) (p .cursor) (p .pending) (p .found) r ≡ refuse r → Advances p w v agrees (refuses r) (ended (refused r))
   unfolding movedOf failsOf followsOf
   advances-failed r h =
-      advances p w v agrees (refuses r) _ refl (λ b _. rw h (sim-answer v (callAt p w) (p .call) _ (refused r) (refused r) b refl))
+      advances p w v agrees (refuses r) _ refl (λ b _. rw (agrees .pending, agrees .found) (rw h (sim-answer v (callAt p w) (p .call) _ (refused r) (refused r) b refl)))
 
   -- the reply to a command
   reply-ends : (k : Reply → Script) → isResetOf (p .kind) (p .stage) ≡ false
-      → ((cs : List ℕ) → length cs ≤ 1022 → Leads (p .kind) (p .pending) (p .found) (decidedOf (p .kind) (p .stage) (p .pending) (p .found) cs) (k (response cs)))
-      → ((r : Fault) → Leads (p .kind) (p .pending) (p .found) (failedOf (p .kind) (p .stage) r) (k (failed r)))
+      → ((cs : List ℕ) → length cs ≤ 1022 → Leads (p .kind) (p .cursor) (p .pending) (p .found) (decidedOf (p .kind) (p .stage) (p .cursor) (p .pending) (p .found) cs) (k (response cs)))
+      → ((r : Fault) → Leads (p .kind) (p .cursor) (p .pending) (p .found) (failedOf (p .kind) (p .stage) (p .cursor) (p .pending) (p .found) r) (k (failed r)))
       → (r : Reply) → Advances p w v agrees (endedMove (callAt p w) (v .exchange) r) (afterReply (byReply k) r)
   unfolding overMove movedOf repliesOf failsOf pick
   reply-ends k h answered failing (response cs) =
-      rw h (advances-lead (replies cs) (decidedOf (p .kind) (p .stage) (p .pending) (p .found) cs) _ refl (λ b. rw (agrees .pending, agrees .found)) (λ few. answered cs (omega arith)))
+      rw h (advances-lead (replies cs) (decidedOf (p .kind) (p .stage) (p .cursor) (p .pending) (p .found) cs) _ refl (λ b. rw (agrees .pending, agrees .found)) (λ few. answered cs (omega arith)))
   reply-ends k h answered failing (failed r) =
-      rw h (advances-lead (refuses r) (failedOf (p .kind) (p .stage) r) _ refl (λ b. refl) (λ _. failing r))
+      rw h (advances-lead (refuses r) (failedOf (p .kind) (p .stage) (p .cursor) (p .pending) (p .found) r) _ refl (λ b. rw (agrees .pending, agrees .found)) (λ _. failing r))
 
   -- a reset's exchange ends: ACK follows, whatever came of it
-  reset-ends : (s : Script) (u : Wait p) → isResetOf (p .kind) (p .stage) ≡ true → phaseAt u (v .exchange) ≡ Rattle.protocol.specs.Session.resetAck s → callAt p u ≡ record { kind = p .kind; stage = p .stage; phase = 1 }
+  reset-ends : (s : Script) (u : Wait p) → isResetOf (p .kind) (p .stage) ≡ true → phaseAt u (v .exchange) ≡ Rattle.protocol.specs.Session.resetAck s → callAt p u ≡ record { kind = p .kind; stage = p .stage; cursor = p .cursor; phase = 1 }
       → (r : Reply) → Advances p w v agrees (endedMove (callAt p w) (v .exchange) r) (afterReply (ofReset s) r)
   unfolding overMove pick
   reset-ends s u h is call r = rw h (rw (← is, ← call) (advances-order u (write ack) refl))
@@ -92,15 +92,15 @@ event-advances p (resetReply s h l) v agrees e =
 event-advances p (resetAck s h l) v agrees e =
     let w = resetAck s h l in
     two-write (Advances p w v agrees) (advances-none p w v agrees) (advances-order p w v agrees (resetPause s l) (pause 10000) tt)
-    (advances-failed p w v agrees Transport (reset-fails (p .kind) (p .stage) Transport h)) e
+    (advances-failed p w v agrees Transport (reset-fails (p .kind) (p .stage) (p .cursor) (p .pending) (p .found) Transport h)) e
 event-advances p (resetPause s l) v agrees e =
     let w = resetPause s l in
     two-pause (Advances p w v agrees) (advances-none p w v agrees)
-    (advances-lead p w v agrees resetDone (decidedOf (p .kind) (p .stage) (p .pending) (p .found) []) s refl (λ b. rw (agrees .pending, agrees .found)) (λ _. l)) e
+    (advances-lead p w v agrees resetDone (decidedOf (p .kind) (p .stage) (p .cursor) (p .pending) (p .found) []) s refl (λ b. rw (agrees .pending, agrees .found)) (λ _. l)) e
 event-advances p (openingAck s h l) v agrees e =
     let w = openingAck s h l in
     two-write (Advances p w v agrees) (advances-none p w v agrees) (advances-order p w v agrees (openingReads s l) (read 10) tt)
-    (advances-failed p w v agrees Transport (opening-fails (p .kind) (p .stage) Transport h)) e
+    (advances-failed p w v agrees Transport (opening-fails (p .kind) (p .stage) (p .cursor) (p .pending) (p .found) Transport h)) e
 event-advances p (openingReads s l) v agrees e =
     let w = openingReads s l in
     two-read (Advances p w v agrees) (advances-none p w v agrees) (λ _. advances-order p w v agrees w (read 10) tt) (advances-send p w v agrees s l) (advances-send p w v agrees s l) e
@@ -147,6 +147,7 @@ open-sims v mode b =
       call = opening mode;
       kind = 1;
       stage = 0;
+      cursor = 0;
       pending = take (v .pending) (v .command);
       found = [];
       running = refl;
@@ -163,6 +164,7 @@ first-place q kind pending found h =
       call = reader q;
       kind = kind;
       stage = 0;
+      cursor = 0;
       pending = pending;
       found = found;
       running = h .running;

@@ -3,7 +3,7 @@ use mathlib.Core.List.{List}
 use Prim.Native.Nat.{ℕ}
 use lib.ListN.{length, take}
 use Rattle.exchange.specs.Exchange.{write, read, drain, pause, Event}
-use Rattle.protocol.specs.Scripts.{done, type1, nothing, refused}
+use Rattle.protocol.specs.Scripts.{done, type1, nothing, refused, refusedAfter}
 use Rattle.protocol.specs.Calls.{ReaderCall, opening, reader}
 use Rattle.protocol.specs.Session.{Entry, call, event}
 use Rattle.protocol.specs.Session.{Output as Given, orders, answers, rejects}
@@ -13,7 +13,7 @@ use Rattle.engine.specs.Sessions.{heldIn, sessionAfter, eventAfter, Step
 use Rattle.engine.specs.Sessions.{openAfter as openedAt, startAfter}
 use Rattle.engine.specs.declared.state.State.{State}
 use Rattle.engine.specs.declared.core.Output.{Output}
-use Rattle.engine.specs.declared.core.Output.the-variants.{Ack, Command, Read, Drain, Pause, Done, Type1, Nothing, Failed, Refused}
+use Rattle.engine.specs.declared.core.Output.the-variants.{Ack, Command, Read, Drain, Pause, Done, Type1, Nothing, Failed, FailedAfter, Refused}
 use Rattle.engine.specs.declared.session.Session.{Session}
 
 -- what the host is told: an output with the buffer's bytes
@@ -27,6 +27,7 @@ outputOf (Done n) b = answers (done (take n b))
 outputOf (Type1 n) b = answers (type1 (take n b))
 outputOf Nothing b = answers nothing
 outputOf (Failed r) b = answers (refused r)
+outputOf (FailedAfter r n) b = answers (refusedAfter r n)
 outputOf (Refused r) b = rejects r
 
 -- a call or an event, each with the bytes of the buffer that is lent with it

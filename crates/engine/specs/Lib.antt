@@ -11,4 +11,5 @@ pub mod Relation
 pub mod Simulation
 pub mod Events
 pub mod Follows
+pub mod PollCodes
 pub mod Unchanged

@@ -29,18 +29,21 @@ use Rattle.engine.specs.declared.call.Move.{Move}
 use Rattle.engine.specs.declared.call.Move.the-variants.{Unfit, Orders, Sends, ResetDone, Arrives, Fails}
 
 abbrev pub noCall : Call
-noCall = record { kind = 0; stage = 0; phase = 0 }
+noCall = record { kind = 0; stage = 0; cursor = 0; phase = 0 }
 
 -- at the first command of a call
 abbrev pub firstCall : ℕ → Call
-firstCall kind = record { kind = kind; stage = 0; phase = 0 }
+firstCall kind = record { kind = kind; stage = 0; cursor = 0; phase = 0 }
 
--- a call at another phase, and at the command of a stage
+-- a call at another phase, at the command of a stage, and at that with another cursor
 abbrev pub at : Call → ℕ → Call
-at c phase = record { kind = c .kind; stage = c .stage; phase = phase }
+at c phase = record { kind = c .kind; stage = c .stage; cursor = c .cursor; phase = phase }
 
 abbrev pub toStage : Call → ℕ → Call
-toStage c n = record { kind = c .kind; stage = n; phase = 0 }
+toStage c n = record { kind = c .kind; stage = n; cursor = c .cursor; phase = 0 }
+
+abbrev pub toCursor : Call → ℕ → ℕ → Call
+toCursor c n cursor = record { kind = c .kind; stage = n; cursor = cursor; phase = 0 }
 
 -- ACK is being written: after a failed write 3, at the deadline 4
 abbrev cancelPhase : Fault → ℕ
@@ -161,9 +164,9 @@ replyLength resetDone = 0
 replyLength (replies bytes) = length bytes + 2
 replyLength (refuses r) = 0
 
--- every field of a call is in its range
+-- every field of a call is in its range; a cursor has none
 unfoldable pub validCall : Call → Bool
-validCall c = both (leb (c .kind) 20) (both (leb (c .stage) 9) (leb (c .phase) 5))
+validCall c = both (leb (c .kind) 21) (both (leb (c .stage) 9) (leb (c .phase) 5))
 
 -- ---- laws
 

@@ -23,28 +23,29 @@ use Rattle.engine.specs.declared.call.Call.{Call}
 use Rattle.engine.specs.declared.core.Core.{Core}
 use Rattle.engine.specs.declared.session.Session.{Session}
 
--- where a call stands: its kind and stage, its pending command and its found bytes
+-- where a call stands: its kind, stage and cursor, its pending command and its found bytes
 pub record Place : Type 0 where
   pub call : CallOf
   pub kind : ℕ
   pub stage : ℕ
+  pub cursor : ℕ
   pub pending : List ℕ
   pub found : List ℕ
   pub running : eqb kind 0 ≡ false
   pub opens : eqb kind 1 ≡ isOpening call
-  pub kindFits : leb kind 20 ≡ true
+  pub kindFits : leb kind 21 ≡ true
   pub stageFits : leb stage 9 ≡ true
 
 -- what it waits for, and the script that is left: a command's reply, a reset's exchange, ACK or pause, or what comes before the command of
 -- its stage, the opening's ACK or reads, or a pause
 pub data Wait (p : Place) : Type 0 where
-  reply : (k : Reply → Script) → isResetOf (p .kind) (p .stage) ≡ false → Stands (p .kind) (p .stage) (p .pending) (p .found) k → Wait p
-  resetReply : (s : Script) → isResetOf (p .kind) (p .stage) ≡ true → Leads (p .kind) (p .pending) (p .found) (decidedOf (p .kind) (p .stage) (p .pending) (p .found) []) s → Wait p
-  resetAck : (s : Script) → isResetOf (p .kind) (p .stage) ≡ true → Leads (p .kind) (p .pending) (p .found) (decidedOf (p .kind) (p .stage) (p .pending) (p .found) []) s → Wait p
-  resetPause : (s : Script) → Leads (p .kind) (p .pending) (p .found) (decidedOf (p .kind) (p .stage) (p .pending) (p .found) []) s → Wait p
-  openingAck : (s : Script) → eqb (p .kind) 1 ≡ true → Leads (p .kind) (p .pending) (p .found) (send (p .stage)) s → Wait p
-  openingReads : (s : Script) → Leads (p .kind) (p .pending) (p .found) (send (p .stage)) s → Wait p
-  pausing : (s : Script) → Leads (p .kind) (p .pending) (p .found) (send (p .stage)) s → Wait p
+  reply : (k : Reply → Script) → isResetOf (p .kind) (p .stage) ≡ false → Stands (p .kind) (p .stage) (p .cursor) (p .pending) (p .found) k → Wait p
+  resetReply : (s : Script) → isResetOf (p .kind) (p .stage) ≡ true → Leads (p .kind) (p .cursor) (p .pending) (p .found) (decidedOf (p .kind) (p .stage) (p .cursor) (p .pending) (p .found) []) s → Wait p
+  resetAck : (s : Script) → isResetOf (p .kind) (p .stage) ≡ true → Leads (p .kind) (p .cursor) (p .pending) (p .found) (decidedOf (p .kind) (p .stage) (p .cursor) (p .pending) (p .found) []) s → Wait p
+  resetPause : (s : Script) → Leads (p .kind) (p .cursor) (p .pending) (p .found) (decidedOf (p .kind) (p .stage) (p .cursor) (p .pending) (p .found) []) s → Wait p
+  openingAck : (s : Script) → eqb (p .kind) 1 ≡ true → Leads (p .kind) (p .cursor) (p .pending) (p .found) (send (p .stage)) s → Wait p
+  openingReads : (s : Script) → Leads (p .kind) (p .cursor) (p .pending) (p .found) (send (p .stage)) s → Wait p
+  pausing : (s : Script) → Leads (p .kind) (p .cursor) (p .pending) (p .found) (send (p .stage)) s → Wait p
 
 abbrev pub phaseNumber : {p : Place} → Wait p → ℕ
 phaseNumber (reply k h l) = 0
@@ -56,7 +57,7 @@ phaseNumber (openingReads s l) = 4
 phaseNumber (pausing s l) = 5
 
 abbrev pub callAt : (p : Place) → Wait p → Call
-callAt p w = record { kind = p .kind; stage = p .stage; phase = phaseNumber w }
+callAt p w = record { kind = p .kind; stage = p .stage; cursor = p .cursor; phase = phaseNumber w }
 
 abbrev pub phaseAt : {p : Place} → Wait p → Exchange → Phase
 phaseAt (reply k h l) x = exchange (stepOf x) (byReply k)

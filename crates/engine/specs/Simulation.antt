@@ -17,7 +17,7 @@ use Rattle.exchange.specs.Packets.{commandFrame, Reply, resetCode, resetData}
 use Rattle.exchange.specs.Exchange.{Order, write, read, drain, pause, Event, ok, bad, pkt, time, fail, late, slept, unfit, pending, ended, onWrite, onRead, onPause, ExchangeResult, sending}
 use Rattle.exchange.specs.Steps.{stepOf, exchangeAt}
 use Rattle.exchange.specs.declared.Exchange.{Exchange}
-use Rattle.protocol.specs.Scripts.{Byte, value, Answer, done, type1, nothing, refused, Script, finish, command, reset, fieldPause}
+use Rattle.protocol.specs.Scripts.{Byte, value, Answer, done, type1, nothing, refused, refusedAfter, Script, finish, command, reset, fieldPause}
 use Rattle.protocol.specs.Calls.{Call as CallOf, isOpening}
 use Rattle.protocol.specs.Session.{Phase, exchange, Rest, CallResult, enter, afterReply, afterExchange, Running, busy, ceiling, bookAnswer, packetLength, admitted, eventOutcome, Outcome, outcome, bookOutcome, runningAfter}
 use Rattle.protocol.specs.Session.{orders, answers, given, unchanged as unchangedOf, runs as runsOf, ends as endsIn}
@@ -26,7 +26,7 @@ use Rattle.protocol.specs.Follows.{plain, plainAnswer}
 use Rattle.stages.specs.Put.{put, take-put}
 use Rattle.stages.specs.Stages.{Command, cmd, Decision, send}
 use Rattle.calls.specs.Tables.{commandOf}
-use Rattle.calls.specs.Refines.{Leads, leads-end, leads-send, leads-reset, leads-keep, leads-put, leads-pause}
+use Rattle.calls.specs.Refines.{Leads, leads-end, leads-send, leads-reset, leads-keep, leads-next, leads-put, leads-pause}
 use Rattle.engine.specs.Books.{booked as bookedBy}
 use Rattle.engine.specs.Booking.{bookNumbers, ack-booked, frame-booked, end-booked}
 use Rattle.engine.specs.Core.{Held, After, unchanged, running, putFound, putCommand, ordersOf, sendsOf, stageOf, endsOf, doneOf, answersOf, followsOf, admittedOf, isLong, movedOf}
@@ -127,15 +127,17 @@ module _ (v : Fields) (c : Call) (q : CallOf) (m : Running) where
           (end-booked q (type1 bytes))
       go nothing = sim-ends nothing out.Nothing b refl (end-booked q nothing)
       go (refused r) = sim-ends (refused r) (out.Failed r) b refl (end-booked q (refused r))
+      go (refusedAfter r n) = sim-ends (refusedAfter r n) (out.FailedAfter r n) b refl (end-booked q (refusedAfter r n))
 
 -- ---- what a call decided leads to what its script has
 
-abbrev pub atStage : (p : Place) (stage : ℕ) (later found : List ℕ) → leb stage 9 ≡ true → Place
-atStage p stage later found h =
+abbrev pub atStage : (p : Place) (stage cursor : ℕ) (later found : List ℕ) → leb stage 9 ≡ true → Place
+atStage p stage cursor later found h =
     record {
       call = p .call;
       kind = p .kind;
       stage = stage;
+      cursor = cursor;
       pending = later;
       found = found;
       running = p .running;
@@ -171,34 +173,42 @@ with-command v l h =
     }
 
 -- a call of the place's kind, at any of its stages
-abbrev callOf : Place → ℕ → ℕ → Call
-callOf p stage phase = record { kind = p .kind; stage = stage; phase = phase }
+abbrev callOf : Place → ℕ → ℕ → ℕ → Call
+callOf p stage cursor phase = record { kind = p .kind; stage = stage; cursor = cursor; phase = phase }
+
+-- the numbers that a call had are of no account to its next command
+same-stage : (v : Fields) (c d k : Call) (b : List ℕ) → stageOf (coreWith v c) (heldAt v) k b ≡ stageOf (coreWith v d) (heldAt v) k b
+unfolding stageOf
+same-stage v c d k b = refl
 
 module _ (p : Place) (m : Running) where
-  -- the command of a stage
-  pub stage-sims : (v : Fields) (later found : List ℕ) (n : ℕ) (h : leb n 9 ≡ true) (w : Wait (atStage p n later found h)) (stage phase code clock : ℕ) (bytes b : List ℕ)
-      → take (v .pending) (v .command) ≡ later → take (v .kept) (v .found) ≡ found → commandOf (p .kind) n later ≡ cmd code clock bytes → callAt _ w ≡ callOf p n 0
-      → Simulates (isOpening (p .call)) m (stageOf (coreWith v (callOf p stage phase)) (heldAt v) (callOf p n 0) b)
+  -- the command of a stage, from a call at any stage and cursor
+  pub stage-sims : (v : Fields) (later found : List ℕ) (n i : ℕ) (h : leb n 9 ≡ true) (w : Wait (atStage p n i later found h)) (c : Call) (code clock : ℕ) (bytes b : List ℕ)
+      → take (v .pending) (v .command) ≡ later → take (v .kept) (v .found) ≡ found → commandOf (p .kind) n i later ≡ cmd code clock bytes → callAt _ w ≡ callOf p n i 0
+      → Simulates (isOpening (p .call)) m (stageOf (coreWith v c) (heldAt v) (callOf p n i 0) b)
       (runsOf (p .call) (write (commandFrame code bytes)) (phaseAt w (exchangeAt 0 code clock)))
   unfolding stageOf
-  stage-sims v later found n h w stage phase code clock bytes b e f plan is =
-      let sent : commandOf (p .kind) n (take (v .pending) (v .command)) ≡ cmd code clock bytes = ap (commandOf (p .kind) n) e ∙ plan in
-      subst (λ k. Simulates (isOpening (p .call)) m (sendsOf (coreWith v (callOf p stage phase)) (heldAt v) k (commandOf (p .kind) n (take (v .pending) (v .command))) b)
+  stage-sims v later found n i h w c code clock bytes b e f plan is =
+      let sent : commandOf (p .kind) n i (take (v .pending) (v .command)) ≡ cmd code clock bytes = ap (commandOf (p .kind) n i) e ∙ plan in
+      subst (λ k. Simulates (isOpening (p .call)) m (sendsOf (coreWith v c) (heldAt v) k (commandOf (p .kind) n i (take (v .pending) (v .command))) b)
       (runsOf (p .call) (write (commandFrame code bytes)) (phaseAt w (exchangeAt 0 code clock)))) is
-      (rw sent (sim-sends v (callOf p stage phase) (isOpening (p .call)) m _ w code clock bytes b record { pending = e; found = f }))
+      (rw sent (sim-sends v c (isOpening (p .call)) m _ w code clock bytes b record { pending = e; found = f }))
 
-  pub lead-sims : {later found : List ℕ} (v : Fields) (stage phase : ℕ) (d : Decision) (s : Script) (b : List ℕ)
-      → take (v .pending) (v .command) ≡ later → take (v .kept) (v .found) ≡ found → Leads (p .kind) later found d s
-      → Simulates (isOpening (p .call)) m (followsOf (coreWith v (callOf p stage phase)) (heldAt v) d b) (outcome (p .call) (enter s))
+  pub lead-sims : {later found : List ℕ} {i : ℕ} (v : Fields) (stage phase : ℕ) (d : Decision) (s : Script) (b : List ℕ)
+      → take (v .pending) (v .command) ≡ later → take (v .kept) (v .found) ≡ found → Leads (p .kind) i later found d s
+      → Simulates (isOpening (p .call)) m (followsOf (coreWith v (callOf p stage i phase)) (heldAt v) d b) (outcome (p .call) (enter s))
   unfolding followsOf stepOf
-  lead-sims v stage phase d s b e f (leads-end a c h) = sim-answer v (callOf p stage phase) (p .call) m c a b h
+  lead-sims v stage phase d s b e f (leads-end a c h) = sim-answer v (callOf p stage _ phase) (p .call) m c a b h
   lead-sims v stage phase d s b e f (leads-send n code clock bytes k h q plan answered failing) =
-      stage-sims v _ _ n h (reply k q record { answered = answered; failing = failing }) stage phase code clock bytes b e f plan refl
-  lead-sims v stage phase d s b e f (leads-reset n r h q plan l) = stage-sims v _ _ n h (resetReply r q l) stage phase resetCode 100 resetData b e f plan refl
+      stage-sims v _ _ n _ h (reply k q record { answered = answered; failing = failing }) (callOf p stage _ phase) code clock bytes b e f plan refl
+  lead-sims v stage phase d s b e f (leads-reset n r h q plan l) = stage-sims v _ _ n _ h (resetReply r q l) (callOf p stage _ phase) resetCode 100 resetData b e f plan refl
   lead-sims v stage phase d s b e f (leads-keep n l s′ few k) = lead-sims (with-found v l few) stage phase (send n) s b e (take-put l (v .found)) k
+  lead-sims v stage phase d s b e f (leads-next n j l s′ few k) =
+      subst (λ a. Simulates (isOpening (p .call)) m a (outcome (p .call) (enter s))) (same-stage (with-found v l few) (callOf p stage j phase) (callOf p stage _ phase) (callOf p n j 0) b)
+      (lead-sims (with-found v l few) stage phase (send n) s b e (take-put l (v .found)) k)
   lead-sims v stage phase d s b e f (leads-put n l s′ few k) = lead-sims (with-command v l few) stage phase (send n) s b (take-put l (v .command)) f k
   lead-sims v stage phase d s b e f (leads-pause n r h k) =
-      sim-orders v (callOf p stage phase) (isOpening (p .call)) m (atStage p n _ _ h) (pausing r k) (v .exchange) (pause 20400) b (v .phaseFits)
+      sim-orders v (callOf p stage 0 phase) (isOpening (p .call)) m (atStage p n _ _ _ h) (pausing r k) (v .exchange) (pause 20400) b (v .phaseFits)
       record { pending = e; found = f } tt
 
 -- ---- an event that a running call meets

@@ -15,11 +15,11 @@ use Rattle.errors.specs.declared.Fault.{Fault}
 use Rattle.exchange.specs.Exchange.{Order, write, read, drain, pause, Event}
 use Rattle.exchange.specs.declared.Exchange.{Exchange}
 use Rattle.framing.specs.Valid.{both-left, both-right}
-use Rattle.protocol.specs.Scripts.{Answer, done, type1, nothing, refused}
+use Rattle.protocol.specs.Scripts.{Answer, done, type1, nothing, refused, refusedAfter}
 use Rattle.stages.specs.Starts.{Start, staged, sends as sendsFirst, refuses as refusesAtOnce}
-use Rattle.stages.specs.Stages.{Decision, send, keep, put as putBy, pause as pauseFor, ends as endsDecision}
+use Rattle.stages.specs.Stages.{Decision, send, keep, next, put as putBy, pause as pauseFor, ends as endsDecision}
 use Rattle.calls.specs.Firsts.{startFor}
-use Rattle.engine.specs.Books.{isInRange, isOpen, ended}
+use Rattle.engine.specs.Books.{isInRange, isOpen, ended, booked}
 use Rattle.engine.specs.Booking.{ended-range}
 use Rattle.engine.specs.Core.{Held, After, after, unchanged, idle, ordersOf, stageOf, endsOf, answersOf, followsOf, repliesOf, failsOf, movedOf, isLong, admittedOf, eventCore, openCore, startOn}
 use Rattle.engine.specs.Core.{isValid as validCore}
@@ -31,7 +31,7 @@ use Rattle.engine.specs.declared.books.Books.{Books}
 use Rattle.engine.specs.declared.call.Call.{Call}
 use Rattle.engine.specs.declared.core.Core.{Core}
 use Rattle.engine.specs.declared.core.Output.{Output}
-use Rattle.engine.specs.declared.core.Output.the-variants.{Ack, Command, Read, Drain, Pause, Done, Type1, Nothing, Failed, Refused}
+use Rattle.engine.specs.declared.core.Output.the-variants.{Ack, Command, Read, Drain, Pause, Done, Type1, Nothing, Failed, FailedAfter, Refused}
 use Rattle.engine.specs.declared.state.State.{State}
 use Rattle.engine.specs.declared.session.Session.{Session}
 
@@ -46,6 +46,7 @@ class (Done n) = 0
 class (Type1 n) = 0
 class Nothing = 0
 class (Failed r) = 1
+class (FailedAfter r n) = 1
 class (Refused r) = 2
 
 other-class : {o p : Output} → o ≡ p → (class o ≡ class p → ⊥) → ⊥
@@ -57,19 +58,19 @@ module _ (s : Core) (f : Held) (b : List ℕ) where
   -- refused at once, nothing has changed; after a fault no call runs, and the buffer is the same
   record Keeps (a : After Core) : Type 0 where
     early : (r : Refusal) → a .output ≡ Refused r → a ≡ unchanged s f r b
-    late : (r : Fault) → a .output ≡ Failed r → (a .state ≡ idle s) × (a .buffer ≡ b)
+    late : class (a .output) ≡ 1 → (a .state ≡ idle s) × (a .buffer ≡ b)
 
   same : (r : Refusal) → Keeps (unchanged s f r b)
-  same r = record { early = λ q e. ap (λ o. after s f o b) e; late = λ q e. absurd (other-class e (λ z. omega (arith, z))) }
+  same r = record { early = λ q e. ap (λ o. after s f o b) e; late = λ e. absurd (omega (arith, e)) }
 
-  fails : (r : Fault) → Keeps (endsOf s f (Failed r) b)
-  fails r = record { early = λ q e. absurd (other-class e (λ z. omega (arith, z))); late = λ q e. (refl, refl) }
+  fails : (o : Output) → class o ≡ 1 → Keeps (endsOf s f o b)
+  fails o h = record { early = λ q e. absurd (other-class e (λ z. omega (arith, z, h))); late = λ e. (refl, refl) }
 
   -- an order or an answer
   goes-on : (a : After Core) → class (a .output) ≡ 0 → Keeps a
   goes-on a h = record {
     early = λ q e. absurd (other-class e (λ z. omega (arith, z, h)));
-    late = λ q e. absurd (other-class e (λ z. omega (arith, z, h)));
+    late = λ e. absurd (omega (arith, e, h));
   }
 
   order : (t : Core) (g : Held) (o : Order) (c : Call) (x : Exchange) → Keeps (ordersOf t g o c x b)
@@ -86,12 +87,14 @@ module _ (s : Core) (f : Held) (b : List ℕ) where
   answers (done bytes) = goes-on _ refl
   answers (type1 bytes) = goes-on _ refl
   answers nothing = goes-on _ refl
-  answers (refused r) = fails r
+  answers (refused r) = fails (Failed r) refl
+  answers (refusedAfter r n) = fails (FailedAfter r n) refl
 
   decides : (d : Decision) → Keeps (followsOf s f d b)
   unfolding followsOf
   decides (send n) = stage _ _ _
   decides (keep n bytes) = stage _ _ _
+  decides (next n c bytes) = stage _ _ _
   decides (putBy n bytes) = stage _ _ _
   decides (pauseFor us n) = goes-on _ refl
   decides (endsDecision a) = answers a
@@ -130,6 +133,19 @@ module _ (s : Core) (f : Held) (b : List ℕ) where
 
 -- ---- the session's numbers
 
+fault-booked : (t : Bool) (b : Books) (o : Output) → class o ≡ 1 → booked t o b ≡ ended b t 0
+fault-booked t b Ack e = absurd (omega (arith, e))
+fault-booked t b (Command n) e = absurd (omega (arith, e))
+fault-booked t b (Read ms) e = absurd (omega (arith, e))
+fault-booked t b Drain e = absurd (omega (arith, e))
+fault-booked t b (Pause us) e = absurd (omega (arith, e))
+fault-booked t b (Done n) e = absurd (omega (arith, e))
+fault-booked t b (Type1 n) e = absurd (omega (arith, e))
+fault-booked t b Nothing e = absurd (omega (arith, e))
+fault-booked t b (Failed r) e = refl
+fault-booked t b (FailedAfter r n) e = refl
+fault-booked t b (Refused r) e = absurd (omega (arith, e))
+
 -- numbers whose call has ended are free
 idle-free : (s : Core) (b : Books) → validCore s ≡ true → isInRange b ≡ true → isFree (state (idle s) b) ≡ true
 unfolding isValid validCore validCall
@@ -145,19 +161,19 @@ by-test P false x y h k = k
 module _ (s : State) (f : Held) (b : List ℕ) where
   record Stays (a : After State) : Type 0 where
     early : (r : Refusal) → a .output ≡ Refused r → a ≡ unchanged s f r b
-    late : (r : Fault) → a .output ≡ Failed r → (isFree (a .state) ≡ true) × (a .buffer ≡ b)
+    late : class (a .output) ≡ 1 → (isFree (a .state) ≡ true) × (a .buffer ≡ b)
 
   refuses-once : (r : Refusal) → Stays (unchanged s f r b)
-  refuses-once r = record { early = λ q e. ap (λ o. after s f o b) e; late = λ q e. absurd (other-class e (λ z. omega (arith, z))) }
+  refuses-once r = record { early = λ q e. ap (λ o. after s f o b) e; late = λ e. absurd (omega (arith, e)) }
 
   -- what is booked of the running call
   booked-stays : (t : Bool) (a : After Core) → isValid s ≡ true → Keeps (s .core) f b a → Stays (bookedAfter t (s .books) a)
   unfolding isValid
   booked-stays t a valid k = record {
     early = λ r e. ap (bookedAfter t (s .books)) (k .early r e);
-    late = λ r e.
-        let l = k .late r e in (
-          rw (l .0, e) (idle-free (s .core) (ended (s .books) t 0) (both-left (validCore (s .core)) _ valid) (ended-range (s .books) t (both-right (validCore (s .core)) _ valid))),
+    late = λ e.
+        let l = k .late e in (
+          rw (l .0, fault-booked t (s .books) (a .output) e) (idle-free (s .core) (ended (s .books) t 0) (both-left (validCore (s .core)) _ valid) (ended-range (s .books) t (both-right (validCore (s .core)) _ valid))),
           l .1,
         );
   }
@@ -168,7 +184,7 @@ module _ (s : State) (f : Held) (b : List ℕ) where
       by-pick Stays (isFree s) _ _
       (by-pick Stays (ltb (length b) 1024) _ _ (refuses-once ShortBuffer)
       (by-pick Stays (ltb 1 mode) _ _ (refuses-once BadArgument)
-      (record { early = λ r e. absurd (other-class e (λ z. omega (arith, z))); late = λ r e. absurd (other-class e (λ z. omega (arith, z))) })))
+      (record { early = λ r e. absurd (other-class e (λ z. omega (arith, z))); late = λ e. absurd (omega (arith, e)) })))
       (refuses-once OutOfTurn)
 
   start-stays : (x : Start) → Stays (startAfter s f x b)
@@ -198,6 +214,15 @@ pub refused-unchanged : (s : Session) (i : Input) (r : Refusal) → (stepWith s 
     → stepWith s i ≡ record { session = s; output = Refused r; buffer = bufferOf i }
 refused-unchanged s i r e h = ap sessionAfter (stays s i .early r e)
 
+ends-free : (s : Session) (i : Input) → class ((stepWith s i) .output) ≡ 1
+    → (isFree ((stepWith s i) .session .state) ≡ true) × ((stepWith s i) .buffer ≡ bufferOf i)
+ends-free s i e = stays s i .late e
+
 pub refused-ends : (s : Session) (i : Input) (r : Fault) → (stepWith s i) .output ≡ Failed r
     → (isFree ((stepWith s i) .session .state) ≡ true) × ((stepWith s i) .buffer ≡ bufferOf i)
-refused-ends s i r e = stays s i .late r e
+refused-ends s i r e = ends-free s i (ap class e)
+
+-- the same of a list's
+pub list-ends : (s : Session) (i : Input) (r : Fault) (n : ℕ) → (stepWith s i) .output ≡ FailedAfter r n
+    → (isFree ((stepWith s i) .session .state) ≡ true) × ((stepWith s i) .buffer ≡ bufferOf i)
+list-ends s i r n e = ends-free s i (ap class e)

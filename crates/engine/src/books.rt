@@ -110,6 +110,7 @@ impl Books {
             Output::Type1(_) => self.ended(opening, OPEN),
             Output::Nothing => self.ended(opening, CLOSED),
             Output::Failed(_) => self.ended(opening, CLOSED),
+            Output::FailedAfter(_, _) => self.ended(opening, CLOSED),
             Output::Ack => self,
             Output::Read(_) => self,
             Output::Drain => self,

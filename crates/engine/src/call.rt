@@ -10,14 +10,14 @@ ghost use Prim.Native.Nat.{ℕ};
 ghost use Rattle.errors.specs.declared.Fault.the-variants.{Transport};
 ghost use Rattle.exchange.specs.Exchange.{advance, onWrite, onPause};
 ghost use Rattle.exchange.specs.Steps.{eventOf, orderOf, stepOf};
-ghost use Rattle.engine.specs.Moves.{noCall, firstCall, validCall, fits, at, toStage, moveIn, moveOf, overMove, exchangeMove, orders, resetAckMove, resetPauseMove, openingAckMove, openingReadsMove, pauseMove, unfitting, refuses};
+ghost use Rattle.engine.specs.Moves.{noCall, firstCall, validCall, fits, at, toStage, toCursor, moveIn, moveOf, overMove, exchangeMove, orders, resetAckMove, resetPauseMove, openingAckMove, openingReadsMove, pauseMove, unfitting, refuses};
 
 // What runs: no call, the opening, a call of one command by the number of the rule for its response, or a discovery.
 pub const NO_CALL: u8 = 0;
 
 pub const OPEN: u8 = 1;
 
-pub const LAST: u8 = 20;
+pub const LAST: u8 = 21;
 
 // What a call waits for: its command's exchange, a reset's ACK or pause, the opening's ACK or reads, a pause.
 pub const EXCHANGE: u8 = 0;
@@ -32,11 +32,13 @@ pub const OPENING_READS: u8 = 4;
 
 pub const PAUSE: u8 = 5;
 
-// What runs, which of its commands is on or comes next, and what is awaited.
+// What runs, which of its commands is on or comes next, where it stands in a list of its own, and what is awaited. The cursor is the
+// call's: nothing here looks into it, and any byte is in its range.
 #[repr(C)]
 pub struct Call {
     pub kind: u8,
     pub stage: u8,
+    pub cursor: u8,
     pub phase: u8,
 }
 
@@ -97,6 +99,7 @@ impl Call {
         Call {
             kind: NO_CALL,
             stage: 0,
+            cursor: 0,
             phase: EXCHANGE,
         }
     }
@@ -108,6 +111,7 @@ impl Call {
         Call {
             kind,
             stage: 0,
+            cursor: 0,
             phase: EXCHANGE,
         }
     }
@@ -133,6 +137,7 @@ impl Call {
         Call {
             kind: self.kind,
             stage: self.stage,
+            cursor: self.cursor,
             phase,
         }
     }
@@ -144,6 +149,19 @@ impl Call {
         Call {
             kind: self.kind,
             stage,
+            cursor: self.cursor,
+            phase: EXCHANGE,
+        }
+    }
+
+    // The same with another cursor.
+    pub(crate) fn to_cursor(self, stage: u8, cursor: u8) -> Call
+        ensures { λ r. ⌜ r ≡ toCursor self stage cursor ⌝ }
+    {
+        Call {
+            kind: self.kind,
+            stage,
+            cursor,
             phase: EXCHANGE,
         }
     }

@@ -34,6 +34,7 @@ pub struct Core {
 }
 
 // An order or an answer. The bytes of a write order (ACK has six) and of an answer stand at the buffer's start, so many of them.
+// A list that failed says how many of its codes were finished.
 pub enum Output {
     Ack,
     Command(usize),
@@ -44,6 +45,7 @@ pub enum Output {
     Type1(usize),
     Nothing,
     Failed(Fault),
+    FailedAfter(Fault, u8),
     Refused(Refusal),
 }
 
@@ -198,9 +200,9 @@ impl Core {
         requires { ⌜ (self .command ≤ 512) × (length (now command) ≡ 512) × (1024 ≤ length (now buffer)) ⌝ }
         ensures { λ r. ⌜ ((f : List ℕ) → progressed r (held (now (command .entry)) f) (now (buffer .exit)) ≡ stageOf self (held (now (command .entry)) f) call (now (buffer .entry))) ⌝ }
     {
-        let next = calls::command(call.kind, call.stage);
+        let n = self.command;
+        let next = calls::command(call.kind, call.stage, call.cursor, &command[..n]);
         if next.is_pending {
-            let n = self.command;
             self.sent(call, next.code, next.clock, &command[..n], buffer)
         } else {
             let bytes = next.bytes;
@@ -303,6 +305,7 @@ impl Core {
         let call = Call {
             kind: OPEN,
             stage: 0,
+            cursor: 0,
             phase: OPENING_ACK,
         };
         self.with_found(0)

@@ -1,4 +1,5 @@
 // What follows the packet that ends a command's exchange: the answer of a call, or its next command.
+use super::call::Call;
 use super::call::Order;
 use super::call::PAUSE;
 use super::core::Core;
@@ -14,11 +15,11 @@ ghost use mathlib.Core.Path.{_≡_};
 ghost use Prim.Native.Nat.{ℕ, _+_, _≤_};
 ghost use lib.ListN.{length, take, drop};
 ghost use Rattle.exchange.specs.Packets.{replyOf};
-ghost use Rattle.stages.specs.Stages.{keep, put as putBy};
+ghost use Rattle.stages.specs.Stages.{put as putBy};
 ghost use Rattle.stages.specs.Put.{put, Puts};
 ghost use Rattle.stages.specs.Decided.{headBytes, tailBytes, layoutBytes, Fitting, decisionIn, DecisionFits};
 ghost use Rattle.engine.specs.Moves.{replyMove, replyLength};
-ghost use Rattle.engine.specs.Core.{Held, held, progressed, followsOf, repliesOf, failsOf, movedOf};
+ghost use Rattle.engine.specs.Core.{Held, held, progressed, keepsOf, followsOf, repliesOf, failsOf, movedOf};
 
 // Puts a layout behind the found bytes that it keeps, which stand at the target's start already.
 fn lay(layout: Layout, response: &[u8], target: &mut [u8]) -> usize
@@ -50,10 +51,10 @@ fn answer(layout: Layout, found: &[u8], response: &[u8], target: &mut [u8]) -> u
 }
 
 impl Core {
-    // Bytes are kept, and the command of a stage follows.
+    // Bytes are kept, and the command of a call's stage follows.
     fn kept(
         self,
-        stage: u8,
+        call: Call,
         layout: Layout,
         response: &[u8],
         command: &[u8],
@@ -61,12 +62,10 @@ impl Core {
         buffer: &mut [u8],
     ) -> Progress
         requires { ⌜ (length (now response) ≤ 1022) × (self .found ≤ 1024) × (self .command ≤ 512) × (length (now command) ≡ 512) × (length (now found) ≡ 1024) × (1024 ≤ length (now buffer)) × Fitting (take (self .found) (now found)) (now response) layout ⌝ }
-        ensures { λ r. ⌜ progressed r (held (now (command .entry)) (now (found .exit))) (now (buffer .exit)) ≡ followsOf self (held (now (command .entry)) (now (found .entry))) (keep stage (layoutBytes (take (self .found) (now (found .entry))) (now (response .entry)) layout)) (now (buffer .entry)) ⌝ }
+        ensures { λ r. ⌜ progressed r (held (now (command .entry)) (now (found .exit))) (now (buffer .exit)) ≡ keepsOf self (held (now (command .entry)) (now (found .entry))) call (layoutBytes (take (self .found) (now (found .entry))) (now (response .entry)) layout) (now (buffer .entry)) ⌝ }
     {
-        let call = self.call;
         let n = lay(layout, response, found);
-        self.with_found(n)
-            .send(call.to_stage(stage), command, buffer)
+        self.with_found(n).send(call, command, buffer)
     }
 
     // Three bytes become the pending command, and the command of a stage follows.
@@ -95,11 +94,19 @@ impl Core {
     {
         let call = self.call;
         let exchange = self.exchange;
-        let n = self.found;
+        let kept = self.found;
         match decision {
             Decision::Send(stage) => self.send(call.to_stage(stage), command, buffer),
             Decision::Keep(stage, layout) => self.kept(
-                stage,
+                call.to_stage(stage),
+                layout,
+                response,
+                command,
+                found,
+                buffer,
+            ),
+            Decision::Next(stage, cursor, layout) => self.kept(
+                call.to_cursor(stage, cursor),
                 layout,
                 response,
                 command,
@@ -114,15 +121,16 @@ impl Core {
                 buffer,
             ),
             Decision::Done(layout) => {
-                let len = answer(layout, &found[..n], response, buffer);
+                let len = answer(layout, &found[..kept], response, buffer);
                 self.ended(Output::Done(len))
             }
             Decision::Type1(layout) => {
-                let len = answer(layout, &found[..n], response, buffer);
+                let len = answer(layout, &found[..kept], response, buffer);
                 self.ended(Output::Type1(len))
             }
             Decision::Nothing => self.ended(Output::Nothing),
             Decision::Refused(fault) => self.ended(Output::Failed(fault)),
+            Decision::RefusedAfter(fault, n) => self.ended(Output::FailedAfter(fault, n)),
         }
     }
 
@@ -140,7 +148,14 @@ impl Core {
         let call = self.call;
         let n = self.found;
         let m = self.command;
-        let decision = calls::decided(call.kind, call.stage, &command[..m], &found[..n], response);
+        let decision = calls::decided(
+            call.kind,
+            call.stage,
+            call.cursor,
+            &command[..m],
+            &found[..n],
+            response,
+        );
         self.followed(decision, response, command, found, buffer)
     }
 
@@ -156,7 +171,16 @@ impl Core {
         ensures { λ r. ⌜ progressed r (held (now (command .exit)) (now (found .exit))) (now (buffer .exit)) ≡ failsOf self (held (now (command .entry)) (now (found .entry))) fault (now (buffer .entry)) ⌝ }
     {
         let call = self.call;
-        let decision = calls::failed(call.kind, call.stage, fault);
+        let n = self.found;
+        let m = self.command;
+        let decision = calls::failed(
+            call.kind,
+            call.stage,
+            call.cursor,
+            &command[..m],
+            &found[..n],
+            fault,
+        );
         self.followed(decision, &[], command, found, buffer)
     }
 

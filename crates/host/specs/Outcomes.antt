@@ -8,20 +8,24 @@ use Rattle.engine.specs.declared.state.State.{State}
 use Rattle.engine.specs.declared.state.Effect.{Effect}
 use Rattle.engine.specs.declared.session.Session.{Session}
 use Rattle.engine.specs.declared.core.Output.{Output}
-use Rattle.engine.specs.declared.core.Output.the-variants.{Ack, Command, Read, Drain, Pause, Done, Type1, Nothing, Failed, Refused}
+use Rattle.engine.specs.declared.core.Output.the-variants.{Ack, Command, Read, Drain, Pause, Done, Type1, Nothing, Failed, FailedAfter, Refused}
 use Rattle.host.specs.declared.outcome.Outcome.{Outcome}
 use Rattle.host.specs.declared.outcome.Told.{Told}
 
 -- a kind with a number of bytes, and one with a time
 abbrev pub withBytes : ℕ → ℕ → Outcome
-withBytes kind n = record { kind = kind; refusal = 0; status = 0; time = 0; len = n }
+withBytes kind n = record { kind = kind; refusal = 0; status = 0; finished = 0; time = 0; len = n }
 
 abbrev pub withTime : ℕ → ℕ → Outcome
-withTime kind t = record { kind = kind; refusal = 0; status = 0; time = t; len = 0 }
+withTime kind t = record { kind = kind; refusal = 0; status = 0; finished = 0; time = t; len = 0 }
 
 -- a refusal by document 01's number, and the status byte of 15
 abbrev pub refusedAs : Numbered → Outcome
-refusedAs n = record { kind = 7; refusal = n .number; status = n .status; time = 0; len = 0 }
+refusedAs n = record { kind = 7; refusal = n .number; status = n .status; finished = 0; time = 0; len = 0 }
+
+-- the same of a list, with the number of its codes that were finished
+abbrev pub listRefusedAs : Numbered → ℕ → Outcome
+listRefusedAs n finished = record { kind = 8; refusal = n .number; status = n .status; finished = finished; time = 0; len = 0 }
 
 abbrev pub outcomeOf : Output → Outcome
 outcomeOf Ack = withBytes 0 6
@@ -33,6 +37,7 @@ outcomeOf (Done n) = withBytes 4 n
 outcomeOf (Type1 n) = withBytes 5 n
 outcomeOf Nothing = withBytes 6 0
 outcomeOf (Failed e) = refusedAs (faultNumbered e)
+outcomeOf (FailedAfter e finished) = listRefusedAs (faultNumbered e) finished
 outcomeOf (Refused e) = refusedAs (numbered e)
 
 abbrev pub toldOf : Effect → Told

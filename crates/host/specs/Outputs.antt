@@ -1,5 +1,5 @@
 -- What an outcome and the buffer say: the order or the answer.
-use mathlib.Core.Path.{_≡_, refl}
+use mathlib.Core.Path.{_≡_, refl, ap}
 use mathlib.Core.List.{List, [], _∷_}
 use Prim.Native.Nat.{ℕ}
 use lib.ListN.{take, getD}
@@ -9,11 +9,11 @@ use Rattle.errors.specs.declared.Refusal.the-variants.{OutOfTurn, ShortBuffer, 
 use Rattle.errors.specs.declared.Fault.{Fault}
 use Rattle.errors.specs.declared.Fault.the-variants.{Transport, TimeOut, FalseStart, BrokenFrame, Length, FrameKind, Identifier, Code, Status, ShortResponse, NoCard, CrcA, Rate}
 use Rattle.exchange.specs.Exchange.{write, read, drain, pause}
-use Rattle.protocol.specs.Scripts.{done, type1, nothing, refused}
+use Rattle.protocol.specs.Scripts.{Answer, done, type1, nothing, refused, refusedAfter}
 use Rattle.protocol.specs.Session.{Output as Given, orders, answers, rejects}
 use Rattle.engine.specs.Inputs.{outputOf}
 use Rattle.engine.specs.declared.core.Output.{Output}
-use Rattle.engine.specs.declared.core.Output.the-variants.{Ack, Command, Read, Drain, Pause, Done, Type1, Nothing, Failed, Refused}
+use Rattle.engine.specs.declared.core.Output.the-variants.{Ack, Command, Read, Drain, Pause, Done, Type1, Nothing, Failed, FailedAfter, Refused}
 use Rattle.host.specs.Outcomes.{outcomeOf}
 use Rattle.host.specs.declared.outcome.Outcome.{Outcome}
 
@@ -45,6 +45,19 @@ refusals status =
 abbrev pub refusalOf : ℕ → ℕ → Given ℕ
 refusalOf number status = getD (refusals status) number (rejects OutOfTurn)
 
+-- the same of a list, with the number of its codes that were finished
+abbrev pub answerAfter : ℕ → Answer ℕ → Answer ℕ
+answerAfter finished (done bytes) = done bytes
+answerAfter finished (type1 bytes) = type1 bytes
+answerAfter finished nothing = nothing
+answerAfter finished (refused r) = refusedAfter r finished
+answerAfter finished (refusedAfter r n) = refusedAfter r n
+
+abbrev pub refusalAfter : ℕ → Given ℕ → Given ℕ
+refusalAfter finished (orders x) = orders x
+refusalAfter finished (answers a) = answers (answerAfter finished a)
+refusalAfter finished (rejects r) = rejects r
+
 -- by the kind; bytes stand at the buffer's start
 abbrev pub outputIn : Outcome → List ℕ → Given ℕ
 outputIn o b =
@@ -56,9 +69,10 @@ outputIn o b =
     ∷ answers (done (take (o .len) b))
     ∷ answers (type1 (take (o .len) b))
     ∷ answers nothing
+    ∷ refusalOf (o .refusal) (o .status)
     ∷ [])
     (o .kind)
-    (refusalOf (o .refusal) (o .status))
+    (refusalAfter (o .finished) (refusalOf (o .refusal) (o .status)))
 
 numbered-is : (e : Refusal) → refusalOf (numbered e .number) (numbered e .status) ≡ rejects e
 numbered-is OutOfTurn = refl
@@ -94,4 +108,5 @@ output-is (Done n) b = refl
 output-is (Type1 n) b = refl
 output-is Nothing b = refl
 output-is (Failed e) b = fault-is e
+output-is (FailedAfter e n) b = ap (refusalAfter n) (fault-is e)
 output-is (Refused e) b = numbered-is e

@@ -1,5 +1,5 @@
--- Refusals of the host's entries, of any session: 1 to 6 change neither session nor buffer; a later one ends the call, leaves the
--- buffer as it was and the session free.
+-- Refusals of the host's entries, of any session: 1 to 6 change neither session nor buffer; a later one, a list's too, ends the call,
+-- leaves the buffer as it was and the session free.
 use mathlib.Core.Bool.{true}
 use mathlib.Core.Path.{_≡_, refl, ap}
 use mathlib.Core.List.{List}
@@ -17,10 +17,10 @@ use Rattle.engine.specs.Inputs.{Input, opens, asks, tells, bufferOf, stepWith}
 use Rattle.calls.specs.Numbers.{callOf}
 use Rattle.engine.specs.Numbers.{callInput, eventBy}
 use Rattle.engine.specs.Sessions.{isFree}
-use Rattle.engine.specs.Unchanged.{refused-unchanged, refused-ends}
+use Rattle.engine.specs.Unchanged.{refused-unchanged, refused-ends, list-ends}
 use Rattle.engine.specs.declared.session.Session.{Session}
 use Rattle.engine.specs.declared.core.Output.{Output}
-use Rattle.engine.specs.declared.core.Output.the-variants.{Ack, Command, Read, Drain, Pause, Done, Type1, Nothing, Failed, Refused}
+use Rattle.engine.specs.declared.core.Output.the-variants.{Ack, Command, Read, Drain, Pause, Done, Type1, Nothing, Failed, FailedAfter, Refused}
 use Rattle.host.specs.Outcomes.{Report, reportOf, outcomeOf}
 use Rattle.host.specs.Entries.{HostEntry, calling, telling, bufferIn, eventInput, reportWith, reportFor}
 
@@ -28,6 +28,7 @@ use Rattle.host.specs.Entries.{HostEntry, calling, telling, bufferIn, ev
 pub record Kept (s : Session) (b : List ℕ) (r : Report) : Type 0 where
   pub early : (r .outcome) .kind ≡ 7 → (r .outcome) .refusal ≤ 6 → (r .session ≡ s) × (r .buffer ≡ b)
   pub late : (r .outcome) .kind ≡ 7 → 7 ≤ (r .outcome) .refusal → (isFree (r .session .state) ≡ true) × (r .buffer ≡ b)
+  pub listed : (r .outcome) .kind ≡ 8 → (isFree (r .session .state) ≡ true) × (r .buffer ≡ b)
 
 -- a fault's number is none of the first six, and only a refusal and a fault have the kind 7
 fault-late : (r : Fault) → 7 ≤ faultNumbered r .number
@@ -67,12 +68,32 @@ refused-by (Done n) e = absurd (omega (arith, e))
 refused-by (Type1 n) e = absurd (omega (arith, e))
 refused-by Nothing e = absurd (omega (arith, e))
 refused-by (Failed r) e = later r refl
+refused-by (FailedAfter r n) e = absurd (omega (arith, e))
 refused-by (Refused r) e = at-once r refl
+
+record IsListed (o : Output) : Type 0 where
+  fault : Fault
+  finished : ℕ
+  is : o ≡ FailedAfter fault finished
+
+listed-by : (o : Output) → (outcomeOf o) .kind ≡ 8 → IsListed o
+listed-by Ack e = absurd (omega (arith, e))
+listed-by (Command n) e = absurd (omega (arith, e))
+listed-by (Read ms) e = absurd (omega (arith, e))
+listed-by Drain e = absurd (omega (arith, e))
+listed-by (Pause us) e = absurd (omega (arith, e))
+listed-by (Done n) e = absurd (omega (arith, e))
+listed-by (Type1 n) e = absurd (omega (arith, e))
+listed-by Nothing e = absurd (omega (arith, e))
+listed-by (Failed r) e = absurd (omega (arith, e))
+listed-by (FailedAfter r n) e = record { fault = r; finished = n; is = refl }
+listed-by (Refused r) e = absurd (omega (arith, e))
 
 step-kept : (s : Session) (i : Input) → Kept s (bufferOf i) (reportOf (stepWith s i))
 step-kept s i = record {
   early = λ k h. early (refused-by ((stepWith s i) .output) k) h;
   late = λ k h. late (refused-by ((stepWith s i) .output) k) h;
+  listed = λ k. let l = listed-by ((stepWith s i) .output) k in list-ends s i (l .fault) (l .finished) (l .is);
 }
   where
     number : ℕ
@@ -91,7 +112,7 @@ call-kept s (opening mode) b = step-kept s (opens mode b)
 call-kept s (reader c) b = step-kept s (asks c b)
 
 event-kept : (s : Session) (e : Option Event) (b : List ℕ) → Kept s b (reportWith s (eventInput e b) b)
-event-kept s none b = record { early = λ k h. (refl, refl); late = λ k h. absurd (omega (arith, h)) }
+event-kept s none b = record { early = λ k h. (refl, refl); late = λ k h. absurd (omega (arith, h)); listed = λ k. absurd (omega (arith, k)) }
 event-kept s (some e) b = step-kept s (tells e b)
 
 -- for every session and every entry

@@ -4,7 +4,7 @@ use engine::state::Effect;
 use engine::state::State;
 use errors::Numbered;
 ghost use mathlib.Core.Path.{_≡_};
-ghost use Rattle.host.specs.Outcomes.{withBytes, withTime, refusedAs, outcomeOf, toldOf};
+ghost use Rattle.host.specs.Outcomes.{withBytes, withTime, refusedAs, listRefusedAs, outcomeOf, toldOf};
 
 pub const WRITE: u8 = 0;
 
@@ -22,13 +22,17 @@ pub const NONE: u8 = 6;
 
 pub const REFUSED: u8 = 7;
 
-// The kind of an order or an answer. With a refusal its number, and the status byte of 15; with a read its ms, with a pause its
-// µs; with a write order and an answer the number of bytes at the buffer's start. What does not apply is 0.
+pub const LIST_REFUSED: u8 = 8;
+
+// The kind of an order or an answer. With a refusal its number, and the status byte of 15, and with that of a list how many of its
+// codes were finished; with a read its ms, with a pause its µs; with a write order and an answer the number of bytes at the buffer's
+// start. What does not apply is 0.
 #[repr(C)]
 pub struct Outcome {
     pub kind: u8,
     pub refusal: u8,
     pub status: u8,
+    pub finished: u8,
     pub time: u32,
     pub len: usize,
 }
@@ -47,6 +51,7 @@ impl Outcome {
             kind,
             refusal: 0,
             status: 0,
+            finished: 0,
             time: 0,
             len,
         }
@@ -59,6 +64,7 @@ impl Outcome {
             kind,
             refusal: 0,
             status: 0,
+            finished: 0,
             time,
             len: 0,
         }
@@ -71,6 +77,20 @@ impl Outcome {
             kind: REFUSED,
             refusal: numbered.number,
             status: numbered.status,
+            finished: 0,
+            time: 0,
+            len: 0,
+        }
+    }
+
+    fn list_refused(numbered: Numbered, finished: u8) -> Outcome
+        ensures { λ r. ⌜ r ≡ listRefusedAs numbered finished ⌝ }
+    {
+        Outcome {
+            kind: LIST_REFUSED,
+            refusal: numbered.number,
+            status: numbered.status,
+            finished,
             time: 0,
             len: 0,
         }
@@ -89,6 +109,10 @@ impl Outcome {
             Output::Type1(len) => Outcome::bytes(TYPE1, len),
             Output::Nothing => Outcome::bytes(NONE, 0),
             Output::Failed(fault) => Outcome::refused(fault.numbered()),
+            Output::FailedAfter(fault, finished) => Outcome::list_refused(
+                fault.numbered(),
+                finished,
+            ),
             Output::Refused(refusal) => Outcome::refused(refusal.numbered()),
         }
     }

@@ -3,7 +3,7 @@
 use mathlib.Core.Bool.{Bool, true, false, cond, _&&_, _||_}
 use mathlib.Core.List.{List, [], _∷_, _++_}
 use mathlib.Core.Option.{Option, none, some}
-use Prim.Native.Nat.{ℕ, _+_, _/_, _%_}
+use Prim.Native.Nat.{ℕ, _+_, _*_, _/_, _%_}
 use lib.Dec.{eqb, leb, ltb}
 use lib.ListN.{length, getD}
 use Rattle.errors.specs.declared.Refusal.{Refusal}
@@ -46,6 +46,7 @@ pub data DeviceCall : Type 0 where
   detectTypeA : List ℕ → List ℕ → DeviceCall  -- bitrate, UID
   detectTypeB : List ℕ → List ℕ → DeviceCall  -- bitrate, SENSB_REQ
   detectTypeF : List ℕ → ℕ → ℕ → ℕ → DeviceCall  -- bitrate, system code, request code, time slots
+  pollTypeF : List ℕ → List ℕ → DeviceCall  -- bitrate, the bytes of the system codes' words
   detectDep : List ℕ → List ℕ → DeviceCall  -- bitrate, ATR_REQ
   transceive : List ℕ → List ℕ → Bool → List ℕ → Option ℕ → DeviceCall  -- bitrate, SEL_RES, RID_RES, bytes, ms
 
@@ -79,6 +80,16 @@ asserted holds s = cond holds s (refuses BadArgument)
 -- whole words or triples, of at most 64 registers
 abbrev pub registers : ℕ → List ℕ → Bool
 registers size bytes = both (eqb (length bytes % size) 0) (leb (length bytes / size) 64)
+
+-- 1 to 16 whole words
+abbrev pub systemCodesFit : List ℕ → Bool
+systemCodesFit words = both (eqb (length words % 2) 0) (both (leb 1 (length words / 2)) (leb (length words / 2) 16))
+
+-- the numbers whose words these are
+abbrev pub wordsIn : List ℕ → List ℕ
+wordsIn [] = []
+wordsIn (high ∷ []) = []
+wordsIn (high ∷ low ∷ bytes) = (256 * high + low) ∷ wordsIn bytes
 
 -- the lengths that tg_init_target asserts, and a mode of 0 or 2
 abbrev pub initFits : ℕ → List ℕ → List ℕ → List ℕ → Bool
@@ -218,6 +229,8 @@ deviceStart (detectTypeA text uid) = codeFor typeACode text (λ code. limited (1
 deviceStart (detectTypeB text sensbReq) = codeFor typeBCode text (λ code. starts (discovery.detectTypeB code (getD sensbReq 0 0)))
 deviceStart (detectTypeF text systemCode requestCode timeSlots) =
     codeFor typeFCode text (λ code. starts (discovery.detectTypeF code (sensfReq systemCode requestCode timeSlots)))
+deviceStart (pollTypeF text words) =
+    asserted (systemCodesFit words) (codeFor typeFCode text (λ code. starts (discovery.pollTypeF code (wordsIn words))))
 deviceStart (detectDep text atrReq) =
     asserted (both (leb 16 (length atrReq)) (leb (length atrReq) 64)) (codeFor depCode text (λ code. starts (discovery.detectDep code atrReq)))
 deviceStart (transceive text selRes ridRes bytes ms) = withBitrate (choiceOf text) (λ rate. transceiveStart rate selRes ridRes bytes (clockOf ms))
@@ -243,7 +256,17 @@ abbrev pub isOpening : Call → Bool
 isOpening (opening mode) = true
 isOpening (reader c) = false
 
--- the most command frames that the call orders
+-- the most command frames that the call orders: three for each system code, of other calls four, ten of an opening
+abbrev pub deviceLimit : DeviceCall → ℕ
+deviceLimit (detectTypeA text uid) = 4
+deviceLimit (detectTypeB text sensbReq) = 4
+deviceLimit (detectTypeF text systemCode requestCode timeSlots) = 4
+deviceLimit (pollTypeF text words) = 3 * (length words / 2)
+deviceLimit (detectDep text atrReq) = 4
+deviceLimit (transceive text selRes ridRes bytes ms) = 4
+
 abbrev pub limit : Call → ℕ
 limit (opening mode) = 10
-limit (reader c) = 4
+limit (reader (request r)) = 4
+limit (reader (device d)) = deviceLimit d
+limit (reader unknown) = 4

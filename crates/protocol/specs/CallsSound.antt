@@ -1,13 +1,17 @@
 -- Every call's script is sound: a line for each call.
+use mathlib.Core.Path.{_≡_, sym}
 use mathlib.Core.List.{List, []}
-use Prim.Native.Nat.{ℕ}
+use Prim.Native.Nat.{ℕ, _+_, _*_, _/_}
 use lib.Dec.{leb}
 use Rattle.protocol.specs.Discovery as discovery
 use Rattle.protocol.specs.Calls.{Request, version, resetMode, setParameters, rfConfiguration, rfFieldOff, readRegister, writeRegister, readSingleRegister, writeSingleRegister, inListPassiveTarget, inDataExchange, inCommunicateThru, inJumpForDep, tgInitTarget, tgSetGeneralBytes, tgGetInitiatorCommand, tgResponseToInitiator, tgGetTargetStatus}
-use Rattle.protocol.specs.Calls.{DeviceCall, detectTypeA, detectTypeB, detectTypeF, detectDep, transceive}
-use Rattle.protocol.specs.Calls.{Call, opening, reader, request, device, unknown, requestStart, deviceStart, startOf, limit}
-use Rattle.protocol.specs.Own.{onlyCards, versionAndName, requestForm, deviceForm, formOf}
-use Rattle.protocol.specs.Sound.{Within, Correct, Sound, sound-if, version-name, correct-rules, sound-rules}
+use Rattle.protocol.specs.Calls.{DeviceCall, detectTypeA, detectTypeB, detectTypeF, detectDep, transceive, pollTypeF}
+use Rattle.protocol.specs.Calls.{Call, opening, reader, request, device, unknown, requestStart, deviceStart, startOf, limit, wordsIn, deviceLimit}
+use Rattle.protocol.specs.Own.{onlyCards, versionAndName, requestForm, deviceForm, formOf, no-codes, polledCodes}
+use Rattle.protocol.specs.Sound.{Within, Correct, Sound, sound-if, version-name, correct-rules, sound-rules, no-bytes}
+use native.Mathlib.Omega.{arith}
+use lib.ListN.{length}
+use Rattle.protocol.specs.PollSound.{words-count, codes-within, codes-correct}
 
 request-sound : (r : Request) → Sound (requestForm r) (requestStart r) 4
 request-sound version = search sound-rules depth 60
@@ -32,10 +36,20 @@ request-sound tgGetTargetStatus = search sound-rules depth 60
 typeA-sound : (code : ℕ) (uid : List ℕ) → Within (discovery.detectTypeA code uid) 4 × Correct onlyCards (discovery.detectTypeA code uid) []
 typeA-sound code uid = (search sound-rules depth 60, search correct-rules depth 60 fits 4000)
 
-device-sound : (d : DeviceCall) → Sound (deviceForm d) (deviceStart d) 4
+-- a list of system codes
+words-sound : (code : ℕ) (words : List ℕ) → Within (discovery.pollTypeF code (wordsIn words)) (3 * (length words / 2))
+    × Correct (polledCodes (length words / 2)) (discovery.pollTypeF code (wordsIn words)) []
+words-sound code words =
+    let codes : List ℕ = wordsIn words in
+    let e : 0 + length codes ≡ length codes = omega arith in
+    let right = codes-correct code 0 [] codes [] record { placed = no-bytes; polled = no-codes } in
+    rw (sym (words-count words)) (codes-within code 0 0 [] codes, rw (sym e) right)
+
+device-sound : (d : DeviceCall) → Sound (deviceForm d) (deviceStart d) (deviceLimit d)
 device-sound (detectTypeA text uid) = search (typeA-sound, sound-rules) depth 60
 device-sound (detectTypeB text sensbReq) = search sound-rules depth 60
 device-sound (detectTypeF text systemCode requestCode timeSlots) = search sound-rules depth 60
+device-sound (pollTypeF text words) = search (words-sound, sound-rules) depth 60
 device-sound (detectDep text atrReq) = search sound-rules depth 60
 device-sound (transceive text selRes ridRes bytes ms) = search sound-rules depth 60
 

@@ -7,7 +7,7 @@ use Prim.Native.Nat.{ℕ, suc, _≤_, _<_, min}
 use lib.ListN.{length, drop, getElem?}
 use Rattle.exchange.specs.Packets.{commandFrame, ackLed, response, replyOf}
 use Rattle.exchange.specs.Exchange.{write, read, drain, pause, ok, bad, pkt, time, fail, late, slept}
-use Rattle.protocol.specs.Scripts.{Byte, card, Answer, done, type1, nothing, refused}
+use Rattle.protocol.specs.Scripts.{Byte, card, Answer, done, type1, nothing, refused, refusedAfter}
 use Rattle.protocol.specs.Calls.{Call, limit}
 use Rattle.protocol.specs.Own.{Formed, formOf}
 use Rattle.protocol.specs.Session.{Entry, Output, ceiling}
@@ -56,6 +56,7 @@ bytesOf (done bytes) = bytes
 bytesOf (type1 bytes) = bytes
 bytesOf nothing = []
 bytesOf (refused r) = []
+bytesOf (refusedAfter r n) = []
 
 -- of call n while it runs, and once it has ended
 pub record Running (l : Record) (n : ℕ) (c : Call) : Type 0 where

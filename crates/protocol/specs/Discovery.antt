@@ -1,14 +1,15 @@
 -- discovery.rs, and `transceive` of device.rs, as scripts. Where a list's data is meant, it stands from position 2 of the response on.
 use mathlib.Core.Bool.{Bool, cond, _||_}
-use mathlib.Core.List.{List, [], _∷_, _++_}
-use Prim.Native.Nat.{ℕ, _-_, _/_, _%_}
+use mathlib.Core.List.{List, [], _∷_, _++_, map}
+use Prim.Native.Nat.{ℕ, suc, _-_, _/_, _%_}
 use lib.Dec.{eqb, ltb}
 use lib.ListN.{length, take, drop, getD}
 use Rattle.errors.specs.Refusals.{byStatus}
 use Rattle.errors.specs.declared.Fault.{Fault}
-use Rattle.errors.specs.declared.Fault.the-variants.{ShortResponse, NoCard, CrcA}
+use Rattle.errors.specs.declared.Fault.the-variants.{Transport, TimeOut, FalseStart, BrokenFrame, Length, FrameKind, Identifier, Code, Status, ShortResponse, NoCard, CrcA, Rate}
 use Rattle.crc.specs.Crc.{typeA as crcA, checks}
-use Rattle.protocol.specs.Scripts.{Script, finish, command, fieldPause, refuse, either, ifElse, done, type1, nothing, own, byteAt, part, rest}
+use Rattle.protocol.specs.Scripts.{Byte, own, behind, Answer, done, type1, nothing, refused, refusedAfter}
+use Rattle.protocol.specs.Scripts.{Script, finish, command, fieldPause, refuse, either, ifElse, andThen, byteAt, part, rest}
 use Rattle.protocol.specs.Chipset.{word, readSingleRegister, writeSingleRegister, rfConfiguration, inListPassiveTarget, inDataExchange, inDataExchangeElse, inCommunicateThru, inCommunicateThruElse, inJumpForDepElse}
 
 -- ---- detect_type_a
@@ -86,6 +87,51 @@ abbrev pub detectTypeF : ℕ → List ℕ → Script
 detectTypeF code req =
     readSingleRegister 0x6304
     (λ bs. ifElse (eqb (getD bs 0 0 % 4) 0) (rfConfiguration 0x01 (0x01 ∷ []) (fieldPause (poll 2 code req))) (poll 1 code req))
+
+-- ---- several system codes: detect_type_f for each, with request code 01 and time slots 00
+
+-- by 17; a of any other fault
+abbrev pub byNoCard : {A : Type 0} → A → A → Fault → A
+byNoCard x a Transport = a
+byNoCard x a TimeOut = a
+byNoCard x a FalseStart = a
+byNoCard x a BrokenFrame = a
+byNoCard x a Length = a
+byNoCard x a FrameKind = a
+byNoCard x a Identifier = a
+byNoCard x a Code = a
+byNoCard x a (Status s) = a
+byNoCard x a ShortResponse = a
+byNoCard x a NoCard = x
+byNoCard x a CrcA = a
+byNoCard x a Rate = a
+
+-- what a code adds to the answer: 01, IDm and PMm of an answer that has the optional bytes behind them; 00 where no card was met
+abbrev pub cardMet : List Byte → List Byte
+cardMet bytes = own 0x01 ∷ take 16 bytes
+
+abbrev pub noCardMet : List Byte
+noCardMet = own 0x00 ∷ []
+
+-- the end of a code: the list goes on with what the code adds, or ends with the code's fault. detect_type_f has no other ends.
+abbrev pub codeEnd : (List Byte → Script) → (Fault → Script) → Answer Byte → Script
+codeEnd f g (done bytes) = f (cardMet bytes)
+codeEnd f g (type1 bytes) = f (cardMet bytes)
+codeEnd f g nothing = f noCardMet
+codeEnd f g (refused r) = byNoCard (f noCardMet) (g r) r
+codeEnd f g (refusedAfter r n) = g r
+
+-- the codes still to come, at the call's command `first`, behind so many codes that are finished and what they found
+abbrev pub pollCodes : ℕ → ℕ → ℕ → List Byte → List ℕ → Script
+pollCodes code first finished found [] = finish (done found)
+pollCodes code first finished found (systemCode ∷ codes) =
+    andThen (detectTypeF code (sensfReq systemCode 0x01 0x00)) first
+    (λ next a. codeEnd
+    (λ bytes. pollCodes code next (suc finished) (found ++ map (behind first) bytes) codes)
+    (λ r. finish (refusedAfter r finished)) a)
+
+abbrev pub pollTypeF : ℕ → List ℕ → Script
+pollTypeF code codes = pollCodes code 0 0 [] codes
 
 -- ---- detect_dep
 

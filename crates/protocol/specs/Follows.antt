@@ -2,7 +2,7 @@
 use mathlib.Core.Path.{_≡_, refl, ap₂}
 use mathlib.Core.List.{List, [], _∷_, map}
 use Prim.Native.Nat.{ℕ}
-use Rattle.protocol.specs.Scripts.{Byte, value, Answer, done, type1, nothing, refused}
+use Rattle.protocol.specs.Scripts.{Byte, value, Answer, done, type1, nothing, refused, refusedAfter}
 use Rattle.protocol.specs.Session.{Session, fresh, Entry, Output, orders, answers, rejects, step, outputs, sessionAfter}
 use Rattle.protocol.specs.Claim.{Demand3}
 use Rattle.protocol.specs.Demand3.{demand3}
@@ -13,6 +13,7 @@ plainAnswer (done bytes) = done (map value bytes)
 plainAnswer (type1 bytes) = type1 (map value bytes)
 plainAnswer nothing = nothing
 plainAnswer (refused r) = refused r
+plainAnswer (refusedAfter r n) = refusedAfter r n
 
 abbrev pub plain : Output Byte → Output ℕ
 plain (orders x) = orders x
@@ -51,13 +52,13 @@ module _ (M : Machine) where
     pub same : givenOut (M .new) is ≡ map plain (outputs fresh (entries is))
     pub demand : Demand3 (entries is) (outputs fresh (entries is)) (M .count (stateAfter (M .new) is))
 
-  same-out : (s : M .State) (m : Session) → M .Means s m → (is : List (M .Input)) → givenOut s is ≡ map plain (outputs m (entries is))
+  pub same-out : (s : M .State) (m : Session) → M .Means s m → (is : List (M .Input)) → givenOut s is ≡ map plain (outputs m (entries is))
   same-out s m h [] = refl
   same-out s m h (i ∷ is) =
       let f = M .follows s m i h in
       ap₂ (λ (x : Output ℕ) (xs : List (Output ℕ)). x ∷ xs) (f .1) (same-out ((M .act s i) .0) ((step m (M .entry i)) .0) (f .0) is)
 
-  still-means : (s : M .State) (m : Session) → M .Means s m → (is : List (M .Input)) → M .Means (stateAfter s is) (sessionAfter m (entries is))
+  pub still-means : (s : M .State) (m : Session) → M .Means s m → (is : List (M .Input)) → M .Means (stateAfter s is) (sessionAfter m (entries is))
   still-means s m h [] = h
   still-means s m h (i ∷ is) = still-means ((M .act s i) .0) ((step m (M .entry i)) .0) ((M .follows s m i h) .0) is
 

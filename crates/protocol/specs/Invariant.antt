@@ -14,14 +14,14 @@ use Rattle.framing.specs.Lists.{same}
 use Rattle.exchange.specs.Packets.{commandFrame, resetCode, resetData, Reply, response, failed, replyOf}
 use Rattle.exchange.specs.Exchange.{write, read, drain, pause, pkt}
 use Rattle.exchange.specs.Exchange.{unfit, pending, ended, Step, sending, reading, waiting, cancelling, rejecting, draining}
-use Rattle.protocol.specs.Scripts.{Byte, card, Answer, done, type1, nothing, refused, Script, finish, command, reset, fieldPause}
+use Rattle.protocol.specs.Scripts.{Byte, card, Answer, done, type1, nothing, refused, refusedAfter, Script, finish, command, reset, fieldPause}
 use Rattle.protocol.specs.Calls.{Call, limit}
 use Rattle.protocol.specs.Session.{Rest, byReply, ofReset, Phase, exchange, resetAck, resetPause, fieldPausing, openingAck, openingReads}
 use Rattle.protocol.specs.Session.{CallResult, enter}
 use Rattle.protocol.specs.Record.{Item, ordered, accepted, Record, linesOf, oneIf, frames, events, pendingOrder, acked, allowed}
 use Rattle.protocol.specs.Claim.{allowedBetween, Between, CardByte, bytesOf, Ended}
-use Rattle.protocol.specs.Own.{Form, onlyCards, versionAndName, cardsAndFlag, cardAndRates, depAndCards, HasForm, Formed, formOf}
-use Rattle.protocol.specs.Sound.{Within, responseTo, responseIn, Placed, no-bytes, own-byte, card-byte, Stands, Final, Correct}
+use Rattle.protocol.specs.Own.{Form, onlyCards, versionAndName, cardsAndFlag, cardAndRates, depAndCards, polledCodes, HasForm, Formed, formOf}
+use Rattle.protocol.specs.Sound.{Within, responseTo, responseIn, Placed, no-bytes, own-byte, card-byte, Stands, Final, OfExchange, Correct}
 use Rattle.protocol.specs.Laws.{frame-not-ack, same-refl, ack-is-ack, lines-own}
 
 -- ---- the invariant
@@ -68,7 +68,7 @@ abbrev pub Left : Form → Script → ℕ → List (List ℕ) → Type 0
 Left o s m rs = Within s m × Correct o s rs
 
 abbrev pub LeftRest : Form → Rest → ℕ → List (List ℕ) → Type 0
-LeftRest o (byReply k) m rs = ((r : Reply) → Within (k r) m) × ((r : Reply) → Correct o (k r) (responseIn r ∷ rs))
+LeftRest o (byReply k) m rs = ((r : Reply) → Within (k r) m) × ((r : Reply) → OfExchange r → Correct o (k r) (responseIn r ∷ rs))
 LeftRest o (ofReset s) m rs = Within s m × ((bs : List ℕ) → Correct o s (bs ∷ rs))
 
 abbrev pub LeftPhase : Form → Phase → ℕ → List (List ℕ) → Type 0
@@ -88,12 +88,14 @@ module _ (P Q : ℕ → ℕ → ℕ → Type 0) (f : (k p b : ℕ) → P k p b �
       record { cards = h .cards; status = h .status; form = h .form; allCards = h .allCards; source = f 0 0 (h .status) (h .source) }
   has-form-by cardAndRates bytes h = record { state = h .state; indices = h .indices; form = h .form; source = f 0 1 (h .indices) (h .source) }
   has-form-by depAndCards bytes h = h
+  has-form-by (polledCodes m) bytes h = h
 
   pub form-by : (o : Form) (a : Answer Byte) → Formed P o a → Formed Q o a
   form-by o (done bytes) h = has-form-by o bytes h
   form-by o (type1 bytes) h = has-form-by o bytes h
   form-by o nothing h = tt
   form-by o (refused r) h = tt
+  form-by o (refusedAfter r m) h = tt
 
 -- n: the call's number. c: the call.
 module _ (n : ℕ) (c : Call) where
@@ -109,7 +111,7 @@ module _ (n : ℕ) (c : Call) where
   AtStep (sending code clock) l xs k = Asked l k code
   AtStep (reading code clock) l xs k = Asked l k code
   AtStep (waiting code clock) l xs k = Asked l k code × (pendingOrder xs ≡ some (read clock)) × (acked xs ≡ true)
-  AtStep (cancelling r) l xs k = Unit {0}
+  AtStep (cancelling r) l xs k = OfExchange (failed r)
   AtStep rejecting l xs k = Unit {0}
   AtStep draining l xs k = pendingOrder xs ≡ some drain
 
@@ -194,12 +196,14 @@ module _ (n : ℕ) (c : Call) where
   final-cards l rs f (type1 bs) h k p b m = placed-cards l rs f (h .0) k p b m
   final-cards l rs f nothing h k p b m = absurd (List·Memᴰ·not-nil m)
   final-cards l rs f (refused r) h k p b m = absurd (List·Memᴰ·not-nil m)
+  final-cards l rs f (refusedAfter r j) h k p b m = absurd (List·Memᴰ·not-nil m)
 
   final-form : (l : Record) (rs : List (List ℕ)) → Sourced l rs → (a : Answer Byte) → Final (formOf c) rs a → Formed (CardByte l n) (formOf c) a
   final-form l rs f (done bs) h = form-by (Stands rs) (CardByte l n) f (formOf c) (done bs) (h .1)
   final-form l rs f (type1 bs) h = form-by (Stands rs) (CardByte l n) f (formOf c) (type1 bs) (h .1)
   final-form l rs f nothing h = tt
   final-form l rs f (refused r) h = tt
+  final-form l rs f (refusedAfter r j) h = tt
 
   pub closed : (l : Record) (xs : List Item) (rs : List (List ℕ)) (a : Answer Byte) → linesOf n l ≡ xs → frames xs ≤ limit c → events xs ≤ allowed c xs
       → Final (formOf c) rs a → Sourced l rs → Kept l xs (ended a)

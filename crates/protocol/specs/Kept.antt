@@ -20,8 +20,8 @@ use Rattle.protocol.specs.Session.{Rest, byReply, ofReset, Phase, exchan
 use Rattle.protocol.specs.Session.{CallResult, enter, afterExchange, progress}
 use Rattle.protocol.specs.Record.{Item, ordered, accepted, Record, linesOf, oneIf, frames, events, pendingOrder, idleUnder, allowed}
 use Rattle.protocol.specs.Own.{formOf}
-use Rattle.protocol.specs.Sound.{responseIn}
-use Rattle.protocol.specs.Laws.{split, by-write, by-read, by-pause, lines-own}
+use Rattle.protocol.specs.Sound.{responseIn, OfExchange}
+use Rattle.protocol.specs.Laws.{split, of-exchange, by-write, by-read, by-pause, lines-own}
 use Rattle.protocol.specs.Invariant.{dueStep, step-due, due, phase-due, Left, LeftPhase, Asked, At, Invariant, Kept}
 use Rattle.protocol.specs.Invariant.{later-sourced, asked-later, closed, entered, bare, Brought, sourced-more, nothing-brought, brought}
 
@@ -71,13 +71,13 @@ module _ (n : ℕ) (c : Call) (l : Record) (xs : List Item) where
       (later-sourced n c (g .responses) (g .source))
 
   -- the exchange ends with a reply
-  replies : {step : Step} (rest : Rest) (e : Event) (r : Reply) (g : Invariant n c l xs (exchange step rest))
+  replies : {step : Step} (rest : Rest) (e : Event) (r : Reply) (g : Invariant n c l xs (exchange step rest)) → OfExchange r
       → Brought n c ((n, accepted e) ∷ l) (length (g .responses)) (responseIn r) → KeptIn rest e (ended r)
-  replies {step} (byReply k) e r g f =
+  replies {step} (byReply k) e r g q f =
       entered n c _ _ (responseIn r ∷ g .responses) (own-lines e g) (k r) (g .left) (omega (arith, step-due step)) (omega arith)
-      (g .script .0 r, g .script .1 r) (omega arith)
+      (g .script .0 r, g .script .1 r q) (omega arith)
       (sourced-more n c _ (g .responses) (responseIn r) (later-sourced n c (g .responses) (g .source)) f)
-  replies {step} (ofReset s) e r g f =
+  replies {step} (ofReset s) e r g q f =
       let h : frames (ordered (write ack) ∷ xs) ≡ frames xs = bare n c xs in
       record {
         lines = lines-own n ((n, accepted e) ∷ l) (ordered (write ack)) (accepted e ∷ xs) (own-lines e g);
@@ -93,20 +93,20 @@ module _ (n : ℕ) (c : Call) (l : Record) (xs : List Item) where
       }
 
   -- with a refusal; with what step 5 makes of the packet
-  fails : {step : Step} {rest : Rest} (e : Event) (r : Fault) → Invariant n c l xs (exchange step rest) → KeptIn rest e (ended (failed r))
-  fails {rest = rest} e r g = replies rest e (failed r) g (nothing-brought n c _ (length (g .responses)))
+  fails : {step : Step} {rest : Rest} (e : Event) (r : Fault) → OfExchange (failed r) → Invariant n c l xs (exchange step rest) → KeptIn rest e (ended (failed r))
+  fails {rest = rest} e r q g = replies rest e (failed r) g q (nothing-brought n c _ (length (g .responses)))
 
   replies-to : {step : Step} {rest : Rest} (code : ℕ) (packet : List ℕ) (g : Invariant n c l xs (exchange step rest))
       → Asked n c l (length (g .responses)) code → KeptIn rest (pkt packet) (ended (replyOf code packet))
   replies-to {rest = rest} code packet g a =
-      replies rest (pkt packet) (replyOf code packet) g (brought n c l (length (g .responses)) code packet (replyOf code packet) a refl)
+      replies rest (pkt packet) (replyOf code packet) g (of-exchange code packet) (brought n c l (length (g .responses)) code packet (replyOf code packet) a refl)
 
   -- ACK is written, and the exchange then ends with a refusal
-  cancels : {step : Step} {rest : Rest} (e : Event) (r : Fault) → Invariant n c l xs (exchange step rest) → 2 ≤ dueStep step
+  cancels : {step : Step} {rest : Rest} (e : Event) (r : Fault) → OfExchange (failed r) → Invariant n c l xs (exchange step rest) → 2 ≤ dueStep step
       → KeptIn rest e (pending (write ack) (cancelling r))
-  cancels {rest = rest} e r g d =
+  cancels {rest = rest} e r q g d =
       let b : frames (ordered (write ack) ∷ xs) ≡ frames xs = bare n c xs in
-      goes-on (exchange (cancelling r) rest) e (write ack) g (omega arith) (omega arith) (g .script) (omega arith, tt)
+      goes-on (exchange (cancelling r) rest) e (write ack) g (omega arith) (omega arith) (g .script) (omega arith, q)
 
   -- an ACK-led packet comes: the first, or an idle read
   reads-on : {step : Step} {rest : Rest} (code clock : ℕ) (packet : List ℕ) (g : Invariant n c l xs (exchange step rest)) → 2 ≤ dueStep step
@@ -114,7 +114,7 @@ module _ (n : ℕ) (c : Call) (l : Record) (xs : List Item) where
       → KeptIn rest (pkt packet) (afterAck code clock)
   reads-on {rest = rest} code clock packet g d b a v =
       split (KeptIn rest (pkt packet)) (eqb clock 0) _ _
-      (λ _. cancels (pkt packet) TimeOut g d)
+      (λ _. cancels (pkt packet) TimeOut refl g d)
       (λ _. goes-on (exchange (waiting code clock) rest) (pkt packet) (read clock) g (omega arith) (omega arith) (g .script)
       (omega arith, (asked-later n c (ordered (read clock)) (asked-later n c (accepted (pkt packet)) a v) refl, refl, rw v)))
 
@@ -134,7 +134,7 @@ module _ (n : ℕ) (c : Call) (l : Record) (xs : List Item) where
       → KeptIn rest (pkt packet) (onFirstPacket code clock packet)
   first-kept {rest} code clock packet g =
       split (KeptIn rest (pkt packet)) (isEmpty packet) _ _
-      (λ _. fails (pkt packet) TimeOut g)
+      (λ _. fails (pkt packet) TimeOut refl g)
       (λ _. split (KeptIn rest (pkt packet)) (hasStart packet) _ _
       (λ _. split (KeptIn rest (pkt packet)) (ackLed packet) _ _
       (λ v. reads-on code clock packet g (omega arith) (omega arith) (g .place .1) v)
@@ -146,7 +146,7 @@ module _ (n : ℕ) (c : Call) (l : Record) (xs : List Item) where
       → KeptIn rest (pkt packet) (onLaterPacket code clock packet)
   later-kept {rest} code clock packet g =
       split (KeptIn rest (pkt packet)) (isEmpty packet) _ _
-      (λ _. fails (pkt packet) TimeOut g)
+      (λ _. fails (pkt packet) TimeOut refl g)
       (λ _. split (KeptIn rest (pkt packet)) (ackLed packet) _ _
       (λ v. reads-on code clock packet g (omega arith) (omega (arith, idle-ack packet g v)) (g .place .1 .0) v)
       (λ _. replies-to code packet g (g .place .1 .0)))
@@ -154,7 +154,7 @@ module _ (n : ℕ) (c : Call) (l : Record) (xs : List Item) where
   drained-kept : {rest : Rest} (packet : List ℕ) → Invariant n c l xs (exchange draining rest) → KeptIn rest (pkt packet) (onDrained packet)
   drained-kept {rest} packet g =
       split (KeptIn rest (pkt packet)) (isEmpty packet) _ _
-      (λ _. fails (pkt packet) FalseStart g)
+      (λ _. fails (pkt packet) FalseStart refl g)
       (λ e. let i : oneIf (idleUnder (pendingOrder xs) xs (pkt packet)) ≡ 1 = rw (g .place .1, e) in drains (pkt packet) g (omega arith))
 
   -- ---- every event
@@ -165,30 +165,30 @@ module _ (n : ℕ) (c : Call) (l : Record) (xs : List Item) where
       by-write (KeptIn rest) unfit (λ _. tt) _ _
       (goes-on (exchange (reading code clock) rest) ok (read 100) g (omega arith) (omega arith) (g .script)
       (omega arith, asked-later n c (ordered (read 100)) (asked-later n c (accepted ok) (g .place .1) refl) refl))
-      (cancels bad Transport g (omega arith))
+      (cancels bad Transport refl g (omega arith))
   advance-kept (reading code clock) rest g =
       by-read (KeptIn rest) unfit (λ _. tt) (onFirstPacket code clock) _ _ _
       (λ p. first-kept code clock p g)
-      (fails time TimeOut g)
-      (fails fail Transport g)
+      (fails time TimeOut refl g)
+      (fails fail Transport refl g)
       tt
   advance-kept (waiting code clock) rest g =
       by-read (KeptIn rest) unfit (λ _. tt) (onLaterPacket code clock) _ _ _
       (λ p. later-kept code clock p g)
-      (fails time TimeOut g)
-      (fails fail Transport g)
-      (cancels late TimeOut g (omega arith))
+      (fails time TimeOut refl g)
+      (fails fail Transport refl g)
+      (cancels late TimeOut refl g (omega arith))
   advance-kept (cancelling r) rest g =
-      by-write (KeptIn rest) unfit (λ _. tt) _ _ (fails ok r g) (fails bad r g)
+      by-write (KeptIn rest) unfit (λ _. tt) _ _ (fails ok r (g .place .1) g) (fails bad r (g .place .1) g)
   advance-kept rejecting rest g =
       by-write (KeptIn rest) unfit (λ _. tt) _ _ (drains ok g (omega arith)) (drains bad g (omega arith))
   advance-kept draining rest g =
       let i : oneIf (idleUnder (pendingOrder xs) xs fail) ≡ 1 = rw (g .place .1) in
       by-read (KeptIn rest) unfit (λ _. tt) onDrained _ _ _
       (λ p. drained-kept p g)
-      (fails time FalseStart g)
+      (fails time FalseStart refl g)
       (drains fail g (omega arith))
-      (fails late FalseStart g)
+      (fails late FalseStart refl g)
 
   -- in the call
   pub kept : (phase : Phase) → Invariant n c l xs phase → (e : Event) → KeptBy e (progress phase e)

@@ -1,26 +1,83 @@
--- Laws of tests, of events by the order that they answer, of frames, and of a call's lines.
+-- Laws of tests, of faults, of scripts one behind the other, of events by the order that they answer, of frames, and of a call's lines.
 use mathlib.Core.Path.{_≡_, refl}
 use mathlib.Core.Bool.{Bool, true, false, cond}
 use mathlib.Core.List.{List, [], _∷_}
-use Prim.Native.Nat.{ℕ, _≤_, _<_}
+use Prim.Native.Nat.{ℕ, _+_, _%_, _≤_, _<_}
 use native.Mathlib.Omega.{arith}
 use borrow.Author.Tests.{eq-eqb, ne-eqb}
-use lib.Dec.{ltb}
+use lib.Dec.{eqb, ltb}
 use lib.ListN.{length}
 use Rattle.framing.specs.Enclose.{length-frame}
 use Rattle.framing.specs.Frames.{ack, startOf}
 use Rattle.errors.specs.Choice.{pick}
 use Rattle.framing.specs.Lists.{starts, same}
-use Rattle.framing.specs.Settings.{commandPayload}
+use Rattle.framing.specs.Parse.{parseOf, payloadOf}
+use Rattle.framing.specs.Settings.{rcs956, commandPayload}
+use Rattle.framing.specs.declared.FrameType.{FrameType}
+use Rattle.framing.specs.declared.FrameType.the-variants.{Ack, Error, Data, Nothing}
 use Rattle.framing.specs.declared.LengthEncoding.the-variants.{NormalOrExtendedBigEndian}
-use Rattle.exchange.specs.Packets.{commandFrame, isAck}
+use Rattle.errors.specs.declared.Fault.{Fault}
+use Rattle.errors.specs.declared.Fault.the-variants.{Transport, TimeOut, FalseStart, BrokenFrame, Length, FrameKind, Identifier, Code, Status, ShortResponse, NoCard, CrcA, Rate}
+use Rattle.exchange.specs.Packets.{commandFrame, isAck, Reply, response, failed, codeReply, payloadReply, filling, frameReply, replyOf}
 use Rattle.exchange.specs.Exchange.{Event, ok, bad, pkt, time, fail, late, slept, onWrite, onRead, onPause}
+use Rattle.protocol.specs.Scripts.{Byte, Answer, Script, either, ifElse, andThen}
+use Rattle.protocol.specs.Discovery.{byNoCard}
 use Rattle.protocol.specs.Record.{Item, Record, linesOf}
+use Rattle.protocol.specs.Sound.{OfExchange}
 
 -- a test, by cases, with the equation
 pub split {ℓ} : {X : Type 0} (P : X → Type ℓ) (b : Bool) (x y : X) → (b ≡ true → P x) → (b ≡ false → P y) → P (cond b x y)
 split P true x y f g = f refl
 split P false x y f g = g refl
+
+-- 17, or another fault
+pub by-fault : (P : Fault → Type 0) → P NoCard → ((r : Fault) → ((A : Type 0) (x y : A) → byNoCard x y r ≡ y) → P r) → (r : Fault) → P r
+by-fault P h k Transport = k Transport (λ A x y. refl)
+by-fault P h k TimeOut = k TimeOut (λ A x y. refl)
+by-fault P h k FalseStart = k FalseStart (λ A x y. refl)
+by-fault P h k BrokenFrame = k BrokenFrame (λ A x y. refl)
+by-fault P h k Length = k Length (λ A x y. refl)
+by-fault P h k FrameKind = k FrameKind (λ A x y. refl)
+by-fault P h k Identifier = k Identifier (λ A x y. refl)
+by-fault P h k Code = k Code (λ A x y. refl)
+by-fault P h k (Status s) = k (Status s) (λ A x y. refl)
+by-fault P h k ShortResponse = k ShortResponse (λ A x y. refl)
+by-fault P h k NoCard = h
+by-fault P h k CrcA = k CrcA (λ A x y. refl)
+by-fault P h k Rate = k Rate (λ A x y. refl)
+
+-- an exchange never fails with 17
+code-reply : (code : ℕ) (bytes : List ℕ) → OfExchange (codeReply code bytes)
+code-reply code [] = refl
+code-reply code (b ∷ bytes) = split OfExchange (eqb b ((code + 1) % 256)) _ _ (λ _. tt) (λ _. refl)
+
+payload-reply : (code : ℕ) (bytes : List ℕ) → OfExchange (payloadReply code bytes)
+payload-reply code [] = refl
+payload-reply code (b ∷ bytes) =
+    split OfExchange (eqb b 0x7F) _ _ (λ _. refl) (λ _. split OfExchange (eqb b 0xD5) _ _ (λ _. code-reply code bytes) (λ _. refl))
+
+filling-reply : (frame : ℕ) (packet : List ℕ) (r : Reply) → OfExchange r → OfExchange (filling frame packet r)
+filling-reply frame packet r h = split OfExchange (eqb frame (length packet)) _ _ (λ _. h) (λ _. refl)
+
+frame-reply : (code : ℕ) (packet : List ℕ) (f : FrameType) → OfExchange (frameReply code packet f)
+frame-reply code packet Nothing = refl
+frame-reply code packet (Ack frame) = filling-reply frame packet _ refl
+frame-reply code packet (Error frame) = filling-reply frame packet _ refl
+frame-reply code packet (Data start len frame) = filling-reply frame packet _ (payload-reply code (payloadOf (Data start len frame) packet))
+
+pub of-exchange : (code : ℕ) (packet : List ℕ) → OfExchange (replyOf code packet)
+unfolding replyOf
+of-exchange code packet = frame-reply code packet (parseOf rcs956 packet)
+
+-- a script behind one that begins with a test, or with a reply taken apart
+module _ (k : ℕ) (f : ℕ → Answer Byte → Script) where
+  pub then-if : (b : Bool) (x y : Script) → andThen (ifElse b x y) k f ≡ ifElse b (andThen x k f) (andThen y k f)
+  then-if true x y = refl
+  then-if false x y = refl
+
+  pub then-either : (g : List ℕ → Script) (h : Fault → Script) (r : Reply) → andThen (either g h r) k f ≡ either (λ bs. andThen (g bs) k f) (λ e. andThen (h e) k f) r
+  then-either g h (response bs) = refl
+  then-either g h (failed e) = refl
 
 -- an event, by the kind of order that it answers
 module _ {X : Type 0} (P : Event → X → Type 0) (u : X) (others : (e : Event) → P e u) where

@@ -12,10 +12,16 @@ pub mod Claim
 -- the theorems; what follows the definitions has demand 3
 pub mod Demand3
 pub mod Follows
+pub mod PollList
+pub mod PollEqual
+pub mod PollFollows
 pub mod Sample
 -- proofs
 pub mod Laws
 pub mod Sound
+pub mod PollSound
+pub mod PollAlong
+pub mod PollRuns
 pub mod CallsSound
 pub mod Invariant
 pub mod Kept

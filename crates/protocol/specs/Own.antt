@@ -1,15 +1,16 @@
 -- Which bytes of an answer are the engine's own, and what they are worked out from. Document 01 names them: DEP's D5 01, the chip's
--- name, the more flag and rates. All other bytes are card bytes. A new call adds its line.
+-- name, the more flag and rates; document 02 the marks of a list of system codes. All other bytes are card bytes. A new call adds its line.
 use mathlib.Core.Path.{_≡_}
 use mathlib.Core.Bool.{Bool, cond}
 use mathlib.Core.List.{List, [], _∷_, _++_}
-use Prim.Native.Nat.{ℕ, _/_, _%_}
+use Prim.Native.Nat.{ℕ, suc, _+_, _/_, _%_, _≤_}
 use lib.Dec.{eqb}
-use Rattle.protocol.specs.Scripts.{Byte, own, card, Answer, done, type1, nothing, refused}
+use lib.ListN.{length}
+use Rattle.protocol.specs.Scripts.{Byte, own, card, Answer, done, type1, nothing, refused, refusedAfter, part}
 use Rattle.protocol.specs.Chipset.{rate}
 use Rattle.protocol.specs.Device.{chipsetName}
 use Rattle.protocol.specs.Calls.{Request, version, resetMode, setParameters, rfConfiguration, rfFieldOff, readRegister, writeRegister, readSingleRegister, writeSingleRegister, inListPassiveTarget, inDataExchange, inCommunicateThru, inJumpForDep, tgInitTarget, tgSetGeneralBytes, tgGetInitiatorCommand, tgResponseToInitiator, tgGetTargetStatus}
-use Rattle.protocol.specs.Calls.{DeviceCall, detectTypeA, detectTypeB, detectTypeF, detectDep, transceive}
+use Rattle.protocol.specs.Calls.{DeviceCall, detectTypeA, detectTypeB, detectTypeF, pollTypeF, detectDep, transceive}
 use Rattle.protocol.specs.Calls.{Call, opening, reader, request, device, unknown, rateBytes}
 
 -- ---- the forms of an answer
@@ -40,6 +41,19 @@ pub record DepAndCards (bytes : List Byte) : Type 0 where
   pub form : bytes ≡ own 0xD5 ∷ own 0x01 ∷ cards
   pub allCards : Cards cards
 
+-- The answer for n system codes, which took k commands. A code's poll is its last command: its second, or its third where the field
+-- was off (`more` is 0 or 1). A card met is the mark 01, then IDm and PMm, bytes 4 to 19 of the response to this poll; no card met is
+-- the mark 00.
+pub data Polled : ℕ → ℕ → List Byte → Type 0 where
+  no-codes : Polled 0 0 []
+  met : (n k more : ℕ) (bytes : List Byte) (response : List ℕ) → Polled n k bytes → more ≤ 1
+      → Polled (suc n) (k + (more + 2)) (bytes ++ (own 0x01 ∷ part (k + (more + 1)) response 4 16))
+  not-met : (n k more : ℕ) (bytes : List Byte) → Polled n k bytes → more ≤ 1 → Polled (suc n) (k + (more + 2)) (bytes ++ (own 0x00 ∷ []))
+
+pub record PolledCodes (n : ℕ) (bytes : List Byte) : Type 0 where
+  pub commands : ℕ
+  pub polled : Polled n commands bytes
+
 -- a rate by its index, 0 for none
 abbrev pub rateIf : Bool → ℕ → ℕ
 rateIf isActive index = cond isActive (rate index) 0
@@ -67,6 +81,7 @@ pub data Form : Type 0 where
   cardsAndFlag : Form
   cardAndRates : Form
   depAndCards : Form
+  polledCodes : ℕ → Form
 
 -- of an answer's bytes, and of an answer: `none` and refusals have no bytes
 abbrev pub HasForm : (ℕ → ℕ → ℕ → Type 0) → Form → List Byte → Type 0
@@ -75,12 +90,14 @@ HasForm At versionAndName bytes = VersionAndName bytes
 HasForm At cardsAndFlag bytes = CardsAndFlag At bytes
 HasForm At cardAndRates bytes = CardAndRates At bytes
 HasForm At depAndCards bytes = DepAndCards bytes
+HasForm At (polledCodes n) bytes = PolledCodes n bytes
 
 abbrev pub Formed : (ℕ → ℕ → ℕ → Type 0) → Form → Answer Byte → Type 0
 Formed At f (done bytes) = HasForm At f bytes
 Formed At f (type1 bytes) = HasForm At f bytes
 Formed At f nothing = Unit {0}
 Formed At f (refused r) = Unit {0}
+Formed At f (refusedAfter r n) = Unit {0}
 
 -- ---- the form of each call's answer
 
@@ -108,6 +125,7 @@ abbrev pub deviceForm : DeviceCall → Form
 deviceForm (detectTypeA text uid) = onlyCards
 deviceForm (detectTypeB text sensbReq) = onlyCards
 deviceForm (detectTypeF text systemCode requestCode timeSlots) = onlyCards
+deviceForm (pollTypeF text words) = polledCodes (length words / 2)
 deviceForm (detectDep text atrReq) = depAndCards
 deviceForm (transceive text selRes ridRes sent ms) = onlyCards
 

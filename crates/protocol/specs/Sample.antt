@@ -1,19 +1,22 @@
--- Runs checked by computation: document 01's whole case, an opening and a version as the Rust has them, single packets.
+-- Runs checked by computation: document 01's whole case, an opening and a version as the Rust has them, two system codes, single packets.
 use mathlib.Core.Path.{_≡_, refl}
 use mathlib.Core.List.{List, [], _∷_, _++_, map}
-use Prim.Native.Nat.{ℕ}
-use lib.ListN.{replicate}
+use Prim.Native.Nat.{ℕ, _+_}
+use lib.ListN.{replicate, take}
 use Rattle.errors.specs.declared.Refusal.the-variants.{OutOfTurn, ShortBuffer, OverLong, BadArgument}
 use Rattle.errors.specs.declared.Fault.the-variants.{Transport, TimeOut, BrokenFrame, Length, FrameKind, Identifier, Code, Status}
 use Rattle.framing.specs.Frames.{ack, total, checksumOf, lengthBytes, normalFrame, extendedFrame, headOf, frameOf}
-use Rattle.errors.specs.Choice.{pick}
+use Rattle.errors.specs.Choice.{pick, same as sameText}
+use Rattle.targets.specs.Form.{inRange, allDigits}
+use Rattle.targets.specs.Bitrates.{isRate, sendLength, isBitrate, parseOf as parseText, codeOf, choiceOf}
 use Rattle.framing.specs.Lists.{starts, same}
 use Rattle.framing.specs.Padded.{isPadded, zerosUpTo, extraZeros, unpadded}
 use Rattle.framing.specs.Parse.{isError, extends, lengthAt, normalAt, extendedAt, normalOf, extendedOf, dataOf, parseOf, payloadOf}
 use Rattle.exchange.specs.Packets.{commandFrame, isAck, hasStart, ackLed, Reply, replyOf, response, failed}
 use Rattle.exchange.specs.Exchange.{write, read, drain, pause, Event, ok, bad, pkt, time, late, slept, pending, reading, waiting, cancelling, advance}
-use Rattle.protocol.specs.Scripts.{done, refused}
-use Rattle.protocol.specs.Calls.{opening, reader, request, version}
+use Rattle.protocol.specs.Scripts.{done, refused, own, refusedAfter, part, rest}
+use Rattle.protocol.specs.Calls.{opening, reader, request, version, device, pollTypeF}
+use Rattle.framing.specs.declared.LengthEncoding.the-variants.{NormalOrExtendedBigEndian}
 use Rattle.protocol.specs.Session.{Entry, call, event, Output, orders, answers, rejects, fresh, outputs, sessionAfter}
 use Rattle.protocol.specs.Record.{Item, recordOf, linesOf, frames, events, resets, idleReads, allowed}
 use Rattle.protocol.specs.Follows.{plain}
@@ -152,6 +155,60 @@ opening-counts = refl
 count-after : (sessionAfter fresh (entriesOf (run 0 0))) .books .count ≡ 11
 unfolding formats
 count-after = refl
+
+-- ---- two system codes in one poll: the field is off and no card is met; it is on and one is
+
+abbrev responds : ℕ → List ℕ → List ℕ
+responds code bytes = frameOf NormalOrExtendedBigEndian (0xD5 ∷ (code + 1) ∷ bytes)
+
+abbrev sends : ℕ → List ℕ → Output ℕ
+sends code bytes = writes (commandFrame code bytes)
+
+abbrev polls : ℕ → ℕ → Output ℕ
+polls high low = sends 0x4A (0x01 ∷ 0x01 ∷ 0x00 ∷ high ∷ low ∷ 0x01 ∷ 0x00 ∷ [])
+
+abbrev idmPmm : List ℕ
+idmPmm = 0x01 ∷ 0x02 ∷ 0x03 ∷ 0x04 ∷ 0x05 ∷ 0x06 ∷ 0x07 ∷ 0x08 ∷ 0x11 ∷ 0x12 ∷ 0x13 ∷ 0x14 ∷ 0x15 ∷ 0x16 ∷ 0x17 ∷ 0x18 ∷ []
+
+-- with two optional bytes behind
+abbrev listed : List ℕ
+listed = (0x01 ∷ 0x01 ∷ 0x14 ∷ 0x01 ∷ []) ++ (idmPmm ++ (0x88 ∷ 0xB4 ∷ []))
+
+abbrev checksField : Output ℕ
+checksField = sends 0x06 (0x63 ∷ 0x04 ∷ [])
+
+-- 212F, system codes 88B4 and FE00
+abbrev firstCode : List Pair
+firstCode =
+    ((call (reader (device (pollTypeF (0x32 ∷ 0x31 ∷ 0x32 ∷ 0x46 ∷ []) (0x88 ∷ 0xB4 ∷ 0xFE ∷ 0x00 ∷ [])))) 1024, checksField) ∷ [])
+    ++ (answeredBy 0 250 (responds 0x06 (0x00 ∷ [])) (sends 0x32 (0x01 ∷ 0x01 ∷ []))
+    ++ (answeredBy 0 100 (responds 0x32 []) (orders (pause 20400))
+    ++ ((on slept (polls 0x88 0xB4) ∷ []) ++ answeredBy 0 1000 (responds 0x4A (0x00 ∷ [])) checksField)))
+
+abbrev secondCode : List Pair
+secondCode =
+    answeredBy 0 250 (responds 0x06 (0x03 ∷ [])) (polls 0xFE 0x00)
+    ++ answeredBy 0 1000 (responds 0x4A listed) (answers (done (0x00 ∷ 0x01 ∷ idmPmm)))
+
+-- to unfold this is to unfold the bitrate's text and an answer's bytes
+texts : Unit {0}
+unfolding inRange allDigits isRate sendLength isBitrate parseText codeOf choiceOf sameText part rest
+texts = tt
+
+polled : Runs (openingRun 0 0 ++ (firstCode ++ secondCode))
+unfolding formats texts
+polled = refl
+
+-- the card's bytes are those of command 4, behind three commands of the first code
+polled-places : outputs (sessionAfter fresh (entriesOf (openingRun 0 0 ++ (firstCode ++ take 5 secondCode)))) (event (pkt (responds 0x4A listed)) 1024 ∷ [])
+    ≡ answers (done (own 0x00 ∷ own 0x01 ∷ part 4 listed 4 16)) ∷ []
+unfolding formats texts
+polled-places = refl
+
+-- a time-out in the second code ends the list behind one code
+stopped : Runs (openingRun 0 0 ++ (firstCode ++ (on ok (orders (read 100)) ∷ on time (answers (refusedAfter TimeOut 1)) ∷ [])))
+unfolding formats texts
+stopped = refl
 
 -- ---- single packets
 

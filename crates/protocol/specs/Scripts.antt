@@ -1,7 +1,7 @@
 -- A call as a script: its commands, and what follows the reply to each, in the shape of the Rust function.
 use mathlib.Core.Bool.{Bool, true, false}
 use mathlib.Core.List.{List, [], _∷_}
-use Prim.Native.Nat.{ℕ, zero, suc, _-_}
+use Prim.Native.Nat.{ℕ, zero, suc, _+_, _-_}
 use lib.ListN.{length, getD}
 use Rattle.errors.specs.declared.Fault.{Fault}
 use Rattle.exchange.specs.Packets.{Reply, response, failed}
@@ -16,12 +16,18 @@ abbrev pub value : Byte → ℕ
 value (own b) = b
 value (card k p b) = b
 
--- how a call ends: `done` with bytes, the same of a Type 1 tag, `none`, or `refused`
+-- the same byte in a call in which n commands come before
+abbrev pub behind : ℕ → Byte → Byte
+behind n (own b) = own b
+behind n (card k p b) = card (n + k) p b
+
+-- how a call ends: `done` with bytes, the same of a Type 1 tag, `none`, or `refused`, of a list with the number of codes finished
 pub data Answer (B : Type 0) : Type 0 where
   done : List B → Answer B
   type1 : List B → Answer B
   nothing : Answer B
   refused : Fault → Answer B
+  refusedAfter : Fault → ℕ → Answer B
 
 pub data Script : Type 0 where
   finish : Answer Byte → Script
@@ -46,6 +52,13 @@ ask code clock bytes f = command code clock bytes (either f refuse)
 abbrev pub ifElse : Bool → Script → Script → Script
 ifElse true a b = a
 ifElse false a b = b
+
+-- a script that k commands come before, and behind it what f makes of the commands so far and of its answer
+abbrev pub andThen : Script → ℕ → (ℕ → Answer Byte → Script) → Script
+andThen (finish a) k f = f k a
+andThen (command code clock bytes g) k f = command code clock bytes (λ r. andThen (g r) (suc k) f)
+andThen (reset s) k f = reset (andThen s (suc k) f)
+andThen (fieldPause s) k f = fieldPause (andThen s k f)
 
 -- of the response to command k: the byte at position p, n bytes from there on, all from there on
 abbrev pub byteAt : ℕ → List ℕ → ℕ → Byte

@@ -16,11 +16,12 @@ use Rattle.errors.specs.declared.Fault.the-variants.{Transport, TimeOut, FalseS
 use Rattle.targets.specs.Bitrates.{Choice, chosen, noCode}
 use Rattle.targets.specs.declared.Bitrate.{Bitrate}
 use Rattle.exchange.specs.Packets.{isEmpty, Reply, response, failed}
-use Rattle.protocol.specs.Scripts.{Byte, own, card, Answer, done, type1, nothing, refused}
+use Rattle.protocol.specs.Scripts.{Byte, own, card, Answer, done, type1, nothing, refused, refusedAfter}
 use Rattle.protocol.specs.Scripts.{Script, finish, command, reset, fieldPause, either, ifElse, byteAt, part, rest}
 use Rattle.protocol.specs.Calls.{Start, refuses, starts, onCode, withBitrate, rateBytes}
 use Rattle.protocol.specs.Chipset.{versionBytes, rate, sendIndex, receiveIndex}
 use Rattle.protocol.specs.Device.{hexDigit, hex, chipsetName}
+use Rattle.protocol.specs.Discovery.{byNoCard}
 use Rattle.protocol.specs.Own.{Cards, Owns, CardsAndFlag, CardAndRates, DepAndCards, Form, versionAndName, HasForm}
 
 -- on no path more than n command frames
@@ -56,13 +57,23 @@ Final o rs (done bs) = Placed rs bs × HasForm (Stands rs) o bs
 Final o rs (type1 bs) = Placed rs bs × HasForm (Stands rs) o bs
 Final o rs nothing = Unit {0}
 Final o rs (refused r) = Unit {0}
+Final o rs (refusedAfter r n) = Unit {0}
+
+-- what an exchange comes to: it never fails with 17
+abbrev pub OfExchange : Reply → Type 0
+OfExchange (response bs) = Unit {0}
+OfExchange (failed r) = byNoCard true false r ≡ false
+
+-- P of the responses and the answer, on every path
+abbrev pub Ends : (List (List ℕ) → Answer Byte → Type 0) → Script → List (List ℕ) → Type 0
+Ends P (finish a) rs = P rs a
+Ends P (command code clock bytes k) rs = (r : Reply) → OfExchange r → Ends P (k r) (responseIn r ∷ rs)
+Ends P (reset s) rs = (bs : List ℕ) → Ends P s (bs ∷ rs)
+Ends P (fieldPause s) rs = Ends P s rs
 
 -- every path ends rightly
 abbrev pub Correct : Form → Script → List (List ℕ) → Type 0
-Correct o (finish a) rs = Final o rs a
-Correct o (command code clock bytes k) rs = (r : Reply) → Correct o (k r) (responseIn r ∷ rs)
-Correct o (reset s) rs = (bs : List ℕ) → Correct o s (bs ∷ rs)
-Correct o (fieldPause s) rs = Correct o s rs
+Correct o s rs = Ends (Final o) s rs
 
 abbrev pub Sound : Form → Start → ℕ → Type 0
 Sound o (refuses r) n = Unit {0}
@@ -115,22 +126,24 @@ by-status P f a Rate h k = k
 pub within-status : (f : ℕ → Script) (a : Script) (r : Fault) (n : ℕ) → ((s : ℕ) → Within (f s) n) → Within a n → Within (byStatus f a r) n
 within-status f a r n h k = by-status (λ s. Within s n) f a r h k
 
-pub correct-status : (o : Form) (f : ℕ → Script) (a : Script) (r : Fault) (rs : List (List ℕ)) → ((s : ℕ) → Correct o (f s) rs) → Correct o a rs → Correct o (byStatus f a r) rs
-correct-status o f a r rs h k = by-status (λ s. Correct o s rs) f a r h k
+-- the ends of a script
+module _ (P : List (List ℕ) → Answer Byte → Type 0) where
+  pub ends-status : (f : ℕ → Script) (a : Script) (r : Fault) (rs : List (List ℕ)) → ((s : ℕ) → Ends P (f s) rs) → Ends P a rs → Ends P (byStatus f a r) rs
+  ends-status f a r rs h k = by-status (λ s. Ends P s rs) f a r h k
 
-pub correct-either : (o : Form) (f : List ℕ → Script) (g : Fault → Script) (rs : List (List ℕ)) → ((bs : List ℕ) → Correct o (f bs) (bs ∷ rs))
-    → ((e : Fault) → Correct o (g e) ([] ∷ rs)) → (r : Reply) → Correct o (either f g r) (responseIn r ∷ rs)
-correct-either o f g rs h k (response bs) = h bs
-correct-either o f g rs h k (failed e) = k e
+  pub ends-either : (f : List ℕ → Script) (g : Fault → Script) (rs : List (List ℕ)) → ((bs : List ℕ) → Ends P (f bs) (bs ∷ rs))
+      → ((e : Fault) → OfExchange (failed e) → Ends P (g e) ([] ∷ rs)) → (r : Reply) → OfExchange r → Ends P (either f g r) (responseIn r ∷ rs)
+  ends-either f g rs h k (response bs) q = h bs
+  ends-either f g rs h k (failed e) q = k e q
 
-pub correct-if : (o : Form) (b : Bool) (x y : Script) (rs : List (List ℕ)) → (T b → Correct o x rs) → (T (not b) → Correct o y rs) → Correct o (ifElse b x y) rs
-correct-if o true x y rs h k = h tt
-correct-if o false x y rs h k = k tt
+  pub ends-if : (b : Bool) (x y : Script) (rs : List (List ℕ)) → (T b → Ends P x rs) → (T (not b) → Ends P y rs) → Ends P (ifElse b x y) rs
+  ends-if true x y rs h k = h tt
+  ends-if false x y rs h k = k tt
 
--- a test of a length, with what it says
-pub correct-short : (o : Form) (bs : List ℕ) (m : ℕ) (x y : Script) (rs : List (List ℕ)) → (length bs < m → Correct o x rs) → (m ≤ length bs → Correct o y rs)
-    → Correct o (ifElse (ltb (length bs) m) x y) rs
-correct-short o bs m x y rs h k = correct-if o (ltb (length bs) m) x y rs (λ t. h (ltb→lt (length bs) m t)) (λ t. k (nltb→le (length bs) m t))
+  -- a test of a length, with what it says
+  pub ends-short : (bs : List ℕ) (m : ℕ) (x y : Script) (rs : List (List ℕ)) → (length bs < m → Ends P x rs) → (m ≤ length bs → Ends P y rs)
+      → Ends P (ifElse (ltb (length bs) m) x y) rs
+  ends-short bs m x y rs h k = ends-if (ltb (length bs) m) x y rs (λ t. h (ltb→lt (length bs) m t)) (λ t. k (nltb→le (length bs) m t))
 
 in-range : (bs : List ℕ) (p : ℕ) → p < length bs → getElem? bs p ≡ some (getD bs p 0)
 in-range [] p h = absurd (not-suc-le-zero h)
@@ -251,6 +264,6 @@ pub dep-cards : (cards : List Byte) → Cards cards → DepAndCards (own 0xD5 �
 dep-cards cards h = record { cards = cards; form = refl; allCards = h }
 
 -- for a script whose answer has card bytes alone; for any
-pub ruleset correct-rules = (holds, correct-either, correct-status, correct-short, correct-if, formed, no-bytes, card-byte, reach, placed-rest, cards-rest)
+pub ruleset correct-rules = (holds, ends-either, ends-status, ends-short, ends-if, formed, no-bytes, card-byte, reach, placed-rest, cards-rest)
 
 pub ruleset sound-rules = (correct-rules, sound-if, sound-bitrate, sound-code, within-either, within-if, within-status, own-byte, placed-part, placed-inner, placed-append, cards-part, version-name, first-byte, cards-flag, rates-active, rates-none, dep-cards)

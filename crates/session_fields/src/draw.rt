@@ -62,9 +62,9 @@ pub(crate) fn is_call(seed: u64) -> bool {
 fn running(seed: u64) -> u8 {
     let x = number(seed, 1);
     if is_call(seed) {
-        if x / 4096 % 8 == 0 { small(x, 20) } else { 0 }
+        if x / 4096 % 8 == 0 { small(x, 21) } else { 0 }
     } else {
-        small(x, 20)
+        small(x, 21)
     }
 }
 
@@ -77,6 +77,7 @@ fn call(seed: u64) -> Call {
     Call {
         kind: running(seed),
         stage: small(number(seed, 2), 9),
+        cursor: small(number(seed, 2) / 65536, 16),
         phase: awaited(number(seed, 3)),
     }
 }

@@ -33,6 +33,7 @@ fn kind(output: Output) -> usize {
         Output::Type1(_) => 261,
         Output::Nothing => 262,
         Output::Failed(fault) => number(fault.numbered()),
+        Output::FailedAfter(fault, _) => number(fault.numbered()),
         Output::Refused(refusal) => number(refusal.numbered()),
     }
 }
@@ -49,6 +50,7 @@ fn told(output: Output) -> usize {
         Output::Type1(n) => n,
         Output::Nothing => 0,
         Output::Failed(_) => 0,
+        Output::FailedAfter(_, _) => 0,
         Output::Refused(_) => 0,
     }
 }
@@ -65,7 +67,7 @@ fn core_in_range(core: Core) -> bool {
     if exchange.phase > 6 {
         return false;
     }
-    if call.kind > 20 {
+    if call.kind > 21 {
         return false;
     }
     if call.stage > 9 {
@@ -97,6 +99,9 @@ fn same_running(before: Core, after: Core) -> bool {
         return false;
     }
     if a.stage != b.stage {
+        return false;
+    }
+    if a.cursor != b.cursor {
         return false;
     }
     if a.phase != b.phase {

@@ -4,12 +4,12 @@ use mathlib.Core.List.{List, [], _∷_, _++_}
 use Prim.Native.Nat.{ℕ, _+_, _≤_}
 use lib.ListN.{length, take, drop}
 use Rattle.errors.specs.Choice.{pick}
-use Rattle.protocol.specs.Scripts.{Answer, done, type1, nothing, refused}
-use Rattle.stages.specs.Stages.{cmd, send, keep, put, pause, ends}
+use Rattle.protocol.specs.Scripts.{Answer, done, type1, nothing, refused, refusedAfter}
+use Rattle.stages.specs.Stages.{cmd, send, keep, next, put, pause, ends}
 use Rattle.stages.specs.Stages as stages
 use Rattle.stages.specs.declared.Command.{Command}
 use Rattle.stages.specs.declared.Decision.{Decision}
-use Rattle.stages.specs.declared.Decision.the-variants.{Send, Keep, Put, Pause, Done, Type1, Nothing, Refused}
+use Rattle.stages.specs.declared.Decision.the-variants.{Send, Keep, Next, Put, Pause, Done, Type1, Nothing, Refused, RefusedAfter}
 use Rattle.stages.specs.declared.Head.{Head}
 use Rattle.stages.specs.declared.Layout.{Layout}
 use Rattle.stages.specs.declared.Tail.{Tail}
@@ -41,22 +41,26 @@ pub record Lays (f b : List ℕ) (r : Layout) (bytes : List ℕ) : Type 0 where
 abbrev pub decisionIn : List ℕ → List ℕ → Decision → stages.Decision
 decisionIn f b (Send n) = send n
 decisionIn f b (Keep n l) = keep n (layoutBytes f b l)
+decisionIn f b (Next n c l) = next n c (layoutBytes f b l)
 decisionIn f b (Put n h) = put n (headBytes h)
 decisionIn f b (Pause us n) = pause us n
 decisionIn f b (Done l) = ends (done (layoutBytes f b l))
 decisionIn f b (Type1 l) = ends (type1 (layoutBytes f b l))
 decisionIn f b Nothing = ends nothing
 decisionIn f b (Refused fault) = ends (refused fault)
+decisionIn f b (RefusedAfter fault n) = ends (refusedAfter fault n)
 
 abbrev pub DecisionFits : List ℕ → List ℕ → Decision → Type 0
 DecisionFits f b (Send n) = Unit
 DecisionFits f b (Keep n l) = Fitting f b l
+DecisionFits f b (Next n c l) = Fitting f b l
 DecisionFits f b (Put n h) = Unit
 DecisionFits f b (Pause us n) = Unit
 DecisionFits f b (Done l) = Fitting f b l
 DecisionFits f b (Type1 l) = Fitting f b l
 DecisionFits f b Nothing = Unit
 DecisionFits f b (Refused fault) = Unit
+DecisionFits f b (RefusedAfter fault n) = Unit
 
 -- both
 pub record Decides (f b : List ℕ) (r : Decision) (d : stages.Decision) : Type 0 where
@@ -75,7 +79,12 @@ Always r d = (f b : List ℕ) → Decides f b r d
 abbrev pub commandIn : Command → List ℕ → stages.Command
 commandIn c pending = cmd (c .code) (c .clock) (pick (c .«is_pending») pending (take (c .len) (c .bytes)))
 
--- the same of a stage, and the data is within the bytes
+-- the same, and the data is within the bytes
+pub record Sends (c : Command) (pending : List ℕ) (m : stages.Command) : Type 0 where
+  pub is : commandIn c pending ≡ m
+  pub fits : c .len ≤ 12
+
+-- whatever the pending command is
 pub record Commands (c : Command) (f : List ℕ → stages.Command) : Type 0 where
   pub is : (pending : List ℕ) → commandIn c pending ≡ f pending
   pub fits : c .len ≤ 12

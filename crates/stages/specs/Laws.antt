@@ -11,12 +11,13 @@ use lib.Seq.{take-all, take-length}
 use Rattle.errors.specs.Choice.{pick}
 use Rattle.errors.specs.declared.Fault.{Fault}
 use Rattle.errors.specs.declared.Fault.the-variants.{Status}
-use Rattle.protocol.specs.Scripts.{Answer, done, type1, nothing, refused}
-use Rattle.stages.specs.Stages.{send, keep, put, pause, ends, refuse}
+use Rattle.protocol.specs.Scripts.{Answer, done, type1, nothing, refused, refusedAfter}
+use Rattle.stages.specs.Stages.{send, keep, next, put, pause, ends, refuse}
 use Rattle.stages.specs.Stages as stages
-use Rattle.stages.specs.Decided.{headBytes, tailBytes, Lays, Decides, Comes}
+use Rattle.stages.specs.Decided.{headBytes, tailBytes, Lays, Decides, Comes, Sends, Commands}
+use Rattle.stages.specs.declared.Command.{Command}
 use Rattle.stages.specs.declared.Decision.{Decision}
-use Rattle.stages.specs.declared.Decision.the-variants.{Send, Keep, Put, Pause, Done, Type1, Nothing, Refused}
+use Rattle.stages.specs.declared.Decision.the-variants.{Send, Keep, Next, Put, Pause, Done, Type1, Nothing, Refused, RefusedAfter}
 use Rattle.stages.specs.declared.Head.{Head}
 use Rattle.stages.specs.declared.Layout.{Layout}
 use Rattle.stages.specs.declared.Tail.{Tail}
@@ -64,6 +65,13 @@ module _ (f b : List ℕ) (h : Head) (t : Tail) where
         fits = record { kept = p; head = omega arith; part = q; tail = omega arith; room = λ u v. omega (arith, r u v) };
       }
 
+  pub lays-marked : (k s n : ℕ) → k ≤ length f → s + n ≤ length b → k + (n + 1) ≤ 1024 → Lays f b (laid k h 1 s n t 0) (take k f ++ (h .0 ∷ take n (drop s b)))
+  lays-marked k s n p q r =
+      record {
+        is = ap (λ l. take k f ++ (h .0 ∷ l)) (append-nil (take n (drop s b)));
+        fits = record { kept = p; head = omega arith; part = q; tail = omega arith; room = λ u v. omega arith };
+      }
+
 -- the response from a place on
 pub lays-rest : (f b : List ℕ) (r : Layout) (s : ℕ) → s ≤ length b → Lays f b r (take (length b - s) (drop s b)) → Lays f b r (drop s b)
 lays-rest f b r s h e =
@@ -94,6 +102,9 @@ module _ (f b : List ℕ) where
   pub decides-keep : (n : ℕ) (l : Layout) (bytes : List ℕ) → Lays f b l bytes → Decides f b (Keep n l) (keep n bytes)
   decides-keep n l bytes h = record { is = ap (keep n) (h .is); fits = h .fits }
 
+  pub decides-next : (n c : ℕ) (l : Layout) (bytes : List ℕ) → Lays f b l bytes → Decides f b (Next n c l) (next n c bytes)
+  decides-next n c l bytes h = record { is = ap (next n c) (h .is); fits = h .fits }
+
   pub decides-put : (n : ℕ) (h : Head) → Decides f b (Put n h) (put n (headBytes h))
   decides-put n h = record { is = refl; fits = tt }
 
@@ -111,6 +122,9 @@ module _ (f b : List ℕ) where
 
   pub decides-refused : (x : Fault) → Decides f b (Refused x) (refuse x)
   decides-refused x = record { is = refl; fits = tt }
+
+  pub decides-after : (x : Fault) (n : ℕ) → Decides f b (RefusedAfter x n) (ends (refusedAfter x n))
+  decides-after x n = record { is = refl; fits = tt }
 
 -- a test on a number that a call answered
 pub is-eqb : (r x k : ℕ) → r ≡ x → r ≡ k → eqb x k ≡ true
@@ -148,3 +162,8 @@ module _ (b : List ℕ) where
   comes-done l bytes h = record { decides = λ f. decides-done f b l bytes (h f) }
 
 pub ruleset verdicts = (comes-true, comes-false, comes-nothing, comes-refused, comes-status, tests)
+
+-- ---- commands
+
+pub sends-any : (c : Command) (pending : List ℕ) (f : List ℕ → stages.Command) → Commands c f → Sends c pending (f pending)
+sends-any c pending f h = record { is = h .is pending; fits = h .fits }

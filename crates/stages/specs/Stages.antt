@@ -21,7 +21,8 @@ cmd code clock bytes = record { code = code; clock = clock; bytes = bytes }
 pub data Decision : Type 0 where
   send : ℕ → Decision  -- the command of this stage
   keep : ℕ → List ℕ → Decision  -- the same, and these become the found bytes
-  put : ℕ → List ℕ → Decision  -- the same, and these become the pending command
+  next : ℕ → ℕ → List ℕ → Decision  -- the same with this cursor, the second number
+  put : ℕ → List ℕ → Decision  -- the command of this stage, and these become the pending command
   pause : ℕ → ℕ → Decision  -- a pause in µs, and then the command of this stage
   ends : Answer ℕ → Decision
 

@@ -79,17 +79,20 @@ pub struct Layout {
     pub tail_len: usize,
 }
 
-// What follows a reply or a failure: the command of a stage; the same, with bytes that become the found bytes, or three that become the
-// pending command; a pause in µs, and then the command of a stage; or the end of the call.
+// What follows a reply or a failure: the command of a stage; the same, with bytes that become the found bytes; the same with another
+// cursor, the second number; the command of a stage with three bytes that become the pending command; a pause in µs, and then the
+// command of a stage; or the end of the call. A list's refusal says how many of its codes were finished.
 pub enum Decision {
     Send(u8),
     Keep(u8, Layout),
+    Next(u8, u8, Layout),
     Put(u8, Head),
     Pause(u32, u8),
     Done(Layout),
     Type1(Layout),
     Nothing,
     Refused(Fault),
+    RefusedAfter(Fault, u8),
 }
 
 // The byte at a place, `other` where there is none.
@@ -169,6 +172,21 @@ impl Layout {
             kept,
             head: Head(0, 0, 0),
             head_len: 0,
+            start,
+            len,
+            tail: Tail(0, 0, 0, 0, 0, 0, 0, 0, 0, 0, 0, 0),
+            tail_len: 0,
+        }
+    }
+
+    // Found bytes, a mark, and a part of the response behind them.
+    pub fn marked(kept: usize, mark: u8, start: usize, len: usize) -> Layout
+        ensures { λ r. ⌜ ((f b : List ℕ) → kept ≤ length f → start + len ≤ length b → kept + (len + 1) ≤ 1024 → Lays f b r (take kept f ++ (mark ∷ take len (drop start b)))) ⌝ }
+    {
+        Layout {
+            kept,
+            head: Head(mark, 0, 0),
+            head_len: 1,
             start,
             len,
             tail: Tail(0, 0, 0, 0, 0, 0, 0, 0, 0, 0, 0, 0),

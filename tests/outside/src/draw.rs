@@ -55,7 +55,7 @@ impl Draw {
             0 => 0,
             1 => self.pick(&[128, 192, 195, 477, 478, 508, 509, 510, 511, 512, 513, 600]),
             2 => self.below(1400) as usize,
-            3 => self.pick(&[6, 10, 16, 18, 64]),
+            3 => self.pick(&[2, 6, 10, 16, 18, 32, 64]),
             _ => self.below(20) as usize,
         }
     }
@@ -103,8 +103,9 @@ impl Draw {
         core.found = self.used(1024);
         core.exchange.phase = self.small(6);
         core.exchange.code = self.code();
-        core.call.kind = if self.once(3) { 0 } else { self.small(20) };
+        core.call.kind = if self.once(3) { 0 } else { self.small(21) };
         core.call.stage = self.small(9);
+        core.call.cursor = self.small(16);
         core.call.phase = if self.once(2) { 0 } else { self.small(5) };
         books.opened = self.opened();
         books.mode = self.small(1);

@@ -29,6 +29,9 @@ decided-requires-5 c κs = search needs
 decided-requires-6 : tie.Need-decided-requires-6
 decided-requires-6 c κs = search needs
 
+decided-requires-7 : tie.Need-decided-requires-7
+decided-requires-7 c κs = search needs
+
 returns : tie.Need-returns
 unfolding decidedOf pick
 returns c = rw (c .before .match .keys1) (c .decided .ensures)
@@ -59,7 +62,11 @@ returns-7 c = rw (c .before .match .keys7) (c .decided5 .ensures)
 
 returns-8 : tie.Need-returns-8
 unfolding decidedOf pick
-returns-8 c = let r = c .before .match .rest in rw (ne-eqb _ 1 (r .0 .0 .0 .0 .0 .0 .1), ne-eqb _ 15 (r .0 .0 .0 .0 .0 .1), ne-eqb _ 16 (r .0 .0 .0 .0 .1), ne-eqb _ 17 (r .0 .0 .0 .1), ne-eqb _ 18 (r .0 .0 .1), ne-eqb _ 19 (r .0 .1), ne-eqb _ 20 (r .1)) (c .decided6 .ensures .decides _)
+returns-8 c = rw (c .before .match .keys8) (c .decided6 .ensures)
+
+returns-9 : tie.Need-returns-9
+unfolding decidedOf pick
+returns-9 c = let r = c .before .match .rest in rw (ne-eqb _ 1 (r .0 .0 .0 .0 .0 .0 .0 .1), ne-eqb _ 15 (r .0 .0 .0 .0 .0 .0 .1), ne-eqb _ 16 (r .0 .0 .0 .0 .0 .1), ne-eqb _ 17 (r .0 .0 .0 .0 .1), ne-eqb _ 18 (r .0 .0 .0 .1), ne-eqb _ 19 (r .0 .0 .1), ne-eqb _ 20 (r .0 .1), ne-eqb _ 21 (r .1)) (c .decided7 .ensures .decides _)
 
 pub decided-spec : {M : Type 1} → statement M
 decided-spec =
@@ -73,6 +80,7 @@ decided-spec =
     decided-requires-4
     decided-requires-5
     decided-requires-6
+    decided-requires-7
     returns
     returns-2
     returns-3
@@ -80,4 +88,5 @@ decided-spec =
     returns-5
     returns-6
     returns-7
-    returns-8)
+    returns-8
+    returns-9)

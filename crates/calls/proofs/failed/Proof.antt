@@ -15,21 +15,28 @@ failed-requires-2 c κs = search needs
 failed-requires-3 : tie.Need-failed-requires-3
 failed-requires-3 c κs = search needs
 
+failed-requires-4 : tie.Need-failed-requires-4
+failed-requires-4 c κs = search needs
+
 returns : tie.Need-returns
 unfolding failedOf pick
-returns c = λ f b. rw (c .before .match .keys1) (c .failed .ensures f b)
+returns c = λ b. rw (c .before .match .keys1) (c .failed .ensures _ b)
 
 returns-2 : tie.Need-returns-2
 unfolding failedOf pick
-returns-2 c = λ f b. rw (c .before .match .keys2) (c .failed2 .ensures f b)
+returns-2 c = λ b. rw (c .before .match .keys2) (c .failed2 .ensures _ b)
 
 returns-3 : tie.Need-returns-3
 unfolding failedOf pick
-returns-3 c = λ f b. rw (c .before .match .keys3) (c .failed3 .ensures f b)
+returns-3 c = λ b. rw (c .before .match .keys3) (c .failed3 .ensures _ b)
 
 returns-4 : tie.Need-returns-4
 unfolding failedOf pick
-returns-4 c = λ f b. let r = c .match .rest in rw (ne-eqb _ 17 (r .0 .0 .1), ne-eqb _ 18 (r .0 .1), ne-eqb _ 20 (r .1)) (decides-refused _ _ _)
+returns-4 c = λ b. rw (c .before .match .keys4) (c .failed4 .ensures b)
+
+returns-5 : tie.Need-returns-5
+unfolding failedOf pick
+returns-5 c = λ b. let r = c .match .rest in rw (ne-eqb _ 17 (r .0 .0 .0 .1), ne-eqb _ 18 (r .0 .0 .1), ne-eqb _ 20 (r .0 .1), ne-eqb _ 21 (r .1)) (decides-refused _ _ _)
 
 pub failed-spec : {M : Type 1} → statement M
 failed-spec =
@@ -38,7 +45,9 @@ failed-spec =
     failed-requires
     failed-requires-2
     failed-requires-3
+    failed-requires-4
     returns
     returns-2
     returns-3
-    returns-4)
+    returns-4
+    returns-5)

@@ -30,6 +30,7 @@ pub enum Call<'a> {
     DetectTypeF { bitrate: &'a [u8], system_code: u16, request_code: u8, time_slots: u8 },
     DetectDep { bitrate: &'a [u8], atr_req: &'a [u8] },
     Transceive { bitrate: &'a [u8], sel_res: &'a [u8], rid_res: bool, data: &'a [u8], ms: Option<u16> },
+    PollTypeF { bitrate: &'a [u8], codes: &'a [u8] },
 }
 
 impl<'a> Arguments<'a> {
@@ -97,6 +98,7 @@ impl<'a> Call<'a> {
                 let given = Arguments { second: sel_res, third: data, ..Arguments::with(23, bitrate) }.x(rid_res as u8);
                 ms.map_or(given, |ms| given.word(ms).y(1))
             }
+            Call::PollTypeF { bitrate, codes } => Arguments { second: codes, ..Arguments::with(24, bitrate) },
         }
     }
 }

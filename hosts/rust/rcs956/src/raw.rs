@@ -16,6 +16,7 @@ pub mod kind {
     pub const DONE_TYPE1: u8 = 5;
     pub const NONE: u8 = 6;
     pub const REFUSED: u8 = 7;
+    pub const LIST_REFUSED: u8 = 8;
 }
 
 /// Events.
@@ -44,6 +45,7 @@ pub struct ExchangeState {
 pub struct CallState {
     pub kind: u8,
     pub stage: u8,
+    pub cursor: u8,
     pub phase: u8,
 }
 
@@ -95,6 +97,8 @@ pub struct Outcome {
     pub refusal: u8,
     /// Of refusal 15 the status byte.
     pub status: u8,
+    /// Of a list's refusal how many of its codes were finished.
+    pub finished: u8,
     /// Of a read its ms, of a pause its µs.
     pub time: u32,
     /// Of a write order and of an answer the bytes at the buffer's start.
@@ -150,9 +154,16 @@ impl fmt::Display for Line<'_> {
             kind::DONE => hex(f, "done", bytes),
             kind::DONE_TYPE1 => hex(f, "done", bytes).and_then(|()| f.write_str(" type1")),
             kind::NONE => f.write_str("none"),
-            _ if outcome.refusal == 15 => write!(f, "refused 15 {:02X}", outcome.status),
-            _ => write!(f, "refused {}", outcome.refusal),
+            kind::LIST_REFUSED => refused(f, outcome).and_then(|()| write!(f, " finished {}", outcome.finished)),
+            _ => refused(f, outcome),
         }
+    }
+}
+
+fn refused(f: &mut fmt::Formatter<'_>, outcome: &Outcome) -> fmt::Result {
+    match outcome.refusal {
+        15 => write!(f, "refused 15 {:02X}", outcome.status),
+        number => write!(f, "refused {number}"),
     }
 }
 

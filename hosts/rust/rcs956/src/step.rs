@@ -25,6 +25,8 @@ pub enum Step<'r> {
     None,
     /// Refusals 1 to 6 changed nothing: an order that was due still is, see [`Reader::due`]. Others ended the call.
     Refused(Refusal),
+    /// A refusal above 6 ended a list; so many of its codes were finished.
+    ListRefused { refusal: Refusal, finished: u8 },
 }
 
 /// The bytes of an answer.
@@ -109,6 +111,10 @@ impl Refusal {
         }
     }
 
+    fn of(outcome: Outcome) -> Refusal {
+        Refusal::numbered(outcome.refusal, outcome.status).expect("a refusal has 1 to 19")
+    }
+
     pub fn number(self) -> u8 {
         match self {
             Refusal::Status(_) => 15,
@@ -178,7 +184,8 @@ impl Reader {
             kind::DONE => Step::Done(Answer { bytes: &self.buffer[..outcome.len], type1: false }),
             kind::DONE_TYPE1 => Step::Done(Answer { bytes: &self.buffer[..outcome.len], type1: true }),
             kind::NONE => Step::None,
-            _ => Step::Refused(Refusal::numbered(outcome.refusal, outcome.status).expect("a refusal has 1 to 19")),
+            kind::LIST_REFUSED => Step::ListRefused { refusal: Refusal::of(outcome), finished: outcome.finished },
+            _ => Step::Refused(Refusal::of(outcome)),
         }
     }
 }
@@ -264,7 +271,8 @@ impl<'r> Pause<'r> {
 impl Step<'_> {
     /// The outcome and its bytes.
     fn outcome(&self) -> (Outcome, &[u8]) {
-        let end = |kind| Outcome { kind, refusal: 0, status: 0, time: 0, len: 0 };
+        let end = |kind| Outcome { kind, refusal: 0, status: 0, finished: 0, time: 0, len: 0 };
+        let refused = |why: &Refusal, kind| Outcome { refusal: why.number(), status: why.status(), ..end(kind) };
         match self {
             Step::Write(order) => (order.0.outcome, order.bytes()),
             Step::Read(order) => (order.0.outcome, &[]),
@@ -272,7 +280,10 @@ impl Step<'_> {
             Step::Pause(order) => (order.0.outcome, &[]),
             Step::Done(answer) => (end(if answer.type1 { kind::DONE_TYPE1 } else { kind::DONE }), answer.bytes),
             Step::None => (end(kind::NONE), &[]),
-            Step::Refused(why) => (Outcome { refusal: why.number(), status: why.status(), ..end(kind::REFUSED) }, &[]),
+            Step::Refused(why) => (refused(why, kind::REFUSED), &[]),
+            Step::ListRefused { refusal, finished } => {
+                (Outcome { finished: *finished, ..refused(refusal, kind::LIST_REFUSED) }, &[])
+            }
         }
     }
 }

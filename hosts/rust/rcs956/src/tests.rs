@@ -135,6 +135,8 @@ fn refusals_by_number() {
     assert_eq!(Refusal::numbered(0, 0), None);
     assert_eq!(Refusal::numbered(20, 0), None);
     assert_eq!(Step::Refused(Refusal::Status(0xFE)).to_string(), "refused 15 FE");
+    assert_eq!(Step::ListRefused { refusal: Refusal::TimeOut, finished: 0 }.to_string(), "refused 8 finished 0");
+    assert_eq!(Step::ListRefused { refusal: Refusal::Status(0xFE), finished: 16 }.to_string(), "refused 15 FE finished 16");
 }
 
 #[test]
@@ -154,7 +156,7 @@ fn session_with(opened: u8, frames: u32) -> RawSession {
 }
 
 fn refused(number: u8) -> Outcome {
-    Outcome { kind: raw::kind::REFUSED, refusal: number, status: 0, time: 0, len: 0 }
+    Outcome { kind: raw::kind::REFUSED, refusal: number, status: 0, finished: 0, time: 0, len: 0 }
 }
 
 #[test]
@@ -212,7 +214,7 @@ fn no_such_mode() {
 fn no_such_call_and_short_buffer() {
     let mut session = session_with(1, 0);
     let before = session.clone();
-    let unknown = Arguments { number: 24, ..Arguments::default() };
+    let unknown = Arguments { number: 25, ..Arguments::default() };
     assert_eq!(raw::call(&mut session, &unknown, &mut [0; 1024]), refused(4));
     assert_eq!(raw::call(&mut session, &unknown, &mut [0; 1023]), refused(2));
     assert_eq!(raw::call(&mut session, &Call::Version.arguments(), &mut []), refused(2));

@@ -97,6 +97,7 @@ impl<'a> Words<'a> {
                 request_code: self.byte(3)?,
                 time_slots: self.byte(4)?,
             },
+            (b"poll_type_f", 3) => Call::PollTypeF { bitrate: self.text(1), codes: self.groups(2, 2)? },
             (b"detect_dep", 3) => Call::DetectDep { bitrate: self.text(1), atr_req: self.perhaps(2)? },
             (b"transceive", 6) => Call::Transceive {
                 bitrate: self.text(1),

@@ -24,7 +24,7 @@ const BITRATES: [&[u8]; 9] = [b"106A", b"106B", b"212F", b"424F", b"212F/424F", 
 
 /// A call with any number and any arguments, most of them such as the call takes.
 fn drawn_call(draw: &mut Draw) -> Entry {
-    let number = if draw.once(24) { draw.byte() as u64 } else { draw.below(25) };
+    let number = if draw.once(24) { draw.byte() as u64 } else { draw.below(26) };
     let bitrate = draw.pick(&BITRATES);
     let mut bytes = [(); 4].map(|()| {
         let len = draw.length();
@@ -48,6 +48,10 @@ fn drawn_call(draw: &mut Draw) -> Entry {
         bytes[1] = draw.pick::<&[u8]>(&[b"", b"\x00", b"\x20", b"\x60"]).into();
         let first = draw.pick(&[0x00, 0x01, 0x1A, 0x53, 0x72, 0x78]);
         bytes[2].iter_mut().take(1).for_each(|byte| *byte = first);
+    }
+    if number == 24 && !draw.once(4) {
+        let len = 2 * draw.below(18) as usize;
+        bytes[1] = draw.bytes(len);
     }
     let ms = draw.pick(&[0, 1, 100, 65535, u32::MAX as u64]);
     Entry::Call { arguments: [number, ms, draw.number(), x, draw.below(4)], bytes }
@@ -83,7 +87,7 @@ fn core_in_range(session: &RawSession) -> bool {
     let core = &session.state.core;
     let call = &core.call;
     let lengths = core.command <= 512 && core.found <= 1024;
-    lengths && core.exchange.phase <= 6 && call.kind <= 20 && call.stage <= 9 && call.phase <= 5
+    lengths && core.exchange.phase <= 6 && call.kind <= 21 && call.stage <= 9 && call.phase <= 5
 }
 
 fn books_in_range(session: &RawSession) -> bool {
@@ -119,7 +123,7 @@ fn opened_due(entry: &Entry, before: &RawSession, outcome: Outcome) -> u8 {
     match outcome.kind {
         kind::WRITE if entry.is_opening() => 0,
         kind::DONE if opening_runs => 1,
-        kind::DONE_TYPE1 | kind::NONE | kind::REFUSED if opening_runs => 0,
+        kind::DONE_TYPE1 | kind::NONE | kind::REFUSED | kind::LIST_REFUSED if opening_runs => 0,
         _ => before.state.books.opened,
     }
 }
@@ -159,16 +163,22 @@ fn session_faults(entry: &Entry, before: &RawSession, after: &RawSession, outcom
 
 /// What the outcome and the buffer must be.
 fn outcome_faults(outcome: Outcome, before: &[u8], after: &[u8]) -> Vec<&'static str> {
-    let Outcome { kind, refusal, status, time, len } = outcome;
+    let Outcome { kind, refusal, status, finished, time, len } = outcome;
     let size = before.len() - 2 * GUARD;
     let has_bytes = matches!(kind, kind::WRITE | kind::DONE | kind::DONE_TYPE1);
     let written = if has_bytes { len.min(size) } else { 0 };
     let start = &after[GUARD..GUARD + written];
-    let refused = kind == kind::REFUSED;
+    let (refused, listed) = (kind == kind::REFUSED, kind == kind::LIST_REFUSED);
+    let numbers = match kind {
+        kind::REFUSED => 1..=19,
+        kind::LIST_REFUSED => 7..=19,
+        _ => 0..=0,
+    };
     let checks = [
-        (kind > 7, "a kind above 7"),
+        (kind > 8, "a kind above 8"),
+        (!listed && finished != 0, "codes finished, and no list"),
         (len > size.min(1024), "more bytes than the buffer has"),
-        (refused != (1..=19).contains(&refusal) || !refused && refusal != 0, "a refusal's number"),
+        (!numbers.contains(&refusal), "a refusal's number"),
         (refusal != 15 && status != 0, "a status without 15"),
         (!matches!(kind, kind::READ | kind::PAUSE) && time != 0, "a time with no read and no pause"),
         (!has_bytes && len != 0, "a length with no bytes"),
@@ -191,7 +201,7 @@ struct Tally {
 impl Tally {
     fn add(&mut self, before: &RawSession, outcome: Outcome) {
         self.steps += 1;
-        self.counts[(outcome.kind + outcome.refusal.saturating_sub(1)) as usize] += 1;
+        self.counts[(outcome.kind.min(7) + outcome.refusal.saturating_sub(1)) as usize] += 1;
         self.counts[26] += (core_in_range(before) && !books_in_range(before)) as u64;
     }
 

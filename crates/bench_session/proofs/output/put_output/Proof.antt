@@ -103,6 +103,15 @@ enum-known-output-7 c = search needs
 numbered-requires-2 : tie.Need-numbered-requires-2
 numbered-requires-2 c κs = search needs
 
+put-list-refused-requires : tie.Need-put-list-refused-requires
+put-list-refused-requires c κs = search needs
+
+enum-known-output-8 : tie.Need-enum-known-output-8
+enum-known-output-8 c = search needs
+
+numbered-requires-3 : tie.Need-numbered-requires-3
+numbered-requires-3 c κs = search needs
+
 put-refused-requires-2 : tie.Need-put-refused-requires-2
 put-refused-requires-2 c κs = search needs
 
@@ -135,6 +144,9 @@ returns-9 c = text-bound _ _ _ _ _ (search needs) (search needs) (search (texts,
 
 returns-10 : tie.Need-returns-10
 returns-10 c = text-bound _ _ _ _ _ (search needs) (search needs) (search (texts, needs))
+
+returns-11 : tie.Need-returns-11
+returns-11 c = text-bound _ _ _ _ _ (search needs) (search needs) (search (texts, needs))
 
 pub put-output-spec : {M : Type 1} → statement M
 put-output-spec =
@@ -173,6 +185,9 @@ put-output-spec =
     put-refused-requires
     enum-known-output-7
     numbered-requires-2
+    put-list-refused-requires
+    enum-known-output-8
+    numbered-requires-3
     put-refused-requires-2
     returns
     returns-2
@@ -183,4 +198,5 @@ put-output-spec =
     returns-7
     returns-8
     returns-9
-    returns-10)
+    returns-10
+    returns-11)

@@ -28,6 +28,9 @@ is-set-requires-2 c κs = search needs
 transceive-requires : tie.Need-transceive-requires
 transceive-requires c κs = search needs
 
+poll-type-f-requires : tie.Need-poll-type-f-requires
+poll-type-f-requires c κs = search needs
+
 refused-requires : tie.Need-refused-requires
 refused-requires c κs = search needs
 
@@ -52,8 +55,12 @@ unfolding callOf startFor deviceFirst
 returns-5 c = λ fourth. rw (c .before .before .before .before .before .match .keys5) (rw (c .before .before .is-set2 .ensures, c .before .before .before .timeout .ensures, c .before .before .before .before .is-set .ensures) at (c .transceive .ensures))
 
 returns-6 : tie.Need-returns-6
+unfolding callOf startFor deviceFirst
+returns-6 c = λ fourth. rw (c .before .before .match .keys6) (c .poll-type-f .ensures)
+
+returns-7 : tie.Need-returns-7
 unfolding startFor
-returns-6 c = λ fourth. let r = c .before .match .rest in let e = no-call (c .before .before .before .before .before .args .number) (c .before .before .before .before .before .args .numbers) (c .before .before .before .before .before .args .first .now) (c .before .before .before .before .before .args .second .now) (c .before .before .before .before .before .args .third .now) fourth (beyond 23 _ (beyond 22 _ (beyond 21 _ (beyond 20 _ (beyond 19 _ (c .before .before .before .before .before .pre) (r .0 .0 .0 .0 .1)) (r .0 .0 .0 .1)) (r .0 .0 .1)) (r .0 .1)) (r .1)) in rw e (c .refused .ensures _)
+returns-7 c = λ fourth. let r = c .before .match .rest in let e = no-call (c .before .before .before .before .before .args .number) (c .before .before .before .before .before .args .numbers) (c .before .before .before .before .before .args .first .now) (c .before .before .before .before .before .args .second .now) (c .before .before .before .before .before .args .third .now) fourth (beyond 24 _ (beyond 23 _ (beyond 22 _ (beyond 21 _ (beyond 20 _ (beyond 19 _ (c .before .before .before .before .before .pre) (r .0 .0 .0 .0 .0 .1)) (r .0 .0 .0 .0 .1)) (r .0 .0 .0 .1)) (r .0 .0 .1)) (r .0 .1)) (r .1)) in rw e (c .refused .ensures _)
 
 pub on-device-spec : {M : Type 1} → statement M
 on-device-spec =
@@ -67,10 +74,12 @@ on-device-spec =
     timeout-requires
     is-set-requires-2
     transceive-requires
+    poll-type-f-requires
     refused-requires
     returns
     returns-2
     returns-3
     returns-4
     returns-5
-    returns-6)
+    returns-6
+    returns-7)

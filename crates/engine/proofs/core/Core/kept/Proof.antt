@@ -2,25 +2,25 @@ use mathlib.Core.Path.{_≡_, sym, ap, _∙_, subst}
 use Prim.Native.Nat.{_≤_}
 use native.Mathlib.Omega.{arith}
 use lib.ListN.{length, take, length-take}
-use Rattle.stages.specs.Decided.{layoutBytes}
 use Rattle.engine.specs.declared.core.Core.{Core}
-use Rattle.engine.specs.Core.{held, stageOf, withFound, followsOf}
+use Rattle.engine.specs.Core.{held, stageOf, withFound}
 use Rattle.stages.specs.Put.{puts-found}
 use borrow.Author.Needs.{needs}
 use Rattle.engine.proofs.core.Core.kept.Statement.{statement}
 use Rattle.engine.proofs.core.Core.kept.Tie as tie
 
 lay-requires : tie.Need-lay-requires
-lay-requires c κs = let f = c .before .before .before .before .before .before .pre .6 in let a = c .before .before .before .before .before .before .args in let n : length (take (a .self .found) (a .found .now)) ≤ 1024 = omega (arith, length-take (a .self .found) (a .found .now), c .before .before .before .before .before .before .pre .4) in ((f .head, f .part, f .tail), omega (arith, f .room n (c .before .before .before .before .before .before .pre .0), c .before .before .before .before .before .before .pre .4))
+lay-requires c κs =
+    let f = c .before .before .before .before .before .pre .6 in
+    let a = c .before .before .before .before .before .args in
+    let n : length (take (a .self .found) (a .found .now)) ≤ 1024 = omega (arith, length-take (a .self .found) (a .found .now), c .before .before .before .before .before .pre .4) in
+    ((f .head, f .part, f .tail), omega (arith, f .room n (c .before .before .before .before .before .pre .0), c .before .before .before .before .before .pre .4))
 
 with-found-requires : tie.Need-with-found-requires
 with-found-requires c κs = search needs
 
-to-stage-requires : tie.Need-to-stage-requires
-to-stage-requires c κs = search needs
-
 send-requires : tie.Need-send-requires
-send-requires c κs = (subst (λ (s : Core). s .command ≤ 512) (sym (c .before .before .with-found .ensures)) (c .before .before .before .before .before .before .before .before .before .before .before .before .pre .2), c .before .before .before .before .before .before .before .before .before .before .before .before .pre .3, c .before .before .before .before .before .before .before .before .before .before .before .before .pre .5)
+send-requires c κs = (subst (λ (s : Core). s .command ≤ 512) (sym (c .before .with-found .ensures)) (c .before .before .before .before .before .before .before .before .before .before .pre .2), c .before .before .before .before .before .before .before .before .before .before .pre .3, c .before .before .before .before .before .before .before .before .before .before .pre .5)
 
 same-length : tie.Need-same-length
 same-length c = search needs
@@ -29,8 +29,11 @@ same-length-2 : tie.Need-same-length-2
 same-length-2 c = search needs
 
 returns : tie.Need-returns
-unfolding followsOf
-returns c = let a = c .before .before .before .before .before .before .before .before .before .before .before .before .before .before .before .args in let h = c .before .before .before .before .before .before .before .before .lay .ensures (take (a .self .found) (a .found .now)) (a .found .now) (puts-found (a .found .now) (a .self .found) (a .layout .kept) (c .before .before .before .before .before .before .before .before .before .before .before .before .before .before .before .pre .6 .kept)) in c .before .before .send .ensures _ ∙ (λ i. stageOf ((c .before .before .before .before .before .with-found .ensures ∙ ap (withFound (a .self)) (h .count)) i) (held (a .command .now) (h .is i)) (c .before .before .before .before .to-stage .ensures i) (a .buffer .now))
+returns c =
+    let a = c .before .before .before .before .before .before .before .before .before .before .before .before .before .args in
+    let h = c .before .before .before .before .before .before .before .lay .ensures (take (a .self .found) (a .found .now)) (a .found .now) (puts-found (a .found .now) (a .self .found) (a .layout .kept) (c .before .before .before .before .before .before .before .before .before .before .before .before .before .pre .6 .kept)) in
+    c .before .before .send .ensures _
+    ∙ (λ i. stageOf ((c .before .before .before .before .with-found .ensures ∙ ap (withFound (a .self)) (h .count)) i) (held (a .command .now) (h .is i)) (a .call) (a .buffer .now))
 
 pub kept-spec : {M : Type 1} → statement M
 kept-spec =
@@ -38,7 +41,6 @@ kept-spec =
     (tie.spec
     lay-requires
     with-found-requires
-    to-stage-requires
     send-requires
     same-length
     same-length-2

@@ -10,14 +10,17 @@ use borrow.Author.Needs.{needs}
 use Rattle.engine.proofs.core.Core.send.Statement.{statement}
 use Rattle.engine.proofs.core.Core.send.Tie as tie
 
+slice-aggregate-command : tie.Need-slice-aggregate-command
+slice-aggregate-command c = sym (length-take-le (c .before .before .before .args .self .command) (c .before .before .before .args .command .now) (omega (arith, c .before .before .before .pre .0, c .before .before .before .pre .1)))
+
 command-requires : tie.Need-command-requires
 command-requires c κs = search needs
 
 slice-aggregate-sent : tie.Need-slice-aggregate-sent
-slice-aggregate-sent c = sym (length-take-le (c .before .before .before .before .before .args .self .command) (c .before .before .before .before .before .args .command .now) (omega (arith, c .before .before .before .before .before .pre .0, c .before .before .before .before .before .pre .1)))
+slice-aggregate-sent c = sym (length-take-le (c .before .before .before .before .before .before .args .self .command) (c .before .before .before .before .before .before .args .command .now) (omega (arith, c .before .before .before .before .before .before .pre .0, c .before .before .before .before .before .before .pre .1)))
 
 sent-requires : tie.Need-sent-requires
-sent-requires c κs = (omega (arith, length-take (c .before .before .before .before .before .before .args .self .command) (c .before .before .before .before .before .before .args .command .now), c .before .before .before .before .before .before .pre .0), c .before .before .before .before .before .before .pre .2)
+sent-requires c κs = (omega (arith, length-take (c .before .before .before .before .before .before .before .args .self .command) (c .before .before .before .before .before .before .before .args .command .now), c .before .before .before .before .before .before .before .pre .0), c .before .before .before .before .before .before .before .pre .2)
 
 array-share-prefix-bytes : tie.Need-array-share-prefix-bytes
 array-share-prefix-bytes c = let l = c .before .before .command .result .bytes in let twelve : length l ≡ 12 = search needs in let n : c .before .before .command .result .len ≤ 12 = c .before .before .command .ensures .fits in omega arith
@@ -26,26 +29,39 @@ slice-aggregate-sent-2 : tie.Need-slice-aggregate-sent-2
 slice-aggregate-sent-2 c = let l = c .before .before .before .command .result .bytes in let twelve : length l ≡ 12 = search needs in let n : c .before .before .before .command .result .len ≤ 12 = c .before .before .before .command .ensures .fits in sym (length-take-le (c .before .before .before .command .result .len) l (omega arith))
 
 sent-requires-2 : tie.Need-sent-requires-2
-sent-requires-2 c κs = let l = c .before .before .before .before .command .result .bytes in let n : c .before .before .before .before .command .result .len ≤ 12 = c .before .before .before .before .command .ensures .fits in (omega (arith, length-take (c .before .before .before .before .command .result .len) l), c .before .before .before .before .before .before .before .pre .2)
+sent-requires-2 c κs = let l = c .before .before .before .before .command .result .bytes in let n : c .before .before .before .before .command .result .len ≤ 12 = c .before .before .before .before .command .ensures .fits in (omega (arith, length-take (c .before .before .before .before .command .result .len) l), c .before .before .before .before .before .before .before .before .pre .2)
 
 same-length : tie.Need-same-length
 same-length c = search needs
 
 returns : tie.Need-returns
 unfolding stageOf pick
-returns c = λ f. let a = c .before .before .before .before .before .before .before .before .before .args in let p = c .before .before .before .before .before .before .command .result in let later = take (a .self .command) (a .command .now) in c .before .before .sent .ensures (held (a .command .now) f) ∙ ap (λ m. sendsOf (a .self) (held (a .command .now) f) (a .call) m (a .buffer .now)) (sym (ap (λ t. cmd (p .code) (p .clock) (pick t later (take (p .len) (p .bytes)))) (c .before .before .before .before .before .if1 .taken)) ∙ c .before .before .before .before .before .before .command .ensures .is later)
+returns c = λ f.
+    let a = c .before .before .before .before .before .before .before .before .before .before .args in
+    let p = c .before .before .before .before .before .before .command .result in
+    let later = take (a .self .command) (a .command .now) in
+    c .before .before .sent .ensures (held (a .command .now) f)
+    ∙ ap (λ m. sendsOf (a .self) (held (a .command .now) f) (a .call) m (a .buffer .now))
+    (sym (ap (λ t. cmd (p .code) (p .clock) (pick t later (take (p .len) (p .bytes)))) (c .before .before .before .before .before .if1 .taken)) ∙ c .before .before .before .before .before .before .command .ensures .is)
 
 same-length-2 : tie.Need-same-length-2
 same-length-2 c = search needs
 
 returns-2 : tie.Need-returns-2
 unfolding stageOf pick
-returns-2 c = λ f. let a = c .before .before .before .before .before .before .before .before .before .before .args in let p = c .before .before .before .before .before .before .before .command .result in let later = take (a .self .command) (a .command .now) in c .before .before .sent2 .ensures (held (a .command .now) f) ∙ ap (λ m. sendsOf (a .self) (held (a .command .now) f) (a .call) m (a .buffer .now)) (sym (ap (λ t. cmd (p .code) (p .clock) (pick t later (take (p .len) (p .bytes)))) (c .before .before .before .before .before .before .if1 .left)) ∙ c .before .before .before .before .before .before .before .command .ensures .is later)
+returns-2 c = λ f.
+    let a = c .before .before .before .before .before .before .before .before .before .before .before .args in
+    let p = c .before .before .before .before .before .before .before .command .result in
+    let later = take (a .self .command) (a .command .now) in
+    c .before .before .sent2 .ensures (held (a .command .now) f)
+    ∙ ap (λ m. sendsOf (a .self) (held (a .command .now) f) (a .call) m (a .buffer .now))
+    (sym (ap (λ t. cmd (p .code) (p .clock) (pick t later (take (p .len) (p .bytes)))) (c .before .before .before .before .before .before .if1 .left)) ∙ c .before .before .before .before .before .before .before .command .ensures .is)
 
 pub send-spec : {M : Type 1} → statement M
 send-spec =
     tie.close
     (tie.spec
+    slice-aggregate-command
     command-requires
     slice-aggregate-sent
     sent-requires

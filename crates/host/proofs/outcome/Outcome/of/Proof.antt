@@ -65,6 +65,15 @@ enum-known-output-7 c = search needs
 numbered-requires-2 : tie.Need-numbered-requires-2
 numbered-requires-2 c κs = search needs
 
+list-refused-requires : tie.Need-list-refused-requires
+list-refused-requires c κs = search needs
+
+enum-known-output-8 : tie.Need-enum-known-output-8
+enum-known-output-8 c = search needs
+
+numbered-requires-3 : tie.Need-numbered-requires-3
+numbered-requires-3 c κs = search needs
+
 refused-requires-2 : tie.Need-refused-requires-2
 refused-requires-2 c κs = search needs
 
@@ -96,7 +105,10 @@ returns-9 : tie.Need-returns-9
 returns-9 c = rw (c .before .before .before .output6 .given .1, ← c .before .numbered .ensures) (c .refused .ensures)
 
 returns-10 : tie.Need-returns-10
-returns-10 c = rw (c .before .before .before .output7 .given .1, ← c .before .numbered2 .ensures) (c .refused2 .ensures)
+returns-10 c = rw (c .before .before .before .output7 .given .1, ← c .before .numbered2 .ensures) (c .list-refused .ensures)
+
+returns-11 : tie.Need-returns-11
+returns-11 c = rw (c .before .before .before .output8 .given .1, ← c .before .numbered3 .ensures) (c .refused2 .ensures)
 
 pub of-spec : {M : Type 1} → statement M
 of-spec =
@@ -123,6 +135,9 @@ of-spec =
     refused-requires
     enum-known-output-7
     numbered-requires-2
+    list-refused-requires
+    enum-known-output-8
+    numbered-requires-3
     refused-requires-2
     returns
     returns-2
@@ -133,4 +148,5 @@ of-spec =
     returns-7
     returns-8
     returns-9
-    returns-10)
+    returns-10
+    returns-11)

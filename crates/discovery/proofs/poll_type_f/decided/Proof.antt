@@ -1,0 +1,48 @@
+use native.Mathlib.Omega.{arith}
+use Rattle.discovery.specs.Decisions.{pollDecision}
+use Rattle.discovery.specs.PollLaws.{poll-done, poll-refused}
+use Rattle.discovery.proofs.Tags.{not-ended}
+use borrow.Author.Needs.{needs}
+use Rattle.discovery.proofs.poll_type_f.decided.Statement.{statement}
+use Rattle.discovery.proofs.poll_type_f.decided.Tie as tie
+
+decided-requires : tie.Need-decided-requires
+decided-requires c κs = search needs
+
+enum-told : tie.Need-enum-told
+enum-told c = search needs
+
+finished-requires : tie.Need-finished-requires
+finished-requires c κs = search needs
+
+enum-known-decision : tie.Need-enum-known-decision
+enum-known-decision c = search needs
+
+failed-requires : tie.Need-failed-requires
+failed-requires c κs = search needs
+
+returns : tie.Need-returns
+returns c =
+    poll-done _ _ _ _ _ _ _ (c .before .before .before .decided .ensures _) _ (c .before .enum-told .given .1)
+    (λ long. c .finished .ensures _ (omega (arith, long)) (omega arith))
+
+returns-2 : tie.Need-returns-2
+returns-2 c =
+    poll-refused _ _ _ _ _ _ _ (c .before .before .before .before .decided .ensures _) _ (c .before .before .decision .given .1) (c .failed .ensures _)
+
+returns-3 : tie.Need-returns-3
+unfolding pollDecision
+returns-3 c = not-ended _ _ _ _ _ _ (c .match .keys3) (c .before .decided .ensures _)
+
+pub decided-spec : {M : Type 1} → statement M
+decided-spec =
+    tie.close
+    (tie.spec
+    decided-requires
+    enum-told
+    finished-requires
+    enum-known-decision
+    failed-requires
+    returns
+    returns-2
+    returns-3)

@@ -1,0 +1,36 @@
+-- A machine that follows the definitions: from an open, idle state it gives out for the one call what it gives out for the single calls.
+use mathlib.Core.Path.{_≡_, ap, sym, _∙_}
+use mathlib.Core.Bool.{true}
+use mathlib.Core.List.{List, map}
+use Prim.Native.Nat.{ℕ}
+use lib.ListN.{length}
+use Rattle.protocol.specs.Calls.{systemCodesFit, wordsIn}
+use Rattle.protocol.specs.Session.{Books, Session, outputs, sessionAfter}
+use Rattle.protocol.specs.Follows.{plain, Machine, givenOut, stateAfter, entries, same-out, still-means}
+use Rattle.protocol.specs.PollList.{EventAndRoom, oneCall, singleCalls, run, Equal, idleWith}
+use Rattle.protocol.specs.PollEqual.{poll-equals-singles}
+
+module _ (M : Machine) where
+  -- of the inputs of the one call and of the single calls, from a state s that stands for the session m: what is given out is what the
+  -- definitions give out, which is equal; and the machine's counts are equal
+  pub record EqualFrom (n : ℕ) (s : M .State) (m : Session) (one many : List (M .Input)) : Type 0 where
+    pub sameOne : givenOut M s one ≡ map plain (outputs m (entries M one))
+    pub sameMany : givenOut M s many ≡ map plain (outputs m (entries M many))
+    pub equal : Equal n (run m (entries M one)) (run m (entries M many))
+    pub count : M .count (stateAfter M s one) ≡ M .count (stateAfter M s many)
+
+  pub follows-singles : (s : M .State) (b : Books) → M .Means s (idleWith b) → b .opened ≡ true → (text words : List ℕ) → systemCodesFit words ≡ true
+      → (room : ℕ) (es : List EventAndRoom) (one many : List (M .Input)) → entries M one ≡ oneCall text words room es → entries M many ≡ singleCalls text words room es (idleWith b)
+      → EqualFrom (length (wordsIn words)) s (idleWith b) one many
+  follows-singles s b means isOpen text words fits room es one many e f =
+      let q : Equal (length (wordsIn words)) (run (idleWith b) (entries M one)) (run (idleWith b) (entries M many)) =
+      rw (e, f) (poll-equals-singles b isOpen text words fits room es) in
+      record {
+        sameOne = same-out M s (idleWith b) means one;
+        sameMany = same-out M s (idleWith b) means many;
+        equal = q;
+        count =
+            M .counts (stateAfter M s one) (sessionAfter (idleWith b) (entries M one)) (still-means M s (idleWith b) means one)
+            ∙ (ap (λ (x : Books). x .count) (q .books)
+            ∙ sym (M .counts (stateAfter M s many) (sessionAfter (idleWith b) (entries M many)) (still-means M s (idleWith b) means many)));
+      }
