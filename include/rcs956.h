@@ -55,6 +55,9 @@ extern "C" {
 /* The bytes that a buffer needs, and the most that a packet has. */
 #define RCS956_BUFFER_SIZE 1024
 
+/* The callers of a session, numbered from 0: each has a frame count of its own. */
+#define RCS956_CALLERS 8
+
 /* Two arguments: a pointer, and the length 0. */
 #define RCS956_NO_BYTES (const uint8_t *)"", 0
 
@@ -148,11 +151,13 @@ typedef struct rcs956_core {
     rcs956_call_state call;
 } rcs956_core;
 
-/* The reader's books. An opening that is accepted begins them anew: its mode, and else 0. */
+/* The reader's books. An opening that is accepted begins them anew: its mode, its caller, and else 0. */
 typedef struct rcs956_books {
-    uint8_t opened;  /* 1 where the reader is open, else 0, also while an opening runs; any other value is out of range */
-    uint8_t mode;    /* of the last opening that was accepted; above 1 is out of range */
-    uint32_t frames; /* command frames ordered since the last opening began, stopping at 4,294,967,295 */
+    uint8_t opened; /* 1 where the reader is open, else 0, also while an opening runs; any other value is out of range */
+    uint8_t mode;   /* of the last opening that was accepted; above 1 is out of range */
+    uint8_t caller; /* of the last call that was accepted; above 7 is out of range */
+    uint32_t frames[RCS956_CALLERS]; /* of each caller the command frames that its calls ordered since the last opening began, the
+                                        opening's own included, each stopping at 4,294,967,295 */
 } rcs956_books;
 
 typedef struct rcs956_state {
@@ -177,25 +182,27 @@ typedef struct rcs956_outcome {
     size_t len;       /* of a write order and of an answer the bytes at the buffer's start */
 } rcs956_outcome;
 
-/* A call's arguments that are numbers. What a call does not use counts for nothing. */
+/* A call's arguments that are numbers. What a call does not use counts for nothing; each has a caller, 0 to 7. */
 typedef struct rcs956_numbers {
     uint32_t ms;
     uint16_t word;
     uint8_t x, y;
+    uint8_t caller;
 } rcs956_numbers;
 
 /* The layout that the archive has. An array of -1 elements is an error. */
-typedef char rcs956_session_has_1576_bytes[sizeof(rcs956_session) == 1576 ? 1 : -1];
+typedef char rcs956_session_has_1608_bytes[sizeof(rcs956_session) == 1608 ? 1 : -1];
 typedef char rcs956_session_state_is_at_1536[offsetof(rcs956_session, state) == 1536 ? 1 : -1];
 typedef char rcs956_state_books_is_at_32[offsetof(rcs956_state, books) == 32 ? 1 : -1];
 typedef char rcs956_core_exchange_is_at_16[offsetof(rcs956_core, exchange) == 16 ? 1 : -1];
 typedef char rcs956_core_call_is_at_24[offsetof(rcs956_core, call) == 24 ? 1 : -1];
 typedef char rcs956_books_mode_is_at_1[offsetof(rcs956_books, mode) == 1 ? 1 : -1];
+typedef char rcs956_books_caller_is_at_2[offsetof(rcs956_books, caller) == 2 ? 1 : -1];
 typedef char rcs956_books_frames_is_at_4[offsetof(rcs956_books, frames) == 4 ? 1 : -1];
 typedef char rcs956_call_has_4_bytes[sizeof(rcs956_call_state) == 4 ? 1 : -1];
 typedef char rcs956_outcome_has_16_bytes[sizeof(rcs956_outcome) == 16 ? 1 : -1];
 typedef char rcs956_outcome_time_is_at_4[offsetof(rcs956_outcome, time) == 4 ? 1 : -1];
-typedef char rcs956_numbers_has_8_bytes[sizeof(rcs956_numbers) == 8 ? 1 : -1];
+typedef char rcs956_numbers_has_12_bytes[sizeof(rcs956_numbers) == 12 ? 1 : -1];
 
 /* A session in which no call runs, of a reader that is not open. */
 rcs956_session rcs956_fresh(void);
@@ -218,13 +225,14 @@ rcs956_outcome rcs956_call(rcs956_session *session, uint8_t number, rcs956_numbe
                            size_t fourth_len, uint8_t *buffer, size_t buffer_len);
 
 /*
- * The calls, by their names in the Rust (chipset.rs, device.rs, discovery.rs). They hand their arguments on and copy nothing. `ms`
- * is the command's clock. A bitrate is a text such as 106A or 212F, with no byte 0 behind it. An answer that is not named is empty.
+ * The calls, by their names in the Rust (chipset.rs, device.rs, discovery.rs). They hand their arguments on and copy nothing. Each names
+ * its caller, 0 to 7; one above is refused with 4. `ms` is the command's clock. A bitrate is a text such as 106A or 212F, with no byte
+ * 0 behind it. An answer that is not named is empty.
  */
 
-static inline rcs956_numbers rcs956_numbers_of(uint32_t ms, uint16_t word, uint8_t x, uint8_t y)
+static inline rcs956_numbers rcs956_numbers_of(uint8_t caller, uint32_t ms, uint16_t word, uint8_t x, uint8_t y)
 {
-    rcs956_numbers numbers = {ms, word, x, y};
+    rcs956_numbers numbers = {ms, word, x, y, caller};
     return numbers;
 }
 
@@ -232,159 +240,162 @@ static inline rcs956_numbers rcs956_numbers_of(uint32_t ms, uint16_t word, uint8
  * The opening: `Chipset::new`, then `Device::new`; on an open reader it starts anew. One that fails leaves the reader unopened.
  * Answer: the three version bytes, then the chip's name as text, such as RCS956v1.30. The padded mode is off.
  */
-static inline rcs956_outcome rcs956_open(rcs956_session *session, uint8_t *buffer, size_t buffer_len)
+static inline rcs956_outcome rcs956_open(rcs956_session *session, uint8_t caller, uint8_t *buffer, size_t buffer_len)
 {
-    return rcs956_call(session, RCS956_CALL_OPEN, rcs956_numbers_of(0, 0, RCS956_MODE_OFF, 0), RCS956_NO_BYTES, RCS956_NO_BYTES, RCS956_NO_BYTES,
-                       RCS956_NO_BYTES, buffer, buffer_len);
+    return rcs956_call(session, RCS956_CALL_OPEN, rcs956_numbers_of(caller, 0, 0, RCS956_MODE_OFF, 0), RCS956_NO_BYTES,
+                       RCS956_NO_BYTES, RCS956_NO_BYTES, RCS956_NO_BYTES, buffer, buffer_len);
 }
 
 /*
  * The same for a board that pads the start: in this session the engine steps over up to 16 zeros before the start of a packet. A
  * packet has at most 1,024 bytes with them.
  */
-static inline rcs956_outcome rcs956_open_padded(rcs956_session *session, uint8_t *buffer, size_t buffer_len)
+static inline rcs956_outcome rcs956_open_padded(rcs956_session *session, uint8_t caller, uint8_t *buffer, size_t buffer_len)
 {
-    return rcs956_call(session, RCS956_CALL_OPEN, rcs956_numbers_of(0, 0, RCS956_MODE_PADDED, 0), RCS956_NO_BYTES, RCS956_NO_BYTES,
-                       RCS956_NO_BYTES, RCS956_NO_BYTES, buffer, buffer_len);
+    return rcs956_call(session, RCS956_CALL_OPEN, rcs956_numbers_of(caller, 0, 0, RCS956_MODE_PADDED, 0), RCS956_NO_BYTES,
+                       RCS956_NO_BYTES, RCS956_NO_BYTES, RCS956_NO_BYTES, buffer, buffer_len);
 }
 
 /* `get_firmware_version`. Answer: three bytes. */
-static inline rcs956_outcome rcs956_version(rcs956_session *session, uint8_t *buffer, size_t buffer_len)
+static inline rcs956_outcome rcs956_version(rcs956_session *session, uint8_t caller, uint8_t *buffer, size_t buffer_len)
 {
-    return rcs956_call(session, RCS956_CALL_VERSION, rcs956_numbers_of(0, 0, 0, 0), RCS956_NO_BYTES, RCS956_NO_BYTES,
+    return rcs956_call(session, RCS956_CALL_VERSION, rcs956_numbers_of(caller, 0, 0, 0, 0), RCS956_NO_BYTES, RCS956_NO_BYTES,
                        RCS956_NO_BYTES, RCS956_NO_BYTES, buffer, buffer_len);
 }
 
 /* Resets the chip to mode 0. */
-static inline rcs956_outcome rcs956_reset_mode(rcs956_session *session, uint8_t *buffer, size_t buffer_len)
+static inline rcs956_outcome rcs956_reset_mode(rcs956_session *session, uint8_t caller, uint8_t *buffer, size_t buffer_len)
 {
-    return rcs956_call(session, RCS956_CALL_RESET_MODE, rcs956_numbers_of(0, 0, 0, 0), RCS956_NO_BYTES, RCS956_NO_BYTES,
+    return rcs956_call(session, RCS956_CALL_RESET_MODE, rcs956_numbers_of(caller, 0, 0, 0, 0), RCS956_NO_BYTES, RCS956_NO_BYTES,
                        RCS956_NO_BYTES, RCS956_NO_BYTES, buffer, buffer_len);
 }
 
-static inline rcs956_outcome rcs956_set_parameters(rcs956_session *session, uint8_t flags, uint8_t *buffer, size_t buffer_len)
+static inline rcs956_outcome rcs956_set_parameters(rcs956_session *session, uint8_t caller, uint8_t flags, uint8_t *buffer,
+                                                   size_t buffer_len)
 {
-    return rcs956_call(session, RCS956_CALL_SET_PARAMETERS, rcs956_numbers_of(0, 0, flags, 0), RCS956_NO_BYTES, RCS956_NO_BYTES,
-                       RCS956_NO_BYTES, RCS956_NO_BYTES, buffer, buffer_len);
+    return rcs956_call(session, RCS956_CALL_SET_PARAMETERS, rcs956_numbers_of(caller, 0, 0, flags, 0), RCS956_NO_BYTES,
+                       RCS956_NO_BYTES, RCS956_NO_BYTES, RCS956_NO_BYTES, buffer, buffer_len);
 }
 
 /* At most 511 bytes. */
-static inline rcs956_outcome rcs956_rf_configuration(rcs956_session *session, uint8_t item, const uint8_t *data, size_t data_len,
-                                                     uint8_t *buffer, size_t buffer_len)
+static inline rcs956_outcome rcs956_rf_configuration(rcs956_session *session, uint8_t caller, uint8_t item, const uint8_t *data,
+                                                     size_t data_len, uint8_t *buffer, size_t buffer_len)
 {
-    return rcs956_call(session, RCS956_CALL_RF_CONFIGURATION, rcs956_numbers_of(0, 0, item, 0), data, data_len, RCS956_NO_BYTES,
-                       RCS956_NO_BYTES, RCS956_NO_BYTES, buffer, buffer_len);
+    return rcs956_call(session, RCS956_CALL_RF_CONFIGURATION, rcs956_numbers_of(caller, 0, 0, item, 0), data, data_len,
+                       RCS956_NO_BYTES, RCS956_NO_BYTES, RCS956_NO_BYTES, buffer, buffer_len);
 }
 
 /* Two bytes for each address, high byte first; at most 64 addresses. Answer: the values. */
-static inline rcs956_outcome rcs956_read_register(rcs956_session *session, const uint8_t *addresses, size_t addresses_len,
-                                                  uint8_t *buffer, size_t buffer_len)
+static inline rcs956_outcome rcs956_read_register(rcs956_session *session, uint8_t caller, const uint8_t *addresses,
+                                                  size_t addresses_len, uint8_t *buffer, size_t buffer_len)
 {
-    return rcs956_call(session, RCS956_CALL_READ_REGISTER, rcs956_numbers_of(0, 0, 0, 0), addresses, addresses_len, RCS956_NO_BYTES,
-                       RCS956_NO_BYTES, RCS956_NO_BYTES, buffer, buffer_len);
+    return rcs956_call(session, RCS956_CALL_READ_REGISTER, rcs956_numbers_of(caller, 0, 0, 0, 0), addresses, addresses_len,
+                       RCS956_NO_BYTES, RCS956_NO_BYTES, RCS956_NO_BYTES, buffer, buffer_len);
 }
 
 /* Three bytes for each register: its address, high byte first, and the value; at most 64 registers. */
-static inline rcs956_outcome rcs956_write_register(rcs956_session *session, const uint8_t *registers, size_t registers_len,
-                                                   uint8_t *buffer, size_t buffer_len)
+static inline rcs956_outcome rcs956_write_register(rcs956_session *session, uint8_t caller, const uint8_t *registers,
+                                                   size_t registers_len, uint8_t *buffer, size_t buffer_len)
 {
-    return rcs956_call(session, RCS956_CALL_WRITE_REGISTER, rcs956_numbers_of(0, 0, 0, 0), registers, registers_len,
+    return rcs956_call(session, RCS956_CALL_WRITE_REGISTER, rcs956_numbers_of(caller, 0, 0, 0, 0), registers, registers_len,
                        RCS956_NO_BYTES, RCS956_NO_BYTES, RCS956_NO_BYTES, buffer, buffer_len);
 }
 
 /* Answer: one byte. */
-static inline rcs956_outcome rcs956_read_single_register(rcs956_session *session, uint16_t address, uint8_t *buffer,
+static inline rcs956_outcome rcs956_read_single_register(rcs956_session *session, uint8_t caller, uint16_t address, uint8_t *buffer,
                                                          size_t buffer_len)
 {
-    return rcs956_call(session, RCS956_CALL_READ_SINGLE_REGISTER, rcs956_numbers_of(0, address, 0, 0), RCS956_NO_BYTES,
+    return rcs956_call(session, RCS956_CALL_READ_SINGLE_REGISTER, rcs956_numbers_of(caller, 0, address, 0, 0), RCS956_NO_BYTES,
                        RCS956_NO_BYTES, RCS956_NO_BYTES, RCS956_NO_BYTES, buffer, buffer_len);
 }
 
-static inline rcs956_outcome rcs956_write_single_register(rcs956_session *session, uint16_t address, uint8_t value, uint8_t *buffer,
-                                                          size_t buffer_len)
+static inline rcs956_outcome rcs956_write_single_register(rcs956_session *session, uint8_t caller, uint16_t address, uint8_t value,
+                                                          uint8_t *buffer, size_t buffer_len)
 {
-    return rcs956_call(session, RCS956_CALL_WRITE_SINGLE_REGISTER, rcs956_numbers_of(0, address, value, 0), RCS956_NO_BYTES,
+    return rcs956_call(session, RCS956_CALL_WRITE_SINGLE_REGISTER, rcs956_numbers_of(caller, 0, address, value, 0), RCS956_NO_BYTES,
                        RCS956_NO_BYTES, RCS956_NO_BYTES, RCS956_NO_BYTES, buffer, buffer_len);
 }
 
 /* `bitrate` is the chip's code; at most 510 bytes. Answer: the target's data, or none. */
-static inline rcs956_outcome rcs956_in_list_passive_target(rcs956_session *session, uint8_t max_tg, uint8_t bitrate,
+static inline rcs956_outcome rcs956_in_list_passive_target(rcs956_session *session, uint8_t caller, uint8_t max_tg, uint8_t bitrate,
                                                            const uint8_t *initiator, size_t initiator_len, uint8_t *buffer,
                                                            size_t buffer_len)
 {
-    return rcs956_call(session, RCS956_CALL_IN_LIST_PASSIVE_TARGET, rcs956_numbers_of(0, 0, max_tg, bitrate), initiator,
+    return rcs956_call(session, RCS956_CALL_IN_LIST_PASSIVE_TARGET, rcs956_numbers_of(caller, 0, 0, max_tg, bitrate), initiator,
                        initiator_len, RCS956_NO_BYTES, RCS956_NO_BYTES, RCS956_NO_BYTES, buffer, buffer_len);
 }
 
 /* At most 511 bytes. Answer: the bytes, then 01 if more follow, else 00. */
-static inline rcs956_outcome rcs956_in_data_exchange(rcs956_session *session, const uint8_t *data, size_t data_len, uint32_t ms,
-                                                     uint8_t *buffer, size_t buffer_len)
+static inline rcs956_outcome rcs956_in_data_exchange(rcs956_session *session, uint8_t caller, const uint8_t *data, size_t data_len,
+                                                     uint32_t ms, uint8_t *buffer, size_t buffer_len)
 {
-    return rcs956_call(session, RCS956_CALL_IN_DATA_EXCHANGE, rcs956_numbers_of(ms, 0, 0, 0), data, data_len, RCS956_NO_BYTES,
-                       RCS956_NO_BYTES, RCS956_NO_BYTES, buffer, buffer_len);
+    return rcs956_call(session, RCS956_CALL_IN_DATA_EXCHANGE, rcs956_numbers_of(caller, ms, 0, 0, 0), data, data_len,
+                       RCS956_NO_BYTES, RCS956_NO_BYTES, RCS956_NO_BYTES, buffer, buffer_len);
 }
 
 /* At most 512 bytes. Answer: the bytes. */
-static inline rcs956_outcome rcs956_in_communicate_thru(rcs956_session *session, const uint8_t *data, size_t data_len, uint32_t ms,
-                                                        uint8_t *buffer, size_t buffer_len)
+static inline rcs956_outcome rcs956_in_communicate_thru(rcs956_session *session, uint8_t caller, const uint8_t *data,
+                                                        size_t data_len, uint32_t ms, uint8_t *buffer, size_t buffer_len)
 {
-    return rcs956_call(session, RCS956_CALL_IN_COMMUNICATE_THRU, rcs956_numbers_of(ms, 0, 0, 0), data, data_len, RCS956_NO_BYTES,
-                       RCS956_NO_BYTES, RCS956_NO_BYTES, buffer, buffer_len);
+    return rcs956_call(session, RCS956_CALL_IN_COMMUNICATE_THRU, rcs956_numbers_of(caller, ms, 0, 0, 0), data, data_len,
+                       RCS956_NO_BYTES, RCS956_NO_BYTES, RCS956_NO_BYTES, buffer, buffer_len);
 }
 
 /* A part of no bytes is left out; at most 509 bytes in all. Answer: what follows status and target number. */
-static inline rcs956_outcome rcs956_in_jump_for_dep(rcs956_session *session, bool active, uint8_t br, const uint8_t *passive,
-                                                    size_t passive_len, const uint8_t *nfcid3, size_t nfcid3_len, const uint8_t *gi,
-                                                    size_t gi_len, uint8_t *buffer, size_t buffer_len)
+static inline rcs956_outcome rcs956_in_jump_for_dep(rcs956_session *session, uint8_t caller, bool active, uint8_t br,
+                                                    const uint8_t *passive, size_t passive_len, const uint8_t *nfcid3,
+                                                    size_t nfcid3_len, const uint8_t *gi, size_t gi_len, uint8_t *buffer,
+                                                    size_t buffer_len)
 {
-    return rcs956_call(session, RCS956_CALL_IN_JUMP_FOR_DEP, rcs956_numbers_of(0, 0, active ? 1 : 0, br), passive, passive_len,
-                       nfcid3, nfcid3_len, gi, gi_len, RCS956_NO_BYTES, buffer, buffer_len);
+    return rcs956_call(session, RCS956_CALL_IN_JUMP_FOR_DEP, rcs956_numbers_of(caller, 0, 0, active ? 1 : 0, br), passive,
+                       passive_len, nfcid3, nfcid3_len, gi, gi_len, RCS956_NO_BYTES, buffer, buffer_len);
 }
 
 /* Mode 0 or 2, parameters of 6, 18 and 10 bytes, at most 477 general bytes. Answer: the response. */
-static inline rcs956_outcome rcs956_tg_init_target(rcs956_session *session, uint8_t mode, const uint8_t *mifare, size_t mifare_len,
-                                                   const uint8_t *felica, size_t felica_len, const uint8_t *nfcid3t,
-                                                   size_t nfcid3t_len, const uint8_t *gt, size_t gt_len, uint32_t ms,
-                                                   uint8_t *buffer, size_t buffer_len)
+static inline rcs956_outcome rcs956_tg_init_target(rcs956_session *session, uint8_t caller, uint8_t mode, const uint8_t *mifare,
+                                                   size_t mifare_len, const uint8_t *felica, size_t felica_len,
+                                                   const uint8_t *nfcid3t, size_t nfcid3t_len, const uint8_t *gt, size_t gt_len,
+                                                   uint32_t ms, uint8_t *buffer, size_t buffer_len)
 {
-    return rcs956_call(session, RCS956_CALL_TG_INIT_TARGET, rcs956_numbers_of(ms, 0, mode, 0), mifare, mifare_len, felica,
+    return rcs956_call(session, RCS956_CALL_TG_INIT_TARGET, rcs956_numbers_of(caller, ms, 0, mode, 0), mifare, mifare_len, felica,
                        felica_len, nfcid3t, nfcid3t_len, gt, gt_len, buffer, buffer_len);
 }
 
 /* At most 512 bytes. */
-static inline rcs956_outcome rcs956_tg_set_general_bytes(rcs956_session *session, const uint8_t *data, size_t data_len,
-                                                         uint8_t *buffer, size_t buffer_len)
+static inline rcs956_outcome rcs956_tg_set_general_bytes(rcs956_session *session, uint8_t caller, const uint8_t *data,
+                                                         size_t data_len, uint8_t *buffer, size_t buffer_len)
 {
-    return rcs956_call(session, RCS956_CALL_TG_SET_GENERAL_BYTES, rcs956_numbers_of(0, 0, 0, 0), data, data_len, RCS956_NO_BYTES,
-                       RCS956_NO_BYTES, RCS956_NO_BYTES, buffer, buffer_len);
+    return rcs956_call(session, RCS956_CALL_TG_SET_GENERAL_BYTES, rcs956_numbers_of(caller, 0, 0, 0, 0), data, data_len,
+                       RCS956_NO_BYTES, RCS956_NO_BYTES, RCS956_NO_BYTES, buffer, buffer_len);
 }
 
 /* Answer: the initiator's bytes, or none. */
-static inline rcs956_outcome rcs956_tg_get_initiator_command(rcs956_session *session, uint32_t ms, uint8_t *buffer,
+static inline rcs956_outcome rcs956_tg_get_initiator_command(rcs956_session *session, uint8_t caller, uint32_t ms, uint8_t *buffer,
                                                              size_t buffer_len)
 {
-    return rcs956_call(session, RCS956_CALL_TG_GET_INITIATOR_COMMAND, rcs956_numbers_of(ms, 0, 0, 0), RCS956_NO_BYTES,
+    return rcs956_call(session, RCS956_CALL_TG_GET_INITIATOR_COMMAND, rcs956_numbers_of(caller, ms, 0, 0, 0), RCS956_NO_BYTES,
                        RCS956_NO_BYTES, RCS956_NO_BYTES, RCS956_NO_BYTES, buffer, buffer_len);
 }
 
 /* At most 512 bytes. */
-static inline rcs956_outcome rcs956_tg_response_to_initiator(rcs956_session *session, const uint8_t *data, size_t data_len,
-                                                             uint8_t *buffer, size_t buffer_len)
+static inline rcs956_outcome rcs956_tg_response_to_initiator(rcs956_session *session, uint8_t caller, const uint8_t *data,
+                                                             size_t data_len, uint8_t *buffer, size_t buffer_len)
 {
-    return rcs956_call(session, RCS956_CALL_TG_RESPONSE_TO_INITIATOR, rcs956_numbers_of(0, 0, 0, 0), data, data_len,
+    return rcs956_call(session, RCS956_CALL_TG_RESPONSE_TO_INITIATOR, rcs956_numbers_of(caller, 0, 0, 0, 0), data, data_len,
                        RCS956_NO_BYTES, RCS956_NO_BYTES, RCS956_NO_BYTES, buffer, buffer_len);
 }
 
 /* Answer: the state, then send and receive rate in kbps, two bytes each, high byte first. */
-static inline rcs956_outcome rcs956_tg_get_target_status(rcs956_session *session, uint8_t *buffer, size_t buffer_len)
+static inline rcs956_outcome rcs956_tg_get_target_status(rcs956_session *session, uint8_t caller, uint8_t *buffer,
+                                                         size_t buffer_len)
 {
-    return rcs956_call(session, RCS956_CALL_TG_GET_TARGET_STATUS, rcs956_numbers_of(0, 0, 0, 0), RCS956_NO_BYTES, RCS956_NO_BYTES,
-                       RCS956_NO_BYTES, RCS956_NO_BYTES, buffer, buffer_len);
+    return rcs956_call(session, RCS956_CALL_TG_GET_TARGET_STATUS, rcs956_numbers_of(caller, 0, 0, 0, 0), RCS956_NO_BYTES,
+                       RCS956_NO_BYTES, RCS956_NO_BYTES, RCS956_NO_BYTES, buffer, buffer_len);
 }
 
-static inline rcs956_outcome rcs956_rf_field_off(rcs956_session *session, uint8_t *buffer, size_t buffer_len)
+static inline rcs956_outcome rcs956_rf_field_off(rcs956_session *session, uint8_t caller, uint8_t *buffer, size_t buffer_len)
 {
-    return rcs956_call(session, RCS956_CALL_RF_FIELD_OFF, rcs956_numbers_of(0, 0, 0, 0), RCS956_NO_BYTES, RCS956_NO_BYTES,
+    return rcs956_call(session, RCS956_CALL_RF_FIELD_OFF, rcs956_numbers_of(caller, 0, 0, 0, 0), RCS956_NO_BYTES, RCS956_NO_BYTES,
                        RCS956_NO_BYTES, RCS956_NO_BYTES, buffer, buffer_len);
 }
 
@@ -392,59 +403,60 @@ static inline rcs956_outcome rcs956_rf_field_off(rcs956_session *session, uint8_
  * Type A; the UID may have no bytes. Answer: SENS_RES (2), SEL_RES (1) and the UID, or none; of a Type 1 tag, RCS956_DONE_TYPE1,
  * SENS_RES (2) and RID_RES.
  */
-static inline rcs956_outcome rcs956_detect_type_a(rcs956_session *session, const uint8_t *bitrate, size_t bitrate_len,
-                                                  const uint8_t *uid, size_t uid_len, uint8_t *buffer, size_t buffer_len)
+static inline rcs956_outcome rcs956_detect_type_a(rcs956_session *session, uint8_t caller, const uint8_t *bitrate,
+                                                  size_t bitrate_len, const uint8_t *uid, size_t uid_len, uint8_t *buffer,
+                                                  size_t buffer_len)
 {
-    return rcs956_call(session, RCS956_CALL_DETECT_TYPE_A, rcs956_numbers_of(0, 0, 0, 0), bitrate, bitrate_len, uid, uid_len,
-                       RCS956_NO_BYTES, RCS956_NO_BYTES, buffer, buffer_len);
+    return rcs956_call(session, RCS956_CALL_DETECT_TYPE_A, rcs956_numbers_of(caller, 0, 0, 0, 0), bitrate, bitrate_len, uid,
+                       uid_len, RCS956_NO_BYTES, RCS956_NO_BYTES, buffer, buffer_len);
 }
 
 /* Type B; the first byte of SENSB_REQ is the AFI, 0 where there is none. Answer: SENSB_RES, or none. */
-static inline rcs956_outcome rcs956_detect_type_b(rcs956_session *session, const uint8_t *bitrate, size_t bitrate_len,
-                                                  const uint8_t *sensb_req, size_t sensb_req_len, uint8_t *buffer,
-                                                  size_t buffer_len)
+static inline rcs956_outcome rcs956_detect_type_b(rcs956_session *session, uint8_t caller, const uint8_t *bitrate,
+                                                  size_t bitrate_len, const uint8_t *sensb_req, size_t sensb_req_len,
+                                                  uint8_t *buffer, size_t buffer_len)
 {
-    return rcs956_call(session, RCS956_CALL_DETECT_TYPE_B, rcs956_numbers_of(0, 0, 0, 0), bitrate, bitrate_len, sensb_req,
+    return rcs956_call(session, RCS956_CALL_DETECT_TYPE_B, rcs956_numbers_of(caller, 0, 0, 0, 0), bitrate, bitrate_len, sensb_req,
                        sensb_req_len, RCS956_NO_BYTES, RCS956_NO_BYTES, buffer, buffer_len);
 }
 
 /* Type F. Answer: IDm (8), PMm (8), and what the card adds. No card is refusal 17. */
-static inline rcs956_outcome rcs956_detect_type_f(rcs956_session *session, const uint8_t *bitrate, size_t bitrate_len,
-                                                  uint16_t system_code, uint8_t request_code, uint8_t time_slots, uint8_t *buffer,
-                                                  size_t buffer_len)
+static inline rcs956_outcome rcs956_detect_type_f(rcs956_session *session, uint8_t caller, const uint8_t *bitrate,
+                                                  size_t bitrate_len, uint16_t system_code, uint8_t request_code,
+                                                  uint8_t time_slots, uint8_t *buffer, size_t buffer_len)
 {
-    return rcs956_call(session, RCS956_CALL_DETECT_TYPE_F, rcs956_numbers_of(0, system_code, request_code, time_slots), bitrate,
-                       bitrate_len, RCS956_NO_BYTES, RCS956_NO_BYTES, RCS956_NO_BYTES, buffer, buffer_len);
+    return rcs956_call(session, RCS956_CALL_DETECT_TYPE_F, rcs956_numbers_of(caller, 0, system_code, request_code, time_slots),
+                       bitrate, bitrate_len, RCS956_NO_BYTES, RCS956_NO_BYTES, RCS956_NO_BYTES, buffer, buffer_len);
 }
 
 /*
  * Type F for each of 1 to 16 system codes, two bytes each, high byte first, with request code 01 and time slots 00. Answer: for each
  * code 01, IDm (8) and PMm (8), or 00 where no card was met. A refusal above 6 but 17 ends the list: RCS956_LIST_REFUSED.
  */
-static inline rcs956_outcome rcs956_poll_type_f(rcs956_session *session, const uint8_t *bitrate, size_t bitrate_len,
+static inline rcs956_outcome rcs956_poll_type_f(rcs956_session *session, uint8_t caller, const uint8_t *bitrate, size_t bitrate_len,
                                                 const uint8_t *codes, size_t codes_len, uint8_t *buffer, size_t buffer_len)
 {
-    return rcs956_call(session, RCS956_CALL_POLL_TYPE_F, rcs956_numbers_of(0, 0, 0, 0), bitrate, bitrate_len, codes, codes_len,
-                       RCS956_NO_BYTES, RCS956_NO_BYTES, buffer, buffer_len);
+    return rcs956_call(session, RCS956_CALL_POLL_TYPE_F, rcs956_numbers_of(caller, 0, 0, 0, 0), bitrate, bitrate_len, codes,
+                       codes_len, RCS956_NO_BYTES, RCS956_NO_BYTES, buffer, buffer_len);
 }
 
 /* A DEP partner; ATR_REQ has 16 to 64 bytes. Answer: ATR_RES, or none. */
-static inline rcs956_outcome rcs956_detect_dep(rcs956_session *session, const uint8_t *bitrate, size_t bitrate_len,
+static inline rcs956_outcome rcs956_detect_dep(rcs956_session *session, uint8_t caller, const uint8_t *bitrate, size_t bitrate_len,
                                                const uint8_t *atr_req, size_t atr_req_len, uint8_t *buffer, size_t buffer_len)
 {
-    return rcs956_call(session, RCS956_CALL_DETECT_DEP, rcs956_numbers_of(0, 0, 0, 0), bitrate, bitrate_len, atr_req, atr_req_len,
-                       RCS956_NO_BYTES, RCS956_NO_BYTES, buffer, buffer_len);
+    return rcs956_call(session, RCS956_CALL_DETECT_DEP, rcs956_numbers_of(caller, 0, 0, 0, 0), bitrate, bitrate_len, atr_req,
+                       atr_req_len, RCS956_NO_BYTES, RCS956_NO_BYTES, buffer, buffer_len);
 }
 
 /*
  * Exchanges bytes with a card that was found. SEL_RES of no bytes is absent; `rid_res` says whether the card had a RID_RES. The
  * clock is `ms` where `has_ms` is true, else 1,000, and 100 more. Answer: the bytes.
  */
-static inline rcs956_outcome rcs956_transceive(rcs956_session *session, const uint8_t *bitrate, size_t bitrate_len,
+static inline rcs956_outcome rcs956_transceive(rcs956_session *session, uint8_t caller, const uint8_t *bitrate, size_t bitrate_len,
                                                const uint8_t *sel_res, size_t sel_res_len, bool rid_res, const uint8_t *data,
                                                size_t data_len, bool has_ms, uint16_t ms, uint8_t *buffer, size_t buffer_len)
 {
-    return rcs956_call(session, RCS956_CALL_TRANSCEIVE, rcs956_numbers_of(0, ms, rid_res ? 1 : 0, has_ms ? 1 : 0), bitrate,
+    return rcs956_call(session, RCS956_CALL_TRANSCEIVE, rcs956_numbers_of(caller, 0, ms, rid_res ? 1 : 0, has_ms ? 1 : 0), bitrate,
                        bitrate_len, sel_res, sel_res_len, data, data_len, RCS956_NO_BYTES, buffer, buffer_len);
 }
 

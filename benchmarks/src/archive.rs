@@ -65,6 +65,7 @@ pub struct Numbers {
     pub word: u16,
     pub x: u8,
     pub y: u8,
+    pub caller: u8,
 }
 
 #[repr(C)]
@@ -92,7 +93,8 @@ struct Core {
 struct Books {
     opened: u8,
     mode: u8,
-    frames: u32,
+    caller: u8,
+    frames: [u32; 8],
 }
 
 #[repr(C)]

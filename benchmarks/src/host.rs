@@ -90,7 +90,7 @@ impl Host {
             rcs956_call(
                 &mut self.session,
                 number,
-                Numbers { ms: 0, word, x: 0, y: given },
+                Numbers { ms: 0, word, x: 0, y: given, caller: 0 },
                 bitrate.as_ptr(),
                 bitrate.len(),
                 request.as_ptr(),

@@ -173,15 +173,18 @@ static void script_sleep(void *self, uint32_t us)
     script_take(self, "slept");
 }
 
+/* The one application that uses this reader. */
+#define CALLER 0
+
 /* An opening, in the mode that its line names. */
 static rcs956_outcome script_open(struct script *script, struct reader *reader)
 {
     const char *line = script_next(script, "open or open padded");
     if (strcmp(line, "open padded") == 0)
-        return rcs956_open_padded(&reader->session, reader->buffer, sizeof reader->buffer);
+        return rcs956_open_padded(&reader->session, CALLER, reader->buffer, sizeof reader->buffer);
     if (strcmp(line, "open") != 0)
         script_stop("open or open padded", line);
-    return rcs956_open(&reader->session, reader->buffer, sizeof reader->buffer);
+    return rcs956_open(&reader->session, CALLER, reader->buffer, sizeof reader->buffer);
 }
 
 int main(int count, char **words)
@@ -201,13 +204,14 @@ int main(int count, char **words)
     /* A write that fails leaves the reader unopened. */
     run_call(&reader, script_open(&script, &reader), &transport);
     script_take(&script, "version");
-    run_call(&reader, rcs956_version(session, buffer, size), &transport);
+    run_call(&reader, rcs956_version(session, CALLER, buffer, size), &transport);
 
     /* A whole opening, and a search for a card of Type F, which is found at the second try. */
     run_call(&reader, script_open(&script, &reader), &transport);
     for (int k = 0; k < 2; k++) {
         script_take(&script, "detect_type_f 212F FFFF 00 00");
-        run_call(&reader, rcs956_detect_type_f(session, (const uint8_t *)"212F", 4, 0xFFFF, 0, 0, buffer, size), &transport);
+        run_call(&reader, rcs956_detect_type_f(session, CALLER, (const uint8_t *)"212F", 4, 0xFFFF, 0, 0, buffer, size),
+                 &transport);
     }
     return fclose(script.file) == 0 ? 0 : 1;
 }

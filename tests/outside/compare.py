@@ -6,8 +6,8 @@
 ORACLE_FOLDER has the Rust driver as a program of bench lines, `oracle` or `target/release/oracle`, and the generator fuzz.py. A
 script is made by talking to the oracle; every fourth one is of openings and versions alone (tools/session-compare.py). --requests
 names the later requests whose lines are drawn: with N2 openings in both modes, and packets with extra zeros. LINES gets the whole
-script, every tenth one line by line. The count expected behind a line is the number of write lines of the oracle, other than the bare
-ACK, since the last opening that it accepted. The first difference is printed, and the end code is 1.
+script, every tenth one line by line. The counts expected behind a line are the numbers of write lines of the oracle, other than the bare
+ACK, since the last opening that it accepted, of the calls of each of eight callers. The first difference is printed, and the end code is 1.
 """
 import argparse
 import functools
@@ -19,6 +19,8 @@ import time
 
 HERE = os.path.dirname(os.path.abspath(__file__))
 CEILING = 4294967295
+CALLERS = 8
+EVENTS = (b"ok", b"bad", b"pkt", b"time", b"fail", b"late", b"slept")
 sys.dont_write_bytecode = True
 
 
@@ -37,15 +39,17 @@ def imports(folder):
 
 
 def counted(fuzz, script, output):
-    """The oracle's lines with the frame count behind each."""
-    frames, lines = 0, []
-    for text, answer in zip(script, output):
+    """The oracle's lines with the frame counts behind each: the calls of line k are those of caller k % 8."""
+    caller, frames, lines = 0, [0] * CALLERS, []
+    for k, (text, answer) in enumerate(zip(script, output)):
         if answer.startswith(b"write"):
-            if text.split(b" ")[0] == b"open":
-                frames = 0
+            word = text.split(b" ")[0]
+            caller = caller if word in EVENTS else k % CALLERS
+            if word == b"open":
+                frames = [0] * CALLERS
             elif answer != fuzz.WRITE_ACK:
-                frames = min(frames + 1, CEILING)
-        lines.append(b"%s frames %d" % (answer, frames))
+                frames[caller] = min(frames[caller] + 1, CEILING)
+        lines.append(b"%s frames %s" % (answer, b" ".join(b"%d" % n for n in frames)))
     return lines
 
 
@@ -60,7 +64,7 @@ def one_case(job):
     command = [args.program, "--frames"]
     told = base.line_by_line(fuzz, command, script) if index % 10 == 9 else fuzz.run(command, script)
     expected = counted(fuzz, script, output)
-    top = max((int(line.split()[-1]) for line in expected), default=0)
+    top = max((int(n) for line in expected for n in line.split()[-CALLERS:]), default=0)
     return index, len(script), top, None if told == expected else (script, expected, told)
 
 

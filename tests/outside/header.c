@@ -13,7 +13,7 @@ static rcs956_session session;
 
 /* What rcs956_call got. */
 struct got {
-    unsigned long number, ms, word, x, y, lens[4];
+    unsigned long number, ms, word, x, y, caller, lens[4];
     const uint8_t *bytes[4];
 };
 static struct got got;
@@ -23,7 +23,8 @@ rcs956_outcome rcs956_call(rcs956_session *s, uint8_t number, rcs956_numbers n, 
                            const uint8_t *second, size_t second_len, const uint8_t *third, size_t third_len, const uint8_t *fourth,
                            size_t fourth_len, uint8_t *buf, size_t buf_len)
 {
-    struct got now = {number, n.ms, n.word, n.x, n.y, {first_len, second_len, third_len, fourth_len}, {first, second, third, fourth}};
+    struct got now = {number, n.ms, n.word, n.x, n.y, n.caller, {first_len, second_len, third_len, fourth_len},
+                      {first, second, third, fourth}};
     rcs956_outcome none = {RCS956_NONE, 0, 0, 0, 0, 0};
     got = now;
     if (s != &session || buf != buffer || buf_len != sizeof buffer)
@@ -31,12 +32,15 @@ rcs956_outcome rcs956_call(rcs956_session *s, uint8_t number, rcs956_numbers n, 
     return none;
 }
 
+/* The caller of each call. */
+#define CALLER 7
+
 /* Compares with what is due. `count` arguments of bytes are a, b, c, d in this order. */
 static void expect(rcs956_outcome outcome, unsigned long ms, unsigned long word, unsigned long x, unsigned long y, size_t count)
 {
     const uint8_t *bytes[4] = {a, b, c, d};
     int right = outcome.kind == RCS956_NONE && got.number == (unsigned long)calls && got.ms == ms && got.word == word &&
-                got.x == x && got.y == y;
+                got.x == x && got.y == y && got.caller == CALLER;
     for (size_t k = 0; k < 4; k++)
         right = right && (k < count ? got.bytes[k] == bytes[k] && got.lens[k] == k + 1 : got.bytes[k] != NULL && got.lens[k] == 0);
     if (!right)
@@ -49,33 +53,33 @@ static void expect(rcs956_outcome outcome, unsigned long ms, unsigned long word,
 int main(void)
 {
     rcs956_session *s = &session;
-    expect(rcs956_open_padded(s, END), 0, 0, 1, 0, 0);
+    expect(rcs956_open_padded(s, CALLER, END), 0, 0, 1, 0, 0);
     calls = 0; /* the same call in its other mode */
-    expect(rcs956_open(s, END), 0, 0, 0, 0, 0);
-    expect(rcs956_version(s, END), 0, 0, 0, 0, 0);
-    expect(rcs956_reset_mode(s, END), 0, 0, 0, 0, 0);
-    expect(rcs956_set_parameters(s, 5, END), 0, 0, 5, 0, 0);
-    expect(rcs956_rf_configuration(s, 5, a, 1, END), 0, 0, 5, 0, 1);
-    expect(rcs956_read_register(s, a, 1, END), 0, 0, 0, 0, 1);
-    expect(rcs956_write_register(s, a, 1, END), 0, 0, 0, 0, 1);
-    expect(rcs956_read_single_register(s, 60000, END), 0, 60000, 0, 0, 0);
-    expect(rcs956_write_single_register(s, 60000, 5, END), 0, 60000, 5, 0, 0);
-    expect(rcs956_in_list_passive_target(s, 5, 6, a, 1, END), 0, 0, 5, 6, 1);
-    expect(rcs956_in_data_exchange(s, a, 1, 4294967295, END), 4294967295, 0, 0, 0, 1);
-    expect(rcs956_in_communicate_thru(s, a, 1, 4294967295, END), 4294967295, 0, 0, 0, 1);
-    expect(rcs956_in_jump_for_dep(s, true, 6, a, 1, b, 2, c, 3, END), 0, 0, 1, 6, 3);
-    expect(rcs956_tg_init_target(s, 2, a, 1, b, 2, c, 3, d, 4, 4294967295, END), 4294967295, 0, 2, 0, 4);
-    expect(rcs956_tg_set_general_bytes(s, a, 1, END), 0, 0, 0, 0, 1);
-    expect(rcs956_tg_get_initiator_command(s, 4294967295, END), 4294967295, 0, 0, 0, 0);
-    expect(rcs956_tg_response_to_initiator(s, a, 1, END), 0, 0, 0, 0, 1);
-    expect(rcs956_tg_get_target_status(s, END), 0, 0, 0, 0, 0);
-    expect(rcs956_rf_field_off(s, END), 0, 0, 0, 0, 0);
-    expect(rcs956_detect_type_a(s, a, 1, b, 2, END), 0, 0, 0, 0, 2);
-    expect(rcs956_detect_type_b(s, a, 1, b, 2, END), 0, 0, 0, 0, 2);
-    expect(rcs956_detect_type_f(s, a, 1, 60000, 5, 6, END), 0, 60000, 5, 6, 1);
-    expect(rcs956_detect_dep(s, a, 1, b, 2, END), 0, 0, 0, 0, 2);
-    expect(rcs956_transceive(s, a, 1, b, 2, true, c, 3, true, 60000, END), 0, 60000, 1, 1, 3);
-    expect(rcs956_poll_type_f(s, a, 1, b, 2, END), 0, 0, 0, 0, 2);
+    expect(rcs956_open(s, CALLER, END), 0, 0, 0, 0, 0);
+    expect(rcs956_version(s, CALLER, END), 0, 0, 0, 0, 0);
+    expect(rcs956_reset_mode(s, CALLER, END), 0, 0, 0, 0, 0);
+    expect(rcs956_set_parameters(s, CALLER, 5, END), 0, 0, 5, 0, 0);
+    expect(rcs956_rf_configuration(s, CALLER, 5, a, 1, END), 0, 0, 5, 0, 1);
+    expect(rcs956_read_register(s, CALLER, a, 1, END), 0, 0, 0, 0, 1);
+    expect(rcs956_write_register(s, CALLER, a, 1, END), 0, 0, 0, 0, 1);
+    expect(rcs956_read_single_register(s, CALLER, 60000, END), 0, 60000, 0, 0, 0);
+    expect(rcs956_write_single_register(s, CALLER, 60000, 5, END), 0, 60000, 5, 0, 0);
+    expect(rcs956_in_list_passive_target(s, CALLER, 5, 6, a, 1, END), 0, 0, 5, 6, 1);
+    expect(rcs956_in_data_exchange(s, CALLER, a, 1, 4294967295, END), 4294967295, 0, 0, 0, 1);
+    expect(rcs956_in_communicate_thru(s, CALLER, a, 1, 4294967295, END), 4294967295, 0, 0, 0, 1);
+    expect(rcs956_in_jump_for_dep(s, CALLER, true, 6, a, 1, b, 2, c, 3, END), 0, 0, 1, 6, 3);
+    expect(rcs956_tg_init_target(s, CALLER, 2, a, 1, b, 2, c, 3, d, 4, 4294967295, END), 4294967295, 0, 2, 0, 4);
+    expect(rcs956_tg_set_general_bytes(s, CALLER, a, 1, END), 0, 0, 0, 0, 1);
+    expect(rcs956_tg_get_initiator_command(s, CALLER, 4294967295, END), 4294967295, 0, 0, 0, 0);
+    expect(rcs956_tg_response_to_initiator(s, CALLER, a, 1, END), 0, 0, 0, 0, 1);
+    expect(rcs956_tg_get_target_status(s, CALLER, END), 0, 0, 0, 0, 0);
+    expect(rcs956_rf_field_off(s, CALLER, END), 0, 0, 0, 0, 0);
+    expect(rcs956_detect_type_a(s, CALLER, a, 1, b, 2, END), 0, 0, 0, 0, 2);
+    expect(rcs956_detect_type_b(s, CALLER, a, 1, b, 2, END), 0, 0, 0, 0, 2);
+    expect(rcs956_detect_type_f(s, CALLER, a, 1, 60000, 5, 6, END), 0, 60000, 5, 6, 1);
+    expect(rcs956_detect_dep(s, CALLER, a, 1, b, 2, END), 0, 0, 0, 0, 2);
+    expect(rcs956_transceive(s, CALLER, a, 1, b, 2, true, c, 3, true, 60000, END), 0, 60000, 1, 1, 3);
+    expect(rcs956_poll_type_f(s, CALLER, a, 1, b, 2, END), 0, 0, 0, 0, 2);
     printf("header: %d calls, %s\n", calls, wrong ? "some wrong" : "all right");
     return wrong;
 }

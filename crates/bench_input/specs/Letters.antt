@@ -10,16 +10,16 @@ use Rattle.bench_input.specs.Arguments.{Arguments, arguments, Read, hexA
 use Rattle.calls.specs.declared.start.Numbers.{Numbers}
 
 abbrev pub withMs : ℕ → Numbers → Numbers
-withMs ms n = record { ms = ms; word = n .word; x = n .x; y = n .y }
+withMs ms n = record { ms = ms; word = n .word; x = n .x; y = n .y; caller = n .caller }
 
 abbrev pub withWord : ℕ → Numbers → Numbers
-withWord word n = record { ms = n .ms; word = word; x = n .x; y = n .y }
+withWord word n = record { ms = n .ms; word = word; x = n .x; y = n .y; caller = n .caller }
 
 abbrev pub withX : ℕ → Numbers → Numbers
-withX x n = record { ms = n .ms; word = n .word; x = x; y = n .y }
+withX x n = record { ms = n .ms; word = n .word; x = x; y = n .y; caller = n .caller }
 
 abbrev pub withY : ℕ → Numbers → Numbers
-withY y n = record { ms = n .ms; word = n .word; x = n .x; y = y }
+withY y n = record { ms = n .ms; word = n .word; x = n .x; y = y; caller = n .caller }
 
 -- a number
 unfoldable pub numberArg : ℕ → List ℕ → Numbers → (Numbers → Read) → Read
@@ -67,9 +67,9 @@ argumentsOf [] (w ∷ ws) a = none
 argumentsOf (letter ∷ letters) [] a = none
 argumentsOf (letter ∷ letters) (w ∷ ws) a = argument letter w a (λ b. argumentsOf letters ws b)
 
--- before the first word: what no word gives is 0
+-- before the first word: what no word gives is 0, the caller too
 abbrev pub noNumbers : Numbers
-noNumbers = record { ms = 0; word = 0; x = 0; y = 0 }
+noNumbers = record { ms = 0; word = 0; x = 0; y = 0; caller = 0 }
 
 abbrev pub noArguments : Arguments
 noArguments = arguments noNumbers []

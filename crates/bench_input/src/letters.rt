@@ -210,6 +210,7 @@ pub(crate) fn read(line: &[u8], letters: &[u8], bytes: &mut [u8]) -> Next
             word: 0,
             x: 0,
             y: 0,
+            caller: 0,
         },
         count: 0,
         ends: Ends {

@@ -26,9 +26,9 @@ abbrev pub told : Session → Option Event → List ℕ → Stepped
 told s none b = kept s b
 told s (some e) b = stepWith s (tells e b)
 
--- what the engine does with what a line says
+-- what the engine does with what a line says; the program's calls are caller 0's
 unfoldable pub stepOf : Session → Said → List ℕ → Stepped
-stepOf s (calls number n first second third fourth) b = stepWith s (callInput (callOf number n first second third fourth) b)
+stepOf s (calls number n first second third fourth) b = stepWith s (callInput (n .caller) (callOf number n first second third fourth) b)
 stepOf s (happens number packet) b = told s (eventBy number packet) b
 stepOf s unreadable b = kept s b
 

@@ -21,13 +21,15 @@ ghost use Rattle.device.specs.Transceive.{timeoutOf};
 ghost use Rattle.calls.specs.Numbers.{flag, msOf, callOf};
 ghost use Rattle.calls.specs.Firsts.{startBy};
 
-// A call's arguments that are numbers: milliseconds, a word of 16 bits and two bytes. What a call does not use counts for nothing.
+// A call's arguments that are numbers: milliseconds, a word of 16 bits, two bytes, and its caller. What a call does not use counts for
+// nothing; each has a caller.
 #[repr(C)]
 pub struct Numbers {
     pub ms: u32,
     pub word: u16,
     pub x: u8,
     pub y: u8,
+    pub caller: u8,
 }
 
 // The numbers of the calls.

@@ -1,24 +1,26 @@
 -- The books in numbers stand for the books of the definitions: whatever is booked of an output is what the definitions book.
-use mathlib.Core.Path.{_≡_, refl, sym, ap}
+use mathlib.Core.Path.{_≡_, refl, sym, ap, _∙_}
 use mathlib.Core.Bool.{Bool, true, false, cond}
-use mathlib.Core.List.{List}
+use mathlib.Core.List.{List, [], _∷_}
 use Prim.Native.Nat.{ℕ, zero, suc, _+_, _≤_, min}
 use native.Mathlib.Omega.{arith}
-use borrow.Author.Tests.{ltb-true, ltb-false}
+use borrow.Author.Tests.{ltb-true, ltb-false, le-leb, leb-true}
 use lib.Dec.{eqb, leb, ltb}
+use lib.ListN.{length, getD, set}
 use Rattle.errors.specs.Choice.{pick}
 use Rattle.framing.specs.Frames.{ack}
-use Rattle.framing.specs.Valid.{both-right}
+use Rattle.framing.specs.Valid.{both-left, both-right}
 use Rattle.exchange.specs.Packets.{commandFrame, isAck}
 use Rattle.exchange.specs.Exchange.{Order, write, read, drain, pause}
 use Rattle.protocol.specs.Scripts.{Byte, Answer}
 use Rattle.protocol.specs.Calls.{Call, isOpening, isPaddedMode}
-use Rattle.protocol.specs.Session.{addFrame, counted, ceiling, answered, bookOrder, bookAnswer, Outcome, unchanged, runs, ends, bookOutcome}
+use Rattle.protocol.specs.Count.{length-counted}
+use Rattle.protocol.specs.Session.{lastCaller, addFrame, counted, countedFor, ceiling, answered, bookOrder, bookAnswer, Outcome, unchanged, runs, ends, bookOutcome}
 use Rattle.protocol.specs.Session as Meant
 use Rattle.protocol.specs.Laws.{frame-not-ack, ack-is-ack}
-use Rattle.engine.specs.Books.{books, noBooks, isInRange, isOpen, oneMore, ended, booked}
+use Rattle.engine.specs.Books.{books, noBooks, isInRange, isOpen, oneMore, byCaller, ended, booked}
 use Rattle.engine.specs.declared.books.Books.{Books}
-use Rattle.engine.specs.declared.core.Output.the-variants.{Ack, Command}
+use Rattle.engine.specs.declared.core.Output.the-variants.{Command}
 
 -- a flag as a number
 abbrev flag : Bool → ℕ
@@ -32,11 +34,25 @@ flag-is : (t : Bool) → eqb (flag t) 1 ≡ t
 flag-is true = refl
 flag-is false = refl
 
-abbrev pub bookNumbers : Meant.Books → Books
-bookNumbers b = books (flag (b .opened)) (flag (b .padded)) (b .count)
+-- what holds of the books of a session: the caller is one of the eight, there are eight counts, and none is above the ceiling
+abbrev AllFew : List ℕ → Type 0
+AllFew [] = Unit {0}
+AllFew (n ∷ ns) = (n ≤ ceiling) × AllFew ns
 
-pub books-in-range : (b : Meant.Books) → isInRange (bookNumbers b) ≡ true
-books-in-range b = rw (flag-fits (b .opened), flag-fits (b .padded))
+pub record Bounded (b : Meant.Books) : Type 0 where
+  pub caller : b .caller ≤ lastCaller
+  pub eight : length (b .counts) ≡ 8
+  pub few : AllFew (b .counts)
+
+pub begun-bounded : (padded : Bool) (k : ℕ) → k ≤ lastCaller → Bounded (Meant.noBooks padded k)
+begun-bounded padded k h =
+    record { caller = h; eight = refl; few = (omega arith, (omega arith, (omega arith, (omega arith, (omega arith, (omega arith, (omega arith, (omega arith, tt)))))))) }
+
+abbrev pub bookNumbers : Meant.Books → Books
+bookNumbers b = books (flag (b .opened)) (flag (b .padded)) (b .caller) (b .counts)
+
+pub books-in-range : (b : Meant.Books) → Bounded b → isInRange (bookNumbers b) ≡ true
+books-in-range b h = rw (flag-fits (b .opened), flag-fits (b .padded)) (le-leb (b .caller) 7 (h .caller))
 
 pub open-flag : (b : Meant.Books) → isOpen (bookNumbers b) ≡ b .opened
 open-flag b = flag-is (b .opened)
@@ -45,44 +61,82 @@ pub mode-flag : (b : Meant.Books) → isPaddedMode ((bookNumbers b) .mode) ≡ b
 mode-flag b = flag-is (b .padded)
 
 -- where an opening begins, in a mode that there is
-pub no-books : (mode : ℕ) → mode ≤ 1 → noBooks mode ≡ bookNumbers (Meant.noBooks (isPaddedMode mode))
+pub no-books : (mode : ℕ) → mode ≤ 1 → noBooks mode ≡ bookNumbers (Meant.noBooks (isPaddedMode mode) 0)
 no-books zero h = refl
 no-books (suc zero) h = refl
 no-books (suc (suc mode)) h = absurd (omega arith)
 
--- ---- what is booked
-
-pub ack-booked : (opens : Bool) (b : Meant.Books) → booked opens Ack (bookNumbers b) ≡ bookNumbers (bookOrder (write ack) b)
-ack-booked opens b = ap (λ t. books (flag (b .opened)) (flag (b .padded)) (addFrame t (b .count))) (sym ack-is-ack)
-
-one-more : (bytes : List ℕ) (n : ℕ) → isAck bytes ≡ false → n ≤ ceiling → oneMore n ≡ counted (write bytes) n
+one-more : (n : ℕ) → n ≤ ceiling → oneMore n ≡ min (suc n) ceiling
 unfolding oneMore pick
-one-more bytes n e h = rw e (go (ltb n 4294967295) refl)
+one-more n h = go (ltb n 4294967295) refl
   where
     go : (t : Bool) → ltb n 4294967295 ≡ t → pick t (n + 1) n ≡ min (suc n) 4294967295
     go true e = omega (arith, ltb-true n 4294967295 e)
     go false e = omega (arith, ltb-false n 4294967295 e)
 
-pub frame-booked : (opens : Bool) (n code : ℕ) (bytes : List ℕ) (b : Meant.Books) → b .count ≤ ceiling
-    → booked opens (Command n) (bookNumbers b) ≡ bookNumbers (bookOrder (write (commandFrame code bytes)) b)
-frame-booked opens n code bytes b h = ap (books (flag (b .opened)) (flag (b .padded))) (one-more (commandFrame code bytes) (b .count) (frame-not-ack code bytes) h)
+-- ---- what is booked, of the call of caller k
+
+-- the books with another caller
+abbrev byMeant : ℕ → Meant.Books → Meant.Books
+byMeant k b = record { opened = b .opened; padded = b .padded; caller = k; counts = b .counts }
+
+-- what the definitions book of an outcome; a refusal at once leaves the books, the caller too
+abbrev pub bookBy : ℕ → Outcome → Meant.Books → Meant.Books
+bookBy k (unchanged r) b = b
+bookBy k (runs c x phase) b = bookOutcome (runs c x phase) (byMeant k b)
+bookBy k (ends c a) b = bookOutcome (ends c a) (byMeant k b)
+
+-- an order that is no command
+quiet : (x : Order) → ((n : ℕ) → counted x n ≡ n) → (k : ℕ) (ns : List ℕ) → countedFor k x ns ≡ ns
+quiet x h k [] = refl
+quiet x h zero (n ∷ ns) = ap (λ m. m ∷ ns) (h n)
+quiet x h (suc k) (n ∷ ns) = ap (λ ms. n ∷ ms) (quiet x h k ns)
+
+pub quiet-booked : (k : ℕ) (x : Order) (b : Meant.Books) → ((n : ℕ) → counted x n ≡ n) → byCaller k (bookNumbers b) ≡ bookNumbers (bookOrder x (byMeant k b))
+quiet-booked k x b h = ap (books (flag (b .opened)) (flag (b .padded)) k) (sym (quiet x h k (b .counts)))
+
+pub ack-counts : (n : ℕ) → counted (write ack) n ≡ n
+ack-counts n = ap (λ t. addFrame t n) ack-is-ack
+
+-- a command
+count-set : (bytes : List ℕ) → isAck bytes ≡ false → (k : ℕ) (ns : List ℕ) → AllFew ns → set ns k (oneMore (getD ns k 0)) ≡ countedFor k (write bytes) ns
+count-set bytes e k [] h = refl
+count-set bytes e zero (n ∷ ns) h = ap (λ m. m ∷ ns) (one-more n (h .0) ∙ ap (λ t. addFrame t n) (sym e))
+count-set bytes e (suc k) (n ∷ ns) h = ap (λ ms. n ∷ ms) (count-set bytes e k ns (h .1))
+
+pub frame-booked : (k : ℕ) (opens : Bool) (n code : ℕ) (bytes : List ℕ) (b : Meant.Books) → Bounded b
+    → booked k opens (Command n) (bookNumbers b) ≡ bookNumbers (bookOrder (write (commandFrame code bytes)) (byMeant k b))
+frame-booked k opens n code bytes b h =
+    ap (books (flag (b .opened)) (flag (b .padded)) k) (count-set (commandFrame code bytes) (frame-not-ack code bytes) k (b .counts) (h .few))
 
 -- the end of a call, an opening or not, with success or not
-pub end-booked : (c : Call) (a : Answer Byte) (b : Meant.Books) → ended (bookNumbers b) (isOpening c) (cond (answered a) 1 0) ≡ bookNumbers (bookAnswer c a b)
+pub end-booked : (c : Call) (a : Answer Byte) (k : ℕ) (b : Meant.Books)
+    → ended (byCaller k (bookNumbers b)) (isOpening c) (cond (answered a) 1 0) ≡ bookNumbers (bookAnswer c a (byMeant k b))
 unfolding ended pick
-end-booked c a b = go (isOpening c)
+end-booked c a k b = go (isOpening c)
   where
-    go : (t : Bool) → ended (bookNumbers b) t (cond (answered a) 1 0) ≡ books (flag (cond t (answered a) (b .opened))) (flag (b .padded)) (b .count)
+    go : (t : Bool) → ended (byCaller k (bookNumbers b)) t (cond (answered a) 1 0)
+        ≡ books (flag (cond t (answered a) (b .opened))) (flag (b .padded)) k (b .counts)
     go true = refl
     go false = refl
 
--- a fault leaves the books in range
-pub ended-range : (b : Books) (t : Bool) → isInRange b ≡ true → isInRange (ended b t 0) ≡ true
-unfolding ended pick
-ended-range b true h = both-right (leb (b .opened) 1) _ h
-ended-range b false h = h
+-- books in range have one of the eight callers
+pub range-caller : (b : Books) → isInRange b ≡ true → b .caller ≤ 7
+range-caller b h = leb-true (b .caller) 7 (both-right (leb (b .mode) 1) _ (both-right (leb (b .opened) 1) _ h))
 
--- ---- the count stays below the ceiling
+-- a fault leaves the books in range
+pub ended-range : (b : Books) (k : ℕ) (t : Bool) → isInRange b ≡ true → k ≤ 7 → isInRange (ended (byCaller k b) t 0) ≡ true
+unfolding ended pick
+ended-range b k t h q =
+    let open-fits = both-left (leb (b .opened) 1) _ h in
+    let mode-fits = both-left (leb (b .mode) 1) _ (both-right (leb (b .opened) 1) _ h) in
+    go t open-fits mode-fits (le-leb k 7 q)
+  where
+    go : (t : Bool) → leb (b .opened) 1 ≡ true → leb (b .mode) 1 ≡ true → leb k 7 ≡ true → isInRange (ended (byCaller k b) t 0) ≡ true
+    go true o m c = rw (m, c)
+    go false o m c = rw (o, m, c)
+
+-- ---- the books stay bounded
 
 few-counted : (x : Order) (n : ℕ) → n ≤ ceiling → counted x n ≤ ceiling
 few-counted (write bytes) n h = go (isAck bytes)
@@ -94,7 +148,13 @@ few-counted (read ms) n h = h
 few-counted drain n h = h
 few-counted (pause us) n h = h
 
-pub few-booked : (o : Outcome) (b : Meant.Books) → b .count ≤ ceiling → (bookOutcome o b) .count ≤ ceiling
-few-booked (unchanged r) b h = h
-few-booked (runs c x phase) b h = few-counted x (b .count) h
-few-booked (ends c a) b h = h
+all-few : (x : Order) (k : ℕ) (ns : List ℕ) → AllFew ns → AllFew (countedFor k x ns)
+all-few x k [] h = tt
+all-few x zero (n ∷ ns) h = (few-counted x n (h .0), h .1)
+all-few x (suc k) (n ∷ ns) h = (h .0, all-few x k ns (h .1))
+
+pub bounded : (k : ℕ) (o : Outcome) (b : Meant.Books) → k ≤ lastCaller → Bounded b → Bounded (bookBy k o b)
+bounded k (unchanged r) b h q = q
+bounded k (runs c x phase) b h q =
+    record { caller = h; eight = length-counted k x (b .counts) ∙ q .eight; few = all-few x k (b .counts) (q .few) }
+bounded k (ends c a) b h q = record { caller = h; eight = q .eight; few = q .few }

@@ -3,7 +3,7 @@ use mathlib.Core.Bool.{Bool}
 use mathlib.Core.List.{List}
 use Prim.Native.Nat.{ℕ, _+_}
 use lib.Dec.{eqb, leb, ltb}
-use lib.ListN.{length}
+use lib.ListN.{length, replicate, getD, set}
 use Rattle.errors.specs.Choice.{pick}
 use Rattle.framing.specs.Lists.{both}
 use Rattle.framing.specs.Padded.{extraZeros}
@@ -12,14 +12,14 @@ use Rattle.engine.specs.declared.books.Books.{Books}
 use Rattle.engine.specs.declared.core.Output.{Output}
 use Rattle.engine.specs.declared.core.Output.the-variants.{Ack, Command, Read, Drain, Pause, Done, Type1, Nothing, Failed, FailedAfter, Refused}
 
-abbrev pub books : ℕ → ℕ → ℕ → Books
-books opened mode frames = record { opened = opened; mode = mode; frames = frames }
+abbrev pub books : ℕ → ℕ → ℕ → List ℕ → Books
+books opened mode caller frames = record { opened = opened; mode = mode; caller = caller; frames = frames }
 
 abbrev pub noBooks : ℕ → Books
-noBooks mode = books 0 mode 0
+noBooks mode = books 0 mode 0 (replicate 8 0)
 
 abbrev pub isInRange : Books → Bool
-isInRange b = both (leb (b .opened) 1) (leb (b .mode) 1)
+isInRange b = both (leb (b .opened) 1) (both (leb (b .mode) 1) (leb (b .caller) 7))
 
 abbrev pub isOpen : Books → Bool
 isOpen b = eqb (b .opened) 1
@@ -32,22 +32,28 @@ extraIn mode packet = pick (isPaddedMode mode) (pick (ltb 1024 (length packet)) 
 unfoldable pub oneMore : ℕ → ℕ
 oneMore n = pick (ltb n 4294967295) (n + 1) n
 
+-- the same, for the call of another caller
+abbrev pub byCaller : ℕ → Books → Books
+byCaller k b = books (b .opened) (b .mode) k (b .frames)
+
+-- a command frame counts for the caller
 abbrev pub counted : Books → Books
-counted b = books (b .opened) (b .mode) (oneMore (b .frames))
+counted b = books (b .opened) (b .mode) (b .caller) (set (b .frames) (b .caller) (oneMore (getD (b .frames) (b .caller) 0)))
 
 -- an opening that ends leaves the reader open or not; any other call leaves it as it was
 unfoldable pub ended : Books → Bool → ℕ → Books
-ended b isOpening opened = pick isOpening (books opened (b .mode) (b .frames)) b
+ended b isOpening opened = pick isOpening (books opened (b .mode) (b .caller) (b .frames)) b
 
-abbrev pub booked : Bool → Output → Books → Books
-booked isOpening Ack b = b
-booked isOpening (Command n) b = counted b
-booked isOpening (Read ms) b = b
-booked isOpening Drain b = b
-booked isOpening (Pause us) b = b
-booked isOpening (Done n) b = ended b isOpening 1
-booked isOpening (Type1 n) b = ended b isOpening 1
-booked isOpening Nothing b = ended b isOpening 0
-booked isOpening (Failed r) b = ended b isOpening 0
-booked isOpening (FailedAfter r n) b = ended b isOpening 0
-booked isOpening (Refused r) b = b
+-- a refusal at once leaves the books, the caller too
+abbrev pub booked : ℕ → Bool → Output → Books → Books
+booked k isOpening Ack b = byCaller k b
+booked k isOpening (Command n) b = counted (byCaller k b)
+booked k isOpening (Read ms) b = byCaller k b
+booked k isOpening Drain b = byCaller k b
+booked k isOpening (Pause us) b = byCaller k b
+booked k isOpening (Done n) b = ended (byCaller k b) isOpening 1
+booked k isOpening (Type1 n) b = ended (byCaller k b) isOpening 1
+booked k isOpening Nothing b = ended (byCaller k b) isOpening 0
+booked k isOpening (Failed r) b = ended (byCaller k b) isOpening 0
+booked k isOpening (FailedAfter r n) b = ended (byCaller k b) isOpening 0
+booked k isOpening (Refused r) b = b

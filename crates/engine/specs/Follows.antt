@@ -5,7 +5,7 @@ use mathlib.Core.List.{List, map}
 use Prim.Native.Nat.{ℕ, _≤_}
 use native.Mathlib.Omega.{arith}
 use borrow.Author.Tests.{ltb-true, ltb-false, le-leb, lt-leb}
-use lib.Dec.{eqb, ltb}
+use lib.Dec.{eqb, leb, ltb}
 use lib.ListN.{length, replicate}
 use Rattle.errors.specs.Choice.{pick}
 use Rattle.errors.specs.declared.Refusal.{Refusal}
@@ -13,11 +13,11 @@ use Rattle.errors.specs.declared.Refusal.the-variants.{OutOfTurn, ShortBuffer, 
 use Rattle.exchange.specs.Exchange.{Order, Event}
 use Rattle.exchange.specs.Steps.{exchangeAt}
 use Rattle.protocol.specs.Calls.{ReaderCall, opening, reader, isPaddedMode, startOf}
-use Rattle.protocol.specs.Session.{Running, idle, ceiling, seen, started, Entry, call, event, Outcome, unchanged as unchangedOf, runs as runsOf, ends, outcomeOf, after as afterOf, given, fresh, step}
+use Rattle.protocol.specs.Session.{Running, idle, lastCaller, seen, started, Entry, call, event, Outcome, unchanged as unchangedOf, runs as runsOf, ends, outcomeOf, after as afterOf, given, fresh, step}
 use Rattle.protocol.specs.Session as Meant
 use Rattle.protocol.specs.Follows.{plain, Machine, Obeys, obeys, entries, givenOut, stateAfter}
 use Rattle.protocol.specs.Reference.{offEntry, Plain, Padded, referenceOf, MachineSame, machine-reference, machine-plain}
-use Rattle.engine.specs.Booking.{bookNumbers, books-in-range, open-flag, mode-flag, no-books, few-booked}
+use Rattle.engine.specs.Booking.{bookNumbers, Bounded, begun-bounded, books-in-range, open-flag, mode-flag, no-books, bounded as bounded-by}
 use Rattle.engine.specs.Books.{noBooks, booked as bookedBy}
 use Rattle.engine.specs.Core.{Held, After, unchanged, eventCore}
 use Rattle.engine.specs.Core.{isValid as validCore}
@@ -38,42 +38,46 @@ pub record Refines (m : Meant.Session) (e : Entry) (a : After State) (o : Outcom
   pub means : Means ((sessionAfter a) .session) (afterOf m e o)
   pub told : outputOf (a .output) (a .buffer) ≡ plain (given o)
 
-module _ (m : Running) (b : Meant.Books) (few : b .count ≤ ceiling) where
+module _ (m : Running) (b : Meant.Books) (bounds : Bounded b) where
   abbrev pub meant : Meant.Session
   meant = record { running = m; books = b }
 
   -- an entry that is refused
   refused-refines : {s : Core} {f : Held} (e : Entry) (r : Refusal) (buffer : List ℕ) → Represents s f m
       → Refines meant e (unchanged (state s (bookNumbers b)) f r buffer) (unchangedOf r)
-  refused-refines e r buffer h = record { means = record { call = h; booked = refl; few = few }; told = refl }
+  refused-refines e r buffer h = record { means = record { call = h; booked = refl; bounded = bounds }; told = refl }
 
-  -- an event, and a call, whose books begin as the definitions have it
+  -- an event, of the caller whose call runs
   event-refines : (t : Bool) (room : ℕ) (e : Event) (a : After Core) (o : Outcome) → Simulates t m a o
-      → Refines meant (event e room) (bookedAfter t (bookNumbers b) a) o
-  event-refines t room e a (unchangedOf r) h = record { means = record { call = h .represents; booked = h .booked b few; few = few }; told = h .output }
+      → Refines meant (event e room) (bookedAfter (b .caller) t (bookNumbers b) a) o
+  event-refines t room e a (unchangedOf r) h = record { means = record { call = h .represents; booked = h .booked (b .caller) b bounds; bounded = bounds }; told = h .output }
   event-refines t room e a (runsOf c x phase) h =
-      record { means = record { call = h .represents; booked = h .booked b few; few = few-booked (runsOf c x phase) b few }; told = h .output }
-  event-refines t room e a (ends c d) h = record { means = record { call = h .represents; booked = h .booked b few; few = few }; told = h .output }
+      record { means = record { call = h .represents; booked = h .booked (b .caller) b bounds; bounded = bounded-by (b .caller) (runsOf c x phase) b (bounds .caller) bounds }; told = h .output }
+  event-refines t room e a (ends c d) h =
+      record { means = record { call = h .represents; booked = h .booked (b .caller) b bounds; bounded = bounded-by (b .caller) (ends c d) b (bounds .caller) bounds }; told = h .output }
 
-  opening-refines : (mode room : ℕ) (a : After Core) (x : Order) (phase : Meant.Phase) → mode ≤ 1 → Simulates true m a (runsOf (opening mode) x phase)
-      → Refines meant (call (opening mode) room) (bookedAfter true (noBooks mode) a) (runsOf (opening mode) x phase)
-  opening-refines mode room a x phase fits h =
-      let begun : Meant.Books = Meant.noBooks (isPaddedMode mode) in
+  -- a call of caller k
+  opening-refines : (k mode room : ℕ) (a : After Core) (x : Order) (phase : Meant.Phase) → k ≤ lastCaller → mode ≤ 1 → Simulates true m a (runsOf (opening mode) x phase)
+      → Refines meant (call k (opening mode) room) (bookedAfter k true (noBooks mode) a) (runsOf (opening mode) x phase)
+  opening-refines k mode room a x phase caller fits h =
+      let begun : Meant.Books = Meant.noBooks (isPaddedMode mode) 0 in
+      let begun-bounds : Bounded begun = begun-bounded (isPaddedMode mode) 0 (omega arith) in
       record {
         means = record {
           call = h .represents;
-          booked = ap (bookedBy true (a .output)) (no-books mode fits) ∙ h .booked begun (omega arith);
-          few = few-booked (runsOf (opening mode) x phase) begun (omega arith);
+          booked = ap (bookedBy k true (a .output)) (no-books mode fits) ∙ h .booked k begun begun-bounds;
+          bounded = bounded-by k (runsOf (opening mode) x phase) begun caller begun-bounds;
         };
         told = h .output;
       }
 
-  call-refines : (q : ReaderCall) (room : ℕ) (a : After Core) (o : Outcome) → Simulates false m a o
-      → Refines meant (call (reader q) room) (bookedAfter false (bookNumbers b) a) o
-  call-refines q room a (unchangedOf r) h = record { means = record { call = h .represents; booked = h .booked b few; few = few }; told = h .output }
-  call-refines q room a (runsOf c x phase) h =
-      record { means = record { call = h .represents; booked = h .booked b few; few = few-booked (runsOf c x phase) b few }; told = h .output }
-  call-refines q room a (ends c d) h = record { means = record { call = h .represents; booked = h .booked b few; few = few }; told = h .output }
+  call-refines : (k : ℕ) (q : ReaderCall) (room : ℕ) (a : After Core) (o : Outcome) → k ≤ lastCaller → Simulates false m a o
+      → Refines meant (call k (reader q) room) (bookedAfter k false (bookNumbers b) a) o
+  call-refines k q room a (unchangedOf r) caller h = record { means = record { call = h .represents; booked = h .booked k b bounds; bounded = bounds }; told = h .output }
+  call-refines k q room a (runsOf c x phase) caller h =
+      record { means = record { call = h .represents; booked = h .booked k b bounds; bounded = bounded-by k (runsOf c x phase) b caller bounds }; told = h .output }
+  call-refines k q room a (ends c d) caller h =
+      record { means = record { call = h .represents; booked = h .booked k b bounds; bounded = bounded-by k (ends c d) b caller bounds }; told = h .output }
 
 refines-if : {m : Meant.Session} {e : Entry} (t : Bool) {x y : After State} {u w : Outcome} → (t ≡ true → Refines m e x u) → (t ≡ false → Refines m e y w)
     → Refines m e (pick t x y) (cond t u w)
@@ -81,27 +85,37 @@ unfolding pick
 refines-if true h k = h refl
 refines-if false h k = k refl
 
+-- a caller above 7 is refused
+refines-caller : {m : Meant.Session} {e : Entry} (k : ℕ) {x y : After State} {u w : Outcome} → Refines m e x w → (k ≤ lastCaller → Refines m e y u)
+    → Refines m e (pick (ltb 7 k) x y) (cond (leb k lastCaller) u w)
+unfolding pick
+refines-caller {m} {e} k {x} {y} {u} {w} h g = go (ltb 7 k) refl
+  where
+    go : (t : Bool) → ltb 7 k ≡ t → Refines m e (pick t x y) (cond (leb k lastCaller) u w)
+    go true q = rw (lt-leb k 7 (ltb-true 7 k q)) h
+    go false q = rw (le-leb k 7 (ltb-false 7 k q)) (g (ltb-false 7 k q))
+
 -- ---- the entries
 
 -- numbers that stand for a running call, and books that stand for books, are in range
-in-range : (v : Fields) (c : CallNumbers) (b : Meant.Books) → validCall c ≡ true → isValid (state (coreWith v c) (bookNumbers b)) ≡ true
+in-range : (v : Fields) (c : CallNumbers) (b : Meant.Books) → Bounded b → validCall c ≡ true → isValid (state (coreWith v c) (bookNumbers b)) ≡ true
 unfolding isValid validCore
-in-range v c b h = rw (v .pendingFits, v .keptFits, v .phaseFits, h) (books-in-range b)
+in-range v c b bounds h = rw (v .pendingFits, v .keptFits, v .phaseFits, h) (books-in-range b bounds)
 
-running-refines : (p : Place) (w : Wait p) (v : Fields) → Agrees p v → (b : Meant.Books) (few : b .count ≤ ceiling) (i : Input)
-    → Refines (meant (runningAt p w v) b few) (entryOf i) (afterInput (state (coreAt p w v) (bookNumbers b)) (heldAt v) i) (outcomeOf (runningAt p w v) b (entryOf i))
+running-refines : (p : Place) (w : Wait p) (v : Fields) → Agrees p v → (b : Meant.Books) (bounds : Bounded b) (i : Input)
+    → Refines (meant (runningAt p w v) b bounds) (entryOf i) (afterInput (state (coreAt p w v) (bookNumbers b)) (heldAt v) i) (outcomeOf (runningAt p w v) b (entryOf i))
 unfolding openAfter startAfter eventAfter pick
-running-refines p w v agrees b few i = go i (in-range v (callAt p w) b (call-fits p w)) (p .running)
+running-refines p w v agrees b bounds i = go i (in-range v (callAt p w) b bounds (call-fits p w)) (p .running)
   where
     here : Represents (coreAt p w v) (heldAt v) (runningAt p w v)
     here = runs p w v agrees refl refl refl
 
     go : (i : Input) → isValid (state (coreAt p w v) (bookNumbers b)) ≡ true → eqb (p .kind) 0 ≡ false
-        → Refines (meant (runningAt p w v) b few) (entryOf i) (afterInput (state (coreAt p w v) (bookNumbers b)) (heldAt v) i) (outcomeOf (runningAt p w v) b (entryOf i))
-    go (opens mode buffer) h k = rw (h, k) (refused-refines (runningAt p w v) b few _ OutOfTurn buffer here)
-    go (asks q buffer) h k = rw (h, k) (refused-refines (runningAt p w v) b few _ OutOfTurn buffer here)
+        → Refines (meant (runningAt p w v) b bounds) (entryOf i) (afterInput (state (coreAt p w v) (bookNumbers b)) (heldAt v) i) (outcomeOf (runningAt p w v) b (entryOf i))
+    go (opens c mode buffer) h k = rw (h, k) (refused-refines (runningAt p w v) b bounds _ OutOfTurn buffer here)
+    go (asks c q buffer) h k = rw (h, k) (refused-refines (runningAt p w v) b bounds _ OutOfTurn buffer here)
     go (tells e buffer) h k =
-        rw (h, p .opens, mode-flag b) (event-refines (runningAt p w v) b few _ (length buffer) e _ _ (event-sims p w v agrees (seen (b .padded) e) buffer))
+        rw (h, p .opens, mode-flag b) (event-refines (runningAt p w v) b bounds _ (length buffer) e _ _ (event-sims p w v agrees (seen (b .padded) e) buffer))
 
 or-true : (t : Bool) → (t || true) ≡ true
 or-true true = refl
@@ -111,33 +125,35 @@ or-false : (t : Bool) → (t || false) ≡ t
 or-false true = refl
 or-false false = refl
 
-free-refines : (v : Fields) (b : Meant.Books) (few : b .count ≤ ceiling) (i : Input)
-    → Refines (meant idle b few) (entryOf i) (afterInput (state (coreWith v noCall) (bookNumbers b)) (heldAt v) i) (outcomeOf idle b (entryOf i))
+free-refines : (v : Fields) (b : Meant.Books) (bounds : Bounded b) (i : Input)
+    → Refines (meant idle b bounds) (entryOf i) (afterInput (state (coreWith v noCall) (bookNumbers b)) (heldAt v) i) (outcomeOf idle b (entryOf i))
 unfolding openAfter startAfter eventAfter eventCore validCall pick
-free-refines v b few i = go i (in-range v noCall b refl)
+free-refines v b bounds i = go i (in-range v noCall b bounds refl)
   where
     here : Represents (coreWith v noCall) (heldAt v) idle
     here = free v refl refl refl
 
-    stays : (e : Entry) (r : Refusal) (buffer : List ℕ) → Refines (meant idle b few) e (unchanged (state (coreWith v noCall) (bookNumbers b)) (heldAt v) r buffer) (unchangedOf r)
-    stays e r buffer = refused-refines idle b few e r buffer here
+    stays : (e : Entry) (r : Refusal) (buffer : List ℕ) → Refines (meant idle b bounds) e (unchanged (state (coreWith v noCall) (bookNumbers b)) (heldAt v) r buffer) (unchangedOf r)
+    stays e r buffer = refused-refines idle b bounds e r buffer here
 
-    in-mode : (mode : ℕ) (buffer : List ℕ) (t : Bool) → ltb 1 mode ≡ t
-        → Refines (meant idle b few) (call (opening mode) (length buffer)) (openIn (state (coreWith v noCall) (bookNumbers b)) (heldAt v) mode buffer) (started (opening mode) (startOf (opening mode)))
-    in-mode mode buffer true e = rw (e, lt-leb mode 1 (ltb-true 1 mode e)) (stays _ BadArgument buffer)
-    in-mode mode buffer false e =
+    in-mode : (k mode : ℕ) (buffer : List ℕ) → k ≤ lastCaller → (t : Bool) → ltb 1 mode ≡ t
+        → Refines (meant idle b bounds) (call k (opening mode) (length buffer)) (openIn (state (coreWith v noCall) (bookNumbers b)) (heldAt v) k mode buffer) (started (opening mode) (startOf (opening mode)))
+    in-mode k mode buffer caller true e = rw (e, lt-leb mode 1 (ltb-true 1 mode e)) (stays _ BadArgument buffer)
+    in-mode k mode buffer caller false e =
         let fits : mode ≤ 1 = ltb-false 1 mode e in
-        rw (e, le-leb mode 1 fits) (opening-refines idle b few mode (length buffer) _ _ _ fits (open-sims v mode buffer))
+        rw (e, le-leb mode 1 fits) (opening-refines idle b bounds k mode (length buffer) _ _ _ caller fits (open-sims v mode buffer))
 
     go : (i : Input) → isValid (state (coreWith v noCall) (bookNumbers b)) ≡ true
-        → Refines (meant idle b few) (entryOf i) (afterInput (state (coreWith v noCall) (bookNumbers b)) (heldAt v) i) (outcomeOf idle b (entryOf i))
-    go (opens mode buffer) h =
+        → Refines (meant idle b bounds) (entryOf i) (afterInput (state (coreWith v noCall) (bookNumbers b)) (heldAt v) i) (outcomeOf idle b (entryOf i))
+    go (opens k mode buffer) h =
         rw (h, or-true (b .opened))
-        (refines-if (ltb (length buffer) 1024) (λ _. stays _ ShortBuffer buffer) (λ _. in-mode mode buffer (ltb 1 mode) refl))
-    go (asks q buffer) h =
+        (refines-if (ltb (length buffer) 1024) (λ _. stays _ ShortBuffer buffer)
+        (λ _. refines-caller k (stays _ BadArgument buffer) (λ caller. in-mode k mode buffer caller (ltb 1 mode) refl)))
+    go (asks k q buffer) h =
         rw (h, open-flag b, or-false (b .opened))
         (refines-if (b .opened)
-        (λ _. refines-if (ltb (length buffer) 1024) (λ _. stays _ ShortBuffer buffer) (λ _. call-refines idle b few q (length buffer) _ _ (call-sims v q buffer)))
+        (λ _. refines-if (ltb (length buffer) 1024) (λ _. stays _ ShortBuffer buffer)
+        (λ _. refines-caller k (stays _ BadArgument buffer) (λ caller. call-refines idle b bounds k q (length buffer) _ _ caller (call-sims v q buffer))))
         (λ _. stays _ OutOfTurn buffer))
     go (tells e buffer) h = rw h (stays _ OutOfTurn buffer)
 
@@ -149,19 +165,19 @@ Follows i s m = Means ((act s i) .0) ((step m (entryOf i)) .0) × ((act s i) .1 
 by-input : (i : Input) (s : Session) (m : Meant.Session) → Refines m (entryOf i) (afterInput (s .state) (heldIn s) i) (outcomeOf (m .running) (m .books) (entryOf i)) → Follows i s m
 by-input i s m h = (h .means, h .told)
 
-parts-refine : (s : Core) (f : Held) (r : Running) (b : Meant.Books) (few : b .count ≤ ceiling) (i : Input) → Represents s f r
-    → Refines (meant r b few) (entryOf i) (afterInput (state s (bookNumbers b)) f i) (outcomeOf r b (entryOf i))
-parts-refine s f r b few i (free v p q e) = rw (p, q, e) (free-refines v b few i)
-parts-refine s f r b few i (runs p w v a q e g) = rw (q, e, g) (running-refines p w v a b few i)
+parts-refine : (s : Core) (f : Held) (r : Running) (b : Meant.Books) (bounds : Bounded b) (i : Input) → Represents s f r
+    → Refines (meant r b bounds) (entryOf i) (afterInput (state s (bookNumbers b)) f i) (outcomeOf r b (entryOf i))
+parts-refine s f r b bounds i (free v p q e) = rw (p, q, e) (free-refines v b bounds i)
+parts-refine s f r b bounds i (runs p w v a q e g) = rw (q, e, g) (running-refines p w v a b bounds i)
 
 pub follow : (s : Session) (m : Meant.Session) (i : Input) → Means s m → Follows i s m
 follow s m i h =
     by-input i s m
     (subst (λ b. Refines m (entryOf i) (afterInput (state (s .state .core) b) (heldIn s) i) (outcomeOf (m .running) (m .books) (entryOf i))) (sym (h .booked))
-    (parts-refine (s .state .core) (heldIn s) (m .running) (m .books) (h .few) i (h .call)))
+    (parts-refine (s .state .core) (heldIn s) (m .running) (m .books) (h .bounded) i (h .call)))
 
-pub same-count : (s : Session) (m : Meant.Session) → Means s m → s .state .books .frames ≡ m .books .count
-same-count s m h = ap (λ b. b .frames) (h .booked)
+pub same-counts : (s : Session) (m : Meant.Session) → Means s m → s .state .books .frames ≡ m .books .counts
+same-counts s m h = ap (λ b. b .frames) (h .booked)
 
 pub fresh-means : Means freshSession fresh
 fresh-means =
@@ -175,7 +191,7 @@ fresh-means =
       keptFits = refl;
       phaseFits = refl;
     } in
-    record { call = free w refl refl refl; booked = refl; few = omega arith }
+    record { call = free w refl refl refl; booked = refl; bounded = begun-bounded false 0 (omega arith) }
 
 abbrev pub engine : Machine
 engine = record {
@@ -184,10 +200,10 @@ engine = record {
   entry = entryOf;
   new = freshSession;
   act = act;
-  count = λ s. s .state .books .frames;
+  frames = λ s. s .state .books .frames;
   Means = Means;
   begins = fresh-means;
-  counts = same-count;
+  counts = same-counts;
   follows = follow;
 }
 

@@ -32,23 +32,23 @@ outputOf (Refused r) b = rejects r
 
 -- a call or an event, each with the bytes of the buffer that is lent with it
 pub data Input : Type 0 where
-  opens : ℕ → List ℕ → Input  -- mode
-  asks : ReaderCall → List ℕ → Input
+  opens : ℕ → ℕ → List ℕ → Input  -- caller, mode
+  asks : ℕ → ReaderCall → List ℕ → Input  -- caller
   tells : Event → List ℕ → Input
 
 abbrev pub bufferOf : Input → List ℕ
-bufferOf (opens mode b) = b
-bufferOf (asks c b) = b
+bufferOf (opens k mode b) = b
+bufferOf (asks k c b) = b
 bufferOf (tells e b) = b
 
 abbrev pub entryOf : Input → Entry
-entryOf (opens mode b) = call (opening mode) (length b)
-entryOf (asks c b) = call (reader c) (length b)
+entryOf (opens k mode b) = call k (opening mode) (length b)
+entryOf (asks k c b) = call k (reader c) (length b)
 entryOf (tells e b) = event e (length b)
 
 abbrev pub afterInput : State → Held → Input → After State
-afterInput s f (opens mode b) = openedAt s f mode b
-afterInput s f (asks c b) = startAfter s f (startFor c) b
+afterInput s f (opens k mode b) = openedAt s f k mode b
+afterInput s f (asks k c b) = startAfter s f k (startFor c) b
 afterInput s f (tells e b) = eventAfter s f e b
 
 abbrev pub stepWith : Session → Input → Stepped

@@ -34,6 +34,9 @@ use Rattle.protocol.specs.Scripts.{type1}
 use Rattle.protocol.specs.Calls.{isPaddedMode}
 use Rattle.protocol.specs.Session.{seen}
 use Rattle.engine.specs.Books.{extraIn}
+use Rattle.engine.specs.Booking.{range-caller}
+use Rattle.engine.specs.Sessions.{isValid as validState}
+use Rattle.engine.specs.declared.state.State.{State}
 use Rattle.engine.specs.Core.{isValid, Held, After, eventCore, endsOf, doneOf, answersOf, sendsOf, running, after}
 use Rattle.engine.specs.Moves.{validCall}
 use Rattle.engine.specs.declared.call.Call.{Call}
@@ -94,6 +97,11 @@ valid-command s h = leb-true (s .command) 512 (both-left (leb (s .command) 512) 
 pub valid-found : (s : Core) → isValid s ≡ true → s .found ≤ 1024
 unfolding isValid
 valid-found s h = leb-true (s .found) 1024 (both-left (leb (s .found) 1024) _ (both-right (leb (s .command) 512) _ h))
+
+-- and one of the eight callers
+pub valid-caller : (s : State) → validState s ≡ true → s .books .caller ≤ 7
+unfolding validState
+valid-caller s h = range-caller (s .books) (both-right (isValid (s .core)) _ h)
 
 -- the part of a packet behind what the mode takes off, n bytes, is what the mode sees of it
 module _ (n mode : ℕ) (packet : List ℕ) (is : n ≡ extraIn mode packet) where

@@ -18,9 +18,9 @@ use Rattle.engine.specs.declared.state.State.{State}
 use Rattle.engine.specs.declared.numbered.Known.{Known}
 use Rattle.engine.specs.declared.numbered.Known.the-variants.{Is, Not}
 
-abbrev pub callInput : Call → List ℕ → Input
-callInput (opening mode) b = opens mode b
-callInput (reader c) b = asks c b
+abbrev pub callInput : ℕ → Call → List ℕ → Input
+callInput k (opening mode) b = opens k mode b
+callInput k (reader c) b = asks k c b
 
 -- the events in the order of their numbers; a packet's bytes go with 2 alone
 abbrev pub events : List ℕ → List (Option Event)
@@ -40,12 +40,12 @@ numberedAfter s f (some e) b = eventAfter s f e b
 
 -- a call of any number but 0 is one of an open reader
 pub reader-input : (number : ℕ) (n : Numbers) (first second third fourth b : List ℕ) (s : State) (f : Held) → (number ≡ 0 → ⊥)
-    → startAfter s f (startBy (callOf number n first second third fourth)) b
-    ≡ afterInput s f (callInput (callOf number n first second third fourth) b)
+    → startAfter s f (n .caller) (startBy (callOf number n first second third fourth)) b
+    ≡ afterInput s f (callInput (n .caller) (callOf number n first second third fourth) b)
 reader-input zero n first second third fourth b s f h = absurd (h refl)
 reader-input (suc k) n first second third fourth b s f h = rw (reader-call k n first second third fourth)
 
 pub opening-input : (number : ℕ) (n : Numbers) (first second third fourth b : List ℕ) (s : State) (f : Held) → number ≡ 0
-    → openAfter s f (n .x) b ≡ afterInput s f (callInput (callOf number n first second third fourth) b)
+    → openAfter s f (n .caller) (n .x) b ≡ afterInput s f (callInput (n .caller) (callOf number n first second third fourth) b)
 unfolding callOf
 opening-input number n first second third fourth b s f h = rw h

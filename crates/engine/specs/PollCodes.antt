@@ -14,7 +14,7 @@ use Rattle.engine.specs.Inputs.{Input}
 use Rattle.engine.specs.Follows.{engine}
 use Rattle.engine.specs.declared.session.Session.{Session}
 
-pub engine-singles : (s : Session) (b : Books) → engine .Means s (idleWith b) → b .opened ≡ true → (text words : List ℕ) → systemCodesFit words ≡ true
-    → (room : ℕ) (es : List EventAndRoom) (one many : List Input) → entries engine one ≡ oneCall text words room es
-    → entries engine many ≡ singleCalls text words room es (idleWith b) → EqualFrom engine (length (wordsIn words)) s (idleWith b) one many
+pub engine-singles : (s : Session) (b : Books) → engine .Means s (idleWith b) → b .opened ≡ true → (caller : ℕ) (text words : List ℕ) → systemCodesFit words ≡ true
+    → (room : ℕ) (es : List EventAndRoom) (one many : List Input) → entries engine one ≡ oneCall caller text words room es
+    → entries engine many ≡ singleCalls caller text words room es (idleWith b) → EqualFrom engine (length (wordsIn words)) s (idleWith b) one many
 engine-singles s b = follows-singles engine s b

@@ -2,7 +2,7 @@
 use mathlib.Core.Path.{_≡_}
 use mathlib.Core.Bool.{true, false}
 use mathlib.Core.List.{List, []}
-use Prim.Native.Nat.{ℕ, _≤_}
+use Prim.Native.Nat.{ℕ}
 use lib.Dec.{eqb, leb}
 use lib.ListN.{take}
 use Rattle.exchange.specs.Packets.{Reply}
@@ -10,12 +10,12 @@ use Rattle.exchange.specs.Steps.{stepOf}
 use Rattle.exchange.specs.declared.Exchange.{Exchange}
 use Rattle.protocol.specs.Scripts.{Script}
 use Rattle.protocol.specs.Calls.{Call as CallOf, isOpening}
-use Rattle.protocol.specs.Session.{byReply, ofReset, Phase, exchange, Running, idle, busy, ceiling}
+use Rattle.protocol.specs.Session.{byReply, ofReset, Phase, exchange, Running, idle, busy}
 use Rattle.protocol.specs.Session as Meant
 use Rattle.stages.specs.Stages.{send}
 use Rattle.calls.specs.Tables.{isResetOf, decidedOf}
 use Rattle.calls.specs.Refines.{Leads, Stands}
-use Rattle.engine.specs.Booking.{bookNumbers}
+use Rattle.engine.specs.Booking.{bookNumbers, Bounded}
 use Rattle.engine.specs.Core.{Held, held}
 use Rattle.engine.specs.Moves.{noCall}
 use Rattle.engine.specs.Sessions.{heldIn}
@@ -106,4 +106,4 @@ pub data Represents (s : Core) (f : Held) (m : Running) : Type 0 where
 pub record Means (s : Session) (m : Meant.Session) : Type 0 where
   pub call : Represents (s .state .core) (heldIn s) (m .running)
   pub booked : s .state .books ≡ bookNumbers (m .books)
-  pub few : m .books .count ≤ ceiling
+  pub bounded : Bounded (m .books)

@@ -32,16 +32,16 @@ isValid s = both (validCore (s .core)) (isInRange (s .books))
 abbrev pub effected : Effect → Held → List ℕ → After State
 effected e f b = after (e .state) f (e .output) b
 
--- what came out of a call, an opening or not, is booked
-abbrev pub bookedAfter : Bool → Books → After Core → After State
-bookedAfter isOpening b a = after (state (a .state) (booked isOpening (a .output) b)) (a .held) (a .output) (a .buffer)
+-- what came out of a caller's call, an opening or not, is booked
+abbrev pub bookedAfter : ℕ → Bool → Books → After Core → After State
+bookedAfter k isOpening b a = after (state (a .state) (booked k isOpening (a .output) b)) (a .held) (a .output) (a .buffer)
 
 -- ---- the entries: a session out of range is refused with 1
 
 -- an event is taken as the mode sees it
 unfoldable pub eventAfter : State → Held → Event → List ℕ → After State
 eventAfter s f e b =
-    pick (isValid s) (bookedAfter (eqb (s .core .call .kind) 1) (s .books) (eventCore (s .core) f (seen (isPaddedMode (s .books .mode)) e) b)) (unchanged s f OutOfTurn b)
+    pick (isValid s) (bookedAfter (s .books .caller) (eqb (s .core .call .kind) 1) (s .books) (eventCore (s .core) f (seen (isPaddedMode (s .books .mode)) e) b)) (unchanged s f OutOfTurn b)
 
 -- a call: 1, 2, then its own refusals
 abbrev pub isFree : State → Bool
@@ -50,19 +50,24 @@ isFree s = both (isValid s) (eqb (s .core .call .kind) 0)
 abbrev pub withRoom : State → Held → List ℕ → After State → After State
 withRoom s f b x = pick (ltb (length b) 1024) (unchanged s f ShortBuffer b) x
 
--- an opening begins the books anew, in a mode that there is
-abbrev pub openIn : State → Held → ℕ → List ℕ → After State
-openIn s f mode b = pick (ltb 1 mode) (unchanged s f BadArgument b) (bookedAfter true (noBooks mode) (openCore (s .core) f b))
+-- a caller above 7 is a bad argument
+abbrev pub withCaller : State → Held → ℕ → List ℕ → After State → After State
+withCaller s f k b x = pick (ltb 7 k) (unchanged s f BadArgument b) x
 
-unfoldable pub openAfter : State → Held → ℕ → List ℕ → After State
-openAfter s f mode b = pick (isFree s) (withRoom s f b (openIn s f mode b)) (unchanged s f OutOfTurn b)
+-- an opening begins the books anew, in a mode that there is
+abbrev pub openIn : State → Held → ℕ → ℕ → List ℕ → After State
+openIn s f k mode b = pick (ltb 1 mode) (unchanged s f BadArgument b) (bookedAfter k true (noBooks mode) (openCore (s .core) f b))
+
+unfoldable pub openAfter : State → Held → ℕ → ℕ → List ℕ → After State
+openAfter s f k mode b = pick (isFree s) (withRoom s f b (withCaller s f k b (openIn s f k mode b))) (unchanged s f OutOfTurn b)
 
 -- a call of an open reader
 abbrev pub isAdmitted : State → Bool
 isAdmitted s = both (isFree s) (isOpen (s .books))
 
-unfoldable pub startAfter : State → Held → Start → List ℕ → After State
-startAfter s f x b = pick (isAdmitted s) (withRoom s f b (bookedAfter false (s .books) (startOn (s .core) f x b))) (unchanged s f OutOfTurn b)
+unfoldable pub startAfter : State → Held → ℕ → Start → List ℕ → After State
+startAfter s f k x b =
+    pick (isAdmitted s) (withRoom s f b (withCaller s f k b (bookedAfter k false (s .books) (startOn (s .core) f x b)))) (unchanged s f OutOfTurn b)
 
 -- ---- the session whole
 

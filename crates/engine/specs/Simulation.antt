@@ -28,7 +28,7 @@ use Rattle.stages.specs.Stages.{Command, cmd, Decision, send}
 use Rattle.calls.specs.Tables.{commandOf}
 use Rattle.calls.specs.Refines.{Leads, leads-end, leads-send, leads-reset, leads-keep, leads-next, leads-put, leads-pause}
 use Rattle.engine.specs.Books.{booked as bookedBy}
-use Rattle.engine.specs.Booking.{bookNumbers, ack-booked, frame-booked, end-booked}
+use Rattle.engine.specs.Booking.{bookNumbers, Bounded, bookBy, quiet-booked, ack-counts, frame-booked, end-booked}
 use Rattle.engine.specs.Core.{Held, After, unchanged, running, putFound, putCommand, ordersOf, sendsOf, stageOf, endsOf, doneOf, answersOf, followsOf, admittedOf, isLong, movedOf}
 use Rattle.engine.specs.Moves.{Moved, unfitting, orders as goesOn, fits, replyLength, endedMove, exchangeMove, exchangeIn}
 use Rattle.engine.specs.Inputs.{outputOf}
@@ -39,16 +39,16 @@ use Rattle.engine.specs.declared.core.Core.{Core}
 use Rattle.engine.specs.declared.core.Output.{Output}
 use Rattle.engine.specs.declared.core.Output.the-variants as out
 
--- What an entry leaves, beside what the definitions say; the running call is m before it. What is booked of the output is what the
--- definitions book of the outcome.
+-- What an entry leaves, beside what the definitions say; the running call is m before it. What is booked of the output, of the call of any
+-- caller k, is what the definitions book of the outcome.
 pub record Simulates (opens : Bool) (m : Running) (a : After Core) (o : Outcome) : Type 0 where
   pub represents : Represents (a .state) (a .held) (runningAfter m o)
   pub output : outputOf (a .output) (a .buffer) ≡ plain (given o)
-  pub booked : (b : Meant.Books) → b .count ≤ ceiling → bookedBy opens (a .output) (bookNumbers b) ≡ bookNumbers (bookOutcome o b)
+  pub booked : (k : ℕ) (b : Meant.Books) → Bounded b → bookedBy k opens (a .output) (bookNumbers b) ≡ bookNumbers (bookBy k o b)
 
 module _ {t : Bool} {m : Running} where
   pub sim-unchanged : {s : Core} {f : Held} (r : Refusal) (b : List ℕ) → Represents s f m → Simulates t m (unchanged s f r b) (unchangedOf r)
-  sim-unchanged r b h = record { represents = h; output = refl; booked = λ b k. refl }
+  sim-unchanged r b h = record { represents = h; output = refl; booked = λ k b h. refl }
 
   pub sim-pick : (u : Bool) {x y : After Core} {o w : Outcome} → Simulates t m x o → (u ≡ false → Simulates t m y w) → Simulates t m (pick u x y) (cond u o w)
   unfolding pick
@@ -81,11 +81,11 @@ module _ (v : Fields) (c : Call) (t : Bool) (m : Running) where
       go (write bytes) e = record {
         represents = here;
         output = rw e (ap (λ l. orders (write l)) (take-append-seam ack (drop 6 b)));
-        booked = λ k h. rw e (ack-booked t k);
+        booked = λ k n h. rw e (quiet-booked k (write ack) n ack-counts);
       }
-      go (read ms) e = record { represents = here; output = refl; booked = λ k h. refl }
-      go drain e = record { represents = here; output = refl; booked = λ k h. refl }
-      go (pause us) e = record { represents = here; output = refl; booked = λ k h. refl }
+      go (read ms) e = record { represents = here; output = refl; booked = λ k n h. quiet-booked k (read ms) n (λ _. refl) }
+      go drain e = record { represents = here; output = refl; booked = λ k n h. quiet-booked k drain n (λ _. refl) }
+      go (pause us) e = record { represents = here; output = refl; booked = λ k n h. quiet-booked k (pause us) n (λ _. refl) }
 
   -- with a command
   pub sim-sends : (p : Place) (w : Wait p) (code clock : ℕ) (bytes b : List ℕ) → Agrees p v
@@ -105,15 +105,15 @@ module _ (v : Fields) (c : Call) (t : Bool) (m : Running) where
       record {
         represents = runs p w u record { pending = agrees .pending; found = agrees .found } refl refl refl;
         output = ap (λ l. orders (write l)) (take-append-seam (commandFrame code bytes) _);
-        booked = frame-booked t (length (commandFrame code bytes)) code bytes;
+        booked = λ k. frame-booked k t (length (commandFrame code bytes)) code bytes;
       }
 
 -- the call ends
 module _ (v : Fields) (c : Call) (q : CallOf) (m : Running) where
   sim-ends : (a : Answer Byte) (o : Output) (b : List ℕ) → outputOf o b ≡ answers (plainAnswer a)
-      → ((k : Meant.Books) → bookedBy (isOpening q) o (bookNumbers k) ≡ bookNumbers (bookAnswer q a k))
+      → ((k : ℕ) (n : Meant.Books) → bookedBy k (isOpening q) o (bookNumbers n) ≡ bookNumbers (bookBy k (endsIn q a) n))
       → Simulates (isOpening q) m (endsOf (coreWith v c) (heldAt v) o b) (endsIn q a)
-  sim-ends a o b given k = record { represents = free v refl refl refl; output = given; booked = λ n h. k n }
+  sim-ends a o b given k = record { represents = free v refl refl refl; output = given; booked = λ i n h. k i n }
 
   pub sim-answer : (a : Answer ℕ) (d : Answer Byte) (b : List ℕ) → plainAnswer d ≡ a → Simulates (isOpening q) m (answersOf (coreWith v c) (heldAt v) a b) (endsIn q d)
   sim-answer a d b e = subst (λ x. Simulates (isOpening q) m (answersOf (coreWith v c) (heldAt v) x b) (endsIn q d)) e (go d)

@@ -5,6 +5,7 @@ use mathlib.Core.Bool.{Bool, true, false}
 use mathlib.Core.List.{List, []}
 use Prim.Native.Nat.{ℕ, _≤_}
 use native.Mathlib.Omega.{arith}
+use borrow.Author.Tests.{ltb-false}
 use lib.Dec.{eqb, ltb, leb}
 use lib.ListN.{length}
 use Rattle.errors.specs.Choice.{pick}
@@ -19,8 +20,9 @@ use Rattle.protocol.specs.Scripts.{Answer, done, type1, nothing, refused, refus
 use Rattle.stages.specs.Starts.{Start, staged, sends as sendsFirst, refuses as refusesAtOnce}
 use Rattle.stages.specs.Stages.{Decision, send, keep, next, put as putBy, pause as pauseFor, ends as endsDecision}
 use Rattle.calls.specs.Firsts.{startFor}
-use Rattle.engine.specs.Books.{isInRange, isOpen, ended, booked}
+use Rattle.engine.specs.Books.{isInRange, isOpen, byCaller, ended, booked}
 use Rattle.engine.specs.Booking.{ended-range}
+use Rattle.engine.specs.Laws.{valid-caller}
 use Rattle.engine.specs.Core.{Held, After, after, unchanged, idle, ordersOf, stageOf, endsOf, answersOf, followsOf, repliesOf, failsOf, movedOf, isLong, admittedOf, eventCore, openCore, startOn}
 use Rattle.engine.specs.Core.{isValid as validCore}
 use Rattle.engine.specs.Exchanges.{by-pick}
@@ -133,18 +135,18 @@ module _ (s : Core) (f : Held) (b : List ℕ) where
 
 -- ---- the session's numbers
 
-fault-booked : (t : Bool) (b : Books) (o : Output) → class o ≡ 1 → booked t o b ≡ ended b t 0
-fault-booked t b Ack e = absurd (omega (arith, e))
-fault-booked t b (Command n) e = absurd (omega (arith, e))
-fault-booked t b (Read ms) e = absurd (omega (arith, e))
-fault-booked t b Drain e = absurd (omega (arith, e))
-fault-booked t b (Pause us) e = absurd (omega (arith, e))
-fault-booked t b (Done n) e = absurd (omega (arith, e))
-fault-booked t b (Type1 n) e = absurd (omega (arith, e))
-fault-booked t b Nothing e = absurd (omega (arith, e))
-fault-booked t b (Failed r) e = refl
-fault-booked t b (FailedAfter r n) e = refl
-fault-booked t b (Refused r) e = absurd (omega (arith, e))
+fault-booked : (k : ℕ) (t : Bool) (b : Books) (o : Output) → class o ≡ 1 → booked k t o b ≡ ended (byCaller k b) t 0
+fault-booked k t b Ack e = absurd (omega (arith, e))
+fault-booked k t b (Command n) e = absurd (omega (arith, e))
+fault-booked k t b (Read ms) e = absurd (omega (arith, e))
+fault-booked k t b Drain e = absurd (omega (arith, e))
+fault-booked k t b (Pause us) e = absurd (omega (arith, e))
+fault-booked k t b (Done n) e = absurd (omega (arith, e))
+fault-booked k t b (Type1 n) e = absurd (omega (arith, e))
+fault-booked k t b Nothing e = absurd (omega (arith, e))
+fault-booked k t b (Failed r) e = refl
+fault-booked k t b (FailedAfter r n) e = refl
+fault-booked k t b (Refused r) e = absurd (omega (arith, e))
 
 -- numbers whose call has ended are free
 idle-free : (s : Core) (b : Books) → validCore s ≡ true → isInRange b ≡ true → isFree (state (idle s) b) ≡ true
@@ -158,6 +160,11 @@ unfolding pick
 by-test P true x y h k = h refl
 by-test P false x y h k = k
 
+by-left : (P : After State → Type 0) (t : Bool) (x y : After State) → P x → (t ≡ false → P y) → P (pick t x y)
+unfolding pick
+by-left P true x y h k = h
+by-left P false x y h k = k refl
+
 module _ (s : State) (f : Held) (b : List ℕ) where
   record Stays (a : After State) : Type 0 where
     early : (r : Refusal) → a .output ≡ Refused r → a ≡ unchanged s f r b
@@ -167,42 +174,44 @@ module _ (s : State) (f : Held) (b : List ℕ) where
   refuses-once r = record { early = λ q e. ap (λ o. after s f o b) e; late = λ e. absurd (omega (arith, e)) }
 
   -- what is booked of the running call
-  booked-stays : (t : Bool) (a : After Core) → isValid s ≡ true → Keeps (s .core) f b a → Stays (bookedAfter t (s .books) a)
+  booked-stays : (k : ℕ) (t : Bool) (a : After Core) → k ≤ 7 → isValid s ≡ true → Keeps (s .core) f b a → Stays (bookedAfter k t (s .books) a)
   unfolding isValid
-  booked-stays t a valid k = record {
-    early = λ r e. ap (bookedAfter t (s .books)) (k .early r e);
+  booked-stays c t a few valid k = record {
+    early = λ r e. ap (bookedAfter c t (s .books)) (k .early r e);
     late = λ e.
         let l = k .late e in (
-          rw (l .0, fault-booked t (s .books) (a .output) e) (idle-free (s .core) (ended (s .books) t 0) (both-left (validCore (s .core)) _ valid) (ended-range (s .books) t (both-right (validCore (s .core)) _ valid))),
+          rw (l .0, fault-booked c t (s .books) (a .output) e) (idle-free (s .core) (ended (byCaller c (s .books)) t 0) (both-left (validCore (s .core)) _ valid) (ended-range (s .books) c t (both-right (validCore (s .core)) _ valid) few)),
           l .1,
         );
   }
 
-  open-stays : (mode : ℕ) → Stays (openAfter s f mode b)
+  open-stays : (k mode : ℕ) → Stays (openAfter s f k mode b)
   unfolding openAfter openCore
-  open-stays mode =
+  open-stays k mode =
       by-pick Stays (isFree s) _ _
       (by-pick Stays (ltb (length b) 1024) _ _ (refuses-once ShortBuffer)
+      (by-pick Stays (ltb 7 k) _ _ (refuses-once BadArgument)
       (by-pick Stays (ltb 1 mode) _ _ (refuses-once BadArgument)
-      (record { early = λ r e. absurd (other-class e (λ z. omega (arith, z))); late = λ e. absurd (omega (arith, e)) })))
+      (record { early = λ r e. absurd (other-class e (λ z. omega (arith, z))); late = λ e. absurd (omega (arith, e)) }))))
       (refuses-once OutOfTurn)
 
-  start-stays : (x : Start) → Stays (startAfter s f x b)
+  start-stays : (k : ℕ) (x : Start) → Stays (startAfter s f k x b)
   unfolding startAfter
-  start-stays x =
+  start-stays k x =
       by-test Stays (isAdmitted s) _ _
       (λ admitted. by-pick Stays (ltb (length b) 1024) _ _ (refuses-once ShortBuffer)
-      (booked-stays false _ (both-left (isValid s) _ (both-left (isFree s) _ admitted)) (start-keeps (s .core) f b x)))
+      (by-left Stays (ltb 7 k) _ _ (refuses-once BadArgument)
+      (λ few. booked-stays k false _ (ltb-false 7 k few) (both-left (isValid s) _ (both-left (isFree s) _ admitted)) (start-keeps (s .core) f b x))))
       (refuses-once OutOfTurn)
 
   event-stays : (e : Event) → Stays (eventAfter s f e b)
   unfolding eventAfter
   event-stays e =
-      by-test Stays (isValid s) _ _ (λ valid. booked-stays _ _ valid (event-keeps (s .core) f b _)) (refuses-once OutOfTurn)
+      by-test Stays (isValid s) _ _ (λ valid. booked-stays _ _ _ (valid-caller s valid) valid (event-keeps (s .core) f b _)) (refuses-once OutOfTurn)
 
 all-stay : (s : State) (f : Held) (i : Input) → Stays s f (bufferOf i) (afterInput s f i)
-all-stay s f (opened mode b) = open-stays s f b mode
-all-stay s f (asks q b) = start-stays s f b (startFor q)
+all-stay s f (opened k mode b) = open-stays s f b k mode
+all-stay s f (asks k q b) = start-stays s f b k (startFor q)
 all-stay s f (tells e b) = event-stays s f b e
 
 -- ---- the session

@@ -2,7 +2,8 @@
 use super::core::Output;
 use framing::padded::extra_zeros;
 ghost use mathlib.Core.Path.{_≡_};
-ghost use Rattle.engine.specs.Books.{isInRange, noBooks, isOpen, extraIn, oneMore, counted, ended, booked as bookedOf};
+ghost use Prim.Native.Nat.{_≤_};
+ghost use Rattle.engine.specs.Books.{isInRange, noBooks, isOpen, extraIn, oneMore, byCaller, counted, ended, booked as bookedOf};
 
 pub const CLOSED: u8 = 0;
 
@@ -13,15 +14,20 @@ pub const OFF: u8 = 0;
 
 pub const PADDED: u8 = 1;
 
+// Callers are numbered from 0 to 7.
+pub const LAST_CALLER: u8 = 7;
+
 // The frame count stops here.
 pub const CEILING: u32 = 4294967295;
 
-// Whether the reader is open, the mode that the last opening chose, and the command frames ordered since that began.
+// Whether the reader is open, the mode that the last opening chose, whose call runs or ran last, and the command frames ordered since the
+// last opening began, by caller.
 #[repr(C)]
 pub struct Books {
     pub opened: u8,
     pub mode: u8,
-    pub frames: u32,
+    pub caller: u8,
+    pub frames: [u32; 8],
 }
 
 // One command frame more, up to the ceiling.
@@ -39,7 +45,8 @@ impl Books {
         Books {
             opened: CLOSED,
             mode,
-            frames: 0,
+            caller: 0,
+            frames: [0; 8],
         }
     }
 
@@ -47,11 +54,13 @@ impl Books {
     pub fn is_in_range(self) -> bool
         ensures { λ r. ⌜ r ≡ isInRange self ⌝ }
     {
-        if self.opened <= OPEN {
-            self.mode <= PADDED
-        } else {
-            false
+        if self.opened > OPEN {
+            return false;
         }
+        if self.mode > PADDED {
+            return false;
+        }
+        self.caller <= LAST_CALLER
     }
 
     // The reader is open.
@@ -75,13 +84,32 @@ impl Books {
         }
     }
 
-    fn counted(self) -> Books
-        ensures { λ r. ⌜ r ≡ counted self ⌝ }
+    // The same, for the call of another caller.
+    fn by_caller(self, caller: u8) -> Books
+        ensures { λ r. ⌜ r ≡ byCaller caller self ⌝ }
     {
+        let frames = self.frames;
         Books {
             opened: self.opened,
             mode: self.mode,
-            frames: one_more(self.frames),
+            caller,
+            frames,
+        }
+    }
+
+    // A command frame counts for the caller.
+    fn counted(self) -> Books
+        requires { ⌜ self .caller ≤ 7 ⌝ }
+        ensures { λ r. ⌜ r ≡ counted self ⌝ }
+    {
+        let mut frames = self.frames;
+        let caller = self.caller as usize;
+        frames[caller] = one_more(frames[caller]);
+        Books {
+            opened: self.opened,
+            mode: self.mode,
+            caller: self.caller,
+            frames,
         }
     }
 
@@ -90,31 +118,35 @@ impl Books {
         ensures { λ r. ⌜ r ≡ ended self opening opened ⌝ }
     {
         if opening {
+            let frames = self.frames;
             Books {
                 opened,
                 mode: self.mode,
-                frames: self.frames,
+                caller: self.caller,
+                frames,
             }
         } else {
             self
         }
     }
 
-    // What came out of a call, an opening or not: a command frame counts, and an opening's end says whether the reader is open.
-    pub fn booked(self, opening: bool, output: Output) -> Books
-        ensures { λ r. ⌜ r ≡ bookedOf opening output self ⌝ }
+    // What came out of a caller's call, an opening or not: a command frame counts, and an opening's end says whether the reader is open.
+    pub(crate) fn booked(self, caller: u8, opening: bool, output: Output) -> Books
+        requires { ⌜ caller ≤ 7 ⌝ }
+        ensures { λ r. ⌜ r ≡ bookedOf caller opening output self ⌝ }
     {
+        let books = self.by_caller(caller);
         match output {
-            Output::Command(_) => self.counted(),
-            Output::Done(_) => self.ended(opening, OPEN),
-            Output::Type1(_) => self.ended(opening, OPEN),
-            Output::Nothing => self.ended(opening, CLOSED),
-            Output::Failed(_) => self.ended(opening, CLOSED),
-            Output::FailedAfter(_, _) => self.ended(opening, CLOSED),
-            Output::Ack => self,
-            Output::Read(_) => self,
-            Output::Drain => self,
-            Output::Pause(_) => self,
+            Output::Command(_) => books.counted(),
+            Output::Done(_) => books.ended(opening, OPEN),
+            Output::Type1(_) => books.ended(opening, OPEN),
+            Output::Nothing => books.ended(opening, CLOSED),
+            Output::Failed(_) => books.ended(opening, CLOSED),
+            Output::FailedAfter(_, _) => books.ended(opening, CLOSED),
+            Output::Ack => books,
+            Output::Read(_) => books,
+            Output::Drain => books,
+            Output::Pause(_) => books,
             Output::Refused(_) => self,
         }
     }

@@ -52,7 +52,7 @@ impl Session {
         fourth: &[u8],
         buffer: &mut [u8],
     ) -> Step
-        ensures { λ r. ⌜ stepped r (now (buffer .exit)) ≡ stepWith self (callInput (callOf number numbers (now (first .entry)) (now (second .entry)) (now (third .entry)) (now (fourth .entry))) (now (buffer .entry))) ⌝ }
+        ensures { λ r. ⌜ stepped r (now (buffer .exit)) ≡ stepWith self (callInput (numbers .caller) (callOf number numbers (now (first .entry)) (now (second .entry)) (now (third .entry)) (now (fourth .entry))) (now (buffer .entry))) ⌝ }
     {
         let state = self.state;
         let mut command = self.command;

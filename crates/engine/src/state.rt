@@ -1,5 +1,6 @@
 // A session's numbers: the running call and the reader's books around it. A call is admitted and what comes out is booked here.
 use super::books::Books;
+use super::books::LAST_CALLER;
 use super::books::PADDED;
 use super::call::NO_CALL;
 use super::call::OPEN;
@@ -12,7 +13,7 @@ use errors::Refusal;
 use exchange::Event;
 ghost use mathlib.Core.List.{List};
 ghost use mathlib.Core.Path.{_≡_};
-ghost use Prim.Native.Nat.{ℕ};
+ghost use Prim.Native.Nat.{ℕ, _≤_};
 ghost use lib.ListN.{length};
 ghost use Rattle.exchange.specs.Steps.{eventOf};
 ghost use Rattle.calls.specs.Numbers.{callOf};
@@ -34,13 +35,14 @@ pub struct Effect {
 }
 
 impl Effect {
-    // What came out of a call, an opening or not, is booked.
-    fn booked(books: Books, opening: bool, progress: Progress) -> Effect
-        ensures { λ r. ⌜ ((f : Held) (b : List ℕ) → effected r f b ≡ bookedAfter opening books (progressed progress f b)) ⌝ }
+    // What came out of a caller's call, an opening or not, is booked.
+    fn booked(books: Books, caller: u8, opening: bool, progress: Progress) -> Effect
+        requires { ⌜ caller ≤ 7 ⌝ }
+        ensures { λ r. ⌜ ((f : Held) (b : List ℕ) → effected r f b ≡ bookedAfter caller opening books (progressed progress f b)) ⌝ }
     {
         let core = progress.core;
         let output = progress.output;
-        let books = books.booked(opening, output);
+        let books = books.booked(caller, opening, output);
         let state = State { core, books };
         Effect { state, output }
     }
@@ -89,7 +91,7 @@ impl State {
             let call = core.call;
             let extra = books.extra_zeros(packet);
             let progress = core.event(event, &packet[extra..], command, found, buffer);
-            Effect::booked(books, call.kind == OPEN, progress)
+            Effect::booked(books, books.caller, call.kind == OPEN, progress)
         } else {
             self.refused(Refusal::OutOfTurn)
         }
@@ -121,19 +123,22 @@ impl State {
     }
 
     // An opening begins the books anew, in its mode.
-    fn open(self, mode: u8, buffer: &mut [u8]) -> Effect
-        ensures { λ r. ⌜ ((f : Held) → effected r f (now (buffer .exit)) ≡ openAfter self f mode (now (buffer .entry))) ⌝ }
+    fn open(self, caller: u8, mode: u8, buffer: &mut [u8]) -> Effect
+        ensures { λ r. ⌜ ((f : Held) → effected r f (now (buffer .exit)) ≡ openAfter self f caller mode (now (buffer .entry))) ⌝ }
     {
         if self.is_free() {
             if buffer.len() < 1024 {
                 return self.refused(Refusal::ShortBuffer);
+            }
+            if caller > LAST_CALLER {
+                return self.refused(Refusal::BadArgument);
             }
             if mode > PADDED {
                 return self.refused(Refusal::BadArgument);
             }
             let core = self.core;
             let progress = core.open(buffer);
-            Effect::booked(Books::none(mode), true, progress)
+            Effect::booked(Books::none(mode), caller, true, progress)
         } else {
             self.refused(Refusal::OutOfTurn)
         }
@@ -151,20 +156,23 @@ impl State {
         fourth: &[u8],
         buffer: &mut [u8],
     ) -> Effect
-        ensures { λ r. ⌜ ((f : List ℕ) → effected r (held (now (command .exit)) f) (now (buffer .exit)) ≡ afterInput self (held (now (command .entry)) f) (callInput (callOf number numbers (now (first .entry)) (now (second .entry)) (now (third .entry)) (now (fourth .entry))) (now (buffer .entry)))) ⌝ }
+        ensures { λ r. ⌜ ((f : List ℕ) → effected r (held (now (command .exit)) f) (now (buffer .exit)) ≡ afterInput self (held (now (command .entry)) f) (callInput (numbers .caller) (callOf number numbers (now (first .entry)) (now (second .entry)) (now (third .entry)) (now (fourth .entry))) (now (buffer .entry)))) ⌝ }
     {
         if number == start::OPEN {
-            return self.open(numbers.x, buffer);
+            return self.open(numbers.caller, numbers.x, buffer);
         }
         if self.is_admitted() {
             if buffer.len() < 1024 {
                 return self.refused(Refusal::ShortBuffer);
             }
+            if numbers.caller > LAST_CALLER {
+                return self.refused(Refusal::BadArgument);
+            }
             let core = self.core;
             let books = self.books;
             let started = start::start(number, numbers, first, second, third, fourth, command);
             let progress = core.start(started, command, buffer);
-            Effect::booked(books, false, progress)
+            Effect::booked(books, numbers.caller, false, progress)
         } else {
             self.refused(Refusal::OutOfTurn)
         }

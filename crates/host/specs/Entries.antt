@@ -22,7 +22,7 @@ eventInput (some e) b = some (tells e b)
 
 -- the engine's entry; none for an event with a number that has none
 abbrev pub inputOf : HostEntry → Option Input
-inputOf (calling number numbers first second third fourth b) = some (callInput (callOf number numbers first second third fourth) b)
+inputOf (calling number numbers first second third fourth b) = some (callInput (numbers .caller) (callOf number numbers first second third fourth) b)
 inputOf (telling number packet b) = eventInput (eventBy number packet) b
 
 abbrev pub bufferIn : HostEntry → List ℕ

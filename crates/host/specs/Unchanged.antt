@@ -107,9 +107,9 @@ step-kept s i = record {
     late (at-once r e) h = absurd (omega (arith, h, ap (λ x. (outcomeOf x) .refusal) e, refusal-early r))
     late (later r e) h = refused-ends s i r e
 
-call-kept : (s : Session) (c : Call) (b : List ℕ) → Kept s b (reportOf (stepWith s (callInput c b)))
-call-kept s (opening mode) b = step-kept s (opens mode b)
-call-kept s (reader c) b = step-kept s (asks c b)
+call-kept : (s : Session) (k : ℕ) (c : Call) (b : List ℕ) → Kept s b (reportOf (stepWith s (callInput k c b)))
+call-kept s k (opening mode) b = step-kept s (opens k mode b)
+call-kept s k (reader c) b = step-kept s (asks k c b)
 
 event-kept : (s : Session) (e : Option Event) (b : List ℕ) → Kept s b (reportWith s (eventInput e b) b)
 event-kept s none b = record { early = λ k h. (refl, refl); late = λ k h. absurd (omega (arith, h)); listed = λ k. absurd (omega (arith, k)) }
@@ -117,5 +117,5 @@ event-kept s (some e) b = step-kept s (tells e b)
 
 -- for every session and every entry
 pub host-kept : (s : Session) (h : HostEntry) → Kept s (bufferIn h) (reportFor s h)
-host-kept s (calling number numbers first second third fourth b) = call-kept s (callOf number numbers first second third fourth) b
+host-kept s (calling number numbers first second third fourth b) = call-kept s (numbers .caller) (callOf number numbers first second third fourth) b
 host-kept s (telling number packet b) = event-kept s (eventBy number packet) b

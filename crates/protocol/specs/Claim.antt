@@ -4,14 +4,14 @@ use mathlib.Core.Bool.{Bool, true, false}
 use mathlib.Core.List.{List, [], _∷_, List·Memᴰ}
 use mathlib.Core.Option.{Option, none, some}
 use Prim.Native.Nat.{ℕ, suc, _≤_, _<_, min}
-use lib.ListN.{length, drop, getElem?}
+use lib.ListN.{length, drop, getD, getElem?}
 use Rattle.exchange.specs.Packets.{commandFrame, ackLed, response, replyOf}
 use Rattle.exchange.specs.Exchange.{write, read, drain, pause, ok, bad, pkt, time, fail, late, slept}
 use Rattle.protocol.specs.Scripts.{Byte, card, Answer, done, type1, nothing, refused, refusedAfter}
 use Rattle.protocol.specs.Calls.{Call, limit}
 use Rattle.protocol.specs.Own.{Formed, formOf}
-use Rattle.protocol.specs.Session.{Entry, Output, ceiling}
-use Rattle.protocol.specs.Record.{Item, ordered, accepted, Record, Note, recordOf, asSeen, linesOf, frames, events, allowed, framesSinceOpening}
+use Rattle.protocol.specs.Session.{Entry, Output, ceiling, lastCaller}
+use Rattle.protocol.specs.Record.{Item, ordered, accepted, Record, Note, recordOf, asSeen, linesOf, frames, events, allowed, framesBy}
 
 -- what may stand between a command's write order and the packet that serves it: read orders, the write's `ok`, ACK-led packets
 abbrev pub allowedBetween : Item → Bool
@@ -82,10 +82,11 @@ Claims l (x ∷ ns) = Claim l (length ns) (x .call) (x .answer) × Claims l ns
 abbrev pub Once : Record → Type 0
 Once l = (n m j k : ℕ) (bs cs : List ℕ) (s : Serves l n j bs) (t : Serves l m k cs) → s .packetLine ≡ t .packetLine → (n ≡ m) × (j ≡ k)
 
--- Demand 3, of a list of entries, what was given out for each, and the frame count after them: every call keeps to its frames
--- and events, its card bytes are at their places, and its other bytes are those of its form; no packet serves two commands; the
--- count is the record's. Packets are those that the mode of their call sees.
-pub record Demand3 (es : List Entry) (outs : List (Output Byte)) (count : ℕ) : Type 0 where
+-- Demand 3, of a list of entries, what was given out for each, and the frame counts after them, one for each caller: every call keeps to
+-- its frames and events, its card bytes are at their places, and its other bytes are those of its form; no packet serves two
+-- commands; the counts are the record's. Packets are those that the mode of their call sees.
+pub record Demand3 (es : List Entry) (outs : List (Output Byte)) (counts : List ℕ) : Type 0 where
   pub calls : Claims ((asSeen (recordOf es outs)) .lines) ((recordOf es outs) .notes)
   pub once : Once ((asSeen (recordOf es outs)) .lines)
-  pub counted : count ≡ min (framesSinceOpening ((recordOf es outs) .lines) ((recordOf es outs) .notes)) ceiling
+  pub eight : length counts ≡ 8
+  pub counted : (k : ℕ) → k ≤ lastCaller → getD counts k 0 ≡ min (framesBy k ((recordOf es outs) .lines) ((recordOf es outs) .notes)) ceiling

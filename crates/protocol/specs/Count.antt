@@ -1,133 +1,211 @@
--- The session's frame count is that of the record since the last opening began, up to the ceiling.
-use mathlib.Core.Path.{_≡_, refl, ap, _∙_}
+-- The session's frame counts are those of the record since the last opening began, each caller's own, up to the ceiling.
+use mathlib.Core.Path.{_≡_, refl, ap, _∙_, subst}
 use mathlib.Core.Bool.{Bool, true, false, not, cond}
 use mathlib.Core.List.{List, [], _∷_}
 use mathlib.Core.Option.{Option, none, some}
-use Prim.Native.Nat.{ℕ, _+_, _≤_, min}
+use Prim.Native.Nat.{ℕ, zero, suc, _+_, _≤_, _<_, min}
 use native.Mathlib.Omega.{arith}
-use lib.Dec.{ltb}
-use lib.ListN.{length}
+use native.Mathlib.Nat.{zero-add}
+use borrow.Author.Tests.{eqb-true, eqb-false}
+use lib.Dec.{eqb, leb, ltb}
+use lib.ListN.{length, getD}
 use Rattle.exchange.specs.Packets.{isAck}
 use Rattle.exchange.specs.Exchange.{Order, write, read, drain, pause, Event, unfit, pending, ended}
 use Rattle.protocol.specs.Scripts.{Byte, Answer}
 use Rattle.protocol.specs.Calls.{Call, opening, reader, Start, refuses, starts, startOf, isOpening}
-use Rattle.protocol.specs.Session.{CallResult, begin, progress, Running, idle, busy, Books, admits, booksFor, ceiling, addFrame, counted, Session, fresh, Entry, call, event}
-use Rattle.protocol.specs.Session.{Outcome, outcome, bufferNeed, packetLimit, seen, packetLength, admitted, eventOutcome, started, callOutcome, outcomeOf, booksAfter, given, step, outputs, sessionAfter}
-use Rattle.protocol.specs.Record.{Item, ordered, accepted, Record, Note, note, Observed, observed, addCall, addEvent, add, observe, recordOf, linesOf, seenLines, oneIf, frames, framesSinceOpening}
+use Rattle.protocol.specs.Session.{CallResult, begin, progress, Running, idle, busy, Books, lastCaller, noCounts, admits, booksFor, ceiling, addFrame, counted, countedFor, Session, fresh, Entry, call, event}
+use Rattle.protocol.specs.Session.{Outcome, unchanged, runs, ends, outcome, bufferNeed, packetLimit, seen, packetLength, admitted, eventOutcome, started, callOutcome, outcomeOf, booksAfter, given, step, outputs, sessionAfter}
+use Rattle.protocol.specs.Record.{Item, ordered, accepted, Record, Note, note, Observed, observed, addCall, addEvent, add, observe, recordOf, linesOf, seenLines, oneIf, frames, framesBy}
 use Rattle.protocol.specs.Laws.{split, lines-own, lines-other}
 use Rattle.protocol.specs.Theorem.{Agrees, AgreesWith, unused, agrees, fresh-agrees}
-use Rattle.protocol.specs.Seen.{Unused, no-lines}
+use Rattle.protocol.specs.Seen.{Unused, no-lines, callerAt}
+
+-- ---- one count among those of the callers
+
+pub length-counted : (j : ℕ) (x : Order) (ns : List ℕ) → length (countedFor j x ns) ≡ length ns
+length-counted j x [] = refl
+length-counted zero x (n ∷ ns) = refl
+length-counted (suc j) x (n ∷ ns) = ap suc (length-counted j x ns)
+
+-- the count of k, where an order of j is counted
+count-own : (k : ℕ) (x : Order) (ns : List ℕ) → k < length ns → getD (countedFor k x ns) k 0 ≡ counted x (getD ns k 0)
+count-own k x [] h = absurd (omega arith)
+count-own zero x (n ∷ ns) h = refl
+count-own (suc k) x (n ∷ ns) h = count-own k x ns (omega arith)
+
+count-other : (k j : ℕ) (x : Order) (ns : List ℕ) → (k ≡ j → ⊥) → getD (countedFor j x ns) k 0 ≡ getD ns k 0
+count-other k j x [] h = refl
+count-other zero zero x (n ∷ ns) h = absurd (h refl)
+count-other zero (suc j) x (n ∷ ns) h = refl
+count-other (suc k) zero x (n ∷ ns) h = refl
+count-other (suc k) (suc j) x (n ∷ ns) h = count-other k j x ns (λ e. h (ap suc e))
+
+count-of : (k j : ℕ) (x : Order) (ns : List ℕ) → k < length ns
+    → getD (countedFor j x ns) k 0 ≡ cond (eqb k j) (counted x (getD ns k 0)) (getD ns k 0)
+count-of k j x ns h =
+    split (λ n. getD (countedFor j x ns) k 0 ≡ n) (eqb k j) _ _
+    (λ e. subst (λ i. getD (countedFor i x ns) k 0 ≡ counted x (getD ns k 0)) (eqb-true k j e) (count-own k x ns h))
+    (λ e. count-other k j x ns (eqb-false k j e))
+
+abbrev AllZero : List ℕ → Type 0
+AllZero [] = Unit {0}
+AllZero (n ∷ ns) = (n ≡ 0) × AllZero ns
+
+all-zero : AllZero noCounts
+all-zero = (refl, (refl, (refl, (refl, (refl, (refl, (refl, (refl, tt))))))))
+
+no-counts : (k : ℕ) (ns : List ℕ) → AllZero ns → getD ns k 0 ≡ 0
+no-counts k [] h = refl
+no-counts zero (n ∷ ns) h = h .0
+no-counts (suc k) (n ∷ ns) h = no-counts k ns (h .1)
 
 -- an order, on top of m frames of other calls
-counted-right : (k : ℕ) (xs : List Item) (x : Order) (m : ℕ) → k ≡ min (frames xs + m) ceiling → counted x k ≡ min (frames (ordered x ∷ xs) + m) ceiling
-counted-right k xs (write bytes) m e = go (isAck bytes)
+counted-right : (n : ℕ) (xs : List Item) (x : Order) (m : ℕ) → n ≡ min (frames xs + m) ceiling → counted x n ≡ min (frames (ordered x ∷ xs) + m) ceiling
+counted-right n xs (write bytes) m e = go (isAck bytes)
   where
-    go : (b : Bool) → addFrame b k ≡ min (oneIf (not b) + frames xs + m) ceiling
+    go : (b : Bool) → addFrame b n ≡ min (oneIf (not b) + frames xs + m) ceiling
     go true = omega arith
     go false = omega arith
-counted-right k xs (read ms) m e = omega arith
-counted-right k xs drain m e = omega arith
-counted-right k xs (pause us) m e = omega arith
+counted-right n xs (read ms) m e = omega arith
+counted-right n xs drain m e = omega arith
+counted-right n xs (pause us) m e = omega arith
 
--- lines of a later call do not count
-older : (l : Record) (n : ℕ) (x : Item) (ns : List Note) → length ns ≤ n → framesSinceOpening ((n, x) ∷ l) ns ≡ framesSinceOpening l ns
-older l n x [] h = refl
-older l n x (y ∷ ns) h = rw (lines-other (length ns) n l x (λ q. omega arith), older l n x ns (omega arith))
+-- the same where it is an order of this caller, or not
+mine-right : (mine : Bool) (n : ℕ) (xs : List Item) (x : Order) (m : ℕ) → n ≡ min (cond mine (frames xs) 0 + m) ceiling
+    → cond mine (counted x n) n ≡ min (cond mine (frames (ordered x ∷ xs)) 0 + m) ceiling
+mine-right true n xs x m e = counted-right n xs x m e
+mine-right false n xs x m e = e
 
--- k is the record's count
-abbrev pub Right : ℕ → Observed → Type 0
-Right k w = k ≡ min (framesSinceOpening (w .lines) (w .notes)) ceiling
+-- ---- the counts of a caller k
 
--- ---- a call
+module _ (k : ℕ) (few : k ≤ lastCaller) where
+  -- lines of a later call do not count
+  older : (l : Record) (n : ℕ) (x : Item) (ns : List Note) → length ns ≤ n → framesBy k ((n, x) ∷ l) ns ≡ framesBy k l ns
+  older l n x [] h = refl
+  older l n x (y ∷ ns) h = rw (lines-other (length ns) n l x (λ q. omega arith), older l n x ns (omega arith))
 
-module _ (b : Books) (l : Record) (ns : List Note) (c : Call) (room : ℕ) (u : Unused l (length ns)) (right : Right (b .count) (observed l ns)) where
-  abbrev n : ℕ
-  n = length ns
+  -- the count of k is the record's
+  abbrev Right : Books → Observed → Type 0
+  Right b w = (length (b .counts) ≡ 8) × (getD (b .counts) k 0 ≡ min (framesBy k (w .lines) (w .notes)) ceiling)
 
-  abbrev Starts : Outcome → Type 0
-  Starts o = Right ((booksAfter b (call c room) o) .count) (addCall c l ns (given o))
+  -- ---- a call
 
-  -- the count from which the call starts, and its first order
-  base : (d : Call) → (booksFor d b) .count ≡ min (0 + cond (isOpening d) 0 (framesSinceOpening l ns)) ceiling
-  base (opening mode) = omega arith
-  base (reader d) = omega arith
+  module _ (b : Books) (l : Record) (ns : List Note) (caller : ℕ) (c : Call) (room : ℕ) (u : Unused l (length ns)) (right : Right b (observed l ns)) where
+    abbrev n : ℕ
+    n = length ns
 
-  no-line : linesOf n l ≡ []
-  no-line = no-lines l n n u (omega arith)
+    abbrev mine : Bool
+    mine = eqb k caller
 
-  ordered-right : (x : Order) → counted x ((booksFor c b) .count) ≡ min (framesSinceOpening ((n, ordered x) ∷ l) (note c none ∷ ns)) ceiling
-  ordered-right x =
-      rw (lines-own n l (ordered x) [] no-line, older l n (ordered x) ns (omega arith))
-      (counted-right ((booksFor c b) .count) [] x (cond (isOpening c) 0 (framesSinceOpening l ns)) (base c))
+    abbrev Starts : Outcome → Type 0
+    Starts o = Right (booksAfter b (call caller c room) o) (addCall caller c l ns (given o))
 
-  -- a call that ends at once
-  ended-right : (a : Answer Byte) → Right ((booksFor c b) .count) (observed l (note c (some a) ∷ ns))
-  ended-right a = let z : frames (linesOf n l) ≡ 0 = ap frames no-line in rw z (base c)
+    -- the counts from which the call starts, and its first order
+    none-yet : (t : Bool) (m : ℕ) → cond t 0 0 + m ≡ m
+    none-yet true m = omega arith
+    none-yet false m = omega arith
 
-  begin-right : (r : CallResult) → Starts (outcome c r)
-  begin-right unfit = right
-  begin-right (pending x phase) = ordered-right x
-  begin-right (ended a) = ended-right a
+    eight : (d : Call) → length ((booksFor caller d b) .counts) ≡ 8
+    eight (opening mode) = refl
+    eight (reader d) = right .0
 
-  started-right : (s : Start) → Starts (started c s)
-  started-right (refuses r) = right
-  started-right (starts s) = begin-right (begin (isOpening c) s)
+    base : (d : Call) → getD ((booksFor caller d b) .counts) k 0 ≡ min (cond mine 0 0 + cond (isOpening d) 0 (framesBy k l ns)) ceiling
+    base (opening mode) = no-counts k noCounts all-zero ∙ rw (none-yet mine 0) refl
+    base (reader d) = rw (none-yet mine (framesBy k l ns)) (right .1)
 
-  call-right : (isAdmitted : Bool) → Starts (callOutcome isAdmitted c room)
-  call-right isAdmitted =
-      split Starts isAdmitted _ _
-      (λ _. split Starts (ltb room bufferNeed) _ _ (λ _. right) (λ _. started-right (startOf c)))
-      (λ _. right)
+    no-line : linesOf n l ≡ []
+    no-line = no-lines l n n u (omega arith)
 
--- ---- an event
+    ordered-right : (x : Order) → getD (countedFor caller x ((booksFor caller c b) .counts)) k 0
+        ≡ min (framesBy k ((n, ordered x) ∷ l) (note caller c none ∷ ns)) ceiling
+    ordered-right x =
+        count-of k caller x ((booksFor caller c b) .counts) (let e : length ((booksFor caller c b) .counts) ≡ 8 = eight c in omega arith)
+        ∙ rw (lines-own n l (ordered x) [] no-line, older l n (ordered x) ns (omega arith))
+        (mine-right mine (getD ((booksFor caller c b) .counts) k 0) [] x (cond (isOpening c) 0 (framesBy k l ns)) (base c))
 
-module _ (c : Call) (b : Books) (l : Record) (y : Note) (ns : List Note) (e : Event) (room : ℕ) (right : Right (b .count) (observed l (y ∷ ns))) where
-  abbrev Goes : Outcome → Type 0
-  Goes o = Right ((booksAfter b (event e room) o) .count) (addEvent e l (y ∷ ns) (given o))
+    caller-of : (d : Call) → (booksFor caller d b) .caller ≡ caller
+    caller-of (opening mode) = refl
+    caller-of (reader d) = refl
 
-  accepted-right : (a : Option (Answer Byte)) → Right (b .count) (observed ((length ns, accepted e) ∷ l) (note (y .call) a ∷ ns))
-  accepted-right a =
-      rw (lines-own (length ns) l (accepted e) (linesOf (length ns) l) refl, older l (length ns) (accepted e) ns (omega arith)) (omega arith)
+    begin-right : (r : CallResult) → Starts (outcome c r)
+    begin-right unfit = right
+    begin-right (pending x phase) =
+        rw (caller-of c) (length-counted caller x ((booksFor caller c b) .counts) ∙ eight c, ordered-right x)
+    begin-right (ended a) = (eight c, rw no-line (base c))
 
-  goes-right : (r : CallResult) → Goes (outcome c r)
-  goes-right unfit = right
-  goes-right (pending x new) =
-      let k : ℕ = length ns in
-      let l₁ : Record = (k, accepted e) ∷ l in
-      let own : linesOf k ((k, ordered x) ∷ l₁) ≡ ordered x ∷ accepted e ∷ linesOf k l =
-      lines-own k l₁ (ordered x) (accepted e ∷ linesOf k l) (lines-own k l (accepted e) (linesOf k l) refl) in
-      let old : framesSinceOpening ((k, ordered x) ∷ l₁) ns ≡ framesSinceOpening l ns =
-      older l₁ k (ordered x) ns (omega arith) ∙ older l k (accepted e) ns (omega arith) in
-      rw (own, old) (counted-right (b .count) (accepted e ∷ linesOf k l) x (cond (isOpening (y .call)) 0 (framesSinceOpening l ns)) (omega arith))
-  goes-right (ended a) = accepted-right (some a)
+    started-right : (s : Start) → Starts (started c s)
+    started-right (refuses r) = right
+    started-right (starts s) = begin-right (begin (isOpening c) s)
 
-  -- d: the event as it is seen
-  admitted-right : (d : Event) (o : Outcome) → Goes o → Goes (admitted d room o)
-  admitted-right d o h =
-      split Goes (ltb room bufferNeed) _ _ (λ _. right) (λ _. split Goes (ltb packetLimit (packetLength d)) _ _ (λ _. right) (λ _. h))
+    call-right : (isAdmitted : Bool) → Starts (callOutcome isAdmitted caller c room)
+    call-right isAdmitted =
+        split Starts isAdmitted _ _
+        (λ _. split Starts (ltb room bufferNeed) _ _ (λ _. right) (λ _. split Starts (leb caller lastCaller) _ _ (λ _. started-right (startOf c)) (λ _. right)))
+        (λ _. right)
 
-  event-right : (d : Event) (r : CallResult) → Goes (eventOutcome c d room r)
-  event-right d unfit = right
-  event-right d (pending x new) = admitted-right d (outcome c (pending x new)) (goes-right (pending x new))
-  event-right d (ended a) = admitted-right d (outcome c (ended a)) (goes-right (ended a))
+  -- ---- an event
 
--- ---- any list
+  module _ (c : Call) (b : Books) (l : Record) (y : Note) (ns : List Note) (e : Event) (room : ℕ) (whose : b .caller ≡ y .caller) (right : Right b (observed l (y ∷ ns))) where
+    abbrev Goes : Outcome → Type 0
+    Goes o = Right (booksAfter b (event e room) o) (addEvent e l (y ∷ ns) (given o))
 
-entry-right : (p : Running) (b : Books) (l : Record) (ns : List Note) (e : Entry) → Agrees p (seenLines l ns) ns → Unused l (length ns) → Right (b .count) (observed l ns)
-    → Right ((booksAfter b e (outcomeOf p b e)) .count) (add (observed l ns) e (given (outcomeOf p b e)))
-entry-right idle b l ns (call c room) i u r = call-right b l ns c room u r (admits b c)
-entry-right idle b l [] (event e room) i u r = r
-entry-right idle b l (y ∷ ns) (event e room) i u r = r
-entry-right (busy d phase) b l ns (call c room) i u r = r
-entry-right (busy c phase) b l [] (event e room) i u r = absurd i
-entry-right (busy c phase) b l (y ∷ ns) (event e room) i u r =
-    event-right c b l y ns e room r (seen (b .padded) e) (progress phase (seen (b .padded) e))
+    accepted-right : (a : Option (Answer Byte)) → getD (b .counts) k 0 ≡ min (framesBy k ((length ns, accepted e) ∷ l) (note (y .caller) (y .call) a ∷ ns)) ceiling
+    accepted-right a =
+        rw (lines-own (length ns) l (accepted e) (linesOf (length ns) l) refl, older l (length ns) (accepted e) ns (omega arith), zero-add (frames (linesOf (length ns) l))) (right .1)
 
-right-after : (s : Session) (w : Observed) (es : List Entry) → AgreesWith s w → Right (s .books .count) w
-    → Right ((sessionAfter s es) .books .count) (observe w es (outputs s es))
-right-after s w [] i r = r
-right-after s w (e ∷ es) i r =
-    right-after ((step s e) .0) (add w e ((step s e) .1)) es (agrees s w e i) (entry-right (s .running) (s .books) (w .lines) (w .notes) e (i .running) (unused s w i) r)
+    goes-right : (r : CallResult) → Goes (outcome c r)
+    goes-right unfit = right
+    goes-right (pending x new) =
+        let n : ℕ = length ns in
+        let l₁ : Record = (n, accepted e) ∷ l in
+        let own : linesOf n ((n, ordered x) ∷ l₁) ≡ ordered x ∷ accepted e ∷ linesOf n l =
+        lines-own n l₁ (ordered x) (accepted e ∷ linesOf n l) (lines-own n l (accepted e) (linesOf n l) refl) in
+        let old : framesBy k ((n, ordered x) ∷ l₁) ns ≡ framesBy k l ns =
+        older l₁ n (ordered x) ns (omega arith) ∙ older l n (accepted e) ns (omega arith) in
+        let before : getD (b .counts) k 0 ≡ min (cond (eqb k (y .caller)) (frames (accepted e ∷ linesOf n l)) 0 + cond (isOpening (y .call)) 0 (framesBy k l ns)) ceiling =
+        rw (zero-add (frames (linesOf n l))) (right .1) in (
+          length-counted (b .caller) x (b .counts) ∙ right .0,
+          count-of k (b .caller) x (b .counts) (omega (arith, right .0))
+              ∙ rw (whose, own, old)
+              (mine-right (eqb k (y .caller)) (getD (b .counts) k 0) (accepted e ∷ linesOf n l) x (cond (isOpening (y .call)) 0 (framesBy k l ns)) before),
+        )
+    goes-right (ended a) = (right .0, accepted-right (some a))
 
-pub count-right : (es : List Entry) → Right ((sessionAfter fresh es) .books .count) (recordOf es (outputs fresh es))
-count-right es = right-after fresh (observed [] []) es fresh-agrees (omega arith)
+    -- d: the event as it is seen
+    admitted-right : (d : Event) (o : Outcome) → Goes o → Goes (admitted d room o)
+    admitted-right d o h =
+        split Goes (ltb room bufferNeed) _ _ (λ _. right) (λ _. split Goes (ltb packetLimit (packetLength d)) _ _ (λ _. right) (λ _. h))
+
+    event-right : (d : Event) (r : CallResult) → Goes (eventOutcome c d room r)
+    event-right d unfit = right
+    event-right d (pending x new) = admitted-right d (outcome c (pending x new)) (goes-right (pending x new))
+    event-right d (ended a) = admitted-right d (outcome c (ended a)) (goes-right (ended a))
+
+  -- ---- any list
+
+  entry-right : (p : Running) (b : Books) (l : Record) (ns : List Note) (e : Entry) → Agrees p (seenLines l ns) ns → Unused l (length ns) → b .caller ≡ callerAt ns
+      → Right b (observed l ns) → Right (booksAfter b e (outcomeOf p b e)) (add (observed l ns) e (given (outcomeOf p b e)))
+  entry-right idle b l ns (call caller c room) i u w r = call-right b l ns caller c room u r (admits b c)
+  entry-right idle b l [] (event e room) i u w r = r
+  entry-right idle b l (y ∷ ns) (event e room) i u w r = r
+  entry-right (busy d phase) b l ns (call caller c room) i u w r = r
+  entry-right (busy c phase) b l [] (event e room) i u w r = absurd i
+  entry-right (busy c phase) b l (y ∷ ns) (event e room) i u w r =
+      event-right c b l y ns e room w r (seen (b .padded) e) (progress phase (seen (b .padded) e))
+
+  right-after : (s : Session) (w : Observed) (es : List Entry) → AgreesWith s w → Right (s .books) w
+      → Right ((sessionAfter s es) .books) (observe w es (outputs s es))
+  right-after s w [] i r = r
+  right-after s w (e ∷ es) i r =
+      right-after ((step s e) .0) (add w e ((step s e) .1)) es (agrees s w e i)
+      (entry-right (s .running) (s .books) (w .lines) (w .notes) e (i .running) (unused s w i) (i .caller) r)
+
+  fresh-right : Right (fresh .books) (observed [] [])
+  fresh-right = (refl, no-counts k noCounts all-zero)
+
+pub eight-counts : (es : List Entry) → length ((sessionAfter fresh es) .books .counts) ≡ 8
+eight-counts es = (right-after 0 (omega arith) fresh (observed [] []) es fresh-agrees (fresh-right 0 (omega arith))) .0
+
+pub counts-right : (es : List Entry) (k : ℕ) → k ≤ lastCaller
+    → getD ((sessionAfter fresh es) .books .counts) k 0 ≡ min (framesBy k ((recordOf es (outputs fresh es)) .lines) ((recordOf es (outputs fresh es)) .notes)) ceiling
+counts-right es k few = (right-after k few fresh (observed [] []) es fresh-agrees (fresh-right k few)) .1

@@ -5,11 +5,12 @@ use Rattle.protocol.specs.Record.{recordOf, asSeen}
 use Rattle.protocol.specs.Claim.{Demand3}
 use Rattle.protocol.specs.Theorem.{all-claims}
 use Rattle.protocol.specs.Once.{once}
-use Rattle.protocol.specs.Count.{count-right}
+use Rattle.protocol.specs.Count.{eight-counts, counts-right}
 
-pub demand3 : (es : List Entry) → Demand3 es (outputs fresh es) ((sessionAfter fresh es) .books .count)
+pub demand3 : (es : List Entry) → Demand3 es (outputs fresh es) ((sessionAfter fresh es) .books .counts)
 demand3 es = record {
   calls = all-claims es;
   once = once ((asSeen (recordOf es (outputs fresh es))) .lines);
-  counted = count-right es;
+  eight = eight-counts es;
+  counted = counts-right es;
 }

@@ -28,10 +28,10 @@ pub record Machine : Type 1 where
   pub entry : Input → Entry
   pub new : State
   pub act : State → Input → State × Output ℕ
-  pub count : State → ℕ
+  pub frames : State → List ℕ  -- the counts
   pub Means : State → Session → Type 0
   pub begins : Means new fresh
-  pub counts : (s : State) (m : Session) → Means s m → count s ≡ m .books .count
+  pub counts : (s : State) (m : Session) → Means s m → frames s ≡ m .books .counts
   pub follows : (s : State) (m : Session) (i : Input) → Means s m
       → Means ((act s i) .0) ((step m (entry i)) .0) × ((act s i) .1 ≡ plain ((step m (entry i)) .1))
 
@@ -47,10 +47,10 @@ module _ (M : Machine) where
   abbrev pub entries : List (M .Input) → List Entry
   entries is = map (M .entry) is
 
-  -- demand 3 of the machine: what it gives out is what the definitions give out, places left out, and the count is its own
+  -- demand 3 of the machine: what it gives out is what the definitions give out, places left out, and the counts are its own
   pub record Obeys (is : List (M .Input)) : Type 0 where
     pub same : givenOut (M .new) is ≡ map plain (outputs fresh (entries is))
-    pub demand : Demand3 (entries is) (outputs fresh (entries is)) (M .count (stateAfter (M .new) is))
+    pub demand : Demand3 (entries is) (outputs fresh (entries is)) (M .frames (stateAfter (M .new) is))
 
   pub same-out : (s : M .State) (m : Session) → M .Means s m → (is : List (M .Input)) → givenOut s is ≡ map plain (outputs m (entries is))
   same-out s m h [] = refl
@@ -65,8 +65,8 @@ module _ (M : Machine) where
   pub same-given : (is : List (M .Input)) → givenOut (M .new) is ≡ map plain (outputs fresh (entries is))
   same-given is = same-out (M .new) fresh (M .begins) is
 
-  pub same-count : (is : List (M .Input)) → M .count (stateAfter (M .new) is) ≡ (sessionAfter fresh (entries is)) .books .count
-  same-count is = M .counts (stateAfter (M .new) is) (sessionAfter fresh (entries is)) (still-means (M .new) fresh (M .begins) is)
+  pub same-counts : (is : List (M .Input)) → M .frames (stateAfter (M .new) is) ≡ (sessionAfter fresh (entries is)) .books .counts
+  same-counts is = M .counts (stateAfter (M .new) is) (sessionAfter fresh (entries is)) (still-means (M .new) fresh (M .begins) is)
 
   pub obeys : (is : List (M .Input)) → Obeys is
-  obeys is = record { same = same-given is; demand = rw (same-count is) (demand3 (entries is)) }
+  obeys is = record { same = same-given is; demand = rw (same-counts is) (demand3 (entries is)) }

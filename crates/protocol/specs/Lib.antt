@@ -29,4 +29,5 @@ pub mod Seen
 pub mod Theorem
 pub mod Once
 pub mod Count
+pub mod CountSum
 pub mod Reference

@@ -6,10 +6,10 @@ use mathlib.Core.Option.{Option, none, some}
 use Prim.Native.Nat.{ℕ, suc, _+_, _/_, _%_, _≤_}
 use native.Mathlib.Omega.{arith}
 use borrow.Author.Tests.{eq-eqb}
-use lib.Dec.{eqb, ltb}
+use lib.Dec.{eqb, ltb, leb}
 use lib.ListN.{length}
 use Rattle.errors.specs.declared.Refusal.{Refusal}
-use Rattle.errors.specs.declared.Refusal.the-variants.{OutOfTurn, ShortBuffer, OverLong, Bitrate as BadBitrate}
+use Rattle.errors.specs.declared.Refusal.the-variants.{OutOfTurn, ShortBuffer, OverLong, Bitrate as BadBitrate, BadArgument}
 use Rattle.errors.specs.declared.Fault.{Fault}
 use Rattle.errors.specs.declared.Fault.the-variants.{NoCard}
 use Rattle.framing.specs.Lists.{both-false-r}
@@ -22,7 +22,7 @@ use Rattle.protocol.specs.Discovery.{codeEnd, sensfReq, pollCodes}
 use Rattle.protocol.specs.Discovery as discovery
 use Rattle.targets.specs.Bitrates.{Choice, chosen, noCode, choiceOf}
 use Rattle.protocol.specs.Calls.{Call, Start, refuses, starts, onCode, withBitrate, codeFor, typeFCode, reader, device, pollTypeF, systemCodesFit, wordsIn}
-use Rattle.protocol.specs.Session.{Phase, seen}
+use Rattle.protocol.specs.Session.{Phase, seen, lastCaller}
 use Rattle.protocol.specs.Session.{CallResult, enter, progress, idle, busy, Books, Session, call}
 use Rattle.protocol.specs.Session.{Outcome, unchanged, runs, ends, outcome, bufferNeed, packetLimit, packetLength, admitted, eventOutcome, bookOrder, outcomeOf, given, after}
 use Rattle.protocol.specs.Record.{Item, ordered, accepted, Record, Note, note, observed, addCall, addEvent, linesOf, oneIf, isCommand, frames}
@@ -70,7 +70,11 @@ abbrev busyWith : Call → Phase → Books → Session
 busyWith c p b = record { running = busy c p; books = b }
 
 -- `code`: the bitrate's, to the chip
-module _ (text words : List ℕ) (room code : ℕ) (takes : (f : ℕ → Start) → codeFor typeFCode text f ≡ f code) (enough : ltb room bufferNeed ≡ false) where
+module _ (caller : ℕ) (known : leb caller lastCaller ≡ true) (text words : List ℕ) (room code : ℕ) (takes : (f : ℕ → Start) → codeFor typeFCode text f ≡ f code) (enough : ltb room bufferNeed ≡ false) where
+  -- the books as its calls have them
+  abbrev hers : Books → Books
+  hers b = record { opened = b .opened; padded = b .padded; caller = caller; counts = b .counts }
+
   abbrev listCall : Call
   listCall = reader (device (pollTypeF text words))
 
@@ -104,17 +108,17 @@ module _ (text words : List ℕ) (room code : ℕ) (takes : (f : ℕ → Start) 
 
   -- the runs of the one call and of the single calls, of which one is on
   abbrev one : Books → Record → Phase → List Refusal → List EventAndRoom → Run
-  one b l p x es = from (observed l (note listCall none ∷ [])) x (busyWith listCall p b) (map eventEntry es)
+  one b l p x es = from (observed l (note caller listCall none ∷ [])) x (busyWith listCall p (hers b)) (map eventEntry es)
 
   abbrev many : Books → Record → List Note → ℕ → List ℕ → Phase → List Refusal → List EventAndRoom → Run
   many b m ns systemCode codes q x es =
-      from (observed m (note (single text systemCode) none ∷ ns)) x (busyWith (single text systemCode) q b)
-      (handOn room es (busyWith (single text systemCode) q b) (map (single text) codes))
+      from (observed m (note caller (single text systemCode) none ∷ ns)) x (busyWith (single text systemCode) q (hers b))
+      (handOn caller room es (busyWith (single text systemCode) q (hers b)) (map (single text) codes))
 
   -- the first where the event e has this outcome
   abbrev oneStep : Books → Record → Phase → List Refusal → List EventAndRoom → EventAndRoom → Outcome → Run
   oneStep b l p x es e o =
-      from (addEvent (e .0) l (note listCall none ∷ []) (given o)) (addRefusal (given o) x) (after (busyWith listCall p b) (eventEntry e) o) (map eventEntry es)
+      from (addEvent (e .0) l (note caller listCall none ∷ []) (given o)) (addRefusal (given o) x) (after (busyWith listCall p (hers b)) (eventEntry e) o) (map eventEntry es)
 
   abbrev BusyEqual : List EventAndRoom → Type 0
   BusyEqual es = (b : Books) (l m : Record) (ns : List Note) (systemCode : ℕ) (codes : List ℕ) (p q : Phase) (x : List Refusal)
@@ -122,16 +126,16 @@ module _ (text words : List ℕ) (room code : ℕ) (takes : (f : ℕ → Start) 
 
   -- the next single call is begun
   begun : (b : Books) → b .opened ≡ true → (systemCode : ℕ)
-      → outcomeOf idle b (call (single text systemCode) room) ≡ outcome (single text systemCode) (enter (discovery.detectTypeF code (sensfReq systemCode 0x01 0x00)))
-  begun b o systemCode = rw (o, enough, takes (λ code. starts (discovery.detectTypeF code (sensfReq systemCode 0x01 0x00)))) refl
+      → outcomeOf idle (hers b) (call caller (single text systemCode) room) ≡ outcome (single text systemCode) (enter (discovery.detectTypeF code (sensfReq systemCode 0x01 0x00)))
+  begun b o systemCode = rw (o, enough, known, takes (λ code. starts (discovery.detectTypeF code (sensfReq systemCode 0x01 0x00)))) refl
 
   -- an event e ends a code, and the list goes on, after k commands; a: the single call's answer
   module _ (es : List EventAndRoom) (ih : BusyEqual es) (b : Books) (isOpen : b .opened ≡ true) (l m : Record) (ns : List Note) (systemCode : ℕ) (p : Phase) (x : List Refusal)
       (e : EventAndRoom) (a : Answer Byte) (k : ℕ) (found : List Byte) (lines : items l ≡ items m) (unused : Unused m (suc (length ns)))
-      (before : Behind (withEvent m ns e) (note (single text systemCode) (some a) ∷ ns) k found)
+      (before : Behind (withEvent m ns e) (note caller (single text systemCode) (some a) ∷ ns) k found)
       (newest : (o : Option (Answer Byte)) → byNewest o (length ns) (some a) ≡ o) where
     abbrev ns₁ : List Note
-    ns₁ = note (single text systemCode) (some a) ∷ ns
+    ns₁ = note caller (single text systemCode) (some a) ∷ ns
 
     none-later : Unused (withEvent m ns e) (suc (suc (length ns)))
     none-later = more-unused (withEvent m ns e) (suc (length ns)) (omega arith, unused)
@@ -144,10 +148,10 @@ module _ (text words : List ℕ) (room code : ℕ) (takes : (f : ℕ → Start) 
 
     goes-on : (codes : List ℕ) → suc (length ns) + length codes ≡ n → Equal n
         (oneStep b l p x es e (outcome listCall (enter (pollCodes code k (suc (length ns)) found codes))))
-        (from (observed (withEvent m ns e) ns₁) x (idleWith b) (withNext room (map (single text) codes) (idleWith b) (handOn room es)))
+        (from (observed (withEvent m ns e) ns₁) x (idleWith (hers b)) (withNext caller room (map (single text) codes) (idleWith (hers b)) (handOn caller room es)))
     goes-on [] total =
         let all : eqb (length ns₁) n ≡ true = eq-eqb (length ns₁) n (omega arith) in
-        idle-equal n room es b _ _ x [] record {
+        idle-equal n caller room es (hers b) _ _ x [] record {
           lines = ap (λ (xs : List Item). accepted (e .0) ∷ xs) lines;
           answer = rw (newest (allFinished n (withEvent m ns e) ns₁), all, before .foundIs) refl;
         }
@@ -156,12 +160,12 @@ module _ (text words : List ℕ) (room code : ℕ) (takes : (f : ℕ → Start) 
         (λ o. Equal n
         (oneStep b l p x es e (outcome listCall (enter (pollCodes code k (suc (length ns)) found (y ∷ codes)))))
         (from
-        (addCall (single text y) (withEvent m ns e) ns₁ (given o))
+        (addCall caller (single text y) (withEvent m ns e) ns₁ (given o))
         (addRefusal (given o) x)
-        (after (idleWith b) (call (single text y) room) o)
-        (handOn room es (after (idleWith b) (call (single text y) room) o) (map (single text) codes))))
+        (after (idleWith (hers b)) (call caller (single text y) room) o)
+        (handOn caller room es (after (idleWith (hers b)) (call caller (single text y) room) o) (map (single text) codes))))
         (begun b isOpen y)
-        (ih (bookOrder askField b) ((0, ordered askField) ∷ (0, accepted (e .0)) ∷ l) ((suc (length ns), ordered askField) ∷ withEvent m ns e) ns₁ y codes _ _ x isOpen record {
+        (ih (bookOrder askField (hers b)) ((0, ordered askField) ∷ (0, accepted (e .0)) ∷ l) ((suc (length ns), ordered askField) ∷ withEvent m ns e) ns₁ y codes _ _ x isOpen record {
           first = k;
           found = found;
           k = suc k;
@@ -181,10 +185,10 @@ module _ (text words : List ℕ) (room code : ℕ) (takes : (f : ℕ → Start) 
 
     abbrev manyAfter : Outcome → Run
     manyAfter o =
-        let s : Session = after (busyWith (single text systemCode) q b) (eventEntry e) o in
+        let s : Session = after (busyWith (single text systemCode) q (hers b)) (eventEntry e) o in
         let cs : List Call = map (single text) codes in
-        from (addEvent (e .0) m (note (single text systemCode) none ∷ ns) (given o)) (addRefusal (given o) x) s
-        (cond (endsCode (given o)) (withNext room cs s (handOn room es)) (handOn room es s cs))
+        from (addEvent (e .0) m (note caller (single text systemCode) none ∷ ns) (given o)) (addRefusal (given o) x) s
+        (cond (endsCode (given o)) (withNext caller room cs s (handOn caller room es)) (handOn caller room es s cs))
 
     abbrev Both : Outcome → Outcome → Type 0
     Both o u = Equal n (oneAfter o) (manyAfter u)
@@ -203,7 +207,7 @@ module _ (text words : List ℕ) (room code : ℕ) (takes : (f : ℕ → Start) 
     both-run : (y : Order) (p′ q′ : Phase) → Along (follows (g .first) (length ns) (g .found) codes) (oneIf (isCommand (ordered y)) + g .k) p′ q′
         → Both (runs listCall y p′) (runs (single text systemCode) y q′)
     both-run y p′ q′ i =
-        ih (bookOrder y b) ((0, ordered y) ∷ (0, accepted (e .0)) ∷ l) ((length ns, ordered y) ∷ withEvent m ns e) ns systemCode codes p′ q′ x isOpen record {
+        ih (bookOrder y (hers b)) ((0, ordered y) ∷ (0, accepted (e .0)) ∷ l) ((length ns, ordered y) ∷ withEvent m ns e) ns systemCode codes p′ q′ x isOpen record {
           first = g .first;
           found = g .found;
           k = oneIf (isCommand (ordered y)) + g .k;
@@ -217,7 +221,7 @@ module _ (text words : List ℕ) (room code : ℕ) (takes : (f : ℕ → Start) 
 
     -- the code has ended: with a card, or without one
     behind-more : (a : Answer Byte)
-        → Behind (withEvent m ns e) (note (single text systemCode) (some a) ∷ ns) (g .k) (g .found ++ map (behind (g .first)) (codeBytes (some a)))
+        → Behind (withEvent m ns e) (note caller (single text systemCode) (some a) ∷ ns) (g .k) (g .found ++ map (behind (g .first)) (codeBytes (some a)))
     behind-more a =
         let old : Behind (withEvent m ns e) ns (g .first) (g .found) = behind-later (length ns) (accepted (e .0)) (omega arith) (g .before) in
         record {
@@ -228,17 +232,17 @@ module _ (text words : List ℕ) (room code : ℕ) (takes : (f : ℕ → Start) 
     -- with another fault
     both-stop : (a : Answer Byte) (r : Fault) → ((o : Option (Answer Byte)) → byNewest o (length ns) (some a) ≡ some (refusedAfter r (length ns))) → Equal n
         (oneAfter (ends listCall (refusedAfter r (length ns))))
-        (from (observed (withEvent m ns e) (note (single text systemCode) (some a) ∷ ns)) x (idleWith b)
-        (handOn room es (idleWith b) (map (single text) codes)))
-    both-stop a r newest = idle-equal n room es b _ _ x _ record { lines = ap (λ (xs : List Item). accepted (e .0) ∷ xs) (g .lines); answer = sym (newest _) }
+        (from (observed (withEvent m ns e) (note caller (single text systemCode) (some a) ∷ ns)) x (idleWith (hers b))
+        (handOn caller room es (idleWith (hers b)) (map (single text) codes)))
+    both-stop a r newest = idle-equal n caller room es (hers b) _ _ x _ record { lines = ap (λ (xs : List Item). accepted (e .0) ∷ xs) (g .lines); answer = sym (newest _) }
 
     abbrev AfterCode : Answer Byte → Type 0
     AfterCode a = Both (outcome listCall (enter (follows (g .first) (length ns) (g .found) codes (g .k) a))) (ends (single text systemCode) a)
 
     both-go-on : (a : Answer Byte) → ((o : Option (Answer Byte)) → byNewest o (length ns) (some a) ≡ o) → Equal n
         (oneAfter (outcome listCall (enter (pollCodes code (g .k) (suc (length ns)) (g .found ++ map (behind (g .first)) (codeBytes (some a))) codes))))
-        (from (observed (withEvent m ns e) (note (single text systemCode) (some a) ∷ ns)) x (idleWith b)
-        (withNext room (map (single text) codes) (idleWith b) (handOn room es)))
+        (from (observed (withEvent m ns e) (note caller (single text systemCode) (some a) ∷ ns)) x (idleWith (hers b))
+        (withNext caller room (map (single text) codes) (idleWith (hers b)) (handOn caller room es)))
     both-go-on a newest = goes-on es ih b isOpen l m ns systemCode p x e a (g .k) _ (g .lines) (g .unused) (behind-more a) newest codes (g .total)
 
     both-end : (a : Answer Byte) → AfterCode a
@@ -280,7 +284,7 @@ module _ (P : Type 0) where
   by-bitrate (chosen b) h k = by-code (typeFCode b) h k
   by-bitrate (noCode e) h k = h (λ f. refl)
 
-module _ (text words : List ℕ) (room : ℕ) (es : List EventAndRoom) (b : Books) (isOpen : b .opened ≡ true) (fits : systemCodesFit words ≡ true) (y : ℕ) (ys : List ℕ)
+module _ (caller : ℕ) (text words : List ℕ) (room : ℕ) (es : List EventAndRoom) (b : Books) (isOpen : b .opened ≡ true) (fits : systemCodesFit words ≡ true) (y : ℕ) (ys : List ℕ)
     (codes : wordsIn words ≡ y ∷ ys) where
   abbrev theList : Call
   theList = reader (device (pollTypeF text words))
@@ -290,21 +294,21 @@ module _ (text words : List ℕ) (room : ℕ) (es : List EventAndRoom) (b : Book
 
   abbrev Started : Outcome → Outcome → Type 0
   Started o u = Equal size
-      (from (addCall theList [] [] (given o)) (addRefusal (given o) []) (after (idleWith b) (call theList room) o) (map eventEntry es))
-      (from (addCall (single text y) [] [] (given u)) (addRefusal (given u) []) (after (idleWith b) (call (single text y) room) u)
-      (handOn room es (after (idleWith b) (call (single text y) room) u) (map (single text) ys)))
+      (from (addCall caller theList [] [] (given o)) (addRefusal (given o) []) (after (idleWith b) (call caller theList room) o) (map eventEntry es))
+      (from (addCall caller (single text y) [] [] (given u)) (addRefusal (given u) []) (after (idleWith b) (call caller (single text y) room) u)
+      (handOn caller room es (after (idleWith b) (call caller (single text y) room) u) (map (single text) ys)))
 
   abbrev Starts : Type 0
-  Starts = Started (outcomeOf idle b (call theList room)) (outcomeOf idle b (call (single text y) room))
+  Starts = Started (outcomeOf idle b (call caller theList room)) (outcomeOf idle b (call caller (single text y) room))
 
   start-refused : (r : Refusal) → Started (unchanged r) (unchanged r)
-  start-refused r = idle-equal size room es b (observed [] []) (observed [] []) (r ∷ []) (map (single text) ys) record { lines = refl; answer = refl }
+  start-refused r = idle-equal size caller room es b (observed [] []) (observed [] []) (r ∷ []) (map (single text) ys) record { lines = refl; answer = refl }
 
-  start-runs : (code : ℕ) → ((f : ℕ → Start) → codeFor typeFCode text f ≡ f code) → ltb room bufferNeed ≡ false → Started
+  start-runs : leb caller lastCaller ≡ true → (code : ℕ) → ((f : ℕ → Start) → codeFor typeFCode text f ≡ f code) → ltb room bufferNeed ≡ false → Started
       (outcome theList (enter (pollCodes code 0 0 [] (y ∷ ys))))
       (outcome (single text y) (enter (discovery.detectTypeF code (sensfReq y 0x01 0x00))))
-  start-runs code takes enough =
-      busy-equal text words room code takes enough es (bookOrder askField b) ((0, ordered askField) ∷ []) ((0, ordered askField) ∷ []) [] y ys _ _ [] isOpen record {
+  start-runs known code takes enough =
+      busy-equal caller known text words room code takes enough es (bookOrder askField (hers caller known text words room code takes enough b)) ((0, ordered askField) ∷ []) ((0, ordered askField) ∷ []) [] y ys _ _ [] isOpen record {
         first = 0;
         found = [];
         k = 1;
@@ -322,19 +326,28 @@ module _ (text words : List ℕ) (room : ℕ) (es : List EventAndRoom) (b : Book
       by-room : (t : Bool) → ltb room bufferNeed ≡ t → Starts
       by-room true h =
           subst₂ Started
-          (let e : unchanged ShortBuffer ≡ outcomeOf idle b (call theList room) = rw (isOpen, h) refl in e)
-          (let e : unchanged ShortBuffer ≡ outcomeOf idle b (call (single text y) room) = rw (isOpen, h) refl in e)
+          (let e : unchanged ShortBuffer ≡ outcomeOf idle b (call caller theList room) = rw (isOpen, h) refl in e)
+          (let e : unchanged ShortBuffer ≡ outcomeOf idle b (call caller (single text y) room) = rw (isOpen, h) refl in e)
           (start-refused ShortBuffer)
-      by-room false h =
-          by-bitrate Starts (choiceOf text)
-          (λ none-taken. subst₂ Started
-          (let e : unchanged BadBitrate ≡ outcomeOf idle b (call theList room) = rw (isOpen, h, fits, none-taken (λ code. starts (discovery.pollTypeF code (wordsIn words)))) refl in e)
-          (let e : unchanged BadBitrate ≡ outcomeOf idle b (call (single text y) room) = rw (isOpen, h, none-taken (λ code. starts (discovery.detectTypeF code (sensfReq y 0x01 0x00)))) refl in e)
-          (start-refused BadBitrate))
-          (λ code takes. subst₂ Started
-          (let e : outcome theList (enter (pollCodes code 0 0 [] (y ∷ ys))) ≡ outcomeOf idle b (call theList room) = rw (isOpen, h, fits, takes (λ code. starts (discovery.pollTypeF code (wordsIn words))), codes) refl in e)
-          (sym (begun text words room code takes h b isOpen y))
-          (start-runs code takes h))
+      by-room false h = by-caller (leb caller lastCaller) refl
+        where
+          by-caller : (t : Bool) → leb caller lastCaller ≡ t → Starts
+          by-caller false known =
+              subst₂ Started
+              (let e : unchanged BadArgument ≡ outcomeOf idle b (call caller theList room) = rw (isOpen, h, known) refl in e)
+              (let e : unchanged BadArgument ≡ outcomeOf idle b (call caller (single text y) room) = rw (isOpen, h, known) refl in e)
+              (start-refused BadArgument)
+          by-caller true known =
+              by-bitrate Starts (choiceOf text)
+              (λ none-taken. subst₂ Started
+              (let e : unchanged BadBitrate ≡ outcomeOf idle b (call caller theList room) = rw (isOpen, h, known, fits, none-taken (λ code. starts (discovery.pollTypeF code (wordsIn words)))) refl in e)
+              (let e : unchanged BadBitrate ≡ outcomeOf idle b (call caller (single text y) room) = rw (isOpen, h, known, none-taken (λ code. starts (discovery.detectTypeF code (sensfReq y 0x01 0x00)))) refl in e)
+              (start-refused BadBitrate))
+              (λ code takes. subst₂ Started
+              (let e : outcome theList (enter (pollCodes code 0 0 [] (y ∷ ys))) ≡ outcomeOf idle b (call caller theList room) = rw (isOpen, h, known, fits, takes (λ code. starts (discovery.pollTypeF code (wordsIn words))), codes) refl in e)
+              (let e : outcome (single text y) (enter (discovery.detectTypeF code (sensfReq y 0x01 0x00))) ≡ outcomeOf idle b (call caller (single text y) room) =
+              rw (isOpen, h, known, takes (λ code. starts (discovery.detectTypeF code (sensfReq y 0x01 0x00)))) refl in e)
+              (start-runs known code takes h))
 
 -- no codes: 4
 none-fit : (words : List ℕ) → wordsIn words ≡ [] → systemCodesFit words ≡ false
@@ -342,12 +355,12 @@ none-fit words e =
     let z : length words / 2 ≡ 0 = sym (words-count words) ∙ ap (λ (xs : List ℕ). length xs) e in
     rw z (both-false-r (eqb (length words % 2) 0) false refl)
 
--- the theorem: for every open, idle session, every bitrate, 1 to 16 system codes, every buffer and every list of events
-pub poll-equals-singles : (b : Books) → b .opened ≡ true → (text words : List ℕ) → systemCodesFit words ≡ true → (room : ℕ) (es : List EventAndRoom)
-    → Equal (length (wordsIn words)) (run (idleWith b) (oneCall text words room es)) (run (idleWith b) (singleCalls text words room es (idleWith b)))
-poll-equals-singles b isOpen text words fits room es = go (wordsIn words) refl
+-- the theorem: for every open, idle session, every caller and bitrate, 1 to 16 system codes, every buffer and every list of events
+pub poll-equals-singles : (b : Books) → b .opened ≡ true → (caller : ℕ) (text words : List ℕ) → systemCodesFit words ≡ true → (room : ℕ) (es : List EventAndRoom)
+    → Equal (length (wordsIn words)) (run (idleWith b) (oneCall caller text words room es)) (run (idleWith b) (singleCalls caller text words room es (idleWith b)))
+poll-equals-singles b isOpen caller text words fits room es = go (wordsIn words) refl
   where
     go : (codes : List ℕ) → wordsIn words ≡ codes
-        → Equal (length (wordsIn words)) (run (idleWith b) (oneCall text words room es)) (run (idleWith b) (withNext room (map (single text) codes) (idleWith b) (handOn room es)))
+        → Equal (length (wordsIn words)) (run (idleWith b) (oneCall caller text words room es)) (run (idleWith b) (withNext caller room (map (single text) codes) (idleWith b) (handOn caller room es)))
     go [] e = absurd (let unfit : systemCodesFit words ≡ false = none-fit words e in let z : _≡_ {A = ℕ} 0 1 = cc in omega arith)
-    go (y ∷ ys) e = start-equal text words room es b isOpen fits y ys e
+    go (y ∷ ys) e = start-equal caller text words room es b isOpen fits y ys e

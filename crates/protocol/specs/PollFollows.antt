@@ -17,20 +17,20 @@ module _ (M : Machine) where
     pub sameOne : givenOut M s one ≡ map plain (outputs m (entries M one))
     pub sameMany : givenOut M s many ≡ map plain (outputs m (entries M many))
     pub equal : Equal n (run m (entries M one)) (run m (entries M many))
-    pub count : M .count (stateAfter M s one) ≡ M .count (stateAfter M s many)
+    pub counts : M .frames (stateAfter M s one) ≡ M .frames (stateAfter M s many)
 
-  pub follows-singles : (s : M .State) (b : Books) → M .Means s (idleWith b) → b .opened ≡ true → (text words : List ℕ) → systemCodesFit words ≡ true
-      → (room : ℕ) (es : List EventAndRoom) (one many : List (M .Input)) → entries M one ≡ oneCall text words room es → entries M many ≡ singleCalls text words room es (idleWith b)
+  pub follows-singles : (s : M .State) (b : Books) → M .Means s (idleWith b) → b .opened ≡ true → (caller : ℕ) (text words : List ℕ) → systemCodesFit words ≡ true
+      → (room : ℕ) (es : List EventAndRoom) (one many : List (M .Input)) → entries M one ≡ oneCall caller text words room es → entries M many ≡ singleCalls caller text words room es (idleWith b)
       → EqualFrom (length (wordsIn words)) s (idleWith b) one many
-  follows-singles s b means isOpen text words fits room es one many e f =
+  follows-singles s b means isOpen caller text words fits room es one many e f =
       let q : Equal (length (wordsIn words)) (run (idleWith b) (entries M one)) (run (idleWith b) (entries M many)) =
-      rw (e, f) (poll-equals-singles b isOpen text words fits room es) in
+      rw (e, f) (poll-equals-singles b isOpen caller text words fits room es) in
       record {
         sameOne = same-out M s (idleWith b) means one;
         sameMany = same-out M s (idleWith b) means many;
         equal = q;
-        count =
+        counts =
             M .counts (stateAfter M s one) (sessionAfter (idleWith b) (entries M one)) (still-means M s (idleWith b) means one)
-            ∙ (ap (λ (x : Books). x .count) (q .books)
+            ∙ (ap (λ (x : Books). x .counts) (q .books)
             ∙ sym (M .counts (stateAfter M s many) (sessionAfter (idleWith b) (entries M many)) (still-means M s (idleWith b) means many)));
       }

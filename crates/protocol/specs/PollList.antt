@@ -24,8 +24,8 @@ abbrev pub eventEntry : EventAndRoom → Entry
 eventEntry e = event (e .0) (e .1)
 
 -- the one call, and the events
-abbrev pub oneCall : List ℕ → List ℕ → ℕ → List EventAndRoom → List Entry
-oneCall text words room es = call (reader (device (pollTypeF text words))) room ∷ map eventEntry es
+abbrev pub oneCall : ℕ → List ℕ → List ℕ → ℕ → List EventAndRoom → List Entry
+oneCall caller text words room es = call caller (reader (device (pollTypeF text words))) room ∷ map eventEntry es
 
 -- the single call of a code
 abbrev pub single : List ℕ → ℕ → Call
@@ -44,21 +44,21 @@ endsCode (orders x) = false
 endsCode (answers a) = goesOn a
 endsCode (rejects r) = false
 
--- the next of the calls, if there is one, and then the rest
-abbrev pub withNext : ℕ → List Call → Session → (Session → List Call → List Entry) → List Entry
-withNext room [] s rest = rest s []
-withNext room (c ∷ cs) s rest = call c room ∷ rest ((step s (call c room)) .0) cs
+-- the next of the calls, if there is one, of the same caller, and then the rest
+abbrev pub withNext : ℕ → ℕ → List Call → Session → (Session → List Call → List Entry) → List Entry
+withNext caller room [] s rest = rest s []
+withNext caller room (c ∷ cs) s rest = call caller c room ∷ rest ((step s (call caller c room)) .0) cs
 
 -- the events, and each of the calls as soon as the one before has ended so
-abbrev pub handOn : ℕ → List EventAndRoom → Session → List Call → List Entry
-handOn room [] s cs = []
-handOn room (e ∷ es) s cs =
+abbrev pub handOn : ℕ → ℕ → List EventAndRoom → Session → List Call → List Entry
+handOn caller room [] s cs = []
+handOn caller room (e ∷ es) s cs =
     eventEntry e
-    ∷ cond (endsCode ((step s (eventEntry e)) .1)) (withNext room cs ((step s (eventEntry e)) .0) (handOn room es)) (handOn room es ((step s (eventEntry e)) .0) cs)
+    ∷ cond (endsCode ((step s (eventEntry e)) .1)) (withNext caller room cs ((step s (eventEntry e)) .0) (handOn caller room es)) (handOn caller room es ((step s (eventEntry e)) .0) cs)
 
 -- the single calls in list order, and the events
-abbrev pub singleCalls : List ℕ → List ℕ → ℕ → List EventAndRoom → Session → List Entry
-singleCalls text words room es s = withNext room (map (single text) (wordsIn words)) s (handOn room es)
+abbrev pub singleCalls : ℕ → List ℕ → List ℕ → ℕ → List EventAndRoom → Session → List Entry
+singleCalls caller text words room es s = withNext caller room (map (single text) (wordsIn words)) s (handOn caller room es)
 
 -- ---- what comes of a list of entries
 

@@ -36,14 +36,14 @@ not-added w e r = go (w .lines) (w .notes)
     go l (x ∷ ns) = refl
 
 -- n: the number of codes
-module _ (n room : ℕ) where
+module _ (n caller room : ℕ) where
   -- both have ended
   pub record Over (one many : Observed) : Type 0 where
     pub lines : items (one .lines) ≡ items (many .lines)
     pub answer : answerIn (one .notes) ≡ madeOf n (many .lines) (many .notes)
 
   pub idle-equal : (es : List EventAndRoom) (b : Books) (v w : Observed) (x : List Refusal) (cs : List Call) → Over v w
-      → Equal n (from v x (idleWith b) (map eventEntry es)) (from w x (idleWith b) (handOn room es (idleWith b) cs))
+      → Equal n (from v x (idleWith b) (map eventEntry es)) (from w x (idleWith b) (handOn caller room es (idleWith b) cs))
   idle-equal [] b v w x cs o = record { lines = o .lines; refusals = refl; answer = o .answer; books = refl; free = refl }
   idle-equal (e ∷ es) b v w x cs o =
       rw (not-added v (e .0) OutOfTurn, not-added w (e .0) OutOfTurn) (idle-equal es b v w (OutOfTurn ∷ x) cs o)

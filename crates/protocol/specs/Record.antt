@@ -24,13 +24,14 @@ pub data Item : Type 0 where
 abbrev pub Record : Type 0
 Record = List (ℕ × Item)
 
--- of an accepted call: which one it is, and its answer once it has ended
+-- of an accepted call: whose it is, which one it is, and its answer once it has ended
 pub record Note : Type 0 where
+  pub caller : ℕ
   pub call : Call
   pub answer : Option (Answer Byte)
 
-abbrev pub note : Call → Option (Answer Byte) → Note
-note c a = record { call = c; answer = a }
+abbrev pub note : ℕ → Call → Option (Answer Byte) → Note
+note caller c a = record { caller = caller; call = c; answer = a }
 
 -- the record and the accepted calls, the newest first; a call's number is that of the calls before it
 pub record Observed : Type 0 where
@@ -41,20 +42,20 @@ abbrev pub observed : Record → List Note → Observed
 observed lines notes = record { lines = lines; notes = notes }
 
 -- a call that is refused at once leaves no trace
-abbrev pub addCall : Call → Record → List Note → Output Byte → Observed
-addCall c l ns (orders x) = observed ((length ns, ordered x) ∷ l) (note c none ∷ ns)
-addCall c l ns (answers a) = observed l (note c (some a) ∷ ns)
-addCall c l ns (rejects r) = observed l ns
+abbrev pub addCall : ℕ → Call → Record → List Note → Output Byte → Observed
+addCall caller c l ns (orders x) = observed ((length ns, ordered x) ∷ l) (note caller c none ∷ ns)
+addCall caller c l ns (answers a) = observed l (note caller c (some a) ∷ ns)
+addCall caller c l ns (rejects r) = observed l ns
 
 -- an event is accepted if it is not refused at once: of refusals at once an event gets 1, 2 and 3 alone
 abbrev pub addEvent : Event → Record → List Note → Output Byte → Observed
 addEvent e l [] out = observed l []
 addEvent e l (x ∷ ns) (orders o) = observed ((length ns, ordered o) ∷ (length ns, accepted e) ∷ l) (x ∷ ns)
-addEvent e l (x ∷ ns) (answers a) = observed ((length ns, accepted e) ∷ l) (note (x .call) (some a) ∷ ns)
+addEvent e l (x ∷ ns) (answers a) = observed ((length ns, accepted e) ∷ l) (note (x .caller) (x .call) (some a) ∷ ns)
 addEvent e l (x ∷ ns) (rejects r) = observed l (x ∷ ns)
 
 abbrev pub add : Observed → Entry → Output Byte → Observed
-add w (call c room) out = addCall c (w .lines) (w .notes) out
+add w (call caller c room) out = addCall caller c (w .lines) (w .notes) out
 add w (event e room) out = addEvent e (w .lines) (w .notes) out
 
 abbrev pub observe : Observed → List Entry → List (Output Byte) → Observed
@@ -184,3 +185,8 @@ allowed c xs = 4 * frames xs + 2 * resets xs + fieldPauses xs + 2 * oneIf (isOpe
 abbrev pub framesSinceOpening : Record → List Note → ℕ
 framesSinceOpening l [] = 0
 framesSinceOpening l (x ∷ ns) = frames (linesOf (length ns) l) + cond (isOpening (x .call)) 0 (framesSinceOpening l ns)
+
+-- of these, those that calls of this caller ordered
+abbrev pub framesBy : ℕ → Record → List Note → ℕ
+framesBy k l [] = 0
+framesBy k l (x ∷ ns) = cond (eqb k (x .caller)) (frames (linesOf (length ns) l)) 0 + cond (isOpening (x .call)) 0 (framesBy k l ns)

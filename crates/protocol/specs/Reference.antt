@@ -7,16 +7,16 @@ use Prim.Native.Nat.{ℕ}
 use lib.Dec.{leb, ltb}
 use lib.ListN.{length}
 use Rattle.errors.specs.declared.Refusal.{Refusal}
-use Rattle.errors.specs.declared.Refusal.the-variants.{OutOfTurn, ShortBuffer, OverLong}
+use Rattle.errors.specs.declared.Refusal.the-variants.{OutOfTurn, ShortBuffer, OverLong, BadArgument}
 use Rattle.framing.specs.Padded.{extraZeros}
 use Rattle.framing.specs.Unpadded.{unpadded-none}
 use Rattle.exchange.specs.Exchange.{Event, ok, bad, pkt, time, fail, late, slept, unfit, pending, ended}
 use Rattle.protocol.specs.Scripts.{Byte}
 use Rattle.protocol.specs.Calls.{Call, opening, reader, Start, refuses, starts, startOf, isOpening, readerStart}
-use Rattle.protocol.specs.Session.{Phase, CallResult, enter, progress, Running, idle, busy, Books, admits, Session, fresh, packetLimit, seen, Entry, call, event, seenEntry, Output}
-use Rattle.protocol.specs.Session.{Outcome, unchanged, runs, ends, outcome, bufferNeed, withRoom, packetLength, admitted, eventOutcome, started, callOutcome, outcomeOf, runningAfter, booksAfter, after, given, step, outputs, sessionAfter}
+use Rattle.protocol.specs.Session.{Phase, CallResult, enter, progress, Running, idle, busy, Books, lastCaller, admits, Session, fresh, packetLimit, seen, Entry, call, event, seenEntry, Output}
+use Rattle.protocol.specs.Session.{Outcome, unchanged, runs, ends, outcome, bufferNeed, withRoom, withCaller, packetLength, admitted, eventOutcome, started, callOutcome, outcomeOf, runningAfter, booksAfter, after, given, step, outputs, sessionAfter}
 use Rattle.protocol.specs.Laws.{split}
-use Rattle.protocol.specs.Follows.{plain, Machine, givenOut, stateAfter, entries, same-given, same-count}
+use Rattle.protocol.specs.Follows.{plain, Machine, givenOut, stateAfter, entries, same-given, same-counts}
 
 -- ---- the same with the mode off
 
@@ -29,7 +29,7 @@ offRunning idle = idle
 offRunning (busy c phase) = busy (offCall c) phase
 
 abbrev offBooks : Books → Books
-offBooks b = record { opened = b .opened; padded = false; count = b .count }
+offBooks b = record { opened = b .opened; padded = false; caller = b .caller; counts = b .counts }
 
 abbrev off : Session → Session
 off s = record { running = offRunning (s .running); books = offBooks (s .books) }
@@ -40,13 +40,13 @@ offOutcome (runs c x phase) = runs (offCall c) x phase
 offOutcome (ends c a) = ends (offCall c) a
 
 abbrev pub offEntry : Entry → Entry
-offEntry (call c room) = call (offCall c) room
+offEntry (call k c room) = call k (offCall c) room
 offEntry (event e room) = event e room
 
 -- an opening's mode is one that there is
 abbrev pub Fits : Entry → Type 0
-Fits (call (opening mode) room) = leb mode 1 ≡ true
-Fits (call (reader c) room) = Unit {0}
+Fits (call k (opening mode) room) = leb mode 1 ≡ true
+Fits (call k (reader c) room) = Unit {0}
 Fits (event e room) = Unit {0}
 
 -- ---- one entry
@@ -72,19 +72,21 @@ off-event c e room unfit = refl
 off-event c e room (pending x phase) = off-admitted e room (runs c x phase)
 off-event c e room (ended a) = off-admitted e room (ends c a)
 
-off-started : (c : Call) (room : ℕ) → Fits (call c room) → started (offCall c) (startOf (offCall c)) ≡ offOutcome (started c (startOf c))
-off-started (opening mode) room h = rw h
-off-started (reader c) room h = go (readerStart c)
+off-started : (k : ℕ) (c : Call) (room : ℕ) → Fits (call k c room) → started (offCall c) (startOf (offCall c)) ≡ offOutcome (started c (startOf c))
+off-started k (opening mode) room h = rw h
+off-started k (reader c) room h = go (readerStart c)
   where
     go : (s : Start) → started (reader c) s ≡ offOutcome (started (reader c) s)
     go (refuses r) = refl
     go (starts s) = off-outcome (reader c) (enter s)
 
-off-call : (t : Bool) (c : Call) (room : ℕ) → Fits (call c room) → callOutcome t (offCall c) room ≡ offOutcome (callOutcome t c room)
-off-call t c room h =
-    ap (λ o. cond t (withRoom room o) (unchanged OutOfTurn)) (off-started c room h)
-    ∙ ap (λ o. cond t o (unchanged OutOfTurn)) (off-if (ltb room bufferNeed) (unchanged ShortBuffer) (started c (startOf c)))
-    ∙ off-if t (withRoom room (started c (startOf c))) (unchanged OutOfTurn)
+off-call : (t : Bool) (k : ℕ) (c : Call) (room : ℕ) → Fits (call k c room) → callOutcome t k (offCall c) room ≡ offOutcome (callOutcome t k c room)
+off-call t k c room h =
+    let off-caller : withCaller k (started (offCall c) (startOf (offCall c))) ≡ offOutcome (withCaller k (started c (startOf c))) =
+    ap (withCaller k) (off-started k c room h) ∙ off-if (leb k lastCaller) (started c (startOf c)) (unchanged BadArgument) in
+    ap (λ o. cond t (withRoom room o) (unchanged OutOfTurn)) off-caller
+    ∙ ap (λ o. cond t o (unchanged OutOfTurn)) (off-if (ltb room bufferNeed) (unchanged ShortBuffer) (withCaller k (started c (startOf c))))
+    ∙ off-if t (withRoom room (withCaller k (started c (startOf c)))) (unchanged OutOfTurn)
 
 -- what the mode off does with the entry as the session's mode sees it
 abbrev offSeen : Session → Entry → Entry
@@ -92,9 +94,9 @@ offSeen s e = offEntry (seenEntry (s .books .padded) e)
 
 off-outcome-of : (p : Running) (b : Books) (e : Entry) → Fits e
     → outcomeOf (offRunning p) (offBooks b) (offEntry (seenEntry (b .padded) e)) ≡ offOutcome (outcomeOf p b e)
-off-outcome-of idle b (call c room) h = rw (same-opening c) (off-call (admits b c) c room h)
+off-outcome-of idle b (call k c room) h = rw (same-opening c) (off-call (admits b c) k c room h)
 off-outcome-of idle b (event e room) h = refl
-off-outcome-of (busy c phase) b (call d room) h = refl
+off-outcome-of (busy c phase) b (call k d room) h = refl
 off-outcome-of (busy c phase) b (event e room) h = off-event c (seen (b .padded) e) room (progress phase (seen (b .padded) e))
 
 off-running : (p : Running) (o : Outcome) → runningAfter (offRunning p) (offOutcome o) ≡ offRunning (runningAfter p o)
@@ -103,11 +105,11 @@ off-running p (runs c x phase) = refl
 off-running p (ends c a) = refl
 
 off-books : (b : Books) (t : Bool) (e : Entry) (o : Outcome) → booksAfter (offBooks b) (offEntry (seenEntry t e)) (offOutcome o) ≡ offBooks (booksAfter b e o)
-off-books b t (call c room) (unchanged r) = refl
-off-books b t (call (opening mode) room) (runs c x phase) = refl
-off-books b t (call (opening mode) room) (ends c a) = rw (same-opening c)
-off-books b t (call (reader d) room) (runs c x phase) = refl
-off-books b t (call (reader d) room) (ends c a) = rw (same-opening c)
+off-books b t (call k c room) (unchanged r) = refl
+off-books b t (call k (opening mode) room) (runs c x phase) = refl
+off-books b t (call k (opening mode) room) (ends c a) = rw (same-opening c)
+off-books b t (call k (reader d) room) (runs c x phase) = refl
+off-books b t (call k (reader d) room) (ends c a) = rw (same-opening c)
 off-books b t (event e room) (unchanged r) = refl
 off-books b t (event e room) (runs c x phase) = refl
 off-books b t (event e room) (ends c a) = rw (same-opening c)
@@ -145,10 +147,10 @@ off-list s (e ∷ es) (d ∷ ds) h =
 -- two lists that give out the same from a fresh session, and count the same
 pub record Same (es ds : List Entry) : Type 0 where
   pub given : outputs fresh ds ≡ outputs fresh es
-  pub counted : (sessionAfter fresh ds) .books .count ≡ (sessionAfter fresh es) .books .count
+  pub counted : (sessionAfter fresh ds) .books .counts ≡ (sessionAfter fresh es) .books .counts
 
 off-same : (es ds : List Entry) → Off fresh es ds → Same es ds
-off-same es ds h = let l = off-list fresh es ds h in record { given = l .0; counted = ap (λ s. s .books .count) (l .1) }
+off-same es ds h = let l = off-list fresh es ds h in record { given = l .0; counted = ap (λ s. s .books .counts) (l .1) }
 
 -- ---- packets with no extra zeros
 
@@ -163,7 +165,7 @@ NoZeros slept = Unit {0}
 
 -- openings have a mode that there is, and packets have no extra zeros
 abbrev PlainEntry : Entry → Type 0
-PlainEntry (call c room) = Fits (call c room)
+PlainEntry (call k c room) = Fits (call k c room)
 PlainEntry (event e room) = NoZeros e
 
 abbrev pub Plain : List Entry → Type 0
@@ -182,7 +184,7 @@ seen-same true slept h = refl
 
 plain-off : (s : Session) (es : List Entry) → Plain es → Off s es (map offEntry es)
 plain-off s [] h = tt
-plain-off s (call c room ∷ es) h = (h .0, refl, plain-off ((step s (call c room)) .0) es (h .1))
+plain-off s (call k c room ∷ es) h = (h .0, refl, plain-off ((step s (call k c room)) .0) es (h .1))
 plain-off s (event e room ∷ es) h =
     (tt, ap (λ d. step (off s) (event d room)) (sym (seen-same (s .books .padded) e (h .0))), plain-off ((step s (event e room)) .0) es (h .1))
 
@@ -193,8 +195,8 @@ plain-same es h = off-same es (map offEntry es) (plain-off fresh es h)
 -- ---- openings that choose the padded mode
 
 abbrev PaddedEntry : Entry → Type 0
-PaddedEntry (call (opening mode) room) = mode ≡ 1
-PaddedEntry (call (reader c) room) = Unit {0}
+PaddedEntry (call k (opening mode) room) = mode ≡ 1
+PaddedEntry (call k (reader c) room) = Unit {0}
 PaddedEntry (event e room) = Unit {0}
 
 abbrev pub Padded : List Entry → Type 0
@@ -206,16 +208,16 @@ abbrev pub plainEntry : Entry → Entry
 plainEntry e = offEntry (seenEntry true e)
 
 padded-fits : (e : Entry) → PaddedEntry e → Fits e
-padded-fits (call (opening mode) room) h = rw h
-padded-fits (call (reader c) room) h = tt
+padded-fits (call k (opening mode) room) h = rw h
+padded-fits (call k (reader c) room) h = tt
 padded-fits (event e room) h = tt
 
 padded-after : (b : Books) (e : Entry) (o : Outcome) → b .padded ≡ true → PaddedEntry e → (booksAfter b e o) .padded ≡ true
 padded-after b e (unchanged r) p h = p
-padded-after b (call (opening mode) room) (runs c x phase) p h = rw h
-padded-after b (call (opening mode) room) (ends c a) p h = rw h
-padded-after b (call (reader d) room) (runs c x phase) p h = p
-padded-after b (call (reader d) room) (ends c a) p h = p
+padded-after b (call k (opening mode) room) (runs c x phase) p h = rw h
+padded-after b (call k (opening mode) room) (ends c a) p h = rw h
+padded-after b (call k (reader d) room) (runs c x phase) p h = p
+padded-after b (call k (reader d) room) (ends c a) p h = p
 padded-after b (event e room) (runs c x phase) p h = p
 padded-after b (event e room) (ends c a) p h = p
 
@@ -230,15 +232,17 @@ padded-off s (e ∷ es) p h = (
 -- before the first opening is accepted every event is out of turn
 fresh-off : (es : List Entry) → Padded es → Off fresh es (map plainEntry es)
 fresh-off [] h = tt
-fresh-off (call (opening mode) room ∷ es) h = (
-  padded-fits (call (opening mode) room) (h .0),
+fresh-off (call k (opening mode) room ∷ es) h = (
+  padded-fits (call k (opening mode) room) (h .0),
   refl,
-  subst (λ m. Off ((step fresh (call (opening m) room)) .0) es (map plainEntry es)) (sym (h .0))
-  (split (λ o. Off (after fresh (call (opening 1) room) o) es (map plainEntry es)) (ltb room bufferNeed) _ _
-  (λ _. fresh-off es (h .1))
-  (λ _. padded-off _ es refl (h .1))),
+  subst (λ m. Off ((step fresh (call k (opening m) room)) .0) es (map plainEntry es)) (sym (h .0))
+      (split (λ o. Off (after fresh (call k (opening 1) room) o) es (map plainEntry es)) (ltb room bufferNeed) _ _
+      (λ _. fresh-off es (h .1))
+      (λ _. split (λ o. Off (after fresh (call k (opening 1) room) o) es (map plainEntry es)) (leb k lastCaller) _ _
+      (λ _. padded-off _ es refl (h .1))
+      (λ _. fresh-off es (h .1)))),
 )
-fresh-off (call (reader c) room ∷ es) h = (tt, refl, fresh-off es (h .1))
+fresh-off (call k (reader c) room ∷ es) h = (tt, refl, fresh-off es (h .1))
 fresh-off (event e room ∷ es) h = (tt, refl, fresh-off es (h .1))
 
 pub padded-same : (es : List Entry) → Padded es → Same es (map plainEntry es)
@@ -247,7 +251,7 @@ padded-same es h = off-same es (map plainEntry es) (fresh-off es h)
 -- ---- packets over the limit, as they came, left out
 
 abbrev isLong : Entry → Bool
-isLong (call c room) = false
+isLong (call k c room) = false
 isLong (event e room) = ltb packetLimit (packetLength e)
 
 abbrev pub withoutLong : List Entry → List Entry
@@ -283,7 +287,7 @@ long-refused c e room (pending x phase) h = long-admitted e room (runs c x phase
 long-refused c e room (ended a) h = long-admitted e room (ends c a) h
 
 long-outcome : (p : Running) (b : Books) (e : Entry) → isLong e ≡ true → Refuses (outcomeOf p b e)
-long-outcome p b (call c room) h = absurd (false≢true h)
+long-outcome p b (call k c room) h = absurd (false≢true h)
 long-outcome idle b (event e room) h = (OutOfTurn, refl)
 long-outcome (busy c phase) b (event e room) h = rw (long-seen (b .padded) e h) (long-refused c e room (progress phase e) h)
 
@@ -318,13 +322,13 @@ referenceOf es = map plainEntry (withoutLong es)
 
 pub record AsReference (es : List Entry) : Type 0 where
   pub given : givenOthers es (outputs fresh es) ≡ outputs fresh (referenceOf es)
-  pub counted : (sessionAfter fresh es) .books .count ≡ (sessionAfter fresh (referenceOf es)) .books .count
+  pub counted : (sessionAfter fresh es) .books .counts ≡ (sessionAfter fresh (referenceOf es)) .books .counts
 
 pub as-reference : (es : List Entry) → Padded es → AsReference es
 as-reference es h =
     let l = leaves-out fresh es in
     let p = padded-same (withoutLong es) (padded-others es h) in
-    record { given = sym (p .given ∙ l .given); counted = sym (p .counted ∙ ap (λ s. s .books .count) (l .after)) }
+    record { given = sym (p .given ∙ l .given); counted = sym (p .counted ∙ ap (λ s. s .books .counts) (l .after)) }
 
 -- ---- the same of a machine that follows the definitions
 
@@ -342,7 +346,7 @@ module _ (M : Machine) (is js : List (M .Input)) where
   -- two lists of the machine's inputs, from its beginning
   pub record MachineSame : Type 0 where
     pub given : givenOthers (entries M is) (givenOut M (M .new) is) ≡ givenOut M (M .new) js
-    pub counted : M .count (stateAfter M (M .new) is) ≡ M .count (stateAfter M (M .new) js)
+    pub counted : M .frames (stateAfter M (M .new) is) ≡ M .frames (stateAfter M (M .new) js)
 
   pub machine-reference : Padded (entries M is) → entries M js ≡ referenceOf (entries M is) → MachineSame
   machine-reference h e =
@@ -351,14 +355,14 @@ module _ (M : Machine) (is js : List (M .Input)) where
         given =
             ap (givenOthers (entries M is)) (same-given M is) ∙ others-map plain (entries M is) (outputs fresh (entries M is))
             ∙ ap (map plain) (r .given ∙ ap (outputs fresh) (sym e)) ∙ sym (same-given M js);
-        counted = same-count M is ∙ r .counted ∙ ap (λ es. (sessionAfter fresh es) .books .count) (sym e) ∙ sym (same-count M js);
+        counted = same-counts M is ∙ r .counted ∙ ap (λ es. (sessionAfter fresh es) .books .counts) (sym e) ∙ sym (same-counts M js);
       }
 
   -- with no padded packet, in any mode
   pub machine-plain : Plain (entries M is) → entries M js ≡ map offEntry (entries M is)
-      → (givenOut M (M .new) is ≡ givenOut M (M .new) js) × (M .count (stateAfter M (M .new) is) ≡ M .count (stateAfter M (M .new) js))
+      → (givenOut M (M .new) is ≡ givenOut M (M .new) js) × (M .frames (stateAfter M (M .new) is) ≡ M .frames (stateAfter M (M .new) js))
   machine-plain h e =
       let p = plain-same (entries M is) h in (
         same-given M is ∙ ap (map plain) (sym (p .given) ∙ ap (outputs fresh) (sym e)) ∙ sym (same-given M js),
-        same-count M is ∙ sym (p .counted) ∙ ap (λ es. (sessionAfter fresh es) .books .count) (sym e) ∙ sym (same-count M js),
+        same-counts M is ∙ sym (p .counted) ∙ ap (λ es. (sessionAfter fresh es) .books .counts) (sym e) ∙ sym (same-counts M js),
       )

@@ -42,15 +42,15 @@ abbrev Runs : List Pair → Type 0
 Runs ps = map plain (outputs fresh (entriesOf ps)) ≡ givenFor ps
 
 -- document 01's whole case: `open`, `bad`, `version`
-whole-case : Runs ((call (opening 0) 1024, writes ack) ∷ on bad (answers (refused Transport)) ∷ (call (reader (request version)) 1024, rejects OutOfTurn) ∷ [])
+whole-case : Runs ((call 0 (opening 0) 1024, writes ack) ∷ on bad (answers (refused Transport)) ∷ (call 0 (reader (request version)) 1024, rejects OutOfTurn) ∷ [])
 whole-case = refl
 
 -- refusals in their order; nothing changes by them
 refusals : Runs
-    ((call (opening 0) 1023, rejects ShortBuffer)
+    ((call 0 (opening 0) 1023, rejects ShortBuffer)
     ∷ (event ok 0, rejects OutOfTurn)
-    ∷ (call (opening 0) 1024, writes ack)
-    ∷ (call (opening 0) 0, rejects OutOfTurn)
+    ∷ (call 0 (opening 0) 1024, writes ack)
+    ∷ (call 0 (opening 0) 0, rejects OutOfTurn)
     ∷ (event time 0, rejects OutOfTurn)
     ∷ (event ok 1023, rejects ShortBuffer)
     ∷ (event ok 1024, orders (read 10))
@@ -89,7 +89,7 @@ afterReset out = on ok (orders (pause 10000)) ∷ on slept out ∷ []
 -- with one empty packet in the opening's drain
 abbrev openingRun : ℕ → ℕ → List Pair
 openingRun mode z =
-    ((call (opening mode) 1024, writes ack) ∷ on ok (orders (read 10)) ∷ on (pkt []) (orders (read 10)) ∷ on time resetMode ∷ [])
+    ((call 0 (opening mode) 1024, writes ack) ∷ on ok (orders (read 10)) ∷ on (pkt []) (orders (read 10)) ∷ on time resetMode ∷ [])
     ++ (answeredBy z 100 resetDone (writes ack)
     ++ (afterReset getVersion
     ++ (answeredBy z 100 versionIs (writes (0x00 ∷ 0x00 ∷ 0xFF ∷ 0x04 ∷ 0xFC ∷ 0xD4 ∷ 0x32 ∷ 0x01 ∷ 0x02 ∷ 0xF7 ∷ 0x00 ∷ []))
@@ -106,7 +106,7 @@ openingRun mode z =
     (answers (done (0x33 ∷ 0x01 ∷ 0x30 ∷ 0x52 ∷ 0x43 ∷ 0x53 ∷ 0x39 ∷ 0x35 ∷ 0x36 ∷ 0x76 ∷ 0x31 ∷ 0x2E ∷ 0x33 ∷ 0x30 ∷ []))))))))))))))
 
 abbrev versionRun : ℕ → List Pair
-versionRun z = (call (reader (request version)) 1024, getVersion) ∷ answeredBy z 100 versionIs (answers (done (0x33 ∷ 0x01 ∷ 0x30 ∷ [])))
+versionRun z = (call 0 (reader (request version)) 1024, getVersion) ∷ answeredBy z 100 versionIs (answers (done (0x33 ∷ 0x01 ∷ 0x30 ∷ [])))
 
 abbrev run : ℕ → ℕ → List Pair
 run mode z = openingRun mode z ++ versionRun z
@@ -128,7 +128,7 @@ padded = refl
 -- 17 zeros are no extra zeros, and 16 are none with the mode off; a mode of 2 is a bad argument
 abbrev untilRead : ℕ → List Pair
 untilRead mode =
-    (call (opening mode) 1024, writes ack) ∷ on ok (orders (read 10)) ∷ on time resetMode ∷ on ok (orders (read 100)) ∷ []
+    (call 0 (opening mode) 1024, writes ack) ∷ on ok (orders (read 10)) ∷ on time resetMode ∷ on ok (orders (read 100)) ∷ []
 
 no-start : Runs (untilRead 1 ++ (on (pkt (replicate 17 0 ++ ack)) (writes ack) ∷ on ok (orders drain) ∷ []))
 unfolding formats
@@ -138,7 +138,7 @@ mode-off : Runs (untilRead 0 ++ (on (pkt (replicate 16 0 ++ ack)) (writes ack) �
 unfolding formats
 mode-off = refl
 
-no-mode : Runs ((call (opening 2) 1023, rejects ShortBuffer) ∷ (call (opening 2) 1024, rejects BadArgument) ∷ [])
+no-mode : Runs ((call 0 (opening 2) 1023, rejects ShortBuffer) ∷ (call 0 (opening 2) 1024, rejects BadArgument) ∷ [])
 no-mode = refl
 
 -- the record of the opening: ten frames, two resets, one idle read, 37 events of the 47 allowed
@@ -152,7 +152,7 @@ opening-counts : counts openingLines ≡ 10 ∷ 2 ∷ 1 ∷ 37 ∷ 47 ∷ []
 unfolding formats
 opening-counts = refl
 
-count-after : (sessionAfter fresh (entriesOf (run 0 0))) .books .count ≡ 11
+count-after : (sessionAfter fresh (entriesOf (run 0 0))) .books .counts ≡ 11 ∷ 0 ∷ 0 ∷ 0 ∷ 0 ∷ 0 ∷ 0 ∷ 0 ∷ []
 unfolding formats
 count-after = refl
 
@@ -180,7 +180,7 @@ checksField = sends 0x06 (0x63 ∷ 0x04 ∷ [])
 -- 212F, system codes 88B4 and FE00
 abbrev firstCode : List Pair
 firstCode =
-    ((call (reader (device (pollTypeF (0x32 ∷ 0x31 ∷ 0x32 ∷ 0x46 ∷ []) (0x88 ∷ 0xB4 ∷ 0xFE ∷ 0x00 ∷ [])))) 1024, checksField) ∷ [])
+    ((call 0 (reader (device (pollTypeF (0x32 ∷ 0x31 ∷ 0x32 ∷ 0x46 ∷ []) (0x88 ∷ 0xB4 ∷ 0xFE ∷ 0x00 ∷ [])))) 1024, checksField) ∷ [])
     ++ (answeredBy 0 250 (responds 0x06 (0x00 ∷ [])) (sends 0x32 (0x01 ∷ 0x01 ∷ []))
     ++ (answeredBy 0 100 (responds 0x32 []) (orders (pause 20400))
     ++ ((on slept (polls 0x88 0xB4) ∷ []) ++ answeredBy 0 1000 (responds 0x4A (0x00 ∷ [])) checksField)))

@@ -36,15 +36,15 @@ seen-fresh : (l : Record) (y : Note) (ns : List Note) → Unused l (length ns) �
 seen-fresh [] y ns u = refl
 seen-fresh (x ∷ l) y ns u = rw (ne-eqb (x .0) (length ns) (λ e. omega (arith, u .0)), seen-fresh l y ns (u .1))
 
-seen-answered : (l : Record) (x : Note) (a : Option (Answer Byte)) (ns : List Note) → seenLines l (note (x .call) a ∷ ns) ≡ seenLines l (x ∷ ns)
+seen-answered : (l : Record) (x : Note) (a : Option (Answer Byte)) (ns : List Note) → seenLines l (note (x .caller) (x .call) a ∷ ns) ≡ seenLines l (x ∷ ns)
 seen-answered [] x a ns = refl
 seen-answered (z ∷ l) x a ns = rw (seen-answered l x a ns)
 
 pub add-seen : (l : Record) (ns : List Note) (e : Entry) (out : Output Byte) → Unused l (length ns)
     → asSeen (add (observed l ns) e out) ≡ add (asSeen (observed l ns)) (seenEntry (modeAt ns) e) out
-add-seen l ns (call c room) (orders x) u = ap (λ k. observed ((length ns, ordered x) ∷ k) (note c none ∷ ns)) (seen-fresh l (note c none) ns u)
-add-seen l ns (call c room) (answers a) u = ap (λ k. observed k (note c (some a) ∷ ns)) (seen-fresh l (note c (some a)) ns u)
-add-seen l ns (call c room) (rejects r) u = refl
+add-seen l ns (call k c room) (orders x) u = ap (λ m. observed ((length ns, ordered x) ∷ m) (note k c none ∷ ns)) (seen-fresh l (note k c none) ns u)
+add-seen l ns (call k c room) (answers a) u = ap (λ m. observed m (note k c (some a) ∷ ns)) (seen-fresh l (note k c (some a)) ns u)
+add-seen l ns (call k c room) (rejects r) u = refl
 add-seen l [] (event e room) out u = refl
 add-seen l (x ∷ ns) (event e room) (orders o) u = rw (eq-eqb (length ns) (length ns) refl)
 add-seen l (x ∷ ns) (event e room) (answers a) u = rw (eq-eqb (length ns) (length ns) refl, seen-answered l x (some a) ns)
@@ -53,17 +53,36 @@ add-seen l (x ∷ ns) (event e room) (rejects r) u = refl
 -- the session's mode is that of the newest opening in the notes
 pub mode-after : (b : Books) (l : Record) (ns : List Note) (e : Entry) (o : Outcome) → b .padded ≡ modeAt ns
     → (booksAfter b e o) .padded ≡ modeAt ((add (observed l ns) e (given o)) .notes)
-mode-after b l ns (call c room) (unchanged r) h = h
-mode-after b l ns (call (opening m) room) (runs d x phase) h = refl
-mode-after b l ns (call (opening m) room) (ends d a) h = refl
-mode-after b l ns (call (reader c) room) (runs d x phase) h = h
-mode-after b l ns (call (reader c) room) (ends d a) h = h
+mode-after b l ns (call k c room) (unchanged r) h = h
+mode-after b l ns (call k (opening m) room) (runs d x phase) h = refl
+mode-after b l ns (call k (opening m) room) (ends d a) h = refl
+mode-after b l ns (call k (reader c) room) (runs d x phase) h = h
+mode-after b l ns (call k (reader c) room) (ends d a) h = h
 mode-after b l [] (event e room) (unchanged r) h = h
 mode-after b l [] (event e room) (runs d x phase) h = h
 mode-after b l [] (event e room) (ends d a) h = h
 mode-after b l (y ∷ ns) (event e room) (unchanged r) h = h
 mode-after b l (y ∷ ns) (event e room) (runs d x phase) h = h
 mode-after b l (y ∷ ns) (event e room) (ends d a) h = h
+
+-- the session's caller is that of the newest call
+abbrev pub callerAt : List Note → ℕ
+callerAt [] = 0
+callerAt (x ∷ ns) = x .caller
+
+pub caller-after : (b : Books) (l : Record) (ns : List Note) (e : Entry) (o : Outcome) → b .caller ≡ callerAt ns
+    → (booksAfter b e o) .caller ≡ callerAt ((add (observed l ns) e (given o)) .notes)
+caller-after b l ns (call k c room) (unchanged r) h = h
+caller-after b l ns (call k (opening m) room) (runs d x phase) h = refl
+caller-after b l ns (call k (opening m) room) (ends d a) h = refl
+caller-after b l ns (call k (reader c) room) (runs d x phase) h = refl
+caller-after b l ns (call k (reader c) room) (ends d a) h = refl
+caller-after b l [] (event e room) (unchanged r) h = h
+caller-after b l [] (event e room) (runs d x phase) h = h
+caller-after b l [] (event e room) (ends d a) h = h
+caller-after b l (y ∷ ns) (event e room) (unchanged r) h = h
+caller-after b l (y ∷ ns) (event e room) (runs d x phase) h = h
+caller-after b l (y ∷ ns) (event e room) (ends d a) h = h
 
 -- ---- with the mode off the record is seen as it is
 

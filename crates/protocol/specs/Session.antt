@@ -1,11 +1,11 @@
 -- The session: a running call, the reader's books around it, the entries of a list, and what each does.
 use mathlib.Core.Bool.{Bool, true, false, cond, _||_}
 use mathlib.Core.List.{List, [], _∷_}
-use Prim.Native.Nat.{ℕ, suc, min}
-use lib.Dec.{ltb}
+use Prim.Native.Nat.{ℕ, zero, suc, min}
+use lib.Dec.{leb, ltb}
 use lib.ListN.{length}
 use Rattle.errors.specs.declared.Refusal.{Refusal}
-use Rattle.errors.specs.declared.Refusal.the-variants.{OutOfTurn, ShortBuffer, OverLong}
+use Rattle.errors.specs.declared.Refusal.the-variants.{OutOfTurn, ShortBuffer, OverLong, BadArgument}
 use Rattle.errors.specs.declared.Fault.the-variants.{Transport}
 use Rattle.framing.specs.Frames.{ack}
 use Rattle.framing.specs.Padded.{unpadded}
@@ -71,25 +71,33 @@ pub data Running : Type 0 where
 
 -- ---- the reader's books
 
--- "padded": the mode that the last opening chose. "count": command frames ordered since that began, its own included, up to the
--- ceiling
+-- "padded": the mode that the last opening chose. "caller": whose call the last accepted one is. "counts": for each caller the command
+-- frames that its calls ordered since the last opening began, its own included, up to the ceiling
 pub record Books : Type 0 where
   pub opened : Bool
   pub padded : Bool
-  pub count : ℕ
+  pub caller : ℕ
+  pub counts : List ℕ
+
+-- callers are 0 to 7
+abbrev pub lastCaller : ℕ
+lastCaller = 7
+
+abbrev pub noCounts : List ℕ
+noCounts = 0 ∷ 0 ∷ 0 ∷ 0 ∷ 0 ∷ 0 ∷ 0 ∷ 0 ∷ []
 
 -- where an opening begins; those of a fresh session have the mode off
-abbrev pub noBooks : Bool → Books
-noBooks padded = record { opened = false; padded = padded; count = 0 }
+abbrev pub noBooks : Bool → ℕ → Books
+noBooks padded caller = record { opened = false; padded = padded; caller = caller; counts = noCounts }
 
 -- a call is admitted in an open reader, an opening in any
 abbrev pub admits : Books → Call → Bool
 admits b c = b .opened || isOpening c
 
--- what a call's doings are booked on: an opening begins the books anew, in its mode
-abbrev pub booksFor : Call → Books → Books
-booksFor (opening mode) b = noBooks (isPaddedMode mode)
-booksFor (reader c) b = b
+-- what the doings of a caller's call are booked on: an opening begins the books anew, in its mode
+abbrev pub booksFor : ℕ → Call → Books → Books
+booksFor caller (opening mode) b = noBooks (isPaddedMode mode) caller
+booksFor caller (reader c) b = record { opened = b .opened; padded = b .padded; caller = caller; counts = b .counts }
 
 abbrev pub ceiling : ℕ
 ceiling = 4294967295
@@ -105,8 +113,14 @@ counted (read ms) n = n
 counted drain n = n
 counted (pause us) n = n
 
+-- it counts for its caller
+abbrev pub countedFor : ℕ → Order → List ℕ → List ℕ
+countedFor caller x [] = []
+countedFor zero x (n ∷ ns) = counted x n ∷ ns
+countedFor (suc k) x (n ∷ ns) = n ∷ countedFor k x ns
+
 abbrev pub bookOrder : Order → Books → Books
-bookOrder x b = record { opened = b .opened; padded = b .padded; count = counted x (b .count) }
+bookOrder x b = record { opened = b .opened; padded = b .padded; caller = b .caller; counts = countedFor (b .caller) x (b .counts) }
 
 -- an opening that succeeds leaves the reader open, one that fails unopened; any other call leaves it as it was
 abbrev pub answered : Answer Byte → Bool
@@ -117,7 +131,7 @@ answered (refused r) = false
 answered (refusedAfter r n) = false
 
 abbrev pub bookAnswer : Call → Answer Byte → Books → Books
-bookAnswer c a b = record { opened = cond (isOpening c) (answered a) (b .opened); padded = b .padded; count = b .count }
+bookAnswer c a b = record { opened = cond (isOpening c) (answered a) (b .opened); padded = b .padded; caller = b .caller; counts = b .counts }
 
 -- ---- the session
 
@@ -126,7 +140,7 @@ pub record Session : Type 0 where
   pub books : Books
 
 abbrev pub fresh : Session
-fresh = record { running = idle; books = noBooks false }
+fresh = record { running = idle; books = noBooks false 0 }
 
 -- ---- packets
 
@@ -150,13 +164,13 @@ seen true e = withoutZeros e
 
 -- ---- the list
 
--- an entry of document 01's "list": a call or an event, each with the length of the engine's buffer
+-- an entry of document 01's "list": a call, with its caller, or an event, each with the length of the engine's buffer
 pub data Entry : Type 0 where
-  call : Call → ℕ → Entry
+  call : ℕ → Call → ℕ → Entry
   event : Event → ℕ → Entry
 
 abbrev pub seenEntry : Bool → Entry → Entry
-seenEntry padded (call c room) = call c room
+seenEntry padded (call caller c room) = call caller c room
 seenEntry padded (event e room) = event (seen padded e) room
 
 -- what is given out, as the bench program prints it; `rejects` is a refusal at once, a later one is an answer
@@ -195,18 +209,21 @@ eventOutcome c e room unfit = unchanged OutOfTurn
 eventOutcome c e room (pending x phase) = admitted e room (outcome c (pending x phase))
 eventOutcome c e room (ended a) = admitted e room (outcome c (ended a))
 
--- a call: 1, 2, then its own refusals
+-- a call: 1, 2, then 4 for a caller that there is not, then its own refusals
 abbrev pub started : Call → Start → Outcome
 started c (refuses r) = unchanged r
 started c (starts s) = outcome c (begin (isOpening c) s)
 
-abbrev pub callOutcome : Bool → Call → ℕ → Outcome
-callOutcome isAdmitted c room = cond isAdmitted (withRoom room (started c (startOf c))) (unchanged OutOfTurn)
+abbrev pub withCaller : ℕ → Outcome → Outcome
+withCaller caller o = cond (leb caller lastCaller) o (unchanged BadArgument)
+
+abbrev pub callOutcome : Bool → ℕ → Call → ℕ → Outcome
+callOutcome isAdmitted caller c room = cond isAdmitted (withRoom room (withCaller caller (started c (startOf c)))) (unchanged OutOfTurn)
 
 abbrev pub outcomeOf : Running → Books → Entry → Outcome
-outcomeOf idle b (call c room) = callOutcome (admits b c) c room
+outcomeOf idle b (call caller c room) = callOutcome (admits b c) caller c room
 outcomeOf idle b (event e room) = unchanged OutOfTurn
-outcomeOf (busy c phase) b (call d room) = unchanged OutOfTurn
+outcomeOf (busy c phase) b (call caller d room) = unchanged OutOfTurn
 outcomeOf (busy c phase) b (event e room) = eventOutcome c (seen (b .padded) e) room (progress phase (seen (b .padded) e))
 
 -- the running call after it, and the books
@@ -216,7 +233,7 @@ runningAfter p (runs c x phase) = busy c phase
 runningAfter p (ends c a) = idle
 
 abbrev pub booksOf : Entry → Books → Books
-booksOf (call c room) b = booksFor c b
+booksOf (call caller c room) b = booksFor caller c b
 booksOf (event e room) b = b
 
 abbrev pub bookOutcome : Outcome → Books → Books

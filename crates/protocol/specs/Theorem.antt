@@ -5,13 +5,13 @@ use mathlib.Core.List.{List, [], _∷_}
 use mathlib.Core.Option.{Option, none, some}
 use Prim.Native.Nat.{ℕ, suc, _≤_, _<_}
 use native.Mathlib.Omega.{arith}
-use lib.Dec.{ltb}
+use lib.Dec.{leb, ltb}
 use lib.ListN.{length}
 use Rattle.framing.specs.Frames.{ack}
 use Rattle.exchange.specs.Exchange.{write, Event, unfit, pending, ended}
 use Rattle.protocol.specs.Scripts.{Byte, Answer, Script}
 use Rattle.protocol.specs.Calls.{Call, Start, refuses, starts, startOf, isOpening, limit}
-use Rattle.protocol.specs.Session.{Phase, CallResult, begin, progress, Running, idle, busy, Books, admits, Session, fresh, Entry, call, event}
+use Rattle.protocol.specs.Session.{Phase, CallResult, begin, progress, Running, idle, busy, Books, lastCaller, admits, Session, fresh, Entry, call, event}
 use Rattle.protocol.specs.Session.{Outcome, outcome, bufferNeed, packetLimit, seen, seenEntry, withRoom, packetLength, admitted, eventOutcome, started, callOutcome, outcomeOf, runningAfter, given, step, outputs}
 use Rattle.protocol.specs.Record.{Item, ordered, accepted, Record, Note, Observed, observed, addCall, addEvent, add, observe, recordOf, linesOf, modeAt, asSeen, frames, allowed}
 use Rattle.protocol.specs.Claim.{Running as Claimed, CardByte, Claim, Claims}
@@ -21,7 +21,7 @@ use Rattle.protocol.specs.CallsSound.{sound}
 use Rattle.protocol.specs.Laws.{split, lines-own, lines-other}
 use Rattle.protocol.specs.Invariant.{phase-due, Left, Sourced, Invariant, Kept, later-card, later-sourced, form-by, bare, entered}
 use Rattle.protocol.specs.Kept.{KeptBy, kept}
-use Rattle.protocol.specs.Seen.{Unused, no-lines, more-unused, unused-seen, add-seen, mode-after}
+use Rattle.protocol.specs.Seen.{Unused, no-lines, more-unused, unused-seen, add-seen, mode-after, callerAt, caller-after}
 
 -- ---- lines of a later call
 
@@ -64,6 +64,7 @@ AgreesAt p w = Agrees p (w .lines) (w .notes)
 pub record AgreesWith (s : Session) (w : Observed) : Type 0 where
   pub running : AgreesAt (s .running) (asSeen w)
   pub mode : s .books .padded ≡ modeAt (w .notes)
+  pub caller : s .books .caller ≡ callerAt (w .notes)
 
 none-unused : (p : Running) (l : Record) (ns : List Note) → Agrees p l ns → Unused l (length ns)
 none-unused idle l ns i = i .1
@@ -74,15 +75,15 @@ pub unused : (s : Session) (w : Observed) → AgreesWith s w → Unused (w .line
 unused s w i = unused-seen (w .lines) (w .notes) _ (none-unused (s .running) _ (w .notes) (i .running))
 
 -- a call begins
-begun : (l : Record) (ns : List Note) (c : Call) (r : CallResult) → Claims l ns → Unused l (length ns)
-    → Kept (length ns) c l [] r → AgreesAt (runningAfter idle (outcome c r)) (addCall c l ns (given (outcome c r)))
-begun l ns c unfit h u q = (h, u)
-begun l ns c (pending x phase) h u q = (
+begun : (caller : ℕ) (l : Record) (ns : List Note) (c : Call) (r : CallResult) → Claims l ns → Unused l (length ns)
+    → Kept (length ns) c l [] r → AgreesAt (runningAfter idle (outcome c r)) (addCall caller c l ns (given (outcome c r)))
+begun caller l ns c unfit h u q = (h, u)
+begun caller l ns c (pending x phase) h u q = (
   record { sameCall = refl; unanswered = refl; ownLines = ordered x ∷ []; invariant = q },
   claims-later l (length ns) (ordered x) ns (omega arith) h,
   (omega arith, more-unused l (length ns) u),
 )
-begun l ns c (ended a) h u q = ((q, h), more-unused l (length ns) u)
+begun caller l ns c (ended a) h u q = ((q, h), more-unused l (length ns) u)
 
 -- a call goes on or ends
 module _ (c : Call) (phase : Phase) (l : Record) (y : Note) (ns : List Note) (e : Event) (i : Agrees (busy c phase) l (y ∷ ns)) where
@@ -129,9 +130,9 @@ event-agrees c phase l (y ∷ ns) e room i =
 
 -- ---- a call
 
-module _ (l : Record) (ns : List Note) (c : Call) (i : Agrees idle l ns) where
+module _ (caller : ℕ) (l : Record) (ns : List Note) (c : Call) (i : Agrees idle l ns) where
   abbrev Starts : Outcome → Type 0
-  Starts o = AgreesAt (runningAfter idle o) (addCall c l ns (given o))
+  Starts o = AgreesAt (runningAfter idle o) (addCall caller c l ns (given o))
 
   no-source : Sourced (length ns) c l []
   no-source k p b e = absurd (let z : _≡_ {A = ℕ} 0 1 = cc in omega arith)
@@ -158,22 +159,22 @@ module _ (l : Record) (ns : List Note) (c : Call) (i : Agrees idle l ns) where
 
   started-agrees : (s : Start) → Sound (formOf c) s (limit c) → Starts (started c s)
   started-agrees (refuses r) h = i
-  started-agrees (starts s) h = begun l ns c (begin (isOpening c) s) (i .0) (i .1) (begin-kept (isOpening c) s refl h)
+  started-agrees (starts s) h = begun caller l ns c (begin (isOpening c) s) (i .0) (i .1) (begin-kept (isOpening c) s refl h)
 
-  call-agrees : (isAdmitted : Bool) (room : ℕ) → Starts (callOutcome isAdmitted c room)
+  call-agrees : (isAdmitted : Bool) (room : ℕ) → Starts (callOutcome isAdmitted caller c room)
   call-agrees isAdmitted room =
       split Starts isAdmitted _ _
-      (λ _. split Starts (ltb room bufferNeed) _ _ (λ _. i) (λ _. started-agrees (startOf c) (sound c)))
+      (λ _. split Starts (ltb room bufferNeed) _ _ (λ _. i) (λ _. split Starts (leb caller lastCaller) _ _ (λ _. started-agrees (startOf c) (sound c)) (λ _. i)))
       (λ _. i)
 
 -- ---- any list
 
 step-agrees : (p : Running) (b : Books) (l : Record) (ns : List Note) (e : Entry) → Agrees p l ns
     → AgreesAt (runningAfter p (outcomeOf p b e)) (add (observed l ns) (seenEntry (b .padded) e) (given (outcomeOf p b e)))
-step-agrees idle b l ns (call c room) i = call-agrees l ns c i (admits b c) room
+step-agrees idle b l ns (call caller c room) i = call-agrees caller l ns c i (admits b c) room
 step-agrees idle b l [] (event e room) i = i
 step-agrees idle b l (y ∷ ns) (event e room) i = i
-step-agrees (busy d phase) b l ns (call c room) i = i
+step-agrees (busy d phase) b l ns (call caller c room) i = i
 step-agrees (busy c phase) b l ns (event e room) i = event-agrees c phase l ns (seen (b .padded) e) room i
 
 pub agrees : (s : Session) (w : Observed) (e : Entry) → AgreesWith s w → AgreesWith ((step s e) .0) (add w e ((step s e) .1))
@@ -185,6 +186,7 @@ agrees s w e i =
     record {
       running = subst (AgreesAt p) (sym (add-seen (w .lines) (w .notes) e out (unused s w i))) by-notes;
       mode = mode-after (s .books) (w .lines) (w .notes) e (outcomeOf (s .running) (s .books) e) (i .mode);
+      caller = caller-after (s .books) (w .lines) (w .notes) e (outcomeOf (s .running) (s .books) e) (i .caller);
     }
 
 -- what the invariant says of the running call
@@ -207,7 +209,7 @@ claims-after s w [] i = claims (s .running) _ (w .notes) (i .running)
 claims-after s w (e ∷ es) i = claims-after ((step s e) .0) (add w e ((step s e) .1)) es (agrees s w e i)
 
 pub fresh-agrees : AgreesWith fresh (observed [] [])
-fresh-agrees = record { running = (tt, tt); mode = refl }
+fresh-agrees = record { running = (tt, tt); mode = refl; caller = refl }
 
 pub all-claims : (es : List Entry) → Claims ((asSeen (recordOf es (outputs fresh es))) .lines) ((recordOf es (outputs fresh es)) .notes)
 all-claims es = claims-after fresh (observed [] []) es fresh-agrees

@@ -121,11 +121,22 @@ fn mode(x: u64) -> u8 {
     }
 }
 
+// One of the eight in most, out of range in few.
+pub(crate) fn caller(x: u64) -> u8 {
+    match x % 32 {
+        0 => 8,
+        1 => 255,
+        _ => (x / 32 % 8) as u8,
+    }
+}
+
 fn books(seed: u64) -> Books {
+    let frames = wide(number(seed, 10));
     Books {
         opened: opened(number(seed, 9)),
         mode: mode(number(seed, 14)),
-        frames: wide(number(seed, 10)),
+        caller: caller(number(seed, 15)),
+        frames: [frames; 8],
     }
 }
 

@@ -86,6 +86,9 @@ fn in_range(state: State) -> bool {
     if books.mode > 1 {
         return false;
     }
+    if books.caller > 7 {
+        return false;
+    }
     core_in_range(core)
 }
 
@@ -126,6 +129,31 @@ fn same_core(before: Core, after: Core) -> bool {
     same_running(before, after)
 }
 
+fn same_frames(before: [u32; 8], after: [u32; 8]) -> bool {
+    if before[0] != after[0] {
+        return false;
+    }
+    if before[1] != after[1] {
+        return false;
+    }
+    if before[2] != after[2] {
+        return false;
+    }
+    if before[3] != after[3] {
+        return false;
+    }
+    if before[4] != after[4] {
+        return false;
+    }
+    if before[5] != after[5] {
+        return false;
+    }
+    if before[6] != after[6] {
+        return false;
+    }
+    before[7] == after[7]
+}
+
 fn same_books(before: Books, after: Books) -> bool {
     if before.opened != after.opened {
         return false;
@@ -133,7 +161,12 @@ fn same_books(before: Books, after: Books) -> bool {
     if before.mode != after.mode {
         return false;
     }
-    before.frames == after.frames
+    if before.caller != after.caller {
+        return false;
+    }
+    let first = before.frames;
+    let second = after.frames;
+    same_frames(first, second)
 }
 
 fn same(before: State, after: State) -> bool {

@@ -22,7 +22,13 @@ fn count(seed: u64, k: u64) -> usize {
 }
 
 fn numbers(ms: u32, word: u16, x: u8, y: u8) -> Numbers {
-    Numbers { ms, word, x, y }
+    Numbers {
+        ms,
+        word,
+        x,
+        y,
+        caller: 0,
+    }
 }
 
 // The number of a call of the chip itself.

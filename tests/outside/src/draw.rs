@@ -109,7 +109,8 @@ impl Draw {
         core.call.phase = if self.once(2) { 0 } else { self.small(5) };
         books.opened = self.opened();
         books.mode = self.small(1);
-        books.frames = self.pick(&[0, 1, 77, u32::MAX - 1, u32::MAX, u32::MAX]);
+        books.caller = self.small(7);
+        books.frames = std::array::from_fn(|_| self.pick(&[0, 1, 77, u32::MAX - 1, u32::MAX, u32::MAX]));
         session
     }
 

@@ -105,6 +105,6 @@ fn main() {
                 call
             }
         };
-        let _end = run(reader.call(call), &mut script);
+        let _end = run(reader.call(0, call), &mut script);
     }
 }

@@ -59,6 +59,11 @@ impl<'a> Arguments<'a> {
     fn y(self, y: u8) -> Self {
         Arguments { numbers: Numbers { y, ..self.numbers }, ..self }
     }
+
+    /// The same as a call of this caller.
+    pub fn by(self, caller: u8) -> Self {
+        Arguments { numbers: Numbers { caller, ..self.numbers }, ..self }
+    }
 }
 
 impl<'a> Call<'a> {

@@ -7,7 +7,7 @@
 //! use rcs956::{Call, Reader, Refusal, Step};
 //!
 //! let mut reader = Reader::new();
-//! let Step::Write(order) = reader.call(Call::Open { padded: false }) else { panic!("an opening begins with ACK") };
+//! let Step::Write(order) = reader.call(0, Call::Open { padded: false }) else { panic!("an opening begins with ACK") };
 //! assert_eq!(order.bytes(), [0, 0, 0xFF, 0, 0xFF, 0]);
 //! assert!(matches!(order.failed(), Step::Refused(Refusal::Transport)));
 //! ```
@@ -17,20 +17,20 @@
 //! ```compile_fail,E0599
 //! # use rcs956::{Call, Reader, Step};
 //! # let mut reader = Reader::new();
-//! let Step::Write(order) = reader.call(Call::Open { padded: false }) else { return };
+//! let Step::Write(order) = reader.call(0, Call::Open { padded: false }) else { return };
 //! order.slept();
 //! ```
 //! ```compile_fail,E0382
 //! # use rcs956::{Call, Reader, Step};
 //! # let mut reader = Reader::new();
-//! let Step::Write(order) = reader.call(Call::Open { padded: false }) else { return };
+//! let Step::Write(order) = reader.call(0, Call::Open { padded: false }) else { return };
 //! let (_, _) = (order.ok(), order.ok());
 //! ```
 //! ```compile_fail,E0499
 //! # use rcs956::{Call, Reader, Step};
 //! # let mut reader = Reader::new();
-//! let Step::Write(order) = reader.call(Call::Open { padded: false }) else { return };
-//! let _ = reader.call(Call::Version);
+//! let Step::Write(order) = reader.call(0, Call::Open { padded: false }) else { return };
+//! let _ = reader.call(0, Call::Version);
 //! let _ = order.ok();
 //! ```
 //!

@@ -6,6 +6,9 @@
 use crate::ffi;
 use std::fmt;
 
+/// The callers of a session, numbered from 0.
+pub const CALLERS: usize = 8;
+
 /// Kinds of outcomes.
 pub mod kind {
     pub const WRITE: u8 = 0;
@@ -60,7 +63,7 @@ pub struct Core {
     pub call: CallState,
 }
 
-/// The reader's books. An opening that is accepted begins them anew: its mode, and else 0.
+/// The reader's books. An opening that is accepted begins them anew: its mode, its caller, and else 0.
 #[repr(C)]
 #[derive(Clone, Debug, Default, PartialEq, Eq)]
 pub struct Books {
@@ -68,8 +71,10 @@ pub struct Books {
     pub opened: u8,
     /// 1 where the last opening that was accepted chose the padded mode, else 0; any other value is out of range.
     pub mode: u8,
-    /// Command frames ordered since the last opening began.
-    pub frames: u32,
+    /// Of the last call that was accepted; above 7 is out of range.
+    pub caller: u8,
+    /// Of each caller the command frames that its calls ordered since the last opening began, its own included.
+    pub frames: [u32; CALLERS],
 }
 
 #[repr(C)]
@@ -105,7 +110,7 @@ pub struct Outcome {
     pub len: usize,
 }
 
-/// A call's arguments that are numbers. What a call does not use counts for nothing.
+/// A call's arguments that are numbers. What a call does not use counts for nothing; each has a caller.
 #[repr(C)]
 #[derive(Clone, Copy, Debug, Default, PartialEq, Eq)]
 pub struct Numbers {
@@ -113,6 +118,8 @@ pub struct Numbers {
     pub word: u16,
     pub x: u8,
     pub y: u8,
+    /// 0 to 7; one above is refused with 4.
+    pub caller: u8,
 }
 
 /// A call's number and arguments, as `rcs956_call` takes them.

@@ -1,6 +1,6 @@
 //! Readers, orders and the events that fit them.
 
-use crate::raw::{self, Line, Outcome, RawSession, event, kind};
+use crate::raw::{self, CALLERS, Line, Outcome, RawSession, event, kind};
 use crate::{BUFFER_SIZE, Call};
 use std::fmt;
 
@@ -140,8 +140,9 @@ impl Reader {
         Reader { session: raw::fresh(), buffer: [0; BUFFER_SIZE], due: None }
     }
 
-    pub fn call(&mut self, call: Call<'_>) -> Step<'_> {
-        let outcome = raw::call(&mut self.session, &call.arguments(), &mut self.buffer);
+    /// A call of a caller, 0 to 7; one above is refused with 4.
+    pub fn call(&mut self, caller: u8, call: Call<'_>) -> Step<'_> {
+        let outcome = raw::call(&mut self.session, &call.arguments().by(caller), &mut self.buffer);
         self.step(outcome)
     }
 
@@ -160,8 +161,8 @@ impl Reader {
         self.session.state.books.mode == 1
     }
 
-    /// Command frames ordered since the last opening began, up to 4,294,967,295.
-    pub fn frames(&self) -> u32 {
+    /// Of each caller the command frames that its calls ordered since the last opening began, up to 4,294,967,295.
+    pub fn frames(&self) -> [u32; CALLERS] {
         self.session.state.books.frames
     }
 

@@ -1,4 +1,4 @@
-use crate::raw::{self, Arguments, Books, Core, ExchangeState, Numbers, Outcome, RawSession, State};
+use crate::raw::{self, Arguments, Books, CALLERS, Core, ExchangeState, Numbers, Outcome, RawSession, State};
 use crate::*;
 use std::mem::{offset_of, size_of};
 
@@ -39,7 +39,7 @@ impl Transport for Scripted<'_> {
 
 #[test]
 fn layout() {
-    assert_eq!(size_of::<RawSession>(), 1576);
+    assert_eq!(size_of::<RawSession>(), 1608);
     assert_eq!(offset_of!(RawSession, found), 512);
     assert_eq!(offset_of!(RawSession, state), 1536);
     assert_eq!(offset_of!(State, core), 0);
@@ -50,7 +50,10 @@ fn layout() {
     assert_eq!(offset_of!(ExchangeState, clock), 4);
     assert_eq!(offset_of!(Books, opened), 0);
     assert_eq!(offset_of!(Books, mode), 1);
+    assert_eq!(offset_of!(Books, caller), 2);
     assert_eq!(offset_of!(Books, frames), 4);
+    assert_eq!(size_of::<Numbers>(), 12);
+    assert_eq!(offset_of!(Numbers, caller), 8);
     assert_eq!(size_of::<Outcome>(), 16);
     assert_eq!(offset_of!(Outcome, time), 4);
     assert_eq!(offset_of!(Outcome, len), 8);
@@ -64,17 +67,17 @@ fn fresh_is_zeroed() {
 #[test]
 fn whole_case() {
     let mut reader = Reader::new();
-    let step = reader.call(Call::Open { padded: false });
+    let step = reader.call(0, Call::Open { padded: false });
     assert_eq!(step.to_string(), "write 0000FF00FF00");
     let Step::Write(order) = step else { panic!() };
     assert_eq!(order.failed().to_string(), "refused 7");
-    assert_eq!(reader.call(Call::Version).to_string(), "refused 1");
+    assert_eq!(reader.call(0, Call::Version).to_string(), "refused 1");
     assert!(!reader.is_open());
 }
 
 /// Drives a fresh reader to the first read of the opening.
 fn opening_read(reader: &mut Reader) -> Read<'_> {
-    let Step::Write(order) = reader.call(Call::Open { padded: false }) else { panic!() };
+    let Step::Write(order) = reader.call(0, Call::Open { padded: false }) else { panic!() };
     let Step::Read(order) = order.ok() else { panic!() };
     order
 }
@@ -95,11 +98,11 @@ fn dropped_order_is_due() {
     let mut reader = Reader::new();
     assert!(reader.due().is_none());
     let _ = opening_read(&mut reader);
-    assert!(matches!(reader.call(Call::Open { padded: false }), Step::Refused(Refusal::OutOfTurn)));
+    assert!(matches!(reader.call(0, Call::Open { padded: false }), Step::Refused(Refusal::OutOfTurn)));
     let Some(Step::Read(order)) = reader.due() else { panic!() };
     let Step::Write(order) = order.timed_out() else { panic!() };
     assert_eq!(order.bytes(), [0, 0, 0xFF, 3, 0xFD, 0xD4, 0x18, 1, 0x13, 0]);
-    assert_eq!(reader.frames(), 1);
+    assert_eq!(reader.frames(), [1, 0, 0, 0, 0, 0, 0, 0]);
 }
 
 #[test]
@@ -109,9 +112,9 @@ fn reads_share_the_clock() {
     // The opening's reads, then those of the reset and of the version: an ACK, two more, the deadline.
     let received = [Packet(6), Packet(6), TimedOut, Packet(6), Packet(6), Packet(6), Late, Packet(6), Packet(6), Late];
     let mut scripted = Scripted::new(&received, ACK);
-    assert_eq!(run(reader.call(Call::Open { padded: false }), &mut scripted).to_string(), "refused 8");
+    assert_eq!(run(reader.call(0, Call::Open { padded: false }), &mut scripted).to_string(), "refused 8");
     assert_eq!(scripted.shared, [false, false, false, false, false, true, true, false, false, true]);
-    assert_eq!(reader.frames(), 2);
+    assert_eq!(reader.frames(), [2, 0, 0, 0, 0, 0, 0, 0]);
 }
 
 #[test]
@@ -120,7 +123,7 @@ fn drains_share_their_time() {
     let mut reader = Reader::new();
     // No packet in the opening's reads and for the reset; the version's answer does not start as a frame.
     let mut scripted = Scripted::new(&[TimedOut, TimedOut, Packet(6), Packet(6), Failed, Late], [1; 6]);
-    assert_eq!(run(reader.call(Call::Open { padded: false }), &mut scripted).to_string(), "refused 9");
+    assert_eq!(run(reader.call(0, Call::Open { padded: false }), &mut scripted).to_string(), "refused 9");
     assert_eq!(scripted.shared, [false, false, false, false, true, true]);
     let end = ["write 0000FF02FED4022A00", "read 100", "write 0000FF00FF00", "drain", "drain", "drain", "refused 9"];
     assert!(scripted.lines.ends_with(&end.map(String::from)));
@@ -151,7 +154,7 @@ fn lines_of_ends() {
 /// A session in which no call runs, with these books.
 fn session_with(opened: u8, frames: u32) -> RawSession {
     let mut session = raw::fresh();
-    session.state.books = Books { opened, frames, ..Books::default() };
+    session.state.books = Books { opened, frames: [frames; CALLERS], ..Books::default() };
     session
 }
 
@@ -220,4 +223,32 @@ fn no_such_call_and_short_buffer() {
     assert_eq!(raw::call(&mut session, &Call::Version.arguments(), &mut []), refused(2));
     assert_eq!(raw::event(&mut session, 7, &[], &mut [0; 1024]), refused(1));
     assert_eq!(session, before);
+}
+
+#[test]
+fn no_such_caller() {
+    for caller in 8..=255 {
+        let mut session = session_with(1, 77);
+        assert_eq!(raw::call(&mut session, &Call::Version.arguments().by(caller), &mut [0; 1024]), refused(4));
+        assert_eq!(raw::call(&mut session, &Call::Open { padded: false }.arguments().by(caller), &mut [0; 1024]), refused(4));
+        assert_eq!(session, session_with(1, 77));
+        session.state.books.caller = caller;
+        let before = session.clone();
+        assert_eq!(raw::call(&mut session, &Call::Version.arguments(), &mut [0; 1024]), refused(1));
+        assert_eq!(session, before);
+    }
+}
+
+#[test]
+fn frames_by_caller() {
+    let mut session = session_with(1, 0);
+    let mut due = [0; CALLERS];
+    for caller in [3, 7, 3] {
+        assert_eq!(raw::call(&mut session, &Call::Version.arguments().by(caller), &mut [0; 1024]).kind, raw::kind::WRITE);
+        due[usize::from(caller)] += 1;
+        assert_eq!((session.state.books.caller, session.state.books.frames), (caller, due));
+        session.state.core.call = Default::default();
+    }
+    assert_eq!(raw::call(&mut session, &Call::Open { padded: true }.arguments().by(5), &mut [0; 1024]).kind, raw::kind::WRITE);
+    assert_eq!(session.state.books, Books { mode: 1, caller: 5, ..Books::default() });
 }

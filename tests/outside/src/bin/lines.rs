@@ -1,4 +1,5 @@
-//! The bench program's lines over the archive. With `--frames` each line has the session's frame count behind it.
+//! The bench program's lines over the archive. With `--frames` the call of line k, from 0, is one of caller k % 8, and each line has the
+//! session's eight frame counts behind it; without it all calls are caller 0's.
 
 use rcs956::raw::{self, Line, RawSession, event};
 use rcs956::{BUFFER_SIZE, Call};
@@ -158,7 +159,7 @@ impl<'a> Words<'a> {
 }
 
 /// The answer to a line; a line that cannot be read is refused with 4.
-fn answered(line: &[u8], session: &mut RawSession, buffer: &mut [u8]) -> String {
+fn answered(line: &[u8], caller: u8, session: &mut RawSession, buffer: &mut [u8]) -> String {
     let words = Words::of(line);
     let readable = line.len() <= LONGEST && words.words.iter().all(|word| !word.is_empty());
     let outcome = if !readable {
@@ -166,7 +167,7 @@ fn answered(line: &[u8], session: &mut RawSession, buffer: &mut [u8]) -> String 
     } else if let Some((number, packet)) = words.event() {
         Some(raw::event(session, number, packet, buffer))
     } else {
-        words.call().map(|call| raw::call(session, &call.arguments(), buffer))
+        words.call().map(|call| raw::call(session, &call.arguments().by(caller), buffer))
     };
     outcome.map_or(String::from("refused 4"), |outcome| Line(outcome, &buffer[..outcome.len]).to_string())
 }
@@ -177,13 +178,17 @@ fn main() -> io::Result<()> {
     let mut buffer = [0; BUFFER_SIZE];
     let (mut input, mut output) = (io::stdin().lock(), io::stdout().lock());
     let mut line = Vec::new();
+    let mut turn: u8 = 0;
     while input.read_until(b'\n', &mut line)? > 0 {
         let text = line.strip_suffix(b"\n").unwrap_or(&line);
-        let answer = answered(text, &mut session, &mut buffer);
-        match frames {
-            true => writeln!(output, "{answer} frames {}", session.state.books.frames)?,
-            false => writeln!(output, "{answer}")?,
+        let answer = answered(text, if frames { turn } else { 0 }, &mut session, &mut buffer);
+        write!(output, "{answer}")?;
+        if frames {
+            let counts = session.state.books.frames.map(|count| count.to_string());
+            write!(output, " frames {}", counts.join(" "))?;
         }
+        writeln!(output)?;
+        turn = (turn + 1) % 8;
         output.flush()?;
         line.clear();
     }

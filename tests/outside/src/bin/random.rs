@@ -8,14 +8,14 @@
 mod draw;
 
 use draw::Draw;
-use rcs956::raw::{self, Arguments, Numbers, Outcome, RawSession, event, kind};
+use rcs956::raw::{self, Arguments, CALLERS, Numbers, Outcome, RawSession, event, kind};
 
 /// The bytes on each side of the buffer.
 const GUARD: usize = 64;
 
 /// The call or event of a step.
 enum Entry {
-    Call { arguments: [u64; 5], bytes: [Box<[u8]>; 4] },
+    Call { arguments: [u64; 6], bytes: [Box<[u8]>; 4] },
     Event { number: u8, packet: Box<[u8]> },
 }
 
@@ -54,7 +54,8 @@ fn drawn_call(draw: &mut Draw) -> Entry {
         bytes[1] = draw.bytes(len);
     }
     let ms = draw.pick(&[0, 1, 100, 65535, u32::MAX as u64]);
-    Entry::Call { arguments: [number, ms, draw.number(), x, draw.below(4)], bytes }
+    let caller = if draw.once(24) { draw.byte() as u64 } else { draw.below(8) };
+    Entry::Call { arguments: [number, ms, draw.number(), x, draw.below(4), caller], bytes }
 }
 
 impl Entry {
@@ -71,9 +72,10 @@ impl Entry {
     fn made(&self, session: &mut RawSession, buffer: &mut [u8]) -> Outcome {
         match self {
             Entry::Event { number, packet } => raw::event(session, *number, packet, buffer),
-            Entry::Call { arguments: [number, ms, word, x, y], bytes: [first, second, third, fourth] } => {
-                let (number, ms, word, x, y) = (*number as u8, *ms as u32, *word as u16, *x as u8, *y as u8);
-                raw::call(session, &Arguments { number, numbers: Numbers { ms, word, x, y }, first, second, third, fourth }, buffer)
+            Entry::Call { arguments: [number, ms, word, x, y, caller], bytes: [first, second, third, fourth] } => {
+                let (number, ms, word) = (*number as u8, *ms as u32, *word as u16);
+                let numbers = Numbers { ms, word, x: *x as u8, y: *y as u8, caller: *caller as u8 };
+                raw::call(session, &Arguments { number, numbers, first, second, third, fourth }, buffer)
             }
         }
     }
@@ -91,7 +93,8 @@ fn core_in_range(session: &RawSession) -> bool {
 }
 
 fn books_in_range(session: &RawSession) -> bool {
-    session.state.books.opened <= 1 && session.state.books.mode <= 1
+    let books = &session.state.books;
+    books.opened <= 1 && books.mode <= 1 && books.caller <= 7
 }
 
 fn in_range(session: &RawSession) -> bool {
@@ -108,13 +111,31 @@ fn out_of_turn(entry: &Entry, before: &RawSession) -> Option<bool> {
     }
 }
 
-/// The frame count that must be behind a step.
-fn frames_due(entry: &Entry, before: u32, outcome: Outcome) -> u32 {
-    match outcome.kind {
-        kind::WRITE if entry.is_opening() => 0,
-        kind::WRITE if outcome.len > 6 => before.saturating_add(1),
-        _ => before,
+/// The caller of a call; of an event that of the call that runs.
+fn caller_due(entry: &Entry, before: &RawSession, outcome: Outcome) -> u8 {
+    match entry {
+        Entry::Call { arguments: [.., caller], .. } if outcome.kind == kind::WRITE => *caller as u8,
+        _ => before.state.books.caller,
     }
+}
+
+/// The frame counts that must be behind a step: a command counts for its caller.
+fn frames_due(entry: &Entry, before: &RawSession, outcome: Outcome) -> [u32; CALLERS] {
+    let mut frames = before.state.books.frames;
+    match outcome.kind {
+        kind::WRITE if entry.is_opening() => frames = [0; CALLERS],
+        kind::WRITE if outcome.len > 6 => {
+            let count = &mut frames[usize::from(caller_due(entry, before, outcome))];
+            *count = count.saturating_add(1);
+        }
+        _ => {}
+    }
+    frames
+}
+
+/// Whether a call names no caller.
+fn no_caller(entry: &Entry) -> bool {
+    matches!(entry, Entry::Call { arguments: [.., caller], .. } if *caller > 7)
 }
 
 /// What `opened` must be behind a step that is not refused with 1 to 6: 0 once an opening has begun, and 1 once it is done.
@@ -131,14 +152,14 @@ fn opened_due(entry: &Entry, before: &RawSession, outcome: Outcome) -> u8 {
 /// What the mode must be behind a step: the opening's once one has begun.
 fn mode_due(entry: &Entry, before: &RawSession, outcome: Outcome) -> u8 {
     match entry {
-        Entry::Call { arguments: [0, _, _, x, _], .. } if outcome.kind == kind::WRITE => *x as u8,
+        Entry::Call { arguments: [0, _, _, x, _, _], .. } if outcome.kind == kind::WRITE => *x as u8,
         _ => before.state.books.mode,
     }
 }
 
 /// Whether an opening names no mode.
 fn no_mode(entry: &Entry) -> bool {
-    matches!(entry, Entry::Call { arguments: [0, _, _, x, _], .. } if *x > 1)
+    matches!(entry, Entry::Call { arguments: [0, _, _, x, _, _], .. } if *x > 1)
 }
 
 /// What the session must be behind a step.
@@ -153,7 +174,9 @@ fn session_faults(entry: &Entry, before: &RawSession, after: &RawSession, outcom
         (early && before != after, "a refusal 1 to 6 has changed the session"),
         (ends && !early && running, "a call has ended and still runs"),
         (!ends && !running, "an order, and no call runs"),
-        (books.frames != frames_due(entry, before.state.books.frames, outcome), "the frame count is wrong"),
+        (!early && books.frames != frames_due(entry, before, outcome), "the frame counts are wrong"),
+        (books.caller != caller_due(entry, before, outcome), "the caller is wrong"),
+        (no_caller(entry) && !(refused && [1, 2, 4].contains(&outcome.refusal)), "a call of no caller is not refused"),
         (!early && books.opened != opened_due(entry, before, outcome), "`opened` is wrong"),
         (books.mode != mode_due(entry, before, outcome), "the mode is wrong"),
         (no_mode(entry) && !(refused && [1, 2, 4].contains(&outcome.refusal)), "an opening in no mode is not refused"),

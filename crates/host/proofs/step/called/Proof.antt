@@ -20,7 +20,7 @@ returns : tie.Need-returns
 returns c =
     let at = c .before .before .before in
     let a = at .before .before .before .before .before .before .before .before .args in
-    let i = callInput (callOf (a .number) (a .numbers) (a .first .now) (a .second .now) (a .third .now) (a .fourth .now)) (a .buffer .now) in
+    let i = callInput (a .numbers .caller) (callOf (a .number) (a .numbers) (a .first .now) (a .second .now) (a .third .now) (a .fourth .now)) (a .buffer .now) in
     λ found. call-told _ _ (joined (a .command .now) found (a .state)) i _ _ (a .buffer .now) _ (c .of .ensures) (at .call .ensures found)
 
 pub called-spec : {M : Type 1} → statement M

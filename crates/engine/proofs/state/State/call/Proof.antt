@@ -29,6 +29,16 @@ returns-2 : tie.Need-returns-2
 unfolding startAfter
 returns-2 c = λ f. at-true _ _ _ _ (sym (c .before .before .before .is-admitted .ensures) ∙ c .before .before .if2 .taken) (at-true _ _ _ _ (lt-ltb _ _ (c .before .if3 .taken)) (c .refused .ensures _ _)) ∙ reader-input _ _ _ _ _ _ _ _ _ (c .before .before .before .before .if1 .left)
 
+refused-requires-2 : tie.Need-refused-requires-2
+refused-requires-2 c κs = search needs
+
+returns-3 : tie.Need-returns-3
+unfolding startAfter
+returns-3 c = λ f.
+    at-true _ _ _ _ (sym (c .before .before .before .before .before .is-admitted .ensures) ∙ c .before .before .before .before .if2 .taken)
+    (at-false _ _ _ _ (le-ltb _ _ (c .before .before .before .if3 .left)) (at-true _ _ _ _ (lt-ltb _ _ (c .before .if4 .taken)) (c .refused2 .ensures _ _)))
+    ∙ reader-input _ _ _ _ _ _ _ _ _ (c .before .before .before .before .before .before .if1 .left)
+
 start-requires : tie.Need-start-requires
 start-requires c κs = search needs
 
@@ -38,19 +48,24 @@ start-requires-2 c κs = (starts-fit (c .before .before .before .start .ensures)
 booked-requires : tie.Need-booked-requires
 booked-requires c κs = search needs
 
-refused-requires-2 : tie.Need-refused-requires-2
-refused-requires-2 c κs = search needs
+refused-requires-3 : tie.Need-refused-requires-3
+refused-requires-3 c κs = search needs
 
 same-length-2 : tie.Need-same-length-2
 same-length-2 c = search needs
 
-returns-3 : tie.Need-returns-3
-unfolding startAfter
-returns-3 c = λ f. at-true _ _ _ _ (sym (c .before .before .before .before .before .before .before .before .before .before .before .before .before .is-admitted .ensures) ∙ c .before .before .before .before .before .before .before .before .before .before .before .before .if2 .taken) (at-false _ _ _ _ (le-ltb _ _ (c .before .before .before .before .before .before .before .before .before .before .before .if3 .left)) (c .booked .ensures _ _ ∙ ap (bookedAfter _ _) (c .before .before .before .start2 .ensures f _ _ (c .before .before .before .before .before .before .before .start .ensures)))) ∙ reader-input _ _ _ _ _ _ _ _ _ (c .before .before .before .before .before .before .before .before .before .before .before .before .before .before .if1 .left)
-
 returns-4 : tie.Need-returns-4
 unfolding startAfter
-returns-4 c = λ f. at-false _ _ _ _ (sym (c .before .before .is-admitted .ensures) ∙ c .before .if2 .left) (c .refused2 .ensures _ _) ∙ reader-input _ _ _ _ _ _ _ _ _ (c .before .before .before .if1 .left)
+returns-4 c = λ f.
+    at-true _ _ _ _ (sym (c .before .before .before .before .before .before .before .before .before .before .before .before .before .before .before .is-admitted .ensures) ∙ c .before .before .before .before .before .before .before .before .before .before .before .before .before .before .if2 .taken)
+    (at-false _ _ _ _ (le-ltb _ _ (c .before .before .before .before .before .before .before .before .before .before .before .before .before .if3 .left))
+    (at-false _ _ _ _ (le-ltb _ _ (c .before .before .before .before .before .before .before .before .before .before .before .if4 .left))
+    (c .booked .ensures _ _ ∙ ap (bookedAfter _ _ _) (c .before .before .before .start2 .ensures f _ _ (c .before .before .before .before .before .before .before .start .ensures)))))
+    ∙ reader-input _ _ _ _ _ _ _ _ _ (c .before .before .before .before .before .before .before .before .before .before .before .before .before .before .before .before .if1 .left)
+
+returns-5 : tie.Need-returns-5
+unfolding startAfter
+returns-5 c = λ f. at-false _ _ _ _ (sym (c .before .before .is-admitted .ensures) ∙ c .before .if2 .left) (c .refused3 .ensures _ _) ∙ reader-input _ _ _ _ _ _ _ _ _ (c .before .before .before .if1 .left)
 
 pub call-spec : {M : Type 1} → statement M
 call-spec =
@@ -62,10 +77,12 @@ call-spec =
     is-admitted-requires
     refused-requires
     returns-2
+    refused-requires-2
+    returns-3
     start-requires
     start-requires-2
     booked-requires
-    refused-requires-2
+    refused-requires-3
     same-length-2
-    returns-3
-    returns-4)
+    returns-4
+    returns-5)

@@ -4,7 +4,7 @@ use mathlib.Core.Path.{sym, ap, _∙_}
 use Rattle.framing.specs.Valid.{both-left}
 use Rattle.framing.specs.Rules.{at-true, at-false}
 use Rattle.engine.specs.Sessions.{isValid, bookedAfter, eventAfter}
-use Rattle.engine.specs.Laws.{event-seen, extra-few}
+use Rattle.engine.specs.Laws.{valid-caller, event-seen, extra-few}
 use Rattle.engine.proofs.state.State.event.Statement.{statement}
 use Rattle.engine.proofs.state.State.event.Tie as tie
 
@@ -28,7 +28,7 @@ unfolding isValid
 event-requires c κs = (both-left _ _ (sym (c .before .before .before .before .before .before .before .before .before .is-valid .ensures) ∙ c .before .before .before .before .before .before .before .before .if1 .taken), c .before .before .before .before .before .before .before .before .before .before .before .before .before .before .pre .0, c .before .before .before .before .before .before .before .before .before .before .before .before .before .before .pre .1)
 
 booked-requires : tie.Need-booked-requires
-booked-requires c κs = search needs
+booked-requires c κs = valid-caller _ (sym (c .before .before .before .before .before .before .before .before .before .before .before .before .before .before .before .before .before .is-valid .ensures) ∙ c .before .before .before .before .before .before .before .before .before .before .before .before .before .before .before .before .if1 .taken)
 
 refused-requires : tie.Need-refused-requires
 refused-requires c κs = search needs
@@ -47,7 +47,7 @@ unfolding eventAfter
 returns c =
     let a = c .before .before .before .before .before .before .before .before .before .before .before .before .before .before .before .before .before .before .before .before .before .before .before .args in
     at-true _ _ _ _ (sym (c .before .before .before .before .before .before .before .before .before .before .before .before .before .before .before .before .before .before .is-valid .ensures) ∙ c .before .before .before .before .before .before .before .before .before .before .before .before .before .before .before .before .before .if1 .taken)
-    (c .booked .ensures _ _ ∙ ap (bookedAfter _ _) (c .before .before .before .before .before .before .before .before .event .ensures ∙ event-seen _ _ _ (c .before .before .before .before .before .before .before .before .before .before .before .before .before .extra-zeros .ensures) _ _ (a .event) (a .buffer .now)))
+    (c .booked .ensures _ _ ∙ ap (bookedAfter _ _ _) (c .before .before .before .before .before .before .before .before .event .ensures ∙ event-seen _ _ _ (c .before .before .before .before .before .before .before .before .before .before .before .before .before .extra-zeros .ensures) _ _ (a .event) (a .buffer .now)))
 
 returns-2 : tie.Need-returns-2
 unfolding eventAfter

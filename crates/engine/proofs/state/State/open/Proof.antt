@@ -26,6 +26,16 @@ returns-2 c = λ f.
     at-true _ _ _ _ (sym (c .before .before .before .before .is-free .ensures) ∙ c .before .before .before .if1 .taken)
     (at-false _ _ _ _ (le-ltb _ _ (c .before .before .if2 .left)) (at-true _ _ _ _ (lt-ltb _ _ (c .before .if3 .taken)) (c .refused2 .ensures _ _)))
 
+refused-requires-3 : tie.Need-refused-requires-3
+refused-requires-3 c κs = search needs
+
+returns-3 : tie.Need-returns-3
+unfolding openAfter
+returns-3 c = λ f.
+    at-true _ _ _ _ (sym (c .before .before .before .before .before .is-free .ensures) ∙ c .before .before .before .before .if1 .taken)
+    (at-false _ _ _ _ (le-ltb _ _ (c .before .before .before .if2 .left))
+    (at-false _ _ _ _ (le-ltb _ _ (c .before .before .if3 .left)) (at-true _ _ _ _ (lt-ltb _ _ (c .before .if4 .taken)) (c .refused3 .ensures _ _))))
+
 open-requires : tie.Need-open-requires
 open-requires c κs = search needs
 
@@ -35,23 +45,24 @@ none-requires c κs = search needs
 booked-requires : tie.Need-booked-requires
 booked-requires c κs = search needs
 
-refused-requires-3 : tie.Need-refused-requires-3
-refused-requires-3 c κs = search needs
+refused-requires-4 : tie.Need-refused-requires-4
+refused-requires-4 c κs = search needs
 
 same-length : tie.Need-same-length
 same-length c = search needs
 
-returns-3 : tie.Need-returns-3
-unfolding openAfter
-returns-3 c = λ f.
-    at-true _ _ _ _ (sym (c .before .before .before .before .before .before .before .before .before .before .is-free .ensures) ∙ c .before .before .before .before .before .before .before .before .before .if1 .taken)
-    (at-false _ _ _ _ (le-ltb _ _ (c .before .before .before .before .before .before .before .before .if2 .left))
-    (at-false _ _ _ _ (le-ltb _ _ (c .before .before .before .before .before .before .before .if3 .left))
-    (c .booked .ensures f _ ∙ ap₂ (bookedAfter true) (c .before .none .ensures) (c .before .before .before .before .«open» .ensures f))))
-
 returns-4 : tie.Need-returns-4
 unfolding openAfter
-returns-4 c = λ f. at-false _ _ _ _ (sym (c .before .before .is-free .ensures) ∙ c .before .if1 .left) (c .refused3 .ensures _ _)
+returns-4 c = λ f.
+    at-true _ _ _ _ (sym (c .before .before .before .before .before .before .before .before .before .before .before .is-free .ensures) ∙ c .before .before .before .before .before .before .before .before .before .before .if1 .taken)
+    (at-false _ _ _ _ (le-ltb _ _ (c .before .before .before .before .before .before .before .before .before .if2 .left))
+    (at-false _ _ _ _ (le-ltb _ _ (c .before .before .before .before .before .before .before .before .if3 .left))
+    (at-false _ _ _ _ (le-ltb _ _ (c .before .before .before .before .before .before .before .if4 .left))
+    (c .booked .ensures f _ ∙ ap₂ (bookedAfter _ true) (c .before .none .ensures) (c .before .before .before .before .«open» .ensures f)))))
+
+returns-5 : tie.Need-returns-5
+unfolding openAfter
+returns-5 c = λ f. at-false _ _ _ _ (sym (c .before .before .is-free .ensures) ∙ c .before .if1 .left) (c .refused4 .ensures _ _)
 
 pub open-spec : {M : Type 1} → statement M
 open-spec =
@@ -62,10 +73,12 @@ open-spec =
     returns
     refused-requires-2
     returns-2
+    refused-requires-3
+    returns-3
     open-requires
     none-requires
     booked-requires
-    refused-requires-3
+    refused-requires-4
     same-length
-    returns-3
-    returns-4)
+    returns-4
+    returns-5)
