@@ -12,14 +12,15 @@ use Rattle.errors.specs.declared.Fault.{Fault}
 use Rattle.errors.specs.declared.Fault.the-variants.{ShortResponse, Status}
 use Rattle.exchange.specs.Packets.{Reply}
 use Rattle.protocol.specs.Scripts.{own, value, Script, finish, reset, either, refuse, ifElse, done, refused}
-use Rattle.protocol.specs.Chipset.{versionBytes, getFirmwareVersion, rfFieldOff, rfConfiguration, setParameters, writeRegister, anyNonzero}
+use Rattle.protocol.specs.Chipset.{versionBytes, getFirmwareVersion, rfFieldOff, rfConfiguration, setParameters, writeRegister, anyNonzero, word}
 use Rattle.protocol.specs.Device.{deviceNew, chipsetName, hexDigit as hexDigitOf, hex as hexOf}
 use Rattle.stages.specs.Stages.{send, ends, withLength}
 use Rattle.chipset.specs.Responses.{foundWritten}
 use Rattle.device.specs.Names.{hexDigit, hex, dotted, nameBytes, openedBytes}
 use Rattle.device.specs.Opening.{openingCommand, settingsCommand, isResetStage, versionKept, openingDecision}
 use Rattle.calls.specs.Tables.{commandOf, isResetOf, decidedOf, failedOf}
-use Rattle.calls.specs.Refines.{Leads, leads-reset, leads-keep, Stands, leads-if, ending, refusal, by-length, go-on}
+use Rattle.calls.specs.Refines.{Refines, refines-reset, refines-keep, Awaits, refines-if, ending, refusal, by-length, go-on}
+use Rattle.protocol.specs.Names.{commandClock, getFirmwareVersionCode, registerWriteFailed, registersClock, rfCfgRam07, rfConfigurationCode, setParametersCode, writeRegisterCode}
 
 -- ---- the answer
 
@@ -63,7 +64,7 @@ opened-few a b c = omega (arith, length-append (hex b) (0x2E ∷ hex c), hex-few
 
 module _ (a b c : ℕ) where
   abbrev s9 : Script
-  s9 = writeRegister (0x03 ∷ 0x28 ∷ 0x59 ∷ []) (finish (done (versionBytes 1 a b c ++ chipsetName b c)))
+  s9 = writeRegister (word rfCfgRam07 ++ (0x59 ∷ [])) (finish (done (versionBytes 1 a b c ++ chipsetName b c)))
 
   abbrev s7 : Script
   s7 = setParameters 0x08 (reset s9)
@@ -89,60 +90,60 @@ module _ (pending : List ℕ) where
 
     -- a command whose response is not looked at
     passed : (n : ℕ) (s : Script) → ((cs : List ℕ) → decidedOf 1 n 0 pending answer cs ≡ send (n + 1)) → ((r : Fault) → failedOf 1 n 0 pending answer r ≡ ends (refused r))
-        → Leads 1 0 pending answer (send (n + 1)) s → Stands 1 n 0 pending answer (either (λ _. s) refuse)
+        → Refines 1 0 pending answer (send (n + 1)) s → Awaits 1 n 0 pending answer (either (λ _. s) refuse)
     passed n s h k l = record { answered = λ cs _. rw (h cs) l; failing = λ r. rw (k r) (refusal r) }
 
-    stage-9 : Leads 1 0 pending answer (send 9) (s9 a b c)
+    stage-9 : Refines 1 0 pending answer (send 9) (s9 a b c)
     unfolding commandOf isResetOf decidedOf failedOf openingCommand settingsCommand isResetStage openingDecision foundWritten pick
     stage-9 =
-        go-on 9 0x08 250 _ refl refl refl
+        go-on 9 writeRegisterCode registersClock _ refl refl refl
         record {
-          answered = λ cs _. leads-if (anyNonzero cs) (λ _. refusal (Status 0xFE)) (λ _. ending _ (ap done (opened-same a b c)));
+          answered = λ cs _. refines-if (anyNonzero cs) (λ _. refusal (Status registerWriteFailed)) (λ _. ending _ (ap done (opened-same a b c)));
           failing = λ r. refusal r;
         }
 
-    stage-8 : Leads 1 0 pending answer (send 8) (reset (s9 a b c))
+    stage-8 : Refines 1 0 pending answer (send 8) (reset (s9 a b c))
     unfolding commandOf isResetOf decidedOf openingCommand settingsCommand isResetStage openingDecision pick
-    stage-8 = leads-reset 8 _ refl refl refl stage-9
+    stage-8 = refines-reset 8 _ refl refl refl stage-9
 
-    stage-7 : Leads 1 0 pending answer (send 7) (s7 a b c)
+    stage-7 : Refines 1 0 pending answer (send 7) (s7 a b c)
     unfolding commandOf isResetOf decidedOf failedOf openingCommand settingsCommand isResetStage openingDecision pick
-    stage-7 = go-on 7 0x12 100 _ refl refl refl (passed 7 _ (λ _. refl) (λ _. refl) stage-8)
+    stage-7 = go-on 7 setParametersCode commandClock _ refl refl refl (passed 7 _ (λ _. refl) (λ _. refl) stage-8)
 
-    stage-6 : Leads 1 0 pending answer (send 6) (s6 a b c)
+    stage-6 : Refines 1 0 pending answer (send 6) (s6 a b c)
     unfolding commandOf isResetOf decidedOf failedOf openingCommand settingsCommand isResetStage openingDecision pick
-    stage-6 = go-on 6 0x32 100 _ refl refl refl (passed 6 _ (λ _. refl) (λ _. refl) stage-7)
+    stage-6 = go-on 6 rfConfigurationCode commandClock _ refl refl refl (passed 6 _ (λ _. refl) (λ _. refl) stage-7)
 
-    stage-5 : Leads 1 0 pending answer (send 5) (s5 a b c)
+    stage-5 : Refines 1 0 pending answer (send 5) (s5 a b c)
     unfolding commandOf isResetOf decidedOf failedOf openingCommand settingsCommand isResetStage openingDecision pick
-    stage-5 = go-on 5 0x32 100 _ refl refl refl (passed 5 _ (λ _. refl) (λ _. refl) stage-6)
+    stage-5 = go-on 5 rfConfigurationCode commandClock _ refl refl refl (passed 5 _ (λ _. refl) (λ _. refl) stage-6)
 
-    stage-4 : Leads 1 0 pending answer (send 4) (s4 a b c)
+    stage-4 : Refines 1 0 pending answer (send 4) (s4 a b c)
     unfolding commandOf isResetOf decidedOf failedOf openingCommand isResetStage openingDecision pick
-    stage-4 = go-on 4 0x32 100 _ refl refl refl (passed 4 _ (λ _. refl) (λ _. refl) stage-5)
+    stage-4 = go-on 4 rfConfigurationCode commandClock _ refl refl refl (passed 4 _ (λ _. refl) (λ _. refl) stage-5)
 
-    stage-3 : Leads 1 0 pending answer (send 3) (s3 a b c)
+    stage-3 : Refines 1 0 pending answer (send 3) (s3 a b c)
     unfolding commandOf isResetOf decidedOf failedOf openingCommand isResetStage openingDecision pick
-    stage-3 = go-on 3 0x32 100 _ refl refl refl (passed 3 _ (λ _. refl) (λ _. refl) stage-4)
+    stage-3 = go-on 3 rfConfigurationCode commandClock _ refl refl refl (passed 3 _ (λ _. refl) (λ _. refl) stage-4)
 
-    stage-2 : Leads 1 0 pending answer (send 2) (rfFieldOff (s3 a b c))
+    stage-2 : Refines 1 0 pending answer (send 2) (rfFieldOff (s3 a b c))
     unfolding commandOf isResetOf decidedOf failedOf openingCommand isResetStage openingDecision pick
-    stage-2 = go-on 2 0x32 100 _ refl refl refl (passed 2 _ (λ _. refl) (λ _. refl) stage-3)
+    stage-2 = go-on 2 rfConfigurationCode commandClock _ refl refl refl (passed 2 _ (λ _. refl) (λ _. refl) stage-3)
 
-  stage-1 : (found : List ℕ) → Leads 1 0 pending found (send 1) (getFirmwareVersion (λ a b c. rfFieldOff (s3 a b c)))
+  stage-1 : (found : List ℕ) → Refines 1 0 pending found (send 1) (getFirmwareVersion (λ a b c. rfFieldOff (s3 a b c)))
   unfolding commandOf isResetOf decidedOf failedOf openingCommand isResetStage openingDecision versionKept pick
   stage-1 found =
-      go-on 1 0x02 100 _ refl refl refl
+      go-on 1 getFirmwareVersionCode commandClock _ refl refl refl
       record {
         answered = λ cs _.
-            by-length cs 4 (λ _. leads-keep 2 _ _ (opened-few (getD cs 0 0) (getD cs 1 0) (getD cs 2 0)) (stage-2 (getD cs 0 0) (getD cs 1 0) (getD cs 2 0)));
+            by-length cs 4 (λ _. refines-keep 2 _ _ (opened-few (getD cs 0 0) (getD cs 1 0) (getD cs 2 0)) (stage-2 (getD cs 0 0) (getD cs 1 0) (getD cs 2 0)));
         failing = λ r. refusal r;
       }
 
   -- `Device::new`
-  pub opening-leads : (found : List ℕ) → Leads 1 0 pending found (send 0) deviceNew
+  pub opening-leads : (found : List ℕ) → Refines 1 0 pending found (send 0) deviceNew
   unfolding commandOf isResetOf decidedOf openingCommand isResetStage openingDecision pick
-  opening-leads found = leads-reset 0 _ refl refl refl (stage-1 found)
+  opening-leads found = refines-reset 0 _ refl refl refl (stage-1 found)
 
 -- ---- a failed write of ACK refuses
 

@@ -22,14 +22,15 @@ use Rattle.discovery.specs.Decisions.{typeFCommand, txControlRead, polled, type
 use Rattle.discovery.specs.FirstLaws.{list-few}
 use Rattle.discovery.specs.PollLaws.{none-yet, all-found}
 use Rattle.calls.specs.Tables.{commandOf, isResetOf, decidedOf, failedOf}
-use Rattle.calls.specs.Refines.{Leads, leads-next, leads-pause, Stands, ending, go-on}
+use Rattle.calls.specs.Refines.{Refines, refines-next, refines-pause, Awaits, ending, go-on}
 use Rattle.calls.specs.Single.{rest-values}
+use Rattle.protocol.specs.Names.{commandClock, inListPassiveTargetClock, inListPassiveTargetCode, readRegisterCode, registersClock, rfConfigurationCode}
 
 -- ---- one code: Type F's stages, and behind its end whatever f has
 
 module _ (cursor : ℕ) (pending found : List ℕ) (f : ℕ → Answer Byte → Script) where
   abbrev LeadsHere : Decision → Script → Type 0
-  LeadsHere = Leads 21 cursor pending found
+  LeadsHere = Refines 21 cursor pending found
 
   -- Type F's decision with the ends of a code
   abbrev ended : Decision → Decision
@@ -55,7 +56,7 @@ module _ (cursor : ℕ) (pending found : List ℕ) (f : ℕ → Answer Byte → 
     module _ (code : ℕ) (req : List ℕ) (polls : pollOf cursor pending ≡ 1 ∷ code ∷ req) where
       -- the poll is command j of the code, and k commands of the call are through behind it
       poll-2 : (j k : ℕ)
-          → Stands 21 2 cursor pending found (λ r. andThen (either (λ list. ifElse (eqb (getD list 0 0) 0) (refuse NoCard) (ifElse (ltb (length list) 2) (refuse ShortResponse) (ifElse (ltb (length list) 20) (refuse ShortResponse) (finish (done (rest j list 4)))))) refuse r) k f)
+          → Awaits 21 2 cursor pending found (λ r. andThen (either (λ list. ifElse (eqb (getD list 0 0) 0) (refuse NoCard) (ifElse (ltb (length list) 2) (refuse ShortResponse) (ifElse (ltb (length list) 20) (refuse ShortResponse) (finish (done (rest j list 4)))))) refuse r) k f)
       unfolding decidedOf failedOf pollDecision typeFDecision polled pick
       poll-2 j k = record {
         answered = λ cs few.
@@ -64,33 +65,33 @@ module _ (cursor : ℕ) (pending found : List ℕ) (f : ℕ → Answer Byte → 
         failing = λ r. follows .fails k r;
       }
 
-      poll-1 : (k : ℕ) → Stands 21 1 cursor pending found (λ r. andThen (either (λ _. fieldPause (poll 2 code req)) refuse r) k f)
+      poll-1 : (k : ℕ) → Awaits 21 1 cursor pending found (λ r. andThen (either (λ _. fieldPause (poll 2 code req)) refuse r) k f)
       unfolding decidedOf failedOf pollDecision typeFDecision commandOf isResetOf pollCommand typeFCommand pick
       poll-1 k = record {
-        answered = λ cs few. leads-pause 2 _ refl (go-on 2 0x4A 1000 (1 ∷ code ∷ req) refl refl (ap (cmd 0x4A 1000) polls) (poll-2 2 (suc k)));
+        answered = λ cs few. refines-pause 2 _ refl (go-on 2 inListPassiveTargetCode inListPassiveTargetClock (1 ∷ code ∷ req) refl refl (ap (cmd inListPassiveTargetCode inListPassiveTargetClock) polls) (poll-2 2 (suc k)));
         failing = λ r. follows .fails k r;
       }
 
       poll-0 : (k : ℕ)
-          → Stands 21 0 cursor pending found (λ r. andThen (either (λ bs. ifElse (ltb (length bs) 1) (refuse ShortResponse) (ifElse (eqb (getD bs 0 0 % 4) 0) (command 0x32 100 (0x01 ∷ 0x01 ∷ []) (either (λ _. fieldPause (poll 2 code req)) refuse)) (poll 1 code req))) refuse r) k f)
+          → Awaits 21 0 cursor pending found (λ r. andThen (either (λ bs. ifElse (ltb (length bs) 1) (refuse ShortResponse) (ifElse (eqb (getD bs 0 0 % 4) 0) (command rfConfigurationCode commandClock (0x01 ∷ 0x01 ∷ []) (either (λ _. fieldPause (poll 2 code req)) refuse)) (poll 1 code req))) refuse r) k f)
       unfolding decidedOf failedOf pollDecision typeFDecision txControlRead commandOf isResetOf pollCommand typeFCommand pick
       poll-0 k = record {
         answered = λ cs few.
             then-long cs 1 k _ _
-            (then-if (eqb (getD cs 0 0 % 4) 0) k (send 1) (send 2) _ _ (go-on 1 0x32 100 _ refl refl refl (poll-1 (suc k))) (go-on 2 0x4A 1000 (1 ∷ code ∷ req) refl refl (ap (cmd 0x4A 1000) polls) (poll-2 1 (suc k))));
+            (then-if (eqb (getD cs 0 0 % 4) 0) k (send 1) (send 2) _ _ (go-on 1 rfConfigurationCode commandClock _ refl refl refl (poll-1 (suc k))) (go-on 2 inListPassiveTargetCode inListPassiveTargetClock (1 ∷ code ∷ req) refl refl (ap (cmd inListPassiveTargetCode inListPassiveTargetClock) polls) (poll-2 1 (suc k))));
         failing = λ r. follows .fails k r;
       }
 
       code-leads : (first : ℕ) → LeadsHere (send 0) (andThen (detectTypeF code req) first f)
       unfolding commandOf isResetOf pollCommand typeFCommand pick
-      code-leads first = go-on 0 0x06 250 _ refl refl refl (poll-0 (suc first))
+      code-leads first = go-on 0 readRegisterCode registersClock _ refl refl refl (poll-0 (suc first))
 
 -- ---- the codes one after the other
 
 -- a fault, by whether it is 17
 module _ {kind cursor : ℕ} {pending found : List ℕ} {x d : Decision} {s u : Script} where
-  by-no-card : Leads kind cursor pending found x s → Leads kind cursor pending found d u → (r : Fault) → Leads kind cursor pending found (byNoCard x d r) (byNoCard s u r)
-  by-no-card h k = by-fault (λ r. Leads kind cursor pending found (byNoCard x d r) (byNoCard s u r)) h (λ r e. rw (e _ x d, e _ s u) k)
+  by-no-card : Refines kind cursor pending found x s → Refines kind cursor pending found d u → (r : Fault) → Refines kind cursor pending found (byNoCard x d r) (byNoCard s u r)
+  by-no-card h k = by-fault (λ r. Refines kind cursor pending found (byNoCard x d r) (byNoCard s u r)) h (λ r e. rw (e _ x d, e _ s u) k)
 
 values-behind : (n : ℕ) (bytes : List Byte) → map value (map (behind n) bytes) ≡ map value bytes
 values-behind n [] = refl
@@ -152,24 +153,24 @@ module _ (code : ℕ) (words : List ℕ) (few : length words ≤ 32) where
     count = omega (arith, sym (length-drop (2 * cursor) words) ∙ ap length (at .left))
 
     -- the last code is finished
-    list-ends : (add : List Byte) → length ws < 2 → Leads 21 cursor pending found (codeFinished cursor pending found (map value add)) (finish (done (added add)))
+    list-ends : (add : List Byte) → length ws < 2 → Refines 21 cursor pending found (codeFinished cursor pending found (map value add)) (finish (done (added add)))
     unfolding codeFinished pick
     list-ends add h =
         rw (has-no-next cursor pending (omega (arith, h, count))) (ending _ (ap done (values-added cursor first found bytes add (at .same))))
 
     -- another code follows
-    list-goes-on : (add : List Byte) (s : Script) → length add ≤ 17 → 2 ≤ length ws → Leads 21 (suc cursor) pending (soFar cursor found ++ map value add) (send 0) s
-        → Leads 21 cursor pending found (codeFinished cursor pending found (map value add)) s
+    list-goes-on : (add : List Byte) (s : Script) → length add ≤ 17 → 2 ≤ length ws → Refines 21 (suc cursor) pending (soFar cursor found ++ map value add) (send 0) s
+        → Refines 21 cursor pending found (codeFinished cursor pending found (map value add)) s
     unfolding codeFinished pick
     list-goes-on add s short h l =
         let n : length (soFar cursor found ++ map value add) ≤ 1024
         = omega (arith, short, count, few, at .within, ap length (sym (values-added cursor first found bytes add (at .same))), length-map (added add) value, length-added cursor first found bytes add (at .same)) in
         let one : cursor + 1 ≡ suc cursor = omega arith in
-        rw (has-next cursor pending (omega (arith, h, count, few)) (omega (arith, h, count)), one) (leads-next 0 (suc cursor) _ s n l)
+        rw (has-next cursor pending (omega (arith, h, count, few)) (omega (arith, h, count)), one) (refines-next 0 (suc cursor) _ s n l)
 
     -- a code leads to its script where its end does
-    code-step : (codes : List ℕ) → ((k : ℕ) (add : List Byte) → length add ≤ 17 → Leads 21 cursor pending found (codeFinished cursor pending found (map value add)) (pollCodes code k (suc cursor) (added add) codes))
-        → Leads 21 cursor pending found (send 0) (pollCodes code first cursor bytes ((256 * high + low) ∷ codes))
+    code-step : (codes : List ℕ) → ((k : ℕ) (add : List Byte) → length add ≤ 17 → Refines 21 cursor pending found (codeFinished cursor pending found (map value add)) (pollCodes code k (suc cursor) (added add) codes))
+        → Refines 21 cursor pending found (send 0) (pollCodes code first cursor bytes ((256 * high + low) ∷ codes))
     unfolding pollFailure
     code-step codes finishes =
         let f : ℕ → Answer Byte → Script = λ k a. codeEnd (λ add. pollCodes code k (suc cursor) (added add) codes) (λ r. finish (refusedAfter r cursor)) a in
@@ -196,7 +197,7 @@ module _ (code : ℕ) (words : List ℕ) (few : length words ≤ 32) where
       }
 
   codes-lead : (ws : List ℕ) (cursor first high low : ℕ) (found : List ℕ) (bytes : List Byte) → At cursor high low ws found bytes
-      → Leads 21 cursor (code ∷ words) found (send 0) (pollCodes code first cursor bytes ((256 * high + low) ∷ wordsIn ws))
+      → Refines 21 cursor (code ∷ words) found (send 0) (pollCodes code first cursor bytes ((256 * high + low) ∷ wordsIn ws))
   codes-lead [] cursor first high low found bytes at =
       code-step cursor first high low [] found bytes at [] (λ k add short. list-ends cursor first high low [] found bytes at add (omega arith))
   codes-lead (x ∷ []) cursor first high low found bytes at =
@@ -206,13 +207,13 @@ module _ (code : ℕ) (words : List ℕ) (few : length words ≤ 32) where
       (λ k add short. list-goes-on cursor first high low (x ∷ y ∷ ws) found bytes at add _ short (omega arith)
       (codes-lead ws (suc cursor) k x y (soFar cursor found ++ map value add) (bytes ++ map (behind first) add) (next-at cursor first high low x y ws found bytes add at short)))
 
-pub poll-leads : (code : ℕ) (words : List ℕ) → systemCodesFit words ≡ true → (found : List ℕ) → Leads 21 0 (code ∷ words) found (send 0) (pollTypeF code (wordsIn words))
+pub poll-leads : (code : ℕ) (words : List ℕ) → systemCodesFit words ≡ true → (found : List ℕ) → Refines 21 0 (code ∷ words) found (send 0) (pollTypeF code (wordsIn words))
 poll-leads code words fits found = go words (list-few words fits) some-code
   where
     some-code : 1 ≤ length words / 2
     some-code = leb-true 1 (length words / 2) (both-left (leb 1 (length words / 2)) _ (both-right (eqb (length words % 2) 0) _ fits))
 
-    go : (l : List ℕ) → length l ≤ 32 → 1 ≤ length l / 2 → Leads 21 0 (code ∷ l) found (send 0) (pollTypeF code (wordsIn l))
+    go : (l : List ℕ) → length l ≤ 32 → 1 ≤ length l / 2 → Refines 21 0 (code ∷ l) found (send 0) (pollTypeF code (wordsIn l))
     go [] few h = absurd (omega (arith, h))
     go (x ∷ []) few h = absurd (omega (arith, h))
     go (x ∷ y ∷ ws) few h =

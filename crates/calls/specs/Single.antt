@@ -22,36 +22,37 @@ use Rattle.chipset.specs.Responses.{withLength, withStatus, versionAnswer, writ
 use Rattle.device.specs.Transceive.{type2Answer, type1Answer}
 use Rattle.stages.specs.Stages.{ends as endsWith}
 use Rattle.device.specs.Names.{first-three}
-use Rattle.calls.specs.Refines.{Leads, leads-end}
+use Rattle.calls.specs.Refines.{Refines, refines-end}
+use Rattle.protocol.specs.Names.{noData, registerWriteFailed}
 
 -- the script ends with an answer, which is this one but for the places of its bytes
-pub record Judged (s : Script) (a : Answer ℕ) : Type 0 where
+pub record Interprets (s : Script) (a : Answer ℕ) : Type 0 where
   pub answer : Answer Byte
   pub is : s ≡ finish answer
   pub plain : plainAnswer answer ≡ a
 
 -- so it is what the response leads to
-pub leads : {kind cursor : ℕ} {pending found : List ℕ} {s : Script} {a : Answer ℕ} → Judged s a → Leads kind cursor pending found (endsWith a) s
-leads j = rw (j .is) (leads-end (j .answer) _ (j .plain))
+pub leads : {kind cursor : ℕ} {pending found : List ℕ} {s : Script} {a : Answer ℕ} → Interprets s a → Refines kind cursor pending found (endsWith a) s
+leads j = rw (j .is) (refines-end (j .answer) _ (j .plain))
 
-ends : (a : Answer Byte) {b : Answer ℕ} → plainAnswer a ≡ b → Judged (finish a) b
+ends : (a : Answer Byte) {b : Answer ℕ} → plainAnswer a ≡ b → Interprets (finish a) b
 ends a h = record { answer = a; is = refl; plain = h }
 
-judged-if : (t : Bool) {x y : Script} {a b : Answer ℕ} → (t ≡ true → Judged x a) → (t ≡ false → Judged y b) → Judged (ifElse t x y) (pick t a b)
+interprets-if : (t : Bool) {x y : Script} {a b : Answer ℕ} → (t ≡ true → Interprets x a) → (t ≡ false → Interprets y b) → Interprets (ifElse t x y) (pick t a b)
 unfolding pick
-judged-if true h k = h refl
-judged-if false h k = k refl
+interprets-if true h k = h refl
+interprets-if false h k = k refl
 
-refusing : (r : Fault) → Judged (refuse r) (refused r)
+refusing : (r : Fault) → Interprets (refuse r) (refused r)
 refusing r = ends (refused r) refl
 
-by-length : (bs : List ℕ) (n : ℕ) {s : Script} {a : Answer ℕ} → (n ≤ length bs → Judged s a) → Judged (lengthThen bs n s) (withLength bs n a)
+by-length : (bs : List ℕ) (n : ℕ) {s : Script} {a : Answer ℕ} → (n ≤ length bs → Interprets s a) → Interprets (lengthThen bs n s) (withLength bs n a)
 unfolding withLength
-by-length bs n h = judged-if (ltb (length bs) n) (λ _. refusing ShortResponse) (λ e. h (ltb-false (length bs) n e))
+by-length bs n h = interprets-if (ltb (length bs) n) (λ _. refusing ShortResponse) (λ e. h (ltb-false (length bs) n e))
 
-pub by-status : (bs : List ℕ) {s : Script} {a : Answer ℕ} → Judged s a → Judged (statusThen bs s) (withStatus bs a)
+pub by-status : (bs : List ℕ) {s : Script} {a : Answer ℕ} → Interprets s a → Interprets (statusThen bs s) (withStatus bs a)
 unfolding withStatus
-by-status bs h = judged-if (eqb (statusByte bs) 0) (λ _. h) (λ _. refusing (Status (statusByte bs)))
+by-status bs h = interprets-if (eqb (statusByte bs) 0) (λ _. h) (λ _. refusing (Status (statusByte bs)))
 
 -- ---- bytes of a response
 
@@ -69,86 +70,86 @@ rest-values k bs p = go (decLe p (length bs))
     go (yes h) = part-values k bs p (length bs - p) (omega arith) ∙ take-all (length bs - p) (drop p bs) (omega (arith, length-drop p bs))
     go (no h) = let z : length bs - p ≡ 0 = omega arith in rw z (sym (drop-of-length-le bs {i = p} (omega arith)))
 
-pub answers : (p : ℕ) (bs : List ℕ) → Judged (answer p bs) (done (drop p bs))
+pub answers : (p : ℕ) (bs : List ℕ) → Interprets (answer p bs) (done (drop p bs))
 answers p bs = ends (done (rest 0 bs p)) (ap done (rest-values 0 bs p))
 
-pub empty : Judged finished (done [])
+pub empty : Interprets finished (done [])
 empty = ends (done []) refl
 
 -- ---- the rules
 
-pub judged-version : (bs : List ℕ) → Judged (lengthThen bs 4 (finish (done (versionBytes 0 (getD bs 0 0) (getD bs 1 0) (getD bs 2 0))))) (versionAnswer bs)
+pub interprets-version : (bs : List ℕ) → Interprets (lengthThen bs 4 (finish (done (versionBytes 0 (getD bs 0 0) (getD bs 1 0) (getD bs 2 0))))) (versionAnswer bs)
 unfolding versionAnswer
-judged-version bs = by-length bs 4 (λ h. ends _ (ap done (sym (first-three bs (omega arith)))))
+interprets-version bs = by-length bs 4 (λ h. ends _ (ap done (sym (first-three bs (omega arith)))))
 
-pub judged-write : (bs : List ℕ) → Judged (ifElse (anyNonzero bs) (refuse (Status 0xFE)) finished) (writeAnswer bs)
+pub interprets-write : (bs : List ℕ) → Interprets (ifElse (anyNonzero bs) (refuse (Status registerWriteFailed)) finished) (writeAnswer bs)
 unfolding writeAnswer
-judged-write bs = judged-if (anyNonzero bs) (λ _. refusing (Status 0xFE)) (λ _. empty)
+interprets-write bs = interprets-if (anyNonzero bs) (λ _. refusing (Status registerWriteFailed)) (λ _. empty)
 
-pub judged-first : (bs : List ℕ) → Judged (lengthThen bs 1 (finish (done (byteAt 0 bs 0 ∷ [])))) (firstAnswer bs)
+pub interprets-first : (bs : List ℕ) → Interprets (lengthThen bs 1 (finish (done (byteAt 0 bs 0 ∷ [])))) (firstAnswer bs)
 unfolding firstAnswer
-judged-first bs = by-length bs 1 (λ h. ends _ (ap done (sym (ap (take 1) (drop-cons bs 0 0 (omega arith))))))
+interprets-first bs = by-length bs 1 (λ h. ends _ (ap done (sym (ap (take 1) (drop-cons bs 0 0 (omega arith))))))
 
-pub judged-list : (bs : List ℕ) → Judged (ifElse (eqb (getD bs 0 0) 0) (finish nothing) (lengthThen bs 2 (answer 2 bs))) (listAnswer bs)
+pub interprets-list : (bs : List ℕ) → Interprets (ifElse (eqb (getD bs 0 0) 0) (finish nothing) (lengthThen bs 2 (answer 2 bs))) (listAnswer bs)
 unfolding listAnswer
-judged-list bs = judged-if (eqb (getD bs 0 0) 0) (λ _. ends nothing refl) (λ _. by-length bs 2 (λ _. answers 2 bs))
+interprets-list bs = interprets-if (eqb (getD bs 0 0) 0) (λ _. ends nothing refl) (λ _. by-length bs 2 (λ _. answers 2 bs))
 
 pub empty-length : (bs : List ℕ) → isEmpty bs ≡ eqb (length bs) 0
 empty-length [] = refl
 empty-length (b ∷ bs) = sym (ne-eqb (suc (length bs)) 0 (λ e. omega (arith, e)))
 
-pub judged-thru : (bs : List ℕ) → Judged (statusThen bs (answer 1 bs)) (withStatus bs (done (drop 1 bs)))
-judged-thru bs = by-status bs (answers 1 bs)
+pub interprets-thru : (bs : List ℕ) → Interprets (statusThen bs (answer 1 bs)) (withStatus bs (done (drop 1 bs)))
+interprets-thru bs = by-status bs (answers 1 bs)
 
-pub judged-exchange : (bs : List ℕ)
-    → Judged (ifElse (isEmpty bs) (refuse (Status 0xFF)) (ifElse (eqb (maskedStatus bs) 0) (finish (done (rest 0 bs 1 ++ (own (moreFlag bs) ∷ [])))) (refuse (Status (maskedStatus bs)))))
+pub interprets-exchange : (bs : List ℕ)
+    → Interprets (ifElse (isEmpty bs) (refuse (Status noData)) (ifElse (eqb (maskedStatus bs) 0) (finish (done (rest 0 bs 1 ++ (own (moreFlag bs) ∷ [])))) (refuse (Status (maskedStatus bs)))))
     (exchangeAnswer bs)
 unfolding exchangeAnswer
-judged-exchange bs =
+interprets-exchange bs =
     rw (sym (empty-length bs))
-    (judged-if (isEmpty bs) (λ _. refusing (Status 0xFF))
-    (λ _. judged-if (eqb (maskedStatus bs) 0)
+    (interprets-if (isEmpty bs) (λ _. refusing (Status noData))
+    (λ _. interprets-if (eqb (maskedStatus bs) 0)
     (λ _. ends _ (ap done (map-append value (rest 0 bs 1) (own (moreFlag bs) ∷ []) ∙ ap (λ l. l ++ (moreFlag bs ∷ [])) (rest-values 0 bs 1))))
     (λ _. refusing (Status (maskedStatus bs)))))
 
 -- transceive of Type 2 and of Type 1
-pub judged-type2 : (bs : List ℕ)
-    → Judged (statusThen bs (ifElse (ltb 3 (length bs)) (ifElse (checks crcA (drop 1 bs)) (finish (done (part 0 bs 1 (length bs - 3)))) (refuse CrcA)) (answer 1 bs)))
+pub interprets-type2 : (bs : List ℕ)
+    → Interprets (statusThen bs (ifElse (ltb 3 (length bs)) (ifElse (checks crcA (drop 1 bs)) (finish (done (part 0 bs 1 (length bs - 3)))) (refuse CrcA)) (answer 1 bs)))
     (type2Answer bs)
 unfolding type2Answer
-judged-type2 bs =
-    by-status bs (judged-if (ltb 3 (length bs))
-    (λ h. judged-if (checks crcA (drop 1 bs))
+interprets-type2 bs =
+    by-status bs (interprets-if (ltb 3 (length bs))
+    (λ h. interprets-if (checks crcA (drop 1 bs))
     (λ _. ends _ (ap done (part-values 0 bs 1 (length bs - 3) (omega (arith, ltb-true 3 (length bs) h))))) (λ _. refusing CrcA))
     (λ _. answers 1 bs))
 
-pub judged-type1 : (bs : List ℕ)
-    → Judged (ifElse (isEmpty bs) (refuse (Status 0xFF)) (ifElse (eqb (maskedStatus bs) 0) (answer 1 bs) (refuse (Status (maskedStatus bs))))) (type1Answer bs)
+pub interprets-type1 : (bs : List ℕ)
+    → Interprets (ifElse (isEmpty bs) (refuse (Status noData)) (ifElse (eqb (maskedStatus bs) 0) (answer 1 bs) (refuse (Status (maskedStatus bs))))) (type1Answer bs)
 unfolding type1Answer
-judged-type1 bs =
+interprets-type1 bs =
     rw (sym (empty-length bs))
-    (judged-if (isEmpty bs) (λ _. refusing (Status 0xFF)) (λ _. judged-if (eqb (maskedStatus bs) 0) (λ _. answers 1 bs) (λ _. refusing (Status (maskedStatus bs)))))
+    (interprets-if (isEmpty bs) (λ _. refusing (Status noData)) (λ _. interprets-if (eqb (maskedStatus bs) 0) (λ _. answers 1 bs) (λ _. refusing (Status (maskedStatus bs)))))
 
-pub judged-jump : (bs : List ℕ) → Judged (statusThen bs (lengthThen bs 2 (answer 2 bs))) (jumpAnswer bs)
+pub interprets-jump : (bs : List ℕ) → Interprets (statusThen bs (lengthThen bs 2 (answer 2 bs))) (jumpAnswer bs)
 unfolding jumpAnswer
-judged-jump bs = by-status bs (by-length bs 2 (λ _. answers 2 bs))
+interprets-jump bs = by-status bs (by-length bs 2 (λ _. answers 2 bs))
 
-pub judged-initiator : (bs : List ℕ) → Judged (ifElse (eqb (statusByte bs) 0) (answer 1 bs) (finish nothing)) (initiatorAnswer bs)
+pub interprets-initiator : (bs : List ℕ) → Interprets (ifElse (eqb (statusByte bs) 0) (answer 1 bs) (finish nothing)) (initiatorAnswer bs)
 unfolding initiatorAnswer
-judged-initiator bs = judged-if (eqb (statusByte bs) 0) (λ _. answers 1 bs) (λ _. ends nothing refl)
+interprets-initiator bs = interprets-if (eqb (statusByte bs) 0) (λ _. answers 1 bs) (λ _. ends nothing refl)
 
 abbrev targetScript : List ℕ → ℕ → ℕ → Script
 targetScript bs send receive = finish (done (byteAt 0 bs 0 ∷ (rateBytes send ++ rateBytes receive)))
 
-pub judged-target : (bs : List ℕ)
-    → Judged (lengthThen bs 2
+pub interprets-target : (bs : List ℕ)
+    → Interprets (lengthThen bs 2
     (ifElse (eqb (getD bs 0 0) 1)
     (ifElse (ltb 2 (sendIndex bs)) (refuse Rate) (ifElse (ltb 2 (receiveIndex bs)) (refuse Rate) (targetScript bs (rate (sendIndex bs)) (rate (receiveIndex bs)))))
     (targetScript bs 0 0)))
     (targetAnswer bs)
 unfolding targetAnswer
-judged-target bs =
+interprets-target bs =
     by-length bs 2
-    (λ _. judged-if (eqb (getD bs 0 0) 1)
-    (λ _. judged-if (ltb 2 (sendIndex bs)) (λ _. refusing Rate) (λ _. judged-if (ltb 2 (receiveIndex bs)) (λ _. refusing Rate) (λ _. ends _ refl)))
+    (λ _. interprets-if (eqb (getD bs 0 0) 1)
+    (λ _. interprets-if (ltb 2 (sendIndex bs)) (λ _. refusing Rate) (λ _. interprets-if (ltb 2 (receiveIndex bs)) (λ _. refusing Rate) (λ _. ends _ refl)))
     (λ _. ends _ refl))

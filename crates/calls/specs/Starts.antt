@@ -37,10 +37,11 @@ use Rattle.discovery.specs.Firsts.{typeAFirst, typeBFirst, typeFFirst, pollFirs
 use Rattle.discovery.specs.FirstLaws.{jump-few, list-few}
 use Rattle.calls.specs.Firsts.{deviceFirst, startFor}
 use Rattle.calls.specs.Tables.{commandOf, isResetOf, decidedOf, failedOf}
-use Rattle.calls.specs.Refines.{Leads, leads-reset, Stands, refusal}
-use Rattle.calls.specs.Single.{Judged, leads, answers, empty, by-status, judged-version, judged-write, judged-first, judged-list, judged-exchange, judged-thru, judged-type2, judged-type1, judged-jump, judged-initiator, judged-target}
+use Rattle.calls.specs.Refines.{Refines, refines-reset, Awaits, refusal}
+use Rattle.calls.specs.Single.{Interprets, leads, answers, empty, by-status, interprets-version, interprets-write, interprets-first, interprets-list, interprets-exchange, interprets-thru, interprets-type2, interprets-type1, interprets-jump, interprets-initiator, interprets-target}
 use Rattle.calls.specs.Discoveries.{typeA-leads, typeB-leads, typeF-leads, dep-leads}
 use Rattle.calls.specs.Polls.{poll-leads}
+use Rattle.protocol.specs.Names.{commandClock, getFirmwareVersionCode, inCommunicateThruCode, inDataExchangeCode, inJumpForDepClock, inJumpForDepCode, inListPassiveTargetClock, inListPassiveTargetCode, readRegisterCode, registersClock, rfConfigurationCode, setParametersCode, tgGetInitiatorCommandCode, tgGetTargetStatusCode, tgInitTargetCode, tgResponseToInitiatorClock, tgResponseToInitiatorCode, tgSetGeneralBytesCode, writeRegisterCode}
 
 -- a kind of a call of an open reader
 pub record Kind (kind : ℕ) : Type 0 where
@@ -55,8 +56,8 @@ a-kind p q r = record { running = p; noOpening = q; within = r }
 pub data Starting : Start → stages.Start → Type 0 where
   refusedNow : (r : Refusal) → Starting (refusesStart r) (refuses r)
   first : (kind code clock : ℕ) (bytes : List ℕ) (k : Reply → Script) → Kind kind → isResetOf kind 0 ≡ false → length bytes ≤ 512
-      → ((found : List ℕ) → Stands kind 0 0 bytes found k) → Starting (starts (command code clock bytes k)) (sends kind (cmd code clock bytes))
-  leading : (kind : ℕ) (pending : List ℕ) (s : Script) → Kind kind → length pending ≤ 512 → ((found : List ℕ) → Leads kind 0 pending found (send 0) s)
+      → ((found : List ℕ) → Awaits kind 0 0 bytes found k) → Starting (starts (command code clock bytes k)) (sends kind (cmd code clock bytes))
+  leading : (kind : ℕ) (pending : List ℕ) (s : Script) → Kind kind → length pending ≤ 512 → ((found : List ℕ) → Refines kind 0 pending found (send 0) s)
       → Starting (starts s) (staged kind pending)
 
 -- ---- a call of one command
@@ -65,10 +66,10 @@ pub data Starting : Start → stages.Start → Type 0 where
 pub record Reads (kind : ℕ) (bytes : List ℕ) (f : List ℕ → Script) (a : List ℕ → Answer ℕ) : Type 0 where
   decides : (found bs : List ℕ) → decidedOf kind 0 0 bytes found bs ≡ ends (a bs)
   fails : (found : List ℕ) (r : Fault) → failedOf kind 0 0 bytes found r ≡ refuseWith r
-  judged : (bs : List ℕ) → Judged (f bs) (a bs)
+  judged : (bs : List ℕ) → Interprets (f bs) (a bs)
 
 reads : {kind : ℕ} {bytes : List ℕ} {f : List ℕ → Script} {a : List ℕ → Answer ℕ} → ((found bs : List ℕ) → decidedOf kind 0 0 bytes found bs ≡ ends (a bs))
-    → ((found : List ℕ) (r : Fault) → failedOf kind 0 0 bytes found r ≡ refuseWith r) → ((bs : List ℕ) → Judged (f bs) (a bs)) → Reads kind bytes f a
+    → ((found : List ℕ) (r : Fault) → failedOf kind 0 0 bytes found r ≡ refuseWith r) → ((bs : List ℕ) → Interprets (f bs) (a bs)) → Reads kind bytes f a
 reads p q r = record { decides = p; fails = q; judged = r }
 
 single : (kind code clock : ℕ) (bytes : List ℕ) (f : List ℕ → Script) (a : List ℕ → Answer ℕ) → Kind kind → isResetOf kind 0 ≡ false → length bytes ≤ 512 → Reads kind bytes f a
@@ -95,25 +96,25 @@ begins-asserted false h = refusedNow BadArgument
 -- one line for each call
 request-begins : (q : Request) → Starting (requestStart q) (firstOf q)
 unfolding firstOf answerOf decidedOf failedOf isResetOf commandOf pick
-request-begins version = single 2 0x02 100 [] _ _ (a-kind refl refl refl) refl (omega arith) (reads (λ _ _. refl) (λ _ _. refl) judged-version)
-request-begins resetMode = leading 3 [] _ (a-kind refl refl refl) (omega arith) (λ found. leads-reset 0 _ refl refl refl (leads empty))
-request-begins (setParameters flags) = single 4 0x12 100 _ _ _ (a-kind refl refl refl) refl (omega arith) (reads (λ _ _. refl) (λ _ _. refl) (λ _. empty))
-request-begins (rfConfiguration item bytes) = single-limited 4 0x32 100 (item ∷ bytes) _ _ (a-kind refl refl refl) refl (reads (λ _ _. refl) (λ _ _. refl) (λ _. empty))
-request-begins rfFieldOff = single 4 0x32 100 _ _ _ (a-kind refl refl refl) refl (omega arith) (reads (λ _ _. refl) (λ _ _. refl) (λ _. empty))
-request-begins (readRegister addresses) = begins-asserted (registers 2 addresses) (λ h. single 5 0x06 250 addresses _ _ (a-kind refl refl refl) refl (few-words addresses h) (reads (λ _ _. refl) (λ _ _. refl) (answers 0)))
-request-begins (writeRegister values) = begins-asserted (registers 3 values) (λ h. single 6 0x08 250 values _ _ (a-kind refl refl refl) refl (few-triples values h) (reads (λ _ _. refl) (λ _ _. refl) judged-write))
-request-begins (readSingleRegister address) = single 7 0x06 250 _ _ _ (a-kind refl refl refl) refl (omega arith) (reads (λ _ _. refl) (λ _ _. refl) judged-first)
-request-begins (writeSingleRegister address value) = single 6 0x08 250 _ _ _ (a-kind refl refl refl) refl (omega arith) (reads (λ _ _. refl) (λ _ _. refl) judged-write)
-request-begins (inListPassiveTarget maxTg bitrate bytes) = single-limited 8 0x4A 1000 (maxTg ∷ bitrate ∷ bytes) _ _ (a-kind refl refl refl) refl (reads (λ _ _. refl) (λ _ _. refl) judged-list)
-request-begins (inDataExchange bytes ms) = single-limited 9 0x40 ms (0x01 ∷ bytes) _ _ (a-kind refl refl refl) refl (reads (λ _ _. refl) (λ _ _. refl) judged-exchange)
-request-begins (inCommunicateThru bytes ms) = single-limited 10 0x42 ms bytes _ _ (a-kind refl refl refl) refl (reads (λ _ _. refl) (λ _ _. refl) judged-thru)
-request-begins (inJumpForDep active br passive nfcid3 gi) = single-limited 11 0x56 3000 (jumpData (activeByte active) br passive nfcid3 gi) _ _ (a-kind refl refl refl) refl (reads (λ _ _. refl) (λ _ _. refl) judged-jump)
+request-begins version = single 2 getFirmwareVersionCode commandClock [] _ _ (a-kind refl refl refl) refl (omega arith) (reads (λ _ _. refl) (λ _ _. refl) interprets-version)
+request-begins resetMode = leading 3 [] _ (a-kind refl refl refl) (omega arith) (λ found. refines-reset 0 _ refl refl refl (leads empty))
+request-begins (setParameters flags) = single 4 setParametersCode commandClock _ _ _ (a-kind refl refl refl) refl (omega arith) (reads (λ _ _. refl) (λ _ _. refl) (λ _. empty))
+request-begins (rfConfiguration item bytes) = single-limited 4 rfConfigurationCode commandClock (item ∷ bytes) _ _ (a-kind refl refl refl) refl (reads (λ _ _. refl) (λ _ _. refl) (λ _. empty))
+request-begins rfFieldOff = single 4 rfConfigurationCode commandClock _ _ _ (a-kind refl refl refl) refl (omega arith) (reads (λ _ _. refl) (λ _ _. refl) (λ _. empty))
+request-begins (readRegister addresses) = begins-asserted (registers 2 addresses) (λ h. single 5 readRegisterCode registersClock addresses _ _ (a-kind refl refl refl) refl (few-words addresses h) (reads (λ _ _. refl) (λ _ _. refl) (answers 0)))
+request-begins (writeRegister values) = begins-asserted (registers 3 values) (λ h. single 6 writeRegisterCode registersClock values _ _ (a-kind refl refl refl) refl (few-triples values h) (reads (λ _ _. refl) (λ _ _. refl) interprets-write))
+request-begins (readSingleRegister address) = single 7 readRegisterCode registersClock _ _ _ (a-kind refl refl refl) refl (omega arith) (reads (λ _ _. refl) (λ _ _. refl) interprets-first)
+request-begins (writeSingleRegister address value) = single 6 writeRegisterCode registersClock _ _ _ (a-kind refl refl refl) refl (omega arith) (reads (λ _ _. refl) (λ _ _. refl) interprets-write)
+request-begins (inListPassiveTarget maxTg bitrate bytes) = single-limited 8 inListPassiveTargetCode inListPassiveTargetClock (maxTg ∷ bitrate ∷ bytes) _ _ (a-kind refl refl refl) refl (reads (λ _ _. refl) (λ _ _. refl) interprets-list)
+request-begins (inDataExchange bytes ms) = single-limited 9 inDataExchangeCode ms (0x01 ∷ bytes) _ _ (a-kind refl refl refl) refl (reads (λ _ _. refl) (λ _ _. refl) interprets-exchange)
+request-begins (inCommunicateThru bytes ms) = single-limited 10 inCommunicateThruCode ms bytes _ _ (a-kind refl refl refl) refl (reads (λ _ _. refl) (λ _ _. refl) interprets-thru)
+request-begins (inJumpForDep active br passive nfcid3 gi) = single-limited 11 inJumpForDepCode inJumpForDepClock (jumpData (activeByte active) br passive nfcid3 gi) _ _ (a-kind refl refl refl) refl (reads (λ _ _. refl) (λ _ _. refl) interprets-jump)
 request-begins (tgInitTarget mode mifare felica nfcid3t gt ms) =
-    begins-asserted (initFits mode mifare felica nfcid3t) (λ _. single-limited 5 0x8C ms (initData mode mifare felica nfcid3t gt) _ _ (a-kind refl refl refl) refl (reads (λ _ _. refl) (λ _ _. refl) (answers 0)))
-request-begins (tgSetGeneralBytes gb) = single-limited 12 0x92 100 gb _ _ (a-kind refl refl refl) refl (reads (λ _ _. refl) (λ _ _. refl) (λ bs. by-status bs empty))
-request-begins (tgGetInitiatorCommand ms) = single 13 0x88 ms _ _ _ (a-kind refl refl refl) refl (omega arith) (reads (λ _ _. refl) (λ _ _. refl) judged-initiator)
-request-begins (tgResponseToInitiator bytes) = single-limited 12 0x90 1000 bytes _ _ (a-kind refl refl refl) refl (reads (λ _ _. refl) (λ _ _. refl) (λ bs. by-status bs empty))
-request-begins tgGetTargetStatus = single 14 0x8A 100 _ _ _ (a-kind refl refl refl) refl (omega arith) (reads (λ _ _. refl) (λ _ _. refl) judged-target)
+    begins-asserted (initFits mode mifare felica nfcid3t) (λ _. single-limited 5 tgInitTargetCode ms (initData mode mifare felica nfcid3t gt) _ _ (a-kind refl refl refl) refl (reads (λ _ _. refl) (λ _ _. refl) (answers 0)))
+request-begins (tgSetGeneralBytes gb) = single-limited 12 tgSetGeneralBytesCode commandClock gb _ _ (a-kind refl refl refl) refl (reads (λ _ _. refl) (λ _ _. refl) (λ bs. by-status bs empty))
+request-begins (tgGetInitiatorCommand ms) = single 13 tgGetInitiatorCommandCode ms _ _ _ (a-kind refl refl refl) refl (omega arith) (reads (λ _ _. refl) (λ _ _. refl) interprets-initiator)
+request-begins (tgResponseToInitiator bytes) = single-limited 12 tgResponseToInitiatorCode tgResponseToInitiatorClock bytes _ _ (a-kind refl refl refl) refl (reads (λ _ _. refl) (λ _ _. refl) (λ bs. by-status bs empty))
+request-begins tgGetTargetStatus = single 14 tgGetTargetStatusCode commandClock _ _ _ (a-kind refl refl refl) refl (omega arith) (reads (λ _ _. refl) (λ _ _. refl) interprets-target)
 
 -- ---- a discovery, or transceive
 
@@ -148,14 +149,14 @@ transceive-begins : (rate : Bitrate) (selRes : List ℕ) (ridRes : Bool) (bytes 
 unfolding type1First thruFirst answerOf decidedOf failedOf isResetOf pick
 transceive-begins rate selRes true bytes ms = go (isSendable bytes)
   where
-    go : (t : Bool) → Starting (cond t (limitedStart (0x01 ∷ bytes) (transceiveType1 bytes ms)) (refusesStart NotSendable)) (pick t (limited 16 (cmd 0x40 ms (0x01 ∷ bytes))) (refuses NotSendable))
-    go true = single-limited 16 0x40 ms (0x01 ∷ bytes) _ _ (a-kind refl refl refl) refl (reads (λ _ _. refl) (λ _ _. refl) judged-type1)
+    go : (t : Bool) → Starting (cond t (limitedStart (0x01 ∷ bytes) (transceiveType1 bytes ms)) (refusesStart NotSendable)) (pick t (limited 16 (cmd inDataExchangeCode ms (0x01 ∷ bytes))) (refuses NotSendable))
+    go true = single-limited 16 inDataExchangeCode ms (0x01 ∷ bytes) _ _ (a-kind refl refl refl) refl (reads (λ _ _. refl) (λ _ _. refl) interprets-type1)
     go false = refusedNow NotSendable
 transceive-begins rate selRes false bytes ms = go (is106A rate && type2SelRes selRes)
   where
-    go : (t : Bool) → Starting (limitedStart bytes (ifElse t (transceiveType2 bytes ms) (transceiveThru bytes ms))) (limited (pick t 15 10) (cmd 0x42 ms bytes))
-    go true = single-limited 15 0x42 ms bytes _ _ (a-kind refl refl refl) refl (reads (λ _ _. refl) (λ _ _. refl) judged-type2)
-    go false = single-limited 10 0x42 ms bytes _ _ (a-kind refl refl refl) refl (reads (λ _ _. refl) (λ _ _. refl) judged-thru)
+    go : (t : Bool) → Starting (limitedStart bytes (ifElse t (transceiveType2 bytes ms) (transceiveThru bytes ms))) (limited (pick t 15 10) (cmd inCommunicateThruCode ms bytes))
+    go true = single-limited 15 inCommunicateThruCode ms bytes _ _ (a-kind refl refl refl) refl (reads (λ _ _. refl) (λ _ _. refl) interprets-type2)
+    go false = single-limited 10 inCommunicateThruCode ms bytes _ _ (a-kind refl refl refl) refl (reads (λ _ _. refl) (λ _ _. refl) interprets-thru)
 
 -- one line for each call
 device-begins : (d : DeviceCall) → Starting (deviceStart d) (deviceFirst d)

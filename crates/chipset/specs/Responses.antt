@@ -8,6 +8,7 @@ use Rattle.errors.specs.declared.Fault.the-variants.{Status, ShortResponse, Rat
 use Rattle.protocol.specs.Scripts.{Answer, done, nothing, refused}
 use Rattle.stages.specs.Stages.{Decision, ends, refuse}
 use Rattle.protocol.specs.Chipset.{anyNonzero, statusByte, maskedStatus, moreFlag, sendIndex, receiveIndex, rate, word}
+use Rattle.protocol.specs.Names.{noData, registerWriteFailed}
 
 -- at least n bytes, else 16; a status of 0, else 15
 unfoldable pub withLength : List ℕ → ℕ → Answer ℕ → Answer ℕ
@@ -21,11 +22,11 @@ unfoldable pub versionAnswer : List ℕ → Answer ℕ
 versionAnswer bs = withLength bs 4 (done (take 3 bs))
 
 unfoldable pub writeAnswer : List ℕ → Answer ℕ
-writeAnswer bs = pick (anyNonzero bs) (refused (Status 0xFE)) (done [])
+writeAnswer bs = pick (anyNonzero bs) (refused (Status registerWriteFailed)) (done [])
 
 -- the last command of a call: the answer is what was found
 unfoldable pub foundWritten : List ℕ → List ℕ → Decision
-foundWritten found bs = pick (anyNonzero bs) (refuse (Status 0xFE)) (ends (done found))
+foundWritten found bs = pick (anyNonzero bs) (refuse (Status registerWriteFailed)) (ends (done found))
 
 unfoldable pub firstAnswer : List ℕ → Answer ℕ
 firstAnswer bs = withLength bs 1 (done (take 1 bs))
@@ -35,7 +36,7 @@ listAnswer bs = pick (eqb (getD bs 0 0) 0) nothing (withLength bs 2 (done (drop 
 
 unfoldable pub exchangeAnswer : List ℕ → Answer ℕ
 exchangeAnswer bs =
-    pick (eqb (length bs) 0) (refused (Status 0xFF))
+    pick (eqb (length bs) 0) (refused (Status noData))
     (pick (eqb (maskedStatus bs) 0) (done (drop 1 bs ++ (moreFlag bs ∷ []))) (refused (Status (maskedStatus bs))))
 
 unfoldable pub jumpAnswer : List ℕ → Answer ℕ

@@ -24,6 +24,7 @@ use Rattle.stages.specs.declared.start.Start as code
 use Rattle.chipset.specs.Responses.{withStatus}
 use Rattle.device.specs.declared.transceive.Timeout.{Timeout}
 use Rattle.device.specs.declared.transceive.Timeout.the-variants.{Standard, Ms}
+use Rattle.protocol.specs.Names.{inCommunicateThruCode, inDataExchangeCode, noData}
 
 abbrev pub timeoutOf : Timeout → Option ℕ
 timeoutOf Standard = none
@@ -31,10 +32,10 @@ timeoutOf (Ms ms) = some ms
 
 -- kind 16 is a Type 1 target's, 15 a Type 2 target's, 10 in_communicate_thru's
 unfoldable pub type1First : List ℕ → ℕ → Start
-type1First bytes ms = pick (isSendable bytes) (limited 16 (cmd 0x40 ms (0x01 ∷ bytes))) (refuses NotSendable)
+type1First bytes ms = pick (isSendable bytes) (limited 16 (cmd inDataExchangeCode ms (0x01 ∷ bytes))) (refuses NotSendable)
 
 unfoldable pub thruFirst : Bitrate → List ℕ → List ℕ → ℕ → Start
-thruFirst rate selRes bytes ms = limited (pick (is106A rate && type2SelRes selRes) 15 10) (cmd 0x42 ms bytes)
+thruFirst rate selRes bytes ms = limited (pick (is106A rate && type2SelRes selRes) 15 10) (cmd inCommunicateThruCode ms bytes)
 
 unfoldable pub transceiveFirst : List ℕ → List ℕ → Bool → List ℕ → ℕ → Start
 transceiveFirst text selRes ridRes bytes ms = withBitrate (choiceOf text) (λ rate. pick ridRes (type1First bytes ms) (thruFirst rate selRes bytes ms))
@@ -47,7 +48,7 @@ type2Answer bs =
 
 unfoldable pub type1Answer : List ℕ → Answer ℕ
 type1Answer bs =
-    pick (eqb (length bs) 0) (refused (Status 0xFF)) (pick (eqb (maskedStatus bs) 0) (done (drop 1 bs)) (refused (Status (maskedStatus bs))))
+    pick (eqb (length bs) 0) (refused (Status noData)) (pick (eqb (maskedStatus bs) 0) (done (drop 1 bs)) (refused (Status (maskedStatus bs))))
 
 -- ---- laws
 

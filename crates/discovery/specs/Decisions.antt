@@ -10,20 +10,21 @@ use Rattle.errors.specs.declared.Fault.{Fault}
 use Rattle.errors.specs.declared.Fault.the-variants.{Status, NoCard}
 use Rattle.framing.specs.Lists.{both}
 use Rattle.protocol.specs.Scripts.{done, type1, nothing, refused, refusedAfter}
-use Rattle.protocol.specs.Chipset.{statusByte, maskedStatus}
+use Rattle.protocol.specs.Chipset.{statusByte, maskedStatus, word}
 use Rattle.protocol.specs.Discovery.{isType2, sensfReq, byNoCard}
 use Rattle.chipset.specs.Responses.{foundWritten}
 use Rattle.stages.specs.Stages.{Command, cmd, Decision, send, keep, next, put, pause, ends, refuse, withLength}
+use Rattle.protocol.specs.Names.{ciuFifoData, ciuMode, ciuRxMode, ciuTxControl, commandClock, fieldPauseTime, inCommunicateThruCode, inDataExchangeCode, inJumpForDepClock, inJumpForDepCode, inListPassiveTargetClock, inListPassiveTargetCode, readRegisterCode, registersClock, rfConfigurationCode, rfNotActivated, ridClock, timeoutStatus, typeBClock, writeRegisterCode}
 
 -- ---- Type A: 0 list, 1 FIFO, 2 list of Type 1, 3 RID, 4 RX mode read, 5 RX mode written
 
 unfoldable pub typeACommand : ℕ → List ℕ → Command
 typeACommand stage pending =
-    pick (eqb stage 0) (cmd 0x4A 1000 pending)
-    (pick (eqb stage 1) (cmd 0x06 250 (0x63 ∷ 0x39 ∷ []))
-    (pick (eqb stage 2) (cmd 0x4A 1000 (0x01 ∷ 0x04 ∷ []))
-    (pick (eqb stage 3) (cmd 0x40 100 (0x01 ∷ 0x78 ∷ 0x00 ∷ 0x00 ∷ 0x00 ∷ 0x00 ∷ 0x00 ∷ 0x00 ∷ []))
-    (pick (eqb stage 4) (cmd 0x06 250 (0x63 ∷ 0x03 ∷ [])) (cmd 0x08 250 pending)))))
+    pick (eqb stage 0) (cmd inListPassiveTargetCode inListPassiveTargetClock pending)
+    (pick (eqb stage 1) (cmd readRegisterCode registersClock (word ciuFifoData))
+    (pick (eqb stage 2) (cmd inListPassiveTargetCode inListPassiveTargetClock (0x01 ∷ 0x04 ∷ []))
+    (pick (eqb stage 3) (cmd inDataExchangeCode ridClock (0x01 ∷ 0x78 ∷ 0x00 ∷ 0x00 ∷ 0x00 ∷ 0x00 ∷ 0x00 ∷ 0x00 ∷ []))
+    (pick (eqb stage 4) (cmd readRegisterCode registersClock (word ciuRxMode)) (cmd writeRegisterCode registersClock pending)))))
 
 -- SENS_RES in the other order, SEL_RES, SDD_RES
 abbrev pub cardBytes : List ℕ → List ℕ
@@ -52,7 +53,7 @@ ridOf found bs =
     (pick (eqb (maskedStatus bs) 0) (withLength found 2 (ends (type1 (take 2 found ++ drop 1 bs)))) (ends nothing))
 
 unfoldable pub rxModeRead : List ℕ → Decision
-rxModeRead bs = withLength bs 1 (put 5 (0x63 ∷ 0x03 ∷ getD bs 0 0 % 128 ∷ []))
+rxModeRead bs = withLength bs 1 (put 5 (word ciuRxMode ++ (getD bs 0 0 % 128 ∷ [])))
 
 unfoldable pub typeADecision : ℕ → List ℕ → List ℕ → Decision
 typeADecision stage found bs =
@@ -72,7 +73,7 @@ typeAFailure stage fault = pick (eqb stage 1) (send 2) (pick (eqb stage 3) (ridF
 -- ---- Type B: 0 list, 1 deselect, 2 wake-up
 
 unfoldable pub typeBCommand : ℕ → List ℕ → Command
-typeBCommand stage pending = pick (eqb stage 0) (cmd 0x4A 1000 pending) (pick (eqb stage 1) (cmd 0x42 500 (0xC2 ∷ [])) (cmd 0x42 500 pending))
+typeBCommand stage pending = pick (eqb stage 0) (cmd inListPassiveTargetCode inListPassiveTargetClock pending) (pick (eqb stage 1) (cmd inCommunicateThruCode typeBClock (0xC2 ∷ [])) (cmd inCommunicateThruCode typeBClock pending))
 
 -- a tag that is capable of ISO-DEP, by its protocol byte, is deselected; the wake-up is put by
 unfoldable pub isoDep : ℕ → ℕ → Decision
@@ -98,7 +99,7 @@ typeBFailure stage fault = pick (eqb stage 1) (send 2) (pick (eqb stage 2) (ends
 
 unfoldable pub typeFCommand : ℕ → List ℕ → Command
 typeFCommand stage pending =
-    pick (eqb stage 0) (cmd 0x06 250 (0x63 ∷ 0x04 ∷ [])) (pick (eqb stage 1) (cmd 0x32 100 (0x01 ∷ 0x01 ∷ [])) (cmd 0x4A 1000 pending))
+    pick (eqb stage 0) (cmd readRegisterCode registersClock (word ciuTxControl)) (pick (eqb stage 1) (cmd rfConfigurationCode commandClock (0x01 ∷ 0x01 ∷ [])) (cmd inListPassiveTargetCode inListPassiveTargetClock pending))
 
 unfoldable pub txControlRead : List ℕ → Decision
 txControlRead bs = withLength bs 1 (pick (eqb (getD bs 0 0 % 4) 0) (send 1) (send 2))
@@ -107,7 +108,7 @@ unfoldable pub polled : List ℕ → Decision
 polled bs = pick (eqb (getD bs 0 0) 0) (refuse NoCard) (withLength bs 2 (withLength bs 20 (ends (done (drop 4 bs)))))
 
 unfoldable pub typeFDecision : ℕ → List ℕ → Decision
-typeFDecision stage bs = pick (eqb stage 0) (txControlRead bs) (pick (eqb stage 1) (pause 20400 2) (polled bs))
+typeFDecision stage bs = pick (eqb stage 0) (txControlRead bs) (pick (eqb stage 1) (pause fieldPauseTime 2) (polled bs))
 
 -- ---- several system codes: Type F's stages for each. The pending command is the bitrate's code and the words of the system codes; the
 -- cursor is the number of codes finished.
@@ -158,11 +159,11 @@ pollDecision stage cursor pending found bs =
 
 unfoldable pub depCommand : ℕ → List ℕ → Command
 depCommand stage pending =
-    pick (eqb stage 0) (cmd 0x32 100 (0x02 ∷ 0x0B ∷ 0x0B ∷ 0x0A ∷ []))
-    (pick (eqb stage 1) (cmd 0x56 3000 pending) (cmd 0x08 250 (0x63 ∷ 0x01 ∷ 0x3B ∷ [])))
+    pick (eqb stage 0) (cmd rfConfigurationCode commandClock (0x02 ∷ 0x0B ∷ 0x0B ∷ 0x0A ∷ []))
+    (pick (eqb stage 1) (cmd inJumpForDepCode inJumpForDepClock pending) (cmd writeRegisterCode registersClock (word ciuMode ++ (0x3B ∷ []))))
 
 unfoldable pub noPartner : ℕ → Decision
-noPartner status = pick (eqb status 0x01 || eqb status 0x0A) (ends nothing) (refuse (Status status))
+noPartner status = pick (eqb status timeoutStatus || eqb status rfNotActivated) (ends nothing) (refuse (Status status))
 
 unfoldable pub jumpedTo : List ℕ → Decision
 jumpedTo bs = pick (eqb (statusByte bs) 0) (withLength bs 2 (keep 2 (0xD5 ∷ 0x01 ∷ drop 2 bs))) (noPartner (statusByte bs))

@@ -19,6 +19,7 @@ use Rattle.stages.specs.declared.Decision as code
 use Rattle.stages.specs.declared.Decision.the-variants.{Done, Refused}
 use Rattle.stages.specs.declared.Layout.{Layout}
 use Rattle.discovery.specs.Decisions.{txControlRead, polled, typeFDecision, pollOf, soFar, hasNext, codeFinished, pollFailure, pollDecision}
+use Rattle.protocol.specs.Names.{fieldPauseTime}
 
 -- ---- what the finished codes add
 
@@ -86,7 +87,7 @@ type-f-done stage bs l = go (eqb stage 0) (eqb stage 1)
     met false false true e h = absurd h
     met false false false e h = (h, ltb-false (length bs) 20 e)
 
-    go : (t u : Bool) → hasBytes (pick t (txControlRead bs) (pick u (pause 20400 2) (polled bs))) l → (drop 4 bs ≡ l) × (20 ≤ length bs)
+    go : (t u : Bool) → hasBytes (pick t (txControlRead bs) (pick u (pause fieldPauseTime 2) (polled bs))) l → (drop 4 bs ≡ l) × (20 ≤ length bs)
     go true u h = on (ltb (length bs) 1) (eqb (getD bs 0 0 % 4) 0) h
     go false true h = absurd h
     go false false h = met (eqb (getD bs 0 0) 0) (ltb (length bs) 2) (ltb (length bs) 20) refl h

@@ -21,7 +21,7 @@ use Rattle.stages.specs.Put.{put}
 use Rattle.stages.specs.Stages.{Command, Decision, send, keep, next, put as putBy, pause as pauseFor, ends}
 use Rattle.stages.specs.Starts.{Start, staged, sends as sendsFirst, refuses as refusesAtOnce}
 use Rattle.calls.specs.Tables.{commandOf, decidedOf, failedOf}
-use Rattle.engine.specs.Moves.{noCall, firstCall, validCall, packetLength, fits, at, toStage, toCursor, Moved, unfitting, orders, sends, resetDone, replies, refuses, moveOf}
+use Rattle.engine.specs.Transitions.{noCall, firstCall, validCall, packetLength, fits, at, toStage, toCursor, Transitioned, unfitting, orders, sends, resetDone, replies, refuses, transitionOf}
 use Rattle.engine.specs.declared.call.Call.{Call}
 use Rattle.engine.specs.declared.core.Core.{Core}
 use Rattle.engine.specs.declared.core.Progress.{Progress}
@@ -139,13 +139,13 @@ repliesOf s f bytes b = followsOf s f (decidedOf (s .call .kind) (s .call .stage
 unfoldable pub failsOf : Core → Held → Fault → List ℕ → After Core
 failsOf s f r b = followsOf s f (failedOf (s .call .kind) (s .call .stage) (s .call .cursor) (pendingOf s f) (foundOf s f) r) b
 
-unfoldable pub movedOf : Core → Held → Moved → List ℕ → After Core
-movedOf s f unfitting b = unchanged s f OutOfTurn b
-movedOf s f (orders o c x) b = ordersOf s f o c x b
-movedOf s f (sends c) b = stageOf s f c b
-movedOf s f resetDone b = repliesOf s f [] b
-movedOf s f (replies bytes) b = repliesOf s f bytes b
-movedOf s f (refuses r) b = failsOf s f r b
+unfoldable pub transitionedOf : Core → Held → Transitioned → List ℕ → After Core
+transitionedOf s f unfitting b = unchanged s f OutOfTurn b
+transitionedOf s f (orders o c x) b = ordersOf s f o c x b
+transitionedOf s f (sends c) b = stageOf s f c b
+transitionedOf s f resetDone b = repliesOf s f [] b
+transitionedOf s f (replies bytes) b = repliesOf s f bytes b
+transitionedOf s f (refuses r) b = failsOf s f r b
 
 -- ---- the entries
 
@@ -153,14 +153,14 @@ unfoldable pub isLong : Event → Bool
 isLong e = ltb 1024 (packetLength e)
 
 -- an event: 1, 2, 3, then what it does
-unfoldable pub admittedOf : Core → Held → Moved → Event → List ℕ → After Core
+unfoldable pub admittedOf : Core → Held → Transitioned → Event → List ℕ → After Core
 admittedOf s f m e b =
     pick (fits m)
-    (pick (ltb (length b) 1024) (unchanged s f ShortBuffer b) (pick (isLong e) (unchanged s f OverLong b) (movedOf s f m b)))
+    (pick (ltb (length b) 1024) (unchanged s f ShortBuffer b) (pick (isLong e) (unchanged s f OverLong b) (transitionedOf s f m b)))
     (unchanged s f OutOfTurn b)
 
 unfoldable pub eventCore : Core → Held → Event → List ℕ → After Core
-eventCore s f e b = pick (eqb (s .call .kind) 0) (unchanged s f OutOfTurn b) (admittedOf s f (moveOf (s .call) (s .exchange) e) e b)
+eventCore s f e b = pick (eqb (s .call .kind) 0) (unchanged s f OutOfTurn b) (admittedOf s f (transitionOf (s .call) (s .exchange) e) e b)
 
 -- `Chipset::new` begins
 unfoldable pub openCore : Core → Held → List ℕ → After Core

@@ -22,15 +22,16 @@ use Rattle.stages.specs.Stages.{cmd, Decision, send, refuse}
 use Rattle.stages.specs.Put.{take-put}
 use Rattle.stages.specs.Starts as stages
 use Rattle.calls.specs.Tables.{isResetOf, decidedOf, failedOf}
-use Rattle.calls.specs.Refines.{Leads}
+use Rattle.calls.specs.Refines.{Refines}
 use Rattle.calls.specs.Opening.{opening-leads, opening-fails, reset-fails}
 use Rattle.calls.specs.Firsts.{startFor}
 use Rattle.calls.specs.Starts.{Kind, Starting, refusedNow, first, leading, reader-begins}
-use Rattle.engine.specs.Moves.{noCall, firstCall, Moved, orders as goesOn, sends, resetDone, replies, refuses, fits, replyLength, moveOf, overMove, endedMove, validCall}
-use Rattle.engine.specs.Core.{stageOf, admittedOf, movedOf, followsOf, failsOf, repliesOf, eventCore, openCore, startOn}
+use Rattle.engine.specs.Transitions.{noCall, firstCall, Transitioned, orders as goesOn, sends, resetDone, replies, refuses, fits, replyLength, transitionOf, overTransition, endedTransition, validCall}
+use Rattle.engine.specs.Core.{stageOf, admittedOf, transitionedOf, followsOf, failsOf, repliesOf, eventCore, openCore, startOn}
 use Rattle.engine.specs.Relation.{Place, Wait, reply, resetReply, resetAck, resetPause, openingAck, openingReads, pausing, phaseNumber, callAt, phaseAt, Fields, coreWith, heldAt, Agrees, coreAt, runningAt, free}
 use Rattle.engine.specs.Exchanges.{NoCommand, good, reply-short}
 use Rattle.engine.specs.Simulation.{Simulates, sim-unchanged, sim-orders, sim-sends, sim-answer, with-command, lead-sims, SimulatesHere, Advances, advances-none, advances, advances-enter, advances-exchange, two-write, two-read, two-pause}
+use Rattle.protocol.specs.Names.{openingReadTime, resetPauseTime}
 
 -- ---- an event, by what the call waits for
 
@@ -40,35 +41,35 @@ module _ (p : Place) (w : Wait p) (v : Fields) (agrees : Agrees p v) where
       → (e : Event) (b : List ℕ) → replyLength (goesOn o (callAt p u) (v .exchange)) ≤ packetLength e
       → SimulatesHere p w v agrees (admittedOf (coreAt p w v) (heldAt v) (goesOn o (callAt p u) (v .exchange)) e b)
       (admitted e (length b) (runsOf (p .call) o (phaseAt u (v .exchange))))
-  unfolding movedOf
+  unfolding transitionedOf
   advances-order u o k =
       advances p w v agrees (goesOn o (callAt p u) (v .exchange)) _ refl (λ b _. sim-orders v (callAt p w) _ _ p u (v .exchange) o b (v .phaseFits) agrees k)
 
   -- what is decided leads to the script
-  advances-lead : (mv : Moved) (d : Decision) (s : Script) → fits mv ≡ true
-      → ((b : List ℕ) → movedOf (coreAt p w v) (heldAt v) mv b ≡ followsOf (coreAt p w v) (heldAt v) d b)
-      → (replyLength mv ≤ 1024 → Leads (p .kind) (p .cursor) (p .pending) (p .found) d s) → Advances p w v agrees mv (enter s)
+  advances-lead : (mv : Transitioned) (d : Decision) (s : Script) → fits mv ≡ true
+      → ((b : List ℕ) → transitionedOf (coreAt p w v) (heldAt v) mv b ≡ followsOf (coreAt p w v) (heldAt v) d b)
+      → (replyLength mv ≤ 1024 → Refines (p .kind) (p .cursor) (p .pending) (p .found) d s) → Advances p w v agrees mv (enter s)
   advances-lead mv d s h is l =
       advances-enter p w v agrees mv s h (λ b few. rw (is b) (lead-sims p _ v (p .stage) _ d s b (agrees .pending) (agrees .found) (l few)))
 
   -- the command of the call's stage follows
-  advances-send : (s : Script) → Leads (p .kind) (p .cursor) (p .pending) (p .found) (send (p .stage)) s
+  advances-send : (s : Script) → Refines (p .kind) (p .cursor) (p .pending) (p .found) (send (p .stage)) s
       → Advances p w v agrees (sends (record { kind = p .kind; stage = p .stage; cursor = p .cursor; phase = 0 })) (enter s)
-  unfolding movedOf followsOf
+  unfolding transitionedOf followsOf
   advances-send s l = advances-lead (sends _) (send (p .stage)) s refl (λ b. refl) (λ _. l)
 
   -- a write failed, and the call ends
   advances-failed : (r : Fault) → failedOf (p .kind) (p .stage) (p .cursor) (p .pending) (p .found) r ≡ refuse r → Advances p w v agrees (refuses r) (ended (refused r))
-  unfolding movedOf failsOf followsOf
+  unfolding transitionedOf failsOf followsOf
   advances-failed r h =
       advances p w v agrees (refuses r) _ refl (λ b _. rw (agrees .pending, agrees .found) (rw h (sim-answer v (callAt p w) (p .call) _ (refused r) (refused r) b refl)))
 
   -- the reply to a command
   reply-ends : (k : Reply → Script) → isResetOf (p .kind) (p .stage) ≡ false
-      → ((cs : List ℕ) → length cs ≤ 1022 → Leads (p .kind) (p .cursor) (p .pending) (p .found) (decidedOf (p .kind) (p .stage) (p .cursor) (p .pending) (p .found) cs) (k (response cs)))
-      → ((r : Fault) → Leads (p .kind) (p .cursor) (p .pending) (p .found) (failedOf (p .kind) (p .stage) (p .cursor) (p .pending) (p .found) r) (k (failed r)))
-      → (r : Reply) → Advances p w v agrees (endedMove (callAt p w) (v .exchange) r) (afterReply (byReply k) r)
-  unfolding overMove movedOf repliesOf failsOf pick
+      → ((cs : List ℕ) → length cs ≤ 1022 → Refines (p .kind) (p .cursor) (p .pending) (p .found) (decidedOf (p .kind) (p .stage) (p .cursor) (p .pending) (p .found) cs) (k (response cs)))
+      → ((r : Fault) → Refines (p .kind) (p .cursor) (p .pending) (p .found) (failedOf (p .kind) (p .stage) (p .cursor) (p .pending) (p .found) r) (k (failed r)))
+      → (r : Reply) → Advances p w v agrees (endedTransition (callAt p w) (v .exchange) r) (afterReply (byReply k) r)
+  unfolding overTransition transitionedOf repliesOf failsOf pick
   reply-ends k h answered failing (response cs) =
       rw h (advances-lead (replies cs) (decidedOf (p .kind) (p .stage) (p .cursor) (p .pending) (p .found) cs) _ refl (λ b. rw (agrees .pending, agrees .found)) (λ few. answered cs (omega arith)))
   reply-ends k h answered failing (failed r) =
@@ -76,13 +77,13 @@ module _ (p : Place) (w : Wait p) (v : Fields) (agrees : Agrees p v) where
 
   -- a reset's exchange ends: ACK follows, whatever came of it
   reset-ends : (s : Script) (u : Wait p) → isResetOf (p .kind) (p .stage) ≡ true → phaseAt u (v .exchange) ≡ Rattle.protocol.specs.Session.resetAck s → callAt p u ≡ record { kind = p .kind; stage = p .stage; cursor = p .cursor; phase = 1 }
-      → (r : Reply) → Advances p w v agrees (endedMove (callAt p w) (v .exchange) r) (afterReply (ofReset s) r)
-  unfolding overMove pick
+      → (r : Reply) → Advances p w v agrees (endedTransition (callAt p w) (v .exchange) r) (afterReply (ofReset s) r)
+  unfolding overTransition pick
   reset-ends s u h is call r = rw h (rw (← is, ← call) (advances-order u (write ack) refl))
 
 event-advances : (p : Place) (w : Wait p) (v : Fields) (agrees : Agrees p v) (e : Event)
-    → Advances p w v agrees (moveOf (callAt p w) (v .exchange) e) (progress (phaseAt w (v .exchange)) e)
-unfolding moveOf movedOf repliesOf pick
+    → Advances p w v agrees (transitionOf (callAt p w) (v .exchange) e) (progress (phaseAt w (v .exchange)) e)
+unfolding transitionOf transitionedOf repliesOf pick
 event-advances p (reply k h l) v agrees e =
     let w = reply k h l in
     advances-exchange p w v agrees _ (λ x. refl) (reply-ends p w v agrees k h (l .answered) (l .failing)) (advance (stepOf (v .exchange)) e) (packetLength e) (good (v .exchange) e)
@@ -91,7 +92,7 @@ event-advances p (resetReply s h l) v agrees e =
     advances-exchange p w v agrees _ (λ x. refl) (reset-ends p w v agrees s (resetAck s h l) h refl refl) (advance (stepOf (v .exchange)) e) (packetLength e) (good (v .exchange) e)
 event-advances p (resetAck s h l) v agrees e =
     let w = resetAck s h l in
-    two-write (Advances p w v agrees) (advances-none p w v agrees) (advances-order p w v agrees (resetPause s l) (pause 10000) tt)
+    two-write (Advances p w v agrees) (advances-none p w v agrees) (advances-order p w v agrees (resetPause s l) (pause resetPauseTime) tt)
     (advances-failed p w v agrees Transport (reset-fails (p .kind) (p .stage) (p .cursor) (p .pending) (p .found) Transport h)) e
 event-advances p (resetPause s l) v agrees e =
     let w = resetPause s l in
@@ -99,11 +100,11 @@ event-advances p (resetPause s l) v agrees e =
     (advances-lead p w v agrees resetDone (decidedOf (p .kind) (p .stage) (p .cursor) (p .pending) (p .found) []) s refl (λ b. rw (agrees .pending, agrees .found)) (λ _. l)) e
 event-advances p (openingAck s h l) v agrees e =
     let w = openingAck s h l in
-    two-write (Advances p w v agrees) (advances-none p w v agrees) (advances-order p w v agrees (openingReads s l) (read 10) tt)
+    two-write (Advances p w v agrees) (advances-none p w v agrees) (advances-order p w v agrees (openingReads s l) (read openingReadTime) tt)
     (advances-failed p w v agrees Transport (opening-fails (p .kind) (p .stage) (p .cursor) (p .pending) (p .found) Transport h)) e
 event-advances p (openingReads s l) v agrees e =
     let w = openingReads s l in
-    two-read (Advances p w v agrees) (advances-none p w v agrees) (λ _. advances-order p w v agrees w (read 10) tt) (advances-send p w v agrees s l) (advances-send p w v agrees s l) e
+    two-read (Advances p w v agrees) (advances-none p w v agrees) (λ _. advances-order p w v agrees w (read openingReadTime) tt) (advances-send p w v agrees s l) (advances-send p w v agrees s l) e
 event-advances p (pausing s l) v agrees e =
     let w = pausing s l in
     two-pause (Advances p w v agrees) (advances-none p w v agrees) (advances-send p w v agrees s l) e

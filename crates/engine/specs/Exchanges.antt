@@ -15,7 +15,7 @@ use Rattle.exchange.specs.Responses.{response-short}
 use Rattle.exchange.specs.declared.Exchange.{Exchange}
 use Rattle.protocol.specs.Laws.{split, by-write, by-read, by-pause}
 use Rattle.calls.specs.Tables.{isResetOf}
-use Rattle.engine.specs.Moves.{phaseOf, packetLength, replyLength, Moved, unfitting, replyMove, overMove, exchangeMove, moveOf}
+use Rattle.engine.specs.Transitions.{phaseOf, packetLength, replyLength, Transitioned, unfitting, replyTransition, overTransition, exchangeTransition, transitionOf}
 use Rattle.engine.specs.declared.call.Call.{Call}
 
 -- an order that writes no command: a write is ACK's
@@ -29,12 +29,12 @@ NoCommand (pause us) = Unit {0}
 abbrev pub Good : ℕ → ℕ → ℕ → ExchangeResult → Type 0
 Good n code clock unfit = Unit {0}
 Good n code clock (pending o to) = (stepOf (exchangeAt (phaseOf to) code clock) ≡ to) × (leb (phaseOf to) 6 ≡ true) × NoCommand o
-Good n code clock (ended r) = replyLength (replyMove r) ≤ n
+Good n code clock (ended r) = replyLength (replyTransition r) ≤ n
 
-reply-fits : (code : ℕ) (packet : List ℕ) → replyLength (replyMove (replyOf code packet)) ≤ length packet
+reply-fits : (code : ℕ) (packet : List ℕ) → replyLength (replyTransition (replyOf code packet)) ≤ length packet
 reply-fits code packet = go (replyOf code packet) refl
   where
-    go : (r : Reply) → replyOf code packet ≡ r → replyLength (replyMove r) ≤ length packet
+    go : (r : Reply) → replyOf code packet ≡ r → replyLength (replyTransition r) ≤ length packet
     go (response bytes) e = response-short code packet bytes e
     go (failed r) e = omega arith
 
@@ -79,18 +79,18 @@ unfolding pick
 by-pick P true x y h k = h
 by-pick P false x y h k = k
 
-exchange-short : (n : ℕ) (c : Call) (x : Exchange) (r : ExchangeResult) → Good n (x .code) (x .clock) r → replyLength (exchangeMove c x r) ≤ n
-unfolding exchangeMove overMove
+exchange-short : (n : ℕ) (c : Call) (x : Exchange) (r : ExchangeResult) → Good n (x .code) (x .clock) r → replyLength (exchangeTransition c x r) ≤ n
+unfolding exchangeTransition overTransition
 exchange-short n c x unfit h = omega arith
 exchange-short n c x (pending o to) h = omega arith
 exchange-short n c x (ended r) h = by-pick (λ m. replyLength m ≤ n) (isResetOf (c .kind) (c .stage)) _ _ (omega arith) h
 
 -- a response is shorter than the packet
-pub reply-short : (c : Call) (x : Exchange) (e : Event) → replyLength (moveOf c x e) ≤ packetLength e
-unfolding moveOf
+pub reply-short : (c : Call) (x : Exchange) (e : Event) → replyLength (transitionOf c x e) ≤ packetLength e
+unfolding transitionOf
 reply-short c x e =
-    let L : Moved → Type 0 = λ m. replyLength m ≤ packetLength e in
-    let P : Event → Moved → Type 0 = λ d m. replyLength m ≤ packetLength d in
+    let L : Transitioned → Type 0 = λ m. replyLength m ≤ packetLength e in
+    let P : Event → Transitioned → Type 0 = λ d m. replyLength m ≤ packetLength d in
     let none : (d : Event) → P d unfitting = λ d. omega arith in
     by-pick L (eqb (c .phase) 0) _ _ (exchange-short (packetLength e) c x (advance (stepOf x) e) (good x e))
     (by-pick L (eqb (c .phase) 1) _ _ (by-write P unfitting none _ _ (omega arith) (omega arith) e)

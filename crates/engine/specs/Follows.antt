@@ -21,7 +21,7 @@ use Rattle.engine.specs.Booking.{bookNumbers, Bounded, begun-bounded, bo
 use Rattle.engine.specs.Books.{noBooks, booked as bookedBy}
 use Rattle.engine.specs.Core.{Held, After, unchanged, eventCore}
 use Rattle.engine.specs.Core.{isValid as validCore}
-use Rattle.engine.specs.Moves.{noCall, validCall}
+use Rattle.engine.specs.Transitions.{noCall, validCall}
 use Rattle.engine.specs.Sessions.{state, isValid, bookedAfter, sessionAfter, eventAfter, openIn, openAfter, startAfter, heldIn, freshSession}
 use Rattle.engine.specs.Inputs.{Input, opens, asks, tells, entryOf, outputOf, afterInput, act}
 use Rattle.engine.specs.Relation.{Place, Wait, callAt, Fields, coreWith, heldAt, Agrees, coreAt, runningAt, Represents, free, runs, Means}

@@ -38,7 +38,7 @@ use Rattle.engine.specs.Booking.{range-caller}
 use Rattle.engine.specs.Sessions.{isValid as validState}
 use Rattle.engine.specs.declared.state.State.{State}
 use Rattle.engine.specs.Core.{isValid, Held, After, eventCore, endsOf, doneOf, answersOf, sendsOf, running, after}
-use Rattle.engine.specs.Moves.{validCall}
+use Rattle.engine.specs.Transitions.{validCall}
 use Rattle.engine.specs.declared.call.Call.{Call}
 use Rattle.engine.specs.declared.core.Core.{Core}
 use Rattle.engine.specs.declared.core.Output.the-variants.{Command as Sends, Done, Type1}

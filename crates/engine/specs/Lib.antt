@@ -1,4 +1,4 @@
-pub mod Moves
+pub mod Transitions
 pub mod Exchanges
 pub mod Books
 pub mod Booking

@@ -14,10 +14,10 @@ use Rattle.protocol.specs.Session.{byReply, ofReset, Phase, exchange, Running, 
 use Rattle.protocol.specs.Session as Meant
 use Rattle.stages.specs.Stages.{send}
 use Rattle.calls.specs.Tables.{isResetOf, decidedOf}
-use Rattle.calls.specs.Refines.{Leads, Stands}
+use Rattle.calls.specs.Refines.{Refines, Awaits}
 use Rattle.engine.specs.Booking.{bookNumbers, Bounded}
 use Rattle.engine.specs.Core.{Held, held}
-use Rattle.engine.specs.Moves.{noCall}
+use Rattle.engine.specs.Transitions.{noCall}
 use Rattle.engine.specs.Sessions.{heldIn}
 use Rattle.engine.specs.declared.call.Call.{Call}
 use Rattle.engine.specs.declared.core.Core.{Core}
@@ -39,13 +39,13 @@ pub record Place : Type 0 where
 -- what it waits for, and the script that is left: a command's reply, a reset's exchange, ACK or pause, or what comes before the command of
 -- its stage, the opening's ACK or reads, or a pause
 pub data Wait (p : Place) : Type 0 where
-  reply : (k : Reply → Script) → isResetOf (p .kind) (p .stage) ≡ false → Stands (p .kind) (p .stage) (p .cursor) (p .pending) (p .found) k → Wait p
-  resetReply : (s : Script) → isResetOf (p .kind) (p .stage) ≡ true → Leads (p .kind) (p .cursor) (p .pending) (p .found) (decidedOf (p .kind) (p .stage) (p .cursor) (p .pending) (p .found) []) s → Wait p
-  resetAck : (s : Script) → isResetOf (p .kind) (p .stage) ≡ true → Leads (p .kind) (p .cursor) (p .pending) (p .found) (decidedOf (p .kind) (p .stage) (p .cursor) (p .pending) (p .found) []) s → Wait p
-  resetPause : (s : Script) → Leads (p .kind) (p .cursor) (p .pending) (p .found) (decidedOf (p .kind) (p .stage) (p .cursor) (p .pending) (p .found) []) s → Wait p
-  openingAck : (s : Script) → eqb (p .kind) 1 ≡ true → Leads (p .kind) (p .cursor) (p .pending) (p .found) (send (p .stage)) s → Wait p
-  openingReads : (s : Script) → Leads (p .kind) (p .cursor) (p .pending) (p .found) (send (p .stage)) s → Wait p
-  pausing : (s : Script) → Leads (p .kind) (p .cursor) (p .pending) (p .found) (send (p .stage)) s → Wait p
+  reply : (k : Reply → Script) → isResetOf (p .kind) (p .stage) ≡ false → Awaits (p .kind) (p .stage) (p .cursor) (p .pending) (p .found) k → Wait p
+  resetReply : (s : Script) → isResetOf (p .kind) (p .stage) ≡ true → Refines (p .kind) (p .cursor) (p .pending) (p .found) (decidedOf (p .kind) (p .stage) (p .cursor) (p .pending) (p .found) []) s → Wait p
+  resetAck : (s : Script) → isResetOf (p .kind) (p .stage) ≡ true → Refines (p .kind) (p .cursor) (p .pending) (p .found) (decidedOf (p .kind) (p .stage) (p .cursor) (p .pending) (p .found) []) s → Wait p
+  resetPause : (s : Script) → Refines (p .kind) (p .cursor) (p .pending) (p .found) (decidedOf (p .kind) (p .stage) (p .cursor) (p .pending) (p .found) []) s → Wait p
+  openingAck : (s : Script) → eqb (p .kind) 1 ≡ true → Refines (p .kind) (p .cursor) (p .pending) (p .found) (send (p .stage)) s → Wait p
+  openingReads : (s : Script) → Refines (p .kind) (p .cursor) (p .pending) (p .found) (send (p .stage)) s → Wait p
+  pausing : (s : Script) → Refines (p .kind) (p .cursor) (p .pending) (p .found) (send (p .stage)) s → Wait p
 
 abbrev pub phaseNumber : {p : Place} → Wait p → ℕ
 phaseNumber (reply k h l) = 0

@@ -26,11 +26,11 @@ use Rattle.protocol.specs.Follows.{plain, plainAnswer}
 use Rattle.stages.specs.Put.{put, take-put}
 use Rattle.stages.specs.Stages.{Command, cmd, Decision, send}
 use Rattle.calls.specs.Tables.{commandOf}
-use Rattle.calls.specs.Refines.{Leads, leads-end, leads-send, leads-reset, leads-keep, leads-next, leads-put, leads-pause}
+use Rattle.calls.specs.Refines.{Refines, refines-end, refines-send, refines-reset, refines-keep, refines-next, refines-put, refines-pause}
 use Rattle.engine.specs.Books.{booked as bookedBy}
 use Rattle.engine.specs.Booking.{bookNumbers, Bounded, bookBy, quiet-booked, ack-counts, frame-booked, end-booked}
-use Rattle.engine.specs.Core.{Held, After, unchanged, running, putFound, putCommand, ordersOf, sendsOf, stageOf, endsOf, doneOf, answersOf, followsOf, admittedOf, isLong, movedOf}
-use Rattle.engine.specs.Moves.{Moved, unfitting, orders as goesOn, fits, replyLength, endedMove, exchangeMove, exchangeIn}
+use Rattle.engine.specs.Core.{Held, After, unchanged, running, putFound, putCommand, ordersOf, sendsOf, stageOf, endsOf, doneOf, answersOf, followsOf, admittedOf, isLong, transitionedOf}
+use Rattle.engine.specs.Transitions.{Transitioned, unfitting, orders as goesOn, fits, replyLength, endedTransition, exchangeTransition, exchangeIn}
 use Rattle.engine.specs.Inputs.{outputOf}
 use Rattle.engine.specs.Relation.{Place, Wait, reply, resetReply, pausing, callAt, phaseAt, Fields, coreWith, heldAt, Agrees, coreAt, runningAt, Represents, free, runs}
 use Rattle.engine.specs.Exchanges.{NoCommand, Good}
@@ -38,6 +38,7 @@ use Rattle.engine.specs.declared.call.Call.{Call}
 use Rattle.engine.specs.declared.core.Core.{Core}
 use Rattle.engine.specs.declared.core.Output.{Output}
 use Rattle.engine.specs.declared.core.Output.the-variants as out
+use Rattle.protocol.specs.Names.{fieldPauseTime}
 
 -- What an entry leaves, beside what the definitions say; the running call is m before it. What is booked of the output, of the call of any
 -- caller k, is what the definitions book of the outcome.
@@ -195,20 +196,20 @@ module _ (p : Place) (m : Running) where
       (rw sent (sim-sends v c (isOpening (p .call)) m _ w code clock bytes b record { pending = e; found = f }))
 
   pub lead-sims : {later found : List ℕ} {i : ℕ} (v : Fields) (stage phase : ℕ) (d : Decision) (s : Script) (b : List ℕ)
-      → take (v .pending) (v .command) ≡ later → take (v .kept) (v .found) ≡ found → Leads (p .kind) i later found d s
+      → take (v .pending) (v .command) ≡ later → take (v .kept) (v .found) ≡ found → Refines (p .kind) i later found d s
       → Simulates (isOpening (p .call)) m (followsOf (coreWith v (callOf p stage i phase)) (heldAt v) d b) (outcome (p .call) (enter s))
   unfolding followsOf stepOf
-  lead-sims v stage phase d s b e f (leads-end a c h) = sim-answer v (callOf p stage _ phase) (p .call) m c a b h
-  lead-sims v stage phase d s b e f (leads-send n code clock bytes k h q plan answered failing) =
+  lead-sims v stage phase d s b e f (refines-end a c h) = sim-answer v (callOf p stage _ phase) (p .call) m c a b h
+  lead-sims v stage phase d s b e f (refines-send n code clock bytes k h q plan answered failing) =
       stage-sims v _ _ n _ h (reply k q record { answered = answered; failing = failing }) (callOf p stage _ phase) code clock bytes b e f plan refl
-  lead-sims v stage phase d s b e f (leads-reset n r h q plan l) = stage-sims v _ _ n _ h (resetReply r q l) (callOf p stage _ phase) resetCode 100 resetData b e f plan refl
-  lead-sims v stage phase d s b e f (leads-keep n l s′ few k) = lead-sims (with-found v l few) stage phase (send n) s b e (take-put l (v .found)) k
-  lead-sims v stage phase d s b e f (leads-next n j l s′ few k) =
+  lead-sims v stage phase d s b e f (refines-reset n r h q plan l) = stage-sims v _ _ n _ h (resetReply r q l) (callOf p stage _ phase) resetCode 100 resetData b e f plan refl
+  lead-sims v stage phase d s b e f (refines-keep n l s′ few k) = lead-sims (with-found v l few) stage phase (send n) s b e (take-put l (v .found)) k
+  lead-sims v stage phase d s b e f (refines-next n j l s′ few k) =
       subst (λ a. Simulates (isOpening (p .call)) m a (outcome (p .call) (enter s))) (same-stage (with-found v l few) (callOf p stage j phase) (callOf p stage _ phase) (callOf p n j 0) b)
       (lead-sims (with-found v l few) stage phase (send n) s b e (take-put l (v .found)) k)
-  lead-sims v stage phase d s b e f (leads-put n l s′ few k) = lead-sims (with-command v l few) stage phase (send n) s b (take-put l (v .command)) f k
-  lead-sims v stage phase d s b e f (leads-pause n r h k) =
-      sim-orders v (callOf p stage 0 phase) (isOpening (p .call)) m (atStage p n _ _ _ h) (pausing r k) (v .exchange) (pause 20400) b (v .phaseFits)
+  lead-sims v stage phase d s b e f (refines-put n l s′ few k) = lead-sims (with-command v l few) stage phase (send n) s b (take-put l (v .command)) f k
+  lead-sims v stage phase d s b e f (refines-pause n r h k) =
+      sim-orders v (callOf p stage 0 phase) (isOpening (p .call)) m (atStage p n _ _ _ h) (pausing r k) (v .exchange) (pause fieldPauseTime) b (v .phaseFits)
       record { pending = e; found = f } tt
 
 -- ---- an event that a running call meets
@@ -218,7 +219,7 @@ module _ (p : Place) (w : Wait p) (v : Fields) (agrees : Agrees p v) where
   SimulatesHere = Simulates (isOpening (p .call)) (runningAt p w v)
 
   -- of an event with a packet that is long enough for the response
-  abbrev pub Advances : Moved → CallResult → Type 0
+  abbrev pub Advances : Transitioned → CallResult → Type 0
   Advances mv r =
       (e : Event) (b : List ℕ) → replyLength mv ≤ packetLength e
       → SimulatesHere (admittedOf (coreAt p w v) (heldAt v) mv e b) (eventOutcome (p .call) e (length b) r)
@@ -231,7 +232,7 @@ module _ (p : Place) (w : Wait p) (v : Fields) (agrees : Agrees p v) where
   advances-none e b l = stays OutOfTurn b
 
   -- buffer and packet are looked at first
-  pub advances : (mv : Moved) (o : Outcome) → fits mv ≡ true → ((b : List ℕ) → replyLength mv ≤ 1024 → SimulatesHere (movedOf (coreAt p w v) (heldAt v) mv b) o)
+  pub advances : (mv : Transitioned) (o : Outcome) → fits mv ≡ true → ((b : List ℕ) → replyLength mv ≤ 1024 → SimulatesHere (transitionedOf (coreAt p w v) (heldAt v) mv b) o)
       → (e : Event) (b : List ℕ) → replyLength mv ≤ packetLength e → SimulatesHere (admittedOf (coreAt p w v) (heldAt v) mv e b) (admitted e (length b) o)
   unfolding admittedOf isLong pick
   advances mv o h k e b l =
@@ -240,7 +241,7 @@ module _ (p : Place) (w : Wait p) (v : Fields) (agrees : Agrees p v) where
       (λ _. sim-pick (ltb 1024 (packetLength e)) (stays OverLong b) (λ n. k b (omega (arith, l, ltb-false 1024 (packetLength e) n)))))
 
   -- a script is entered
-  pub advances-enter : (mv : Moved) (s : Script) → fits mv ≡ true → ((b : List ℕ) → replyLength mv ≤ 1024 → SimulatesHere (movedOf (coreAt p w v) (heldAt v) mv b) (outcome (p .call) (enter s)))
+  pub advances-enter : (mv : Transitioned) (s : Script) → fits mv ≡ true → ((b : List ℕ) → replyLength mv ≤ 1024 → SimulatesHere (transitionedOf (coreAt p w v) (heldAt v) mv b) (outcome (p .call) (enter s)))
       → Advances mv (enter s)
   advances-enter mv (finish a) h k = advances mv _ h k
   advances-enter mv (command code clock bytes n) h k = advances mv _ h k
@@ -249,9 +250,9 @@ module _ (p : Place) (w : Wait p) (v : Fields) (agrees : Agrees p v) where
 
   -- the exchange goes on or ends
   pub advances-exchange : (rest : Rest) → ((x : Exchange) → phaseAt w x ≡ exchange (stepOf x) rest)
-      → ((r : Reply) → Advances (endedMove (callAt p w) (v .exchange) r) (afterReply rest r))
-      → (r : ExchangeResult) (n : ℕ) → Good n (v .exchange .code) (v .exchange .clock) r → Advances (exchangeMove (callAt p w) (v .exchange) r) (afterExchange rest r)
-  unfolding exchangeMove movedOf
+      → ((r : Reply) → Advances (endedTransition (callAt p w) (v .exchange) r) (afterReply rest r))
+      → (r : ExchangeResult) (n : ℕ) → Good n (v .exchange .code) (v .exchange .clock) r → Advances (exchangeTransition (callAt p w) (v .exchange) r) (afterExchange rest r)
+  unfolding exchangeTransition transitionedOf
   advances-exchange rest is k unfit n g = advances-none
   advances-exchange rest is k (pending o to) n g =
       advances (goesOn o (callAt p w) (exchangeIn (v .exchange) to)) _ refl

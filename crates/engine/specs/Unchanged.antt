@@ -23,11 +23,11 @@ use Rattle.calls.specs.Firsts.{startFor}
 use Rattle.engine.specs.Books.{isInRange, isOpen, byCaller, ended, booked}
 use Rattle.engine.specs.Booking.{ended-range}
 use Rattle.engine.specs.Laws.{valid-caller}
-use Rattle.engine.specs.Core.{Held, After, after, unchanged, idle, ordersOf, stageOf, endsOf, answersOf, followsOf, repliesOf, failsOf, movedOf, isLong, admittedOf, eventCore, openCore, startOn}
+use Rattle.engine.specs.Core.{Held, After, after, unchanged, idle, ordersOf, stageOf, endsOf, answersOf, followsOf, repliesOf, failsOf, transitionedOf, isLong, admittedOf, eventCore, openCore, startOn}
 use Rattle.engine.specs.Core.{isValid as validCore}
 use Rattle.engine.specs.Exchanges.{by-pick}
 use Rattle.engine.specs.Inputs.{Input, opens as opened, asks, tells, bufferOf, stepWith, afterInput}
-use Rattle.engine.specs.Moves.{Moved, unfitting, orders, sends as sendsStage, resetDone, replies, refuses, fits, moveOf, validCall}
+use Rattle.engine.specs.Transitions.{Transitioned, unfitting, orders, sends as sendsStage, resetDone, replies, refuses, fits, transitionOf, validCall}
 use Rattle.engine.specs.Sessions.{state, isValid, isFree, isAdmitted, bookedAfter, eventAfter, openAfter, startAfter, heldIn, sessionAfter}
 use Rattle.engine.specs.declared.books.Books.{Books}
 use Rattle.engine.specs.declared.call.Call.{Call}
@@ -109,8 +109,8 @@ module _ (s : Core) (f : Held) (b : List ℕ) where
   unfolding failsOf
   failure r = decides _
 
-  move : (m : Moved) → Keeps (movedOf s f m b)
-  unfolding movedOf
+  move : (m : Transitioned) → Keeps (transitionedOf s f m b)
+  unfolding transitionedOf
   move unfitting = same OutOfTurn
   move (orders o c x) = order s f o c x
   move (sendsStage c) = stage s f c
@@ -121,7 +121,7 @@ module _ (s : Core) (f : Held) (b : List ℕ) where
   event-keeps : (e : Event) → Keeps (eventCore s f e b)
   unfolding eventCore admittedOf
   event-keeps e =
-      let m = moveOf (s .call) (s .exchange) e in
+      let m = transitionOf (s .call) (s .exchange) e in
       by-pick Keeps (eqb (s .call .kind) 0) _ _ (same OutOfTurn)
       (by-pick Keeps (fits m) _ _
       (by-pick Keeps (ltb (length b) 1024) _ _ (same ShortBuffer) (by-pick Keeps (isLong e) _ _ (same OverLong) (move m)))

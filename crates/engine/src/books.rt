@@ -85,49 +85,33 @@ impl Books {
     }
 
     // The same, for the call of another caller.
-    fn by_caller(self, caller: u8) -> Books
+    fn by_caller(mut self, caller: u8) -> Books
         ensures { λ r. ⌜ r ≡ byCaller caller self ⌝ }
     {
-        let frames = self.frames;
-        Books {
-            opened: self.opened,
-            mode: self.mode,
-            caller,
-            frames,
-        }
+        self.caller = caller;
+        self
     }
 
     // A command frame counts for the caller.
-    fn counted(self) -> Books
+    fn counted(mut self) -> Books
         requires { ⌜ self .caller ≤ 7 ⌝ }
         ensures { λ r. ⌜ r ≡ counted self ⌝ }
     {
-        let mut frames = self.frames;
         let caller = self.caller as usize;
-        frames[caller] = one_more(frames[caller]);
-        Books {
-            opened: self.opened,
-            mode: self.mode,
-            caller: self.caller,
-            frames,
-        }
+        let frames = one_more(self.frames[caller]);
+        self.frames[caller] = frames;
+        self
     }
 
     // A call has ended: an opening leaves the reader open or not, any other call leaves it as it was.
-    fn ended(self, opening: bool, opened: u8) -> Books
+    fn ended(mut self, opening: bool, opened: u8) -> Books
         ensures { λ r. ⌜ r ≡ ended self opening opened ⌝ }
     {
         if opening {
-            let frames = self.frames;
-            Books {
-                opened,
-                mode: self.mode,
-                caller: self.caller,
-                frames,
-            }
-        } else {
-            self
+            self.opened = opened;
+            return self;
         }
+        self
     }
 
     // What came out of a caller's call, an opening or not: a command frame counts, and an opening's end says whether the reader is open.
@@ -135,18 +119,17 @@ impl Books {
         requires { ⌜ caller ≤ 7 ⌝ }
         ensures { λ r. ⌜ r ≡ bookedOf caller opening output self ⌝ }
     {
-        let books = self.by_caller(caller);
         match output {
-            Output::Command(_) => books.counted(),
-            Output::Done(_) => books.ended(opening, OPEN),
-            Output::Type1(_) => books.ended(opening, OPEN),
-            Output::Nothing => books.ended(opening, CLOSED),
-            Output::Failed(_) => books.ended(opening, CLOSED),
-            Output::FailedAfter(_, _) => books.ended(opening, CLOSED),
-            Output::Ack => books,
-            Output::Read(_) => books,
-            Output::Drain => books,
-            Output::Pause(_) => books,
+            Output::Command(_) => self.by_caller(caller).counted(),
+            Output::Done(_) => self.by_caller(caller).ended(opening, OPEN),
+            Output::Type1(_) => self.by_caller(caller).ended(opening, OPEN),
+            Output::Nothing => self.by_caller(caller).ended(opening, CLOSED),
+            Output::Failed(_) => self.by_caller(caller).ended(opening, CLOSED),
+            Output::FailedAfter(_, _) => self.by_caller(caller).ended(opening, CLOSED),
+            Output::Ack => self.by_caller(caller),
+            Output::Read(_) => self.by_caller(caller),
+            Output::Drain => self.by_caller(caller),
+            Output::Pause(_) => self.by_caller(caller),
             Output::Refused(_) => self,
         }
     }

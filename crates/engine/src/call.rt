@@ -10,7 +10,7 @@ ghost use Prim.Native.Nat.{ℕ};
 ghost use Rattle.errors.specs.declared.Fault.the-variants.{Transport};
 ghost use Rattle.exchange.specs.Exchange.{advance, onWrite, onPause};
 ghost use Rattle.exchange.specs.Steps.{eventOf, orderOf, stepOf};
-ghost use Rattle.engine.specs.Moves.{noCall, firstCall, validCall, fits, at, toStage, toCursor, moveIn, moveOf, overMove, exchangeMove, orders, resetAckMove, resetPauseMove, openingAckMove, openingReadsMove, pauseMove, unfitting, refuses};
+ghost use Rattle.engine.specs.Transitions.{noCall, firstCall, validCall, fits, at, toStage, toCursor, transitionIn, transitionOf, overTransition, exchangeTransition, orders, resetAckTransition, resetPauseTransition, openingAckTransition, openingReadsTransition, pauseTransition, unfitting, refuses};
 
 // What runs: no call, the opening, a call of one command by the number of the rule for its response, or a discovery.
 pub const NO_CALL: u8 = 0;
@@ -52,7 +52,7 @@ pub enum Order {
 
 // What an event does to a call: it does not fit, an order follows, the command of the call's stage comes next, a reset is done, the packet
 // that ends a command's exchange is in, or the command failed.
-pub enum Move {
+pub enum Transition {
     Unfit,
     Orders(Order, Call, Exchange),
     Sends(Call),
@@ -62,32 +62,32 @@ pub enum Move {
 }
 
 // A write's event: what follows it, or the end with 7.
-fn written(event: Event, next: Move) -> Move
-    ensures { λ r. ⌜ ((code : ℕ) (p : List ℕ) → moveIn code p r ≡ onWrite unfitting (moveIn code p next) (refuses Transport) (eventOf event p)) ⌝ }
+fn written(event: Event, next: Transition) -> Transition
+    ensures { λ r. ⌜ ((code : ℕ) (p : List ℕ) → transitionIn code p r ≡ onWrite unfitting (transitionIn code p next) (refuses Transport) (eventOf event p)) ⌝ }
 {
     match event {
         Event::Ok => next,
-        Event::Bad => Move::Fails(Fault::Transport),
-        Event::Packet => Move::Unfit,
-        Event::Time => Move::Unfit,
-        Event::Fail => Move::Unfit,
-        Event::Late => Move::Unfit,
-        Event::Slept => Move::Unfit,
+        Event::Bad => Transition::Fails(Fault::Transport),
+        Event::Packet => Transition::Unfit,
+        Event::Time => Transition::Unfit,
+        Event::Fail => Transition::Unfit,
+        Event::Late => Transition::Unfit,
+        Event::Slept => Transition::Unfit,
     }
 }
 
 // A pause's event.
-fn slept(event: Event, next: Move) -> Move
-    ensures { λ r. ⌜ ((code : ℕ) (p : List ℕ) → moveIn code p r ≡ onPause unfitting (moveIn code p next) (eventOf event p)) ⌝ }
+fn slept(event: Event, next: Transition) -> Transition
+    ensures { λ r. ⌜ ((code : ℕ) (p : List ℕ) → transitionIn code p r ≡ onPause unfitting (transitionIn code p next) (eventOf event p)) ⌝ }
 {
     match event {
         Event::Slept => next,
-        Event::Ok => Move::Unfit,
-        Event::Bad => Move::Unfit,
-        Event::Packet => Move::Unfit,
-        Event::Time => Move::Unfit,
-        Event::Fail => Move::Unfit,
-        Event::Late => Move::Unfit,
+        Event::Ok => Transition::Unfit,
+        Event::Bad => Transition::Unfit,
+        Event::Packet => Transition::Unfit,
+        Event::Time => Transition::Unfit,
+        Event::Fail => Transition::Unfit,
+        Event::Late => Transition::Unfit,
     }
 }
 
@@ -166,81 +166,81 @@ impl Call {
         }
     }
 
-    fn pending(self, next: Next, exchange: Exchange) -> Move
-        ensures { λ r. ⌜ ((code : ℕ) (p : List ℕ) → moveIn code p r ≡ orders (orderOf next) self exchange) ⌝ }
+    fn pending(self, next: Next, exchange: Exchange) -> Transition
+        ensures { λ r. ⌜ ((code : ℕ) (p : List ℕ) → transitionIn code p r ≡ orders (orderOf next) self exchange) ⌝ }
     {
         match next {
-            Next::WriteAck => Move::Orders(Order::Ack, self, exchange),
-            Next::Read(ms) => Move::Orders(Order::Read(ms), self, exchange),
-            Next::Drain => Move::Orders(Order::Drain, self, exchange),
+            Next::WriteAck => Transition::Orders(Order::Ack, self, exchange),
+            Next::Read(ms) => Transition::Orders(Order::Read(ms), self, exchange),
+            Next::Drain => Transition::Orders(Order::Drain, self, exchange),
         }
     }
 
     // A command's exchange is over: behind a reset's follows ACK, whatever came of it.
-    fn over(self, exchange: Exchange, next: Move) -> Move
-        ensures { λ r. ⌜ ((p : List ℕ) → moveIn (exchange .code) p r ≡ overMove self exchange (moveIn (exchange .code) p next)) ⌝ }
+    fn over(self, exchange: Exchange, next: Transition) -> Transition
+        ensures { λ r. ⌜ ((p : List ℕ) → transitionIn (exchange .code) p r ≡ overTransition self exchange (transitionIn (exchange .code) p next)) ⌝ }
     {
         if calls::is_reset(self.kind, self.stage) {
-            Move::Orders(Order::Ack, self.at(RESET_ACK), exchange)
+            Transition::Orders(Order::Ack, self.at(RESET_ACK), exchange)
         } else {
             next
         }
     }
 
-    fn on_exchange(self, exchange: Exchange, event: Event, packet: &[u8]) -> Move
-        ensures { λ r. ⌜ moveIn (exchange .code) (now (packet .entry)) r ≡ exchangeMove self exchange (advance (stepOf exchange) (eventOf event (now (packet .entry)))) ⌝ }
+    fn on_exchange(self, exchange: Exchange, event: Event, packet: &[u8]) -> Transition
+        ensures { λ r. ⌜ transitionIn (exchange .code) (now (packet .entry)) r ≡ exchangeTransition self exchange (advance (stepOf exchange) (eventOf event (now (packet .entry)))) ⌝ }
     {
         match exchange.advance(event, packet) {
-            Advanced::Unfit => Move::Unfit,
+            Advanced::Unfit => Transition::Unfit,
             Advanced::Pending(next, x) => self.pending(next, x),
-            Advanced::Arrived => self.over(exchange, Move::Arrives),
-            Advanced::Failed(fault) => self.over(exchange, Move::Fails(fault)),
+            Advanced::Arrived => self.over(exchange, Transition::Arrives),
+            Advanced::Failed(fault) => self.over(exchange, Transition::Fails(fault)),
         }
     }
 
-    fn on_reset_ack(self, exchange: Exchange, event: Event) -> Move
-        ensures { λ r. ⌜ ((code : ℕ) (p : List ℕ) → moveIn code p r ≡ resetAckMove self exchange (eventOf event p)) ⌝ }
+    fn on_reset_ack(self, exchange: Exchange, event: Event) -> Transition
+        ensures { λ r. ⌜ ((code : ℕ) (p : List ℕ) → transitionIn code p r ≡ resetAckTransition self exchange (eventOf event p)) ⌝ }
     {
-        let next = Move::Orders(Order::Pause(10000), self.at(RESET_PAUSE), exchange);
+        let next = Transition::Orders(Order::Pause(10000), self.at(RESET_PAUSE), exchange);
         written(event, next)
     }
 
-    fn on_reset_pause(self, event: Event) -> Move
-        ensures { λ r. ⌜ ((code : ℕ) (p : List ℕ) → moveIn code p r ≡ resetPauseMove (eventOf event p)) ⌝ }
+    fn on_reset_pause(self, event: Event) -> Transition
+        ensures { λ r. ⌜ ((code : ℕ) (p : List ℕ) → transitionIn code p r ≡ resetPauseTransition (eventOf event p)) ⌝ }
     {
-        slept(event, Move::ResetDone)
+        slept(event, Transition::ResetDone)
     }
 
-    fn on_opening_ack(self, exchange: Exchange, event: Event) -> Move
-        ensures { λ r. ⌜ ((code : ℕ) (p : List ℕ) → moveIn code p r ≡ openingAckMove self exchange (eventOf event p)) ⌝ }
+    fn on_opening_ack(self, exchange: Exchange, event: Event) -> Transition
+        ensures { λ r. ⌜ ((code : ℕ) (p : List ℕ) → transitionIn code p r ≡ openingAckTransition self exchange (eventOf event p)) ⌝ }
     {
-        let next = Move::Orders(Order::Read(10), self.at(OPENING_READS), exchange);
+        let next = Transition::Orders(Order::Read(10), self.at(OPENING_READS), exchange);
         written(event, next)
     }
 
-    fn on_opening_reads(self, exchange: Exchange, event: Event) -> Move
-        ensures { λ r. ⌜ ((code : ℕ) (p : List ℕ) → moveIn code p r ≡ openingReadsMove self exchange (eventOf event p)) ⌝ }
+    fn on_opening_reads(self, exchange: Exchange, event: Event) -> Transition
+        ensures { λ r. ⌜ ((code : ℕ) (p : List ℕ) → transitionIn code p r ≡ openingReadsTransition self exchange (eventOf event p)) ⌝ }
     {
         match event {
-            Event::Packet => Move::Orders(Order::Read(10), self, exchange),
-            Event::Time => Move::Sends(self.at(EXCHANGE)),
-            Event::Fail => Move::Sends(self.at(EXCHANGE)),
-            Event::Ok => Move::Unfit,
-            Event::Bad => Move::Unfit,
-            Event::Late => Move::Unfit,
-            Event::Slept => Move::Unfit,
+            Event::Packet => Transition::Orders(Order::Read(10), self, exchange),
+            Event::Time => Transition::Sends(self.at(EXCHANGE)),
+            Event::Fail => Transition::Sends(self.at(EXCHANGE)),
+            Event::Ok => Transition::Unfit,
+            Event::Bad => Transition::Unfit,
+            Event::Late => Transition::Unfit,
+            Event::Slept => Transition::Unfit,
         }
     }
 
-    fn on_pause(self, event: Event) -> Move
-        ensures { λ r. ⌜ ((code : ℕ) (p : List ℕ) → moveIn code p r ≡ pauseMove self (eventOf event p)) ⌝ }
+    fn on_pause(self, event: Event) -> Transition
+        ensures { λ r. ⌜ ((code : ℕ) (p : List ℕ) → transitionIn code p r ≡ pauseTransition self (eventOf event p)) ⌝ }
     {
-        slept(event, Move::Sends(self.at(EXCHANGE)))
+        slept(event, Transition::Sends(self.at(EXCHANGE)))
     }
 
     // What an event does to the call.
-    pub(crate) fn moved(self, exchange: Exchange, event: Event, packet: &[u8]) -> Move
-        ensures { λ r. ⌜ moveIn (exchange .code) (now (packet .entry)) r ≡ moveOf self exchange (eventOf event (now (packet .entry))) ⌝ }
+    pub(crate) fn transition(self, exchange: Exchange, event: Event, packet: &[u8]) -> Transition
+        ensures { λ r. ⌜ transitionIn (exchange .code) (now (packet .entry)) r ≡ transitionOf self exchange (eventOf event (now (packet .entry))) ⌝ }
     {
         let phase = self.phase;
         match phase {
@@ -250,22 +250,22 @@ impl Call {
             OPENING_ACK => self.on_opening_ack(exchange, event),
             OPENING_READS => self.on_opening_reads(exchange, event),
             PAUSE => self.on_pause(event),
-            _ => Move::Unfit,
+            _ => Transition::Unfit,
         }
     }
 }
 
-impl Move {
+impl Transition {
     pub(crate) fn fits(self) -> bool
-        ensures { λ r. ⌜ ((code : ℕ) (p : List ℕ) → r ≡ fits (moveIn code p self)) ⌝ }
+        ensures { λ r. ⌜ ((code : ℕ) (p : List ℕ) → r ≡ fits (transitionIn code p self)) ⌝ }
     {
         match self {
-            Move::Unfit => false,
-            Move::Orders(_, _, _) => true,
-            Move::Sends(_) => true,
-            Move::ResetDone => true,
-            Move::Arrives => true,
-            Move::Fails(_) => true,
+            Transition::Unfit => false,
+            Transition::Orders(_, _, _) => true,
+            Transition::Sends(_) => true,
+            Transition::ResetDone => true,
+            Transition::Arrives => true,
+            Transition::Fails(_) => true,
         }
     }
 }

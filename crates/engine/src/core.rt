@@ -1,10 +1,10 @@
 // One running call: its numbers, and what a call or an event does to them, to the arrays and to the buffer.
 use super::call::Call;
-use super::call::Move;
 use super::call::NO_CALL;
 use super::call::OPEN;
 use super::call::OPENING_ACK;
 use super::call::Order;
+use super::call::Transition;
 use errors::Fault;
 use errors::Refusal;
 use exchange::Event;
@@ -21,8 +21,8 @@ ghost use lib.ListN.{length};
 ghost use Rattle.exchange.specs.Steps.{eventOf};
 ghost use Rattle.stages.specs.Stages.{cmd};
 ghost use Rattle.stages.specs.Starts.{Starts, StartFits, Start as StartOf};
-ghost use Rattle.engine.specs.Moves.{orderOf, moveIn, packetLength, replyLength};
-ghost use Rattle.engine.specs.Core.{noCore, isValid, Held, held, running, unchanged, withFound, withCommand, progressed, ordersOf, sendsOf, stageOf, endsOf, movedOf, isLong, admittedOf, eventCore, openCore, startOn};
+ghost use Rattle.engine.specs.Transitions.{orderOf, transitionIn, packetLength, replyLength};
+ghost use Rattle.engine.specs.Core.{noCore, isValid, Held, held, running, unchanged, withFound, withCommand, progressed, ordersOf, sendsOf, stageOf, endsOf, transitionedOf, isLong, admittedOf, eventCore, openCore, startOn};
 
 // How much of each array is in use, the exchange, and the call.
 #[repr(C)]
@@ -228,48 +228,53 @@ impl Core {
         Progress { core: self, output }
     }
 
-    fn moved(
+    fn transition(
         self,
-        moved: Move,
+        transition: Transition,
         packet: &[u8],
         command: &mut [u8],
         found: &mut [u8],
         buffer: &mut [u8],
     ) -> Progress
-        requires { ⌜ (replyLength (moveIn (self .exchange .code) (now packet) moved) ≤ 1024) × (self .found ≤ 1024) × (self .command ≤ 512) × (length (now command) ≡ 512) × (length (now found) ≡ 1024) × (1024 ≤ length (now buffer)) ⌝ }
-        ensures { λ r. ⌜ progressed r (held (now (command .exit)) (now (found .exit))) (now (buffer .exit)) ≡ movedOf self (held (now (command .entry)) (now (found .entry))) (moveIn (self .exchange .code) (now (packet .entry)) moved) (now (buffer .entry)) ⌝ }
+        requires { ⌜ (replyLength (transitionIn (self .exchange .code) (now packet) transition) ≤ 1024) × (self .found ≤ 1024) × (self .command ≤ 512) × (length (now command) ≡ 512) × (length (now found) ≡ 1024) × (1024 ≤ length (now buffer)) ⌝ }
+        ensures { λ r. ⌜ progressed r (held (now (command .exit)) (now (found .exit))) (now (buffer .exit)) ≡ transitionedOf self (held (now (command .entry)) (now (found .entry))) (transitionIn (self .exchange .code) (now (packet .entry)) transition) (now (buffer .entry)) ⌝ }
     {
-        match moved {
-            Move::Unfit => self.refused(Refusal::OutOfTurn),
-            Move::Orders(order, call, exchange) => self.ordered(order, call, exchange, buffer),
-            Move::Sends(call) => self.send(call, command, buffer),
-            Move::ResetDone => self.replied(&[], command, found, buffer),
-            Move::Arrives => self.arrived(packet, command, found, buffer),
-            Move::Fails(fault) => self.failed(fault, command, found, buffer),
+        match transition {
+            Transition::Unfit => self.refused(Refusal::OutOfTurn),
+            Transition::Orders(order, call, exchange) => self.ordered(
+                order,
+                call,
+                exchange,
+                buffer,
+            ),
+            Transition::Sends(call) => self.send(call, command, buffer),
+            Transition::ResetDone => self.replied(&[], command, found, buffer),
+            Transition::Arrives => self.arrived(packet, command, found, buffer),
+            Transition::Fails(fault) => self.failed(fault, command, found, buffer),
         }
     }
 
     // An event that fits the order: short buffer and over-long packet are refused, then it is taken.
     fn admitted(
         self,
-        moved: Move,
+        transition: Transition,
         event: Event,
         packet: &[u8],
         command: &mut [u8],
         found: &mut [u8],
         buffer: &mut [u8],
     ) -> Progress
-        requires { ⌜ (replyLength (moveIn (self .exchange .code) (now packet) moved) ≤ packetLength (eventOf event (now packet))) × (self .found ≤ 1024) × (self .command ≤ 512) × (length (now command) ≡ 512) × (length (now found) ≡ 1024) ⌝ }
-        ensures { λ r. ⌜ progressed r (held (now (command .exit)) (now (found .exit))) (now (buffer .exit)) ≡ admittedOf self (held (now (command .entry)) (now (found .entry))) (moveIn (self .exchange .code) (now (packet .entry)) moved) (eventOf event (now (packet .entry))) (now (buffer .entry)) ⌝ }
+        requires { ⌜ (replyLength (transitionIn (self .exchange .code) (now packet) transition) ≤ packetLength (eventOf event (now packet))) × (self .found ≤ 1024) × (self .command ≤ 512) × (length (now command) ≡ 512) × (length (now found) ≡ 1024) ⌝ }
+        ensures { λ r. ⌜ progressed r (held (now (command .exit)) (now (found .exit))) (now (buffer .exit)) ≡ admittedOf self (held (now (command .entry)) (now (found .entry))) (transitionIn (self .exchange .code) (now (packet .entry)) transition) (eventOf event (now (packet .entry))) (now (buffer .entry)) ⌝ }
     {
-        if moved.fits() {
+        if transition.fits() {
             if buffer.len() < 1024 {
                 return self.refused(Refusal::ShortBuffer);
             }
             if is_long(event, packet) {
                 return self.refused(Refusal::OverLong);
             }
-            self.moved(moved, packet, command, found, buffer)
+            self.transition(transition, packet, command, found, buffer)
         } else {
             self.refused(Refusal::OutOfTurn)
         }
@@ -292,8 +297,8 @@ impl Core {
         if call.kind == NO_CALL {
             return self.refused(Refusal::OutOfTurn);
         }
-        let moved = call.moved(exchange, event, packet);
-        self.admitted(moved, event, packet, command, found, buffer)
+        let transition = call.transition(exchange, event, packet);
+        self.admitted(transition, event, packet, command, found, buffer)
     }
 
     // `Chipset::new` begins: ACK is written.

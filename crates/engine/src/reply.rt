@@ -18,8 +18,8 @@ ghost use Rattle.exchange.specs.Packets.{replyOf};
 ghost use Rattle.stages.specs.Stages.{put as putBy};
 ghost use Rattle.stages.specs.Put.{put, Puts};
 ghost use Rattle.stages.specs.Decided.{headBytes, tailBytes, layoutBytes, Fitting, decisionIn, DecisionFits};
-ghost use Rattle.engine.specs.Moves.{replyMove, replyLength};
-ghost use Rattle.engine.specs.Core.{Held, held, progressed, keepsOf, followsOf, repliesOf, failsOf, movedOf};
+ghost use Rattle.engine.specs.Transitions.{replyTransition, replyLength};
+ghost use Rattle.engine.specs.Core.{Held, held, progressed, keepsOf, followsOf, repliesOf, failsOf, transitionedOf};
 
 // Puts a layout behind the found bytes that it keeps, which stand at the target's start already.
 fn lay(layout: Layout, response: &[u8], target: &mut [u8]) -> usize
@@ -192,8 +192,8 @@ impl Core {
         found: &mut [u8],
         buffer: &mut [u8],
     ) -> Progress
-        requires { ⌜ (replyLength (replyMove (replyOf (self .exchange .code) (now packet))) ≤ 1024) × (self .found ≤ 1024) × (self .command ≤ 512) × (length (now command) ≡ 512) × (length (now found) ≡ 1024) × (1024 ≤ length (now buffer)) ⌝ }
-        ensures { λ r. ⌜ progressed r (held (now (command .exit)) (now (found .exit))) (now (buffer .exit)) ≡ movedOf self (held (now (command .entry)) (now (found .entry))) (replyMove (replyOf (self .exchange .code) (now (packet .entry)))) (now (buffer .entry)) ⌝ }
+        requires { ⌜ (replyLength (replyTransition (replyOf (self .exchange .code) (now packet))) ≤ 1024) × (self .found ≤ 1024) × (self .command ≤ 512) × (length (now command) ≡ 512) × (length (now found) ≡ 1024) × (1024 ≤ length (now buffer)) ⌝ }
+        ensures { λ r. ⌜ progressed r (held (now (command .exit)) (now (found .exit))) (now (buffer .exit)) ≡ transitionedOf self (held (now (command .entry)) (now (found .entry))) (replyTransition (replyOf (self .exchange .code) (now (packet .entry)))) (now (buffer .entry)) ⌝ }
     {
         let exchange = self.exchange;
         let served = [exchange.code];

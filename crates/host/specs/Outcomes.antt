@@ -10,7 +10,7 @@ use Rattle.engine.specs.declared.session.Session.{Session}
 use Rattle.engine.specs.declared.core.Output.{Output}
 use Rattle.engine.specs.declared.core.Output.the-variants.{Ack, Command, Read, Drain, Pause, Done, Type1, Nothing, Failed, FailedAfter, Refused}
 use Rattle.host.specs.declared.outcome.Outcome.{Outcome}
-use Rattle.host.specs.declared.outcome.Told.{Told}
+use Rattle.host.specs.declared.outcome.HostStep.{HostStep}
 
 -- a kind with a number of bytes, and one with a time
 abbrev pub withBytes : ℕ → ℕ → Outcome
@@ -40,8 +40,8 @@ outcomeOf (Failed e) = refusedAs (faultNumbered e)
 outcomeOf (FailedAfter e finished) = listRefusedAs (faultNumbered e) finished
 outcomeOf (Refused e) = refusedAs (numbered e)
 
-abbrev pub toldOf : Effect → Told
-toldOf e = record { state = e .state; outcome = outcomeOf (e .output) }
+abbrev pub hostStepOf : Effect → HostStep
+hostStepOf e = record { state = e .state; outcome = outcomeOf (e .output) }
 
 -- a session of its parts
 abbrev pub joined : List ℕ → List ℕ → State → Session

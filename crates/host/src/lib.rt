@@ -5,8 +5,8 @@ pub mod step;
 use calls::start::Numbers;
 use engine::session::Session;
 use outcome::Outcome;
-use step::called;
-use step::told;
+use step::call;
+use step::event;
 ghost use mathlib.Core.Path.{_≡_};
 ghost use Rattle.engine.specs.Sessions.{freshSession};
 ghost use Rattle.host.specs.Outcomes.{report};
@@ -35,7 +35,7 @@ pub extern "C" fn rcs956_call(
     ensures { λ r. ⌜ report (now (session .exit)) r (now (buffer .exit)) ≡ reportFor (now (session .entry)) (calling number numbers (now (first .entry)) (now (second .entry)) (now (third .entry)) (now (fourth .entry)) (now (buffer .entry))) ⌝ }
 {
     let state = session.state;
-    let step = called(
+    let step = call(
         state,
         &mut session.command,
         number,
@@ -62,7 +62,7 @@ pub extern "C" fn rcs956_event(
     ensures { λ r. ⌜ report (now (session .exit)) r (now (buffer .exit)) ≡ reportFor (now (session .entry)) (telling number (now (packet .entry)) (now (buffer .entry))) ⌝ }
 {
     let state = session.state;
-    let step = told(
+    let step = event(
         state,
         &mut session.command,
         &mut session.found,

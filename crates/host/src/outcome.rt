@@ -4,7 +4,7 @@ use engine::state::Effect;
 use engine::state::State;
 use errors::Numbered;
 ghost use mathlib.Core.Path.{_≡_};
-ghost use Rattle.host.specs.Outcomes.{withBytes, withTime, refusedAs, listRefusedAs, outcomeOf, toldOf};
+ghost use Rattle.host.specs.Outcomes.{withBytes, withTime, refusedAs, listRefusedAs, outcomeOf, hostStepOf};
 
 pub const WRITE: u8 = 0;
 
@@ -38,7 +38,7 @@ pub struct Outcome {
 }
 
 // The session's numbers after a call or an event, and what came out.
-pub struct Told {
+pub struct HostStep {
     pub state: State,
     pub outcome: Outcome,
 }
@@ -118,13 +118,13 @@ impl Outcome {
     }
 }
 
-impl Told {
-    pub fn of(effect: Effect) -> Told
-        ensures { λ r. ⌜ r ≡ toldOf effect ⌝ }
+impl HostStep {
+    pub fn of(effect: Effect) -> HostStep
+        ensures { λ r. ⌜ r ≡ hostStepOf effect ⌝ }
     {
         let state = effect.state;
         let output = effect.output;
-        Told {
+        HostStep {
             state,
             outcome: Outcome::of(output),
         }

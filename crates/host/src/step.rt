@@ -1,5 +1,5 @@
 // An event and a call, on a session's numbers and on its arrays where they lie.
-use super::outcome::Told;
+use super::outcome::HostStep;
 use calls::start::Numbers;
 use engine::numbered;
 use engine::state::State;
@@ -9,21 +9,21 @@ ghost use Prim.Native.Nat.{ℕ};
 ghost use Rattle.host.specs.Outcomes.{report, joined};
 ghost use Rattle.host.specs.Entries.{calling, telling, reportFor};
 
-pub fn told(
+pub fn event(
     state: State,
     command: &mut [u8; 512],
     found: &mut [u8; 1024],
     number: u8,
     packet: &[u8],
     buffer: &mut [u8],
-) -> Told
+) -> HostStep
     ensures { λ r. ⌜ report (joined (now (command .exit)) (now (found .exit)) (r .state)) (r .outcome) (now (buffer .exit)) ≡ reportFor (joined (now (command .entry)) (now (found .entry)) state) (telling number (now (packet .entry)) (now (buffer .entry))) ⌝ }
 {
-    Told::of(numbered::event(state, command, found, number, packet, buffer))
+    HostStep::of(numbered::event(state, command, found, number, packet, buffer))
 }
 
 // A call leaves the found bytes alone.
-pub fn called(
+pub fn call(
     state: State,
     command: &mut [u8; 512],
     number: u8,
@@ -33,10 +33,10 @@ pub fn called(
     third: &[u8],
     fourth: &[u8],
     buffer: &mut [u8],
-) -> Told
+) -> HostStep
     ensures { λ r. ⌜ ((found : List ℕ) → report (joined (now (command .exit)) found (r .state)) (r .outcome) (now (buffer .exit)) ≡ reportFor (joined (now (command .entry)) found state) (calling number numbers (now (first .entry)) (now (second .entry)) (now (third .entry)) (now (fourth .entry)) (now (buffer .entry)))) ⌝ }
 {
-    Told::of(state.call(
+    HostStep::of(state.call(
         command,
         number,
         numbers,

@@ -8,12 +8,13 @@ use Rattle.errors.specs.declared.Fault.{Fault}
 use Rattle.errors.specs.declared.Fault.the-variants.{Status, ShortResponse, Rate}
 use Rattle.exchange.specs.Packets.{isEmpty}
 use Rattle.protocol.specs.Scripts.{Script, command, either, refuse, ask, ifElse, Byte, card}
+use Rattle.protocol.specs.Names.{commandClock, getFirmwareVersionCode, inCommunicateThruCode, inDataExchangeCode, inJumpForDepClock, inJumpForDepCode, inListPassiveTargetClock, inListPassiveTargetCode, noData, readRegisterCode, registerWriteFailed, registersClock, rfConfigurationCode, setParametersCode, tgGetInitiatorCommandCode, tgGetTargetStatusCode, tgInitTargetCode, tgResponseToInitiatorClock, tgResponseToInitiatorCode, tgSetGeneralBytesCode, writeRegisterCode}
 
 -- ---- how a response is judged
 
 -- `errno`: the first byte, FF of an empty response
 abbrev pub statusByte : List ℕ → ℕ
-statusByte bytes = getD bytes 0 0xFF
+statusByte bytes = getD bytes 0 noData
 
 -- a status of 0, else 15; g says what a refusal leads to
 abbrev pub withStatusElse : List ℕ → Script → (Fault → Script) → Script
@@ -33,7 +34,7 @@ withLength bytes n s = withLengthElse bytes n s refuse
 
 -- get_firmware_version: IC, version, revision
 abbrev pub getFirmwareVersion : (ℕ → ℕ → ℕ → Script) → Script
-getFirmwareVersion f = ask 0x02 100 [] (λ bytes. withLength bytes 4 (f (getD bytes 0 0) (getD bytes 1 0) (getD bytes 2 0)))
+getFirmwareVersion f = ask getFirmwareVersionCode commandClock [] (λ bytes. withLength bytes 4 (f (getD bytes 0 0) (getD bytes 1 0) (getD bytes 2 0)))
 
 -- the three bytes as card bytes, where that was command k of the call
 abbrev pub versionBytes : ℕ → ℕ → ℕ → ℕ → List Byte
@@ -41,11 +42,11 @@ versionBytes k ic ver rev = card k 0 ic ∷ card k 1 ver ∷ card k 2 rev ∷ []
 
 -- set_parameters
 abbrev pub setParameters : ℕ → Script → Script
-setParameters flags s = ask 0x12 100 (flags ∷ []) (λ _. s)
+setParameters flags s = ask setParametersCode commandClock (flags ∷ []) (λ _. s)
 
 -- rf_configuration
 abbrev pub rfConfiguration : ℕ → List ℕ → Script → Script
-rfConfiguration item bytes s = ask 0x32 100 (item ∷ bytes) (λ _. s)
+rfConfiguration item bytes s = ask rfConfigurationCode commandClock (item ∷ bytes) (λ _. s)
 
 -- rf_field_off
 abbrev pub rfFieldOff : Script → Script
@@ -57,7 +58,7 @@ word n = n / 256 ∷ n % 256 ∷ []
 
 -- read_register: the addresses' words; the number of values that come back is not checked
 abbrev pub readRegister : List ℕ → (List ℕ → Script) → Script
-readRegister addresses f = ask 0x06 250 addresses f
+readRegister addresses f = ask readRegisterCode registersClock addresses f
 
 -- read_single_register
 abbrev pub readSingleRegister : ℕ → (List ℕ → Script) → Script
@@ -69,7 +70,7 @@ anyNonzero [] = false
 anyNonzero (b ∷ bs) = not (eqb b 0) || anyNonzero bs
 
 abbrev pub writeRegister : List ℕ → Script → Script
-writeRegister registers s = ask 0x08 250 registers (λ bytes. ifElse (anyNonzero bytes) (refuse (Status 0xFE)) s)
+writeRegister registers s = ask writeRegisterCode registersClock registers (λ bytes. ifElse (anyNonzero bytes) (refuse (Status registerWriteFailed)) s)
 
 -- write_single_register
 abbrev pub writeSingleRegister : ℕ → ℕ → Script → Script
@@ -78,7 +79,7 @@ writeSingleRegister address value s = writeRegister (word address ++ (value ∷ 
 -- in_list_passive_target: no target, or a response with one
 abbrev pub inListPassiveTarget : ℕ → ℕ → List ℕ → Script → (List ℕ → Script) → Script
 inListPassiveTarget maxTg bitrate initiator none f =
-    ask 0x4A 1000 (maxTg ∷ bitrate ∷ initiator) (λ bytes. ifElse (eqb (getD bytes 0 0) 0) none (withLength bytes 2 (f bytes)))
+    ask inListPassiveTargetCode inListPassiveTargetClock (maxTg ∷ bitrate ∷ initiator) (λ bytes. ifElse (eqb (getD bytes 0 0) 0) none (withLength bytes 2 (f bytes)))
 
 -- in_data_exchange: the status is masked; its bit 6 is the more flag
 abbrev pub maskedStatus : List ℕ → ℕ
@@ -89,15 +90,15 @@ moreFlag bytes = getD bytes 0 0 / 64 % 2
 
 abbrev pub inDataExchangeElse : List ℕ → ℕ → (List ℕ → Script) → (Fault → Script) → Script
 inDataExchangeElse bytes ms f g =
-    command 0x40 ms (0x01 ∷ bytes)
-    (either (λ bs. ifElse (isEmpty bs) (g (Status 0xFF)) (ifElse (eqb (maskedStatus bs) 0) (f bs) (g (Status (maskedStatus bs))))) g)
+    command inDataExchangeCode ms (0x01 ∷ bytes)
+    (either (λ bs. ifElse (isEmpty bs) (g (Status noData)) (ifElse (eqb (maskedStatus bs) 0) (f bs) (g (Status (maskedStatus bs))))) g)
 
 abbrev pub inDataExchange : List ℕ → ℕ → (List ℕ → Script) → Script
 inDataExchange bytes ms f = inDataExchangeElse bytes ms f refuse
 
 -- in_communicate_thru
 abbrev pub inCommunicateThruElse : List ℕ → ℕ → (List ℕ → Script) → (Fault → Script) → Script
-inCommunicateThruElse bytes ms f g = command 0x42 ms bytes (either (λ bs. withStatusElse bs (f bs) g) g)
+inCommunicateThruElse bytes ms f g = command inCommunicateThruCode ms bytes (either (λ bs. withStatusElse bs (f bs) g) g)
 
 abbrev pub inCommunicateThru : List ℕ → ℕ → (List ℕ → Script) → Script
 inCommunicateThru bytes ms f = inCommunicateThruElse bytes ms f refuse
@@ -111,7 +112,7 @@ jumpData active br passive nfcid3 gi = active ∷ br ∷ (bit passive + 2 * bit 
 
 abbrev pub inJumpForDepElse : ℕ → ℕ → List ℕ → List ℕ → List ℕ → (List ℕ → Script) → (Fault → Script) → Script
 inJumpForDepElse active br passive nfcid3 gi f g =
-    command 0x56 3000 (jumpData active br passive nfcid3 gi) (either (λ bs. withStatusElse bs (withLengthElse bs 2 (f bs) g) g) g)
+    command inJumpForDepCode inJumpForDepClock (jumpData active br passive nfcid3 gi) (either (λ bs. withStatusElse bs (withLengthElse bs 2 (f bs) g) g) g)
 
 abbrev pub inJumpForDep : ℕ → ℕ → List ℕ → List ℕ → List ℕ → (List ℕ → Script) → Script
 inJumpForDep active br passive nfcid3 gi f = inJumpForDepElse active br passive nfcid3 gi f refuse
@@ -121,19 +122,19 @@ abbrev pub initData : ℕ → List ℕ → List ℕ → List ℕ → List ℕ �
 initData mode mifare felica nfcid3t gt = mode ∷ mifare ++ felica ++ nfcid3t ++ gt
 
 abbrev pub tgInitTarget : ℕ → List ℕ → List ℕ → List ℕ → List ℕ → ℕ → (List ℕ → Script) → Script
-tgInitTarget mode mifare felica nfcid3t gt ms f = ask 0x8C ms (initData mode mifare felica nfcid3t gt) f
+tgInitTarget mode mifare felica nfcid3t gt ms f = ask tgInitTargetCode ms (initData mode mifare felica nfcid3t gt) f
 
 -- tg_set_general_bytes
 abbrev pub tgSetGeneralBytes : List ℕ → Script → Script
-tgSetGeneralBytes gb s = ask 0x92 100 gb (λ bs. withStatus bs s)
+tgSetGeneralBytes gb s = ask tgSetGeneralBytesCode commandClock gb (λ bs. withStatus bs s)
 
 -- tg_get_initiator_command: none on any other status, and on an empty response
 abbrev pub tgGetInitiatorCommand : ℕ → Script → (List ℕ → Script) → Script
-tgGetInitiatorCommand ms none f = ask 0x88 ms [] (λ bs. ifElse (eqb (statusByte bs) 0) (f bs) none)
+tgGetInitiatorCommand ms none f = ask tgGetInitiatorCommandCode ms [] (λ bs. ifElse (eqb (statusByte bs) 0) (f bs) none)
 
 -- tg_response_to_initiator
 abbrev pub tgResponseToInitiator : List ℕ → Script → Script
-tgResponseToInitiator bytes s = ask 0x90 1000 bytes (λ bs. withStatus bs s)
+tgResponseToInitiator bytes s = ask tgResponseToInitiatorCode tgResponseToInitiatorClock bytes (λ bs. withStatus bs s)
 
 -- tg_get_target_status: a function of the two rates, 0 where the state is not 1. An index above 2 gives 19.
 abbrev pub rate : ℕ → ℕ
@@ -147,7 +148,7 @@ receiveIndex bytes = getD bytes 1 0 % 8
 
 abbrev pub tgGetTargetStatus : (List ℕ → ℕ → ℕ → Script) → Script
 tgGetTargetStatus f =
-    ask 0x8A 100 []
+    ask tgGetTargetStatusCode commandClock []
     (λ bs. withLength bs 2
     (ifElse (eqb (getD bs 0 0) 1)
     (ifElse (ltb 2 (sendIndex bs)) (refuse Rate) (ifElse (ltb 2 (receiveIndex bs)) (refuse Rate) (f bs (rate (sendIndex bs)) (rate (receiveIndex bs)))))

@@ -4,7 +4,8 @@ use mathlib.Core.List.{List, [], _∷_, _++_}
 use Prim.Native.Nat.{ℕ, _+_, _%_, _/_}
 use lib.Dec.{ltb}
 use Rattle.protocol.specs.Scripts.{Script, finish, reset, done, Byte, own}
-use Rattle.protocol.specs.Chipset.{getFirmwareVersion, versionBytes, setParameters, rfConfiguration, rfFieldOff, writeRegister}
+use Rattle.protocol.specs.Chipset.{getFirmwareVersion, versionBytes, setParameters, rfConfiguration, rfFieldOff, writeRegister, word}
+use Rattle.protocol.specs.Names.{rfCfgRam07}
 
 -- a byte in lower-case hex, unpadded
 abbrev pub hexDigit : ℕ → ℕ
@@ -29,5 +30,5 @@ deviceNew =
     (rfConfiguration 0x0A (0x5A ∷ 0xF4 ∷ 0x3F ∷ 0x11 ∷ 0x4D ∷ 0x85 ∷ 0x61 ∷ 0x6F ∷ 0x26 ∷ 0x62 ∷ 0x87 ∷ [])
     (setParameters 0x08
     (reset
-    (writeRegister (0x03 ∷ 0x28 ∷ 0x59 ∷ [])
+    (writeRegister (word rfCfgRam07 ++ (0x59 ∷ []))
     (finish (done (versionBytes 1 ic ver rev ++ chipsetName ver rev))))))))))))

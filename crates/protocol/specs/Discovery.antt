@@ -11,6 +11,7 @@ use Rattle.crc.specs.Crc.{typeA as crcA, checks}
 use Rattle.protocol.specs.Scripts.{Byte, own, behind, Answer, done, type1, nothing, refused, refusedAfter}
 use Rattle.protocol.specs.Scripts.{Script, finish, command, fieldPause, refuse, either, ifElse, andThen, byteAt, part, rest}
 use Rattle.protocol.specs.Chipset.{word, readSingleRegister, writeSingleRegister, rfConfiguration, inListPassiveTarget, inDataExchange, inDataExchangeElse, inCommunicateThru, inCommunicateThruElse, inJumpForDepElse}
+use Rattle.protocol.specs.Names.{ciuFifoData, ciuMode, ciuRxMode, ciuTxControl, inCommunicateThruCode, readRegisterCode, registersClock, rfNotActivated, timeoutStatus, typeBClock}
 
 -- ---- detect_type_a
 
@@ -27,7 +28,7 @@ cardA list = finish (done (byteAt 0 list 3 ∷ byteAt 0 list 2 ∷ byteAt 0 list
 
 -- Type 2: the CRC check is switched off in the RX mode
 abbrev pub withoutCrc : List ℕ → Script
-withoutCrc list = readSingleRegister 0x6303 (λ bs. writeSingleRegister 0x6303 (getD bs 0 0 % 128) (cardA list))
+withoutCrc list = readSingleRegister ciuRxMode (λ bs. writeSingleRegister ciuRxMode (getD bs 0 0 % 128) (cardA list))
 
 abbrev pub isType2 : ℕ → Bool
 isType2 selRes = eqb (selRes / 32 % 4) 0
@@ -49,7 +50,7 @@ tryType1 =
 
 -- no target: FIFO 0x26 is none; any other value, or a refused read, leads to the Type 1 try
 abbrev pub noTarget : Script
-noTarget = command 0x06 250 (word 0x6339) (either (λ bs. ifElse (eqb (getD bs 0 0) 0x26) (finish nothing) tryType1) (λ _. tryType1))
+noTarget = command readRegisterCode registersClock (word ciuFifoData) (either (λ bs. ifElse (eqb (getD bs 0 0) 0x26) (finish nothing) tryType1) (λ _. tryType1))
 
 abbrev pub detectTypeA : ℕ → List ℕ → Script
 detectTypeA code uid = inListPassiveTarget 1 code (cascaded uid) noTarget foundA
@@ -62,7 +63,7 @@ wakeUp afi = inCommunicateThruElse (0x05 ∷ afi ∷ 0x08 ∷ []) 500 (λ bs. fi
 
 -- the deselect's outcome is ignored
 abbrev pub deselect : ℕ → Script
-deselect afi = command 0x42 500 (0xC2 ∷ []) (λ _. wakeUp afi)
+deselect afi = command inCommunicateThruCode typeBClock (0xC2 ∷ []) (λ _. wakeUp afi)
 
 -- byte 10 of the data, masked with 9, is 1
 abbrev pub foundB : ℕ → List ℕ → Script
@@ -85,7 +86,7 @@ poll k code req =
 
 abbrev pub detectTypeF : ℕ → List ℕ → Script
 detectTypeF code req =
-    readSingleRegister 0x6304
+    readSingleRegister ciuTxControl
     (λ bs. ifElse (eqb (getD bs 0 0 % 4) 0) (rfConfiguration 0x01 (0x01 ∷ []) (fieldPause (poll 2 code req))) (poll 1 code req))
 
 -- ---- several system codes: detect_type_f for each, with request code 01 and time slots 00
@@ -137,13 +138,13 @@ pollTypeF code codes = pollCodes code 0 0 [] codes
 
 -- 15 with 01 or 0A is none
 abbrev pub noPartner : Fault → Script
-noPartner r = byStatus (λ status. ifElse (eqb status 0x01 || eqb status 0x0A) (finish nothing) (refuse r)) (refuse r) r
+noPartner r = byStatus (λ status. ifElse (eqb status timeoutStatus || eqb status rfNotActivated) (finish nothing) (refuse r)) (refuse r) r
 
 abbrev pub detectDep : ℕ → List ℕ → Script
 detectDep code atrReq =
     rfConfiguration 0x02 (0x0B ∷ 0x0B ∷ 0x0A ∷ [])
     (inJumpForDepElse 1 code [] (take 10 (drop 2 atrReq)) (drop 16 atrReq)
-    (λ bs. writeSingleRegister 0x6301 0x3B (finish (done (own 0xD5 ∷ own 0x01 ∷ rest 1 bs 2)))) noPartner)
+    (λ bs. writeSingleRegister ciuMode 0x3B (finish (done (own 0xD5 ∷ own 0x01 ∷ rest 1 bs 2)))) noPartner)
 
 -- ---- transceive
 

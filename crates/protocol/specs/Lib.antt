@@ -1,4 +1,5 @@
 -- definitions: the exchange, the calls as scripts, the session
+pub mod Names
 pub mod Scripts
 pub mod Chipset
 pub mod Device

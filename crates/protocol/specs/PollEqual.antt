@@ -32,6 +32,7 @@ use Rattle.protocol.specs.PollSound.{words-count}
 use Rattle.protocol.specs.PollAlong.{detect-no-reset, Along, Goes, along}
 use Rattle.protocol.specs.PollList.{EventAndRoom, eventEntry, oneCall, single, endsCode, withNext, handOn, singleCalls, addRefusal, Run, run, framesOf, codeBytes, allBytes, allFinished, byNewest, items, Equal, idleWith}
 use Rattle.protocol.specs.PollRuns.{frames-older, bytes-older, from, idle-equal}
+use Rattle.protocol.specs.Names.{ciuTxControl}
 
 -- an event that is admitted on both sides, or on none
 both-admitted : (P : Outcome → Outcome → Type 0) (e : Event) (room : ℕ) (o u : Outcome) → ((r : Refusal) → P (unchanged r) (unchanged r)) → P o u
@@ -57,10 +58,10 @@ entered-admitted c e room (fieldPause s) = refl
 
 -- a code's first order: the field check
 abbrev askField : Order
-askField = write (commandFrame 0x06 (word 0x6304))
+askField = write (commandFrame 0x06 (word ciuTxControl))
 
 ask-counts : frames (ordered askField ∷ []) ≡ 1
-ask-counts = rw (frame-not-ack 0x06 (word 0x6304)) refl
+ask-counts = rw (frame-not-ack 0x06 (word ciuTxControl)) refl
 
 -- the record, with the event under the newest call's number
 abbrev withEvent : Record → List Note → EventAndRoom → Record

@@ -12,6 +12,7 @@ use Rattle.exchange.specs.Exchange.{Order, write, read, drain, pause, Event, on
 use Rattle.protocol.specs.Scripts.{Byte, Answer}
 use Rattle.protocol.specs.Calls.{Call, opening, reader, isOpening, isPaddedMode}
 use Rattle.protocol.specs.Session.{seen, Entry, call, event, Output, orders, answers, rejects}
+use Rattle.protocol.specs.Names.{fieldPauseTime}
 
 -- ---- the record
 
@@ -120,7 +121,7 @@ abbrev pub isFieldPause : Item → Bool
 isFieldPause (ordered (write bytes)) = false
 isFieldPause (ordered (read ms)) = false
 isFieldPause (ordered drain) = false
-isFieldPause (ordered (pause us)) = eqb us 20400
+isFieldPause (ordered (pause us)) = eqb us fieldPauseTime
 isFieldPause (accepted e) = false
 
 abbrev pub isEvent : Item → Bool

@@ -14,6 +14,7 @@ use Rattle.exchange.specs.Exchange.{Order, write, read, drain, pause, Event, ok
 use Rattle.exchange.specs.Exchange.{Result, unfit, pending, ended, onWrite, onRead, onPause, Step, sending, advance, ExchangeResult}
 use Rattle.protocol.specs.Scripts.{Byte, Answer, done, type1, nothing, refused, Script, finish, command, reset, fieldPause, refusedAfter}
 use Rattle.protocol.specs.Calls.{Call, opening, reader, Start, refuses, starts, startOf, isOpening, isPaddedMode}
+use Rattle.protocol.specs.Names.{fieldPauseTime, openingReadTime, resetPauseTime}
 
 -- ---- a running call
 
@@ -38,7 +39,7 @@ abbrev pub enter : Script → CallResult
 enter (finish a) = ended a
 enter (command code clock bytes k) = pending (write (commandFrame code bytes)) (exchange (sending code clock) (byReply k))
 enter (reset s) = pending (write (commandFrame resetCode resetData)) (exchange (sending resetCode 100) (ofReset s))
-enter (fieldPause s) = pending (pause 20400) (fieldPausing s)
+enter (fieldPause s) = pending (pause fieldPauseTime) (fieldPausing s)
 
 -- what a reply leads to
 abbrev pub afterReply : Rest → Reply → CallResult
@@ -53,11 +54,11 @@ afterExchange rest (ended r) = afterReply rest r
 -- what an event does to a running call
 abbrev pub progress : Phase → Event → CallResult
 progress (exchange step rest) e = afterExchange rest (advance step e)
-progress (resetAck s) e = onWrite unfit (pending (pause 10000) (resetPause s)) (ended (refused Transport)) e
+progress (resetAck s) e = onWrite unfit (pending (pause resetPauseTime) (resetPause s)) (ended (refused Transport)) e
 progress (resetPause s) e = onPause unfit (enter s) e
 progress (fieldPausing s) e = onPause unfit (enter s) e
-progress (openingAck s) e = onWrite unfit (pending (read 10) (openingReads s)) (ended (refused Transport)) e
-progress (openingReads s) e = onRead unfit (λ _. pending (read 10) (openingReads s)) (enter s) (enter s) unfit e
+progress (openingAck s) e = onWrite unfit (pending (read openingReadTime) (openingReads s)) (ended (refused Transport)) e
+progress (openingReads s) e = onRead unfit (λ _. pending (read openingReadTime) (openingReads s)) (enter s) (enter s) unfit e
 
 -- a call begins, an opening by `Chipset::new`
 abbrev pub begin : Bool → Script → CallResult

@@ -10,15 +10,6 @@ use Rattle.bench_input.proofs.TableLaws.{table-short, word-at, number-i
 use Rattle.bench_input.proofs.by_table.Statement.{statement}
 use Rattle.bench_input.proofs.by_table.Tie as tie
 
-row-requires : tie.Need-row-requires
-row-requires c κs = search needs
-
-enum-known-i : tie.Need-enum-known-i
-enum-known-i c = search needs
-
-enum-told : tie.Need-enum-told
-enum-told c = search needs
-
 returns : tie.Need-returns
 returns c =
     let at-row = c .before .before in
@@ -39,15 +30,6 @@ add-read-byte c =
     let e = table-short in
     let inside = row-inside _ _ (at-row .row .ensures .0) _ (at-i .i .given .1) (at-row .row .ensures .1) in
     search needs
-
-read-byte-requires : tie.Need-read-byte-requires
-read-byte-requires c κs = search needs
-
-enum-known-number : tie.Need-enum-known-number
-enum-known-number c = search needs
-
-enum-told-2 : tie.Need-enum-told-2
-enum-told-2 c = search needs
 
 returns-2 : tie.Need-returns-2
 returns-2 c =
@@ -74,9 +56,6 @@ add-word c =
     let inside = row-inside _ _ (at-row .row .ensures .0) _ (at-i .i .given .1) (at-row .row .ensures .1) in
     search needs
 
-word-requires : tie.Need-word-requires
-word-requires c κs = search needs
-
 read-requires : tie.Need-read-requires
 read-requires c κs =
     let at-word = c .before in
@@ -86,15 +65,6 @@ read-requires c κs =
     let inside = row-inside _ _ (at-row .row .ensures .0) _ (at-i .i .given .1) (at-row .row .ensures .1) in
     let letters = at-word .word .ensures ∙ word-at (start .args .table .now) (start .pre .0) _ inside 1 (omega arith) in
     (start .pre .1, start .pre .2, ap (λ (w : List ℕ). length w + 1) letters ∙ row-words (start .args .line .now) _ (at-row .row .ensures .0) _ (at-i .i .given .1))
-
-enum-known-taken : tie.Need-enum-known-taken
-enum-known-taken c = search needs
-
-enum-told-3 : tie.Need-enum-told-3
-enum-told-3 c = search needs
-
-same-length : tie.Need-same-length
-same-length c = search needs
 
 returns-3 : tie.Need-returns-3
 returns-3 c =
@@ -117,9 +87,6 @@ by-number-requires : tie.Need-by-number-requires
 by-number-requires c κs =
     let at-read = c .before .before .before .before .before in
     grown-at _ _ _ _ _ _ (at-read .read .ensures .1) (c .before .taken .given .1) .0
-
-same-length-2 : tie.Need-same-length-2
-same-length-2 c = search needs
 
 returns-4 : tie.Need-returns-4
 returns-4 c =
@@ -144,24 +111,24 @@ pub by-table-spec : {M : Type 1} → statement M
 by-table-spec =
     tie.close
     (tie.spec
-    row-requires
-    enum-known-i
-    enum-told
+    (λ c κs. search needs)
+    (λ c. search needs)
+    (λ c. search needs)
     returns
     mul-read-byte
     add-read-byte
-    read-byte-requires
-    enum-known-number
-    enum-told-2
+    (λ c κs. search needs)
+    (λ c. search needs)
+    (λ c. search needs)
     returns-2
     mul-word
     add-word
-    word-requires
+    (λ c κs. search needs)
     read-requires
-    enum-known-taken
-    enum-told-3
-    same-length
+    (λ c. search needs)
+    (λ c. search needs)
+    (λ c. search needs)
     returns-3
     by-number-requires
-    same-length-2
+    (λ c. search needs)
     returns-4)

@@ -10,15 +10,6 @@ use Rattle.bench_input.proofs.part.Tie as tie
 slice-aggregate-rest : tie.Need-slice-aggregate-rest
 slice-aggregate-rest c = sym (length-take-le _ _ (omega arith))
 
-rest-requires : tie.Need-rest-requires
-rest-requires c κs = search needs
-
-rest-requires-2 : tie.Need-rest-requires-2
-rest-requires-2 c κs = search needs
-
-returns : tie.Need-returns
-returns c = search needs
-
 returns-2 : tie.Need-returns-2
 returns-2 c =
     let start = c .before .before .before in
@@ -26,4 +17,4 @@ returns-2 c =
 
 pub part-spec : {M : Type 1} → statement M
 part-spec =
-    tie.close (tie.spec slice-aggregate-rest rest-requires rest-requires-2 returns returns-2)
+    tie.close (tie.spec slice-aggregate-rest (λ c κs. search needs) (λ c κs. search needs) (λ c. search needs) returns-2)

@@ -15,9 +15,6 @@ returns : tie.Need-returns
 unfolding inputOf
 returns c = record { says = at-true _ _ _ _ (lt-ltb _ _ (c .if1 .taken)) refl; stands = tt }
 
-slice-aggregate-by-table : tie.Need-slice-aggregate-by-table
-slice-aggregate-by-table c = search needs
-
 by-table-requires : tie.Need-by-table-requires
 unfolding ahead wordsOf pick digitOf digitsOf texts table
 by-table-requires c κs = (refl, c .before .before .if1 .left, search needs)
@@ -27,4 +24,4 @@ unfolding inputOf
 returns-2 c = record { says = at-false _ _ _ _ (le-ltb _ _ (c .before .before .before .if1 .left)) (c .by-table .ensures .says); stands = c .by-table .ensures .stands }
 
 pub read-spec : {M : Type 1} → statement M
-read-spec = tie.close (tie.spec returns slice-aggregate-by-table by-table-requires returns-2)
+read-spec = tie.close (tie.spec returns (λ c. search needs) by-table-requires returns-2)

@@ -5,29 +5,8 @@ use Rattle.bench_session.proofs.AnswerLaws.{kept-is, told-none, told-so
 use Rattle.bench_session.proofs.told.Statement.{statement}
 use Rattle.bench_session.proofs.told.Tie as tie
 
-event-by-requires : tie.Need-event-by-requires
-event-by-requires c κs = search needs
-
-enum-known-event : tie.Need-enum-known-event
-enum-known-event c = search needs
-
-enum-told : tie.Need-enum-told
-enum-told c = search needs
-
-unreadable-requires : tie.Need-unreadable-requires
-unreadable-requires c κs = search needs
-
 returns : tie.Need-returns
 returns c = kept-is _ _ _ (c .unreadable .ensures .0) (c .unreadable .ensures .1) ∙ told-none _ _ _ _ _ (c .before .before .before .event-by .ensures) (c .before .enum-told .given .1)
-
-part-requires : tie.Need-part-requires
-part-requires c κs = search needs
-
-event-requires : tie.Need-event-requires
-event-requires c κs = search needs
-
-same-length : tie.Need-same-length
-same-length c = search needs
 
 returns-2 : tie.Need-returns-2
 returns-2 c =
@@ -40,12 +19,12 @@ pub told-spec : {M : Type 1} → statement M
 told-spec =
     tie.close
     (tie.spec
-    event-by-requires
-    enum-known-event
-    enum-told
-    unreadable-requires
+    (λ c κs. search needs)
+    (λ c. search needs)
+    (λ c. search needs)
+    (λ c κs. search needs)
     returns
-    part-requires
-    event-requires
-    same-length
+    (λ c κs. search needs)
+    (λ c κs. search needs)
+    (λ c. search needs)
     returns-2)

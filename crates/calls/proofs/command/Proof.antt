@@ -6,27 +6,6 @@ use borrow.Author.Needs.{needs}
 use Rattle.calls.proofs.command.Statement.{statement}
 use Rattle.calls.proofs.command.Tie as tie
 
-command-requires : tie.Need-command-requires
-command-requires c κs = search needs
-
-reset-mode-command-requires : tie.Need-reset-mode-command-requires
-reset-mode-command-requires c κs = search needs
-
-command-requires-2 : tie.Need-command-requires-2
-command-requires-2 c κs = search needs
-
-command-requires-3 : tie.Need-command-requires-3
-command-requires-3 c κs = search needs
-
-command-requires-4 : tie.Need-command-requires-4
-command-requires-4 c κs = search needs
-
-command-requires-5 : tie.Need-command-requires-5
-command-requires-5 c κs = search needs
-
-command-requires-6 : tie.Need-command-requires-6
-command-requires-6 c κs = search needs
-
 returns : tie.Need-returns
 unfolding commandOf pick
 returns c = rw (c .before .match .keys1) (sends-any _ _ _ (c .command .ensures))
@@ -59,13 +38,13 @@ pub command-spec : {M : Type 1} → statement M
 command-spec =
     tie.close
     (tie.spec
-    command-requires
-    reset-mode-command-requires
-    command-requires-2
-    command-requires-3
-    command-requires-4
-    command-requires-5
-    command-requires-6
+    (λ c κs. search needs)
+    (λ c κs. search needs)
+    (λ c κs. search needs)
+    (λ c κs. search needs)
+    (λ c κs. search needs)
+    (λ c κs. search needs)
+    (λ c κs. search needs)
     returns
     returns-2
     returns-3

@@ -5,33 +5,6 @@ use borrow.Author.Needs.{needs}
 use Rattle.calls.proofs.decided.Statement.{statement}
 use Rattle.calls.proofs.decided.Tie as tie
 
-decided-requires : tie.Need-decided-requires
-decided-requires c κs = search needs
-
-type2-response-requires : tie.Need-type2-response-requires
-type2-response-requires c κs = search needs
-
-type1-response-requires : tie.Need-type1-response-requires
-type1-response-requires c κs = search needs
-
-decided-requires-2 : tie.Need-decided-requires-2
-decided-requires-2 c κs = search needs
-
-decided-requires-3 : tie.Need-decided-requires-3
-decided-requires-3 c κs = search needs
-
-decided-requires-4 : tie.Need-decided-requires-4
-decided-requires-4 c κs = search needs
-
-decided-requires-5 : tie.Need-decided-requires-5
-decided-requires-5 c κs = search needs
-
-decided-requires-6 : tie.Need-decided-requires-6
-decided-requires-6 c κs = search needs
-
-decided-requires-7 : tie.Need-decided-requires-7
-decided-requires-7 c κs = search needs
-
 returns : tie.Need-returns
 unfolding decidedOf pick
 returns c = rw (c .before .match .keys1) (c .decided .ensures)
@@ -72,15 +45,15 @@ pub decided-spec : {M : Type 1} → statement M
 decided-spec =
     tie.close
     (tie.spec
-    decided-requires
-    type2-response-requires
-    type1-response-requires
-    decided-requires-2
-    decided-requires-3
-    decided-requires-4
-    decided-requires-5
-    decided-requires-6
-    decided-requires-7
+    (λ c κs. search needs)
+    (λ c κs. search needs)
+    (λ c κs. search needs)
+    (λ c κs. search needs)
+    (λ c κs. search needs)
+    (λ c κs. search needs)
+    (λ c κs. search needs)
+    (λ c κs. search needs)
+    (λ c κs. search needs)
     returns
     returns-2
     returns-3

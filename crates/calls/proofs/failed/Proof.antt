@@ -6,18 +6,6 @@ use borrow.Author.Needs.{needs}
 use Rattle.calls.proofs.failed.Statement.{statement}
 use Rattle.calls.proofs.failed.Tie as tie
 
-failed-requires : tie.Need-failed-requires
-failed-requires c κs = search needs
-
-failed-requires-2 : tie.Need-failed-requires-2
-failed-requires-2 c κs = search needs
-
-failed-requires-3 : tie.Need-failed-requires-3
-failed-requires-3 c κs = search needs
-
-failed-requires-4 : tie.Need-failed-requires-4
-failed-requires-4 c κs = search needs
-
 returns : tie.Need-returns
 unfolding failedOf pick
 returns c = λ b. rw (c .before .match .keys1) (c .failed .ensures _ b)
@@ -42,10 +30,10 @@ pub failed-spec : {M : Type 1} → statement M
 failed-spec =
     tie.close
     (tie.spec
-    failed-requires
-    failed-requires-2
-    failed-requires-3
-    failed-requires-4
+    (λ c κs. search needs)
+    (λ c κs. search needs)
+    (λ c κs. search needs)
+    (λ c κs. search needs)
     returns
     returns-2
     returns-3

@@ -4,9 +4,6 @@ use borrow.Author.Needs.{needs}
 use Rattle.calls.proofs.is_reset.Statement.{statement}
 use Rattle.calls.proofs.is_reset.Tie as tie
 
-is-reset-requires : tie.Need-is-reset-requires
-is-reset-requires c κs = search needs
-
 returns : tie.Need-returns
 unfolding isResetOf
 returns c = search (steps, needs) depth 8
@@ -16,4 +13,4 @@ unfolding isResetOf
 returns-2 c = search (steps, needs) depth 8
 
 pub is-reset-spec : {M : Type 1} → statement M
-is-reset-spec = tie.close (tie.spec is-reset-requires returns returns-2)
+is-reset-spec = tie.close (tie.spec (λ c κs. search needs) returns returns-2)

@@ -3,18 +3,6 @@ use borrow.Author.Needs.{needs}
 use Rattle.codec_c.proofs.encode.Statement.{statement}
 use Rattle.codec_c.proofs.encode.Tie as tie
 
-enum-known-parsed : tie.Need-enum-known-parsed
-enum-known-parsed c = search needs
-
-enum-known-parsed-2 : tie.Need-enum-known-parsed-2
-enum-known-parsed-2 c = search needs
-
-enum-known-parsed-3 : tie.Need-enum-known-parsed-3
-enum-known-parsed-3 c = search needs
-
-enum-told : tie.Need-enum-told
-enum-told c = search needs
-
 returns : tie.Need-returns
 returns c = rw (c .before .parsed .given .1)
 
@@ -31,10 +19,10 @@ pub encode-spec : {M : Type 1} → statement M
 encode-spec =
     tie.close
     (tie.spec
-    enum-known-parsed
-    enum-known-parsed-2
-    enum-known-parsed-3
-    enum-told
+    (λ c. search needs)
+    (λ c. search needs)
+    (λ c. search needs)
+    (λ c. search needs)
     returns
     returns-2
     returns-3

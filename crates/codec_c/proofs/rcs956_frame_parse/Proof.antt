@@ -4,26 +4,8 @@ use Rattle.codec_c.proofs.Laws.{not-parsed, was-parsed}
 use Rattle.codec_c.proofs.rcs956_frame_parse.Statement.{statement}
 use Rattle.codec_c.proofs.rcs956_frame_parse.Tie as tie
 
-numbered-requires : tie.Need-numbered-requires
-numbered-requires c κs = search needs
-
-enum-known-format : tie.Need-enum-known-format
-enum-known-format c = search needs
-
-enum-told : tie.Need-enum-told
-enum-told c = search needs
-
-number-requires : tie.Need-number-requires
-number-requires c κs = search needs
-
 returns : tie.Need-returns
 returns c = search (not-parsed, needs)
-
-parse-requires : tie.Need-parse-requires
-parse-requires c κs = search needs
-
-encode-requires : tie.Need-encode-requires
-encode-requires c κs = search needs
 
 returns-2 : tie.Need-returns-2
 returns-2 c = search (was-parsed, needs)
@@ -32,11 +14,11 @@ pub rcs956-frame-parse-spec : {M : Type 1} → statement M
 rcs956-frame-parse-spec =
     tie.close
     (tie.spec
-    numbered-requires
-    enum-known-format
-    enum-told
-    number-requires
+    (λ c κs. search needs)
+    (λ c. search needs)
+    (λ c. search needs)
+    (λ c κs. search needs)
     returns
-    parse-requires
-    encode-requires
+    (λ c κs. search needs)
+    (λ c κs. search needs)
     returns-2)

@@ -12,31 +12,10 @@ use Rattle.crc.proofs.verify_crc.Tie as tie
 returns : tie.Need-returns
 returns c = short _ _ (c .if1 .taken)
 
-sub-n : tie.Need-sub-n
-sub-n c = search needs
-
 slice-aggregate-calculate-crc : tie.Need-slice-aggregate-calculate-crc
 slice-aggregate-calculate-crc c =
     let s = c .before .before .before .args .«data» .now in
     sym (length-take-le _ s (omega arith))
-
-calculate-crc-requires : tie.Need-calculate-crc-requires
-calculate-crc-requires c κs = search needs
-
-shared-slice-read-if2 : tie.Need-shared-slice-read-if2
-shared-slice-read-if2 c = search needs
-
-cast-if2 : tie.Need-cast-if2
-cast-if2 c = search needs
-
-add-result : tie.Need-add-result
-add-result c = search needs
-
-shared-slice-read-result : tie.Need-shared-slice-read-result
-shared-slice-read-result c = search needs
-
-cast-result : tie.Need-cast-result
-cast-result c = search needs
 
 returns-2 : tie.Need-returns-2
 returns-2 c =
@@ -53,13 +32,13 @@ verify-crc-spec =
     tie.close
     (tie.spec
     returns
-    sub-n
+    (λ c. search needs)
     slice-aggregate-calculate-crc
-    calculate-crc-requires
-    shared-slice-read-if2
-    cast-if2
-    add-result
-    shared-slice-read-result
-    cast-result
+    (λ c κs. search needs)
+    (λ c. search needs)
+    (λ c. search needs)
+    (λ c. search needs)
+    (λ c. search needs)
+    (λ c. search needs)
     returns-2
     returns-3)

@@ -7,24 +7,6 @@ use borrow.Author.Needs.{needs}
 use Rattle.device.proofs.command.Statement.{statement}
 use Rattle.device.proofs.command.Tie as tie
 
-reset-mode-command-requires : tie.Need-reset-mode-command-requires
-reset-mode-command-requires c κs = search needs
-
-with-requires : tie.Need-with-requires
-with-requires c κs = search needs
-
-configured-requires : tie.Need-configured-requires
-configured-requires c κs = search needs
-
-configured-requires-2 : tie.Need-configured-requires-2
-configured-requires-2 c κs = search needs
-
-configured-requires-3 : tie.Need-configured-requires-3
-configured-requires-3 c κs = search needs
-
-settings-requires : tie.Need-settings-requires
-settings-requires c κs = search needs
-
 returns : tie.Need-returns
 unfolding openingCommand pick
 returns c = rw (c .before .match .keys1) (c .reset-mode-command .ensures)
@@ -53,12 +35,12 @@ pub command-spec : {M : Type 1} → statement M
 command-spec =
     tie.close
     (tie.spec
-    reset-mode-command-requires
-    with-requires
-    configured-requires
-    configured-requires-2
-    configured-requires-3
-    settings-requires
+    (λ c κs. search needs)
+    (λ c κs. search needs)
+    (λ c κs. search needs)
+    (λ c κs. search needs)
+    (λ c κs. search needs)
+    (λ c κs. search needs)
     returns
     returns-2
     returns-3

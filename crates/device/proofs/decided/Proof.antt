@@ -4,18 +4,9 @@ use borrow.Author.Needs.{needs}
 use Rattle.device.proofs.decided.Statement.{statement}
 use Rattle.device.proofs.decided.Tie as tie
 
-version-requires : tie.Need-version-requires
-version-requires c κs = search needs
-
 returns : tie.Need-returns
 unfolding openingDecision
 returns c = decides-true _ _ _ _ _ _ (search (decided, needs)) (c .version .ensures _)
-
-add-t6 : tie.Need-add-t6
-add-t6 c = search needs
-
-found-written-requires : tie.Need-found-written-requires
-found-written-requires c κs = search needs
 
 returns-2 : tie.Need-returns-2
 unfolding openingDecision
@@ -27,4 +18,4 @@ returns-3 c = search (decided, needs) depth 8
 
 pub decided-spec : {M : Type 1} → statement M
 decided-spec =
-    tie.close (tie.spec version-requires returns add-t6 found-written-requires returns-2 returns-3)
+    tie.close (tie.spec (λ c κs. search needs) returns (λ c. search needs) (λ c κs. search needs) returns-2 returns-3)

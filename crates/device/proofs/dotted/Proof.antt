@@ -5,18 +5,6 @@ use borrow.Author.Needs.{needs}
 use Rattle.device.proofs.dotted.Statement.{statement}
 use Rattle.device.proofs.dotted.Tie as tie
 
-hex-digit-requires : tie.Need-hex-digit-requires
-hex-digit-requires c κs = search needs
-
-hex-digit-requires-2 : tie.Need-hex-digit-requires-2
-hex-digit-requires-2 c κs = search needs
-
-hex-digit-requires-3 : tie.Need-hex-digit-requires-3
-hex-digit-requires-3 c κs = search needs
-
-hex-digit-requires-4 : tie.Need-hex-digit-requires-4
-hex-digit-requires-4 c κs = search needs
-
 returns : tie.Need-returns
 returns c = (dotted-is _ _ (c .before .before .before .before .before .before .args .version) (c .before .before .before .before .before .before .args .revision) (hex-short (c .before .before .before .before .before .before .args .version) _ (c .before .before .before .before .hex-digit2 .ensures) (c .before .if1 .taken)) (hex-short (c .before .before .before .before .before .before .args .revision) _ (c .before .before .hex-digit4 .ensures) (c .if2 .taken)), omega arith)
 
@@ -33,10 +21,10 @@ pub dotted-spec : {M : Type 1} → statement M
 dotted-spec =
     tie.close
     (tie.spec
-    hex-digit-requires
-    hex-digit-requires-2
-    hex-digit-requires-3
-    hex-digit-requires-4
+    (λ c κs. search needs)
+    (λ c κs. search needs)
+    (λ c κs. search needs)
+    (λ c κs. search needs)
     returns
     returns-2
     returns-3

@@ -6,21 +6,6 @@ use Rattle.device.specs.Opening.{settingsCommand}
 use Rattle.device.proofs.settings.Statement.{statement}
 use Rattle.device.proofs.settings.Tie as tie
 
-configured-requires : tie.Need-configured-requires
-configured-requires c κs = search needs
-
-configured-requires-2 : tie.Need-configured-requires-2
-configured-requires-2 c κs = search needs
-
-with-requires : tie.Need-with-requires
-with-requires c κs = search needs
-
-reset-mode-command-requires : tie.Need-reset-mode-command-requires
-reset-mode-command-requires c κs = search needs
-
-write-single-register-command-requires : tie.Need-write-single-register-command-requires
-write-single-register-command-requires c κs = search needs
-
 returns : tie.Need-returns
 unfolding settingsCommand pick
 returns c = rw (c .before .match .keys1) (c .configured .ensures (omega arith))
@@ -48,11 +33,11 @@ pub settings-spec : {M : Type 1} → statement M
 settings-spec =
     tie.close
     (tie.spec
-    configured-requires
-    configured-requires-2
-    with-requires
-    reset-mode-command-requires
-    write-single-register-command-requires
+    (λ c κs. search needs)
+    (λ c κs. search needs)
+    (λ c κs. search needs)
+    (λ c κs. search needs)
+    (λ c κs. search needs)
     returns
     returns-2
     returns-3

@@ -11,18 +11,6 @@ returns : tie.Need-returns
 unfolding versionKept withLength
 returns c = λ f. search (decided, needs) depth 8
 
-shared-slice-read-chipset-name : tie.Need-shared-slice-read-chipset-name
-shared-slice-read-chipset-name c = search needs
-
-shared-slice-read-chipset-name-2 : tie.Need-shared-slice-read-chipset-name-2
-shared-slice-read-chipset-name-2 c = search needs
-
-chipset-name-requires : tie.Need-chipset-name-requires
-chipset-name-requires c κs = search needs
-
-tailed-requires : tie.Need-tailed-requires
-tailed-requires c κs = search needs
-
 returns-2 : tie.Need-returns-2
 unfolding versionKept withLength
 returns-2 c = λ f. decides-false _ _ _ _ _ _ (search (decided, needs)) (decides-keep _ _ _ _ _ (lays-opened _ _ _ _ (omega arith) (c .before .before .chipset-name .ensures .0) (c .tailed .ensures f _ (omega arith) (omega arith) (λ h. omega arith))))
@@ -32,8 +20,8 @@ version-spec =
     tie.close
     (tie.spec
     returns
-    shared-slice-read-chipset-name
-    shared-slice-read-chipset-name-2
-    chipset-name-requires
-    tailed-requires
+    (λ c. search needs)
+    (λ c. search needs)
+    (λ c κs. search needs)
+    (λ c κs. search needs)
     returns-2)

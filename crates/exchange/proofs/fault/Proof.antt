@@ -8,26 +8,11 @@ use mathlib.Core.Path.{sym, _∙_}
 use Rattle.exchange.proofs.fault.Statement.{statement}
 use Rattle.exchange.proofs.fault.Tie as tie
 
-format-requires : tie.Need-format-requires
-format-requires c κs = search needs
-
-parse-requires : tie.Need-parse-requires
-parse-requires c κs = search needs
-
-enum-told : tie.Need-enum-told
-enum-told c = search needs
-
 returns : tie.Need-returns
 returns c = search (no-frame, needs)
 
-frame-length-requires : tie.Need-frame-length-requires
-frame-length-requires c κs = search needs
-
 returns-2 : tie.Need-returns-2
 returns-2 c = search (not-filled, needs)
-
-enum-known-found : tie.Need-enum-known-found
-enum-known-found c = search needs
 
 returns-3 : tie.Need-returns-3
 returns-3 c = search (no-data, needs)
@@ -39,21 +24,12 @@ add-end c =
     let inside = data-within _ p bytes _ _ _ (sym (c .before .before .before .before .before .before .parse .ensures) ∙ c .before .found .given .1) in
     omega arith
 
-sub-payload-fault : tie.Need-sub-payload-fault
-sub-payload-fault c = search needs
-
-part-payload-fault-start : tie.Need-part-payload-fault-start
-part-payload-fault-start c = search needs
-
 part-payload-fault-end : tie.Need-part-payload-fault-end
 part-payload-fault-end c =
     let p = c .before .before .before .before .before .before .before .before .before .args .packet .now in
     let bytes : Bytes p = λ k. c .before .before .before .before .before .before .before .before .shared-slice-known .given k .fits in
     let inside = data-within _ p bytes _ _ _ (sym (c .before .before .before .before .before .before .parse .ensures) ∙ c .before .found .given .1) in
     omega arith
-
-payload-fault-requires : tie.Need-payload-fault-requires
-payload-fault-requires c κs = search needs
 
 returns-4 : tie.Need-returns-4
 returns-4 c = search (of-payload, needs)
@@ -62,17 +38,17 @@ pub fault-spec : {M : Type 1} → statement M
 fault-spec =
     tie.close
     (tie.spec
-    format-requires
-    parse-requires
-    enum-told
+    (λ c κs. search needs)
+    (λ c κs. search needs)
+    (λ c. search needs)
     returns
-    frame-length-requires
+    (λ c κs. search needs)
     returns-2
-    enum-known-found
+    (λ c. search needs)
     returns-3
     add-end
-    sub-payload-fault
-    part-payload-fault-start
+    (λ c. search needs)
+    (λ c. search needs)
     part-payload-fault-end
-    payload-fault-requires
+    (λ c κs. search needs)
     returns-4)

@@ -7,17 +7,8 @@ use Rattle.exchange.proofs.is_response.Tie as tie
 returns : tie.Need-returns
 returns c = search (short, needs)
 
-shared-slice-read-if2 : tie.Need-shared-slice-read-if2
-shared-slice-read-if2 c = search needs
-
 returns-2 : tie.Need-returns-2
 returns-2 c = search (other-identifier, needs)
-
-shared-slice-read-result : tie.Need-shared-slice-read-result
-shared-slice-read-result c = search needs
-
-wrapping-add-u8-requires : tie.Need-wrapping-add-u8-requires
-wrapping-add-u8-requires c κs = search needs
 
 returns-3 : tie.Need-returns-3
 returns-3 c = search (by-code, needs)
@@ -27,8 +18,8 @@ is-response-spec =
     tie.close
     (tie.spec
     returns
-    shared-slice-read-if2
+    (λ c. search needs)
     returns-2
-    shared-slice-read-result
-    wrapping-add-u8-requires
+    (λ c. search needs)
+    (λ c κs. search needs)
     returns-3)

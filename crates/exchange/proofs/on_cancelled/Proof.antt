@@ -6,12 +6,6 @@ use Rattle.exchange.proofs.Tags.{not-written}
 use Rattle.exchange.proofs.on_cancelled.Statement.{statement}
 use Rattle.exchange.proofs.on_cancelled.Tie as tie
 
-enum-told : tie.Need-enum-told
-enum-told c = search needs
-
-enum-told-2 : tie.Need-enum-told-2
-enum-told-2 c = search needs
-
 returns : tie.Need-returns
 returns c x p = rw (c .enum-told .given .1) (fails _ _ _ _ refl)
 
@@ -24,4 +18,4 @@ returns-3 c x p = stays _ _ _ (not-written _ _ _ (c .before .args .event) p (c .
 pub on-cancelled-spec : {M : Type 1} → statement M
 on-cancelled-spec =
     tie.close
-    (tie.spec enum-told enum-told-2 returns returns-2 returns-3)
+    (tie.spec (λ c. search needs) (λ c. search needs) returns returns-2 returns-3)

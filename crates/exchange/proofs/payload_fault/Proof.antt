@@ -7,9 +7,6 @@ use Rattle.exchange.proofs.payload_fault.Tie as tie
 returns : tie.Need-returns
 returns c = search (cases, empty, not-empty, needs) depth 10
 
-shared-slice-read-identifier : tie.Need-shared-slice-read-identifier
-shared-slice-read-identifier c = search needs
-
 returns-2 : tie.Need-returns-2
 returns-2 c = search (cases, empty, not-empty, needs) depth 10
 
@@ -21,4 +18,4 @@ returns-4 c = search (cases, empty, not-empty, needs) depth 10
 
 pub payload-fault-spec : {M : Type 1} → statement M
 payload-fault-spec =
-    tie.close (tie.spec returns shared-slice-read-identifier returns-2 returns-3 returns-4)
+    tie.close (tie.spec returns (λ c. search needs) returns-2 returns-3 returns-4)

@@ -8,12 +8,6 @@ use borrow.Author.Needs.{needs}
 use Rattle.framing.proofs.build.Statement.{statement}
 use Rattle.framing.proofs.build.Tie as tie
 
-room-for-requires : tie.Need-room-for-requires
-room-for-requires c κs = search needs
-
-enum-known-start : tie.Need-enum-known-start
-enum-known-start c = search needs
-
 sub-copy : tie.Need-sub-copy
 sub-copy c =
     let x = sym (c .before .start .given .1) ∙ c .before .before .before .room-for .ensures in
@@ -25,9 +19,6 @@ part-copy-start c =
     let x = sym (c .before .start .given .1) ∙ c .before .before .before .room-for .ensures in
     let k = place-fits (c .before .before .before .before .before .before .args .format) _ _ _ x in
     omega arith
-
-part-copy-end : tie.Need-part-copy-end
-part-copy-end c = search needs
 
 copy-requires : tie.Need-copy-requires
 copy-requires c κs =
@@ -53,12 +44,6 @@ add-t13 c =
     let k = place-fits (c .before .before .before .before .before .before .before .before .before .before .before .before .before .before .args .format) _ _ _ x in
     omega arith
 
-enum-known-refusal : tie.Need-enum-known-refusal
-enum-known-refusal c = search needs
-
-same-length : tie.Need-same-length
-same-length c = search needs
-
 returns : tie.Need-returns
 unfolding outcome
 returns c =
@@ -75,16 +60,16 @@ pub build-spec : {M : Type 1} → statement M
 build-spec =
     tie.close
     (tie.spec
-    room-for-requires
-    enum-known-start
+    (λ c κs. search needs)
+    (λ c. search needs)
     sub-copy
     part-copy-start
-    part-copy-end
+    (λ c. search needs)
     copy-requires
     enclose-requires
     add-t11
     add-t13
-    enum-known-refusal
-    same-length
+    (λ c. search needs)
+    (λ c. search needs)
     returns
     returns-2)

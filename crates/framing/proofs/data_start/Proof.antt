@@ -6,15 +6,6 @@ use borrow.Author.Needs.{needs}
 use Rattle.framing.proofs.data_start.Statement.{statement}
 use Rattle.framing.proofs.data_start.Tie as tie
 
-enum-told : tie.Need-enum-told
-enum-told c = search needs
-
-enum-told-2 : tie.Need-enum-told-2
-enum-told-2 c = search needs
-
-enum-told-3 : tie.Need-enum-told-3
-enum-told-3 c = search needs
-
 returns : tie.Need-returns
 unfolding startOf
 returns c = rw (c .enum-told .given .1)
@@ -33,4 +24,4 @@ returns-4 c = rw (c .before .enum-told3 .given .1, le-ltb _ _ (c .if1 .left))
 
 pub data-start-spec : {M : Type 1} → statement M
 data-start-spec =
-    tie.close (tie.spec enum-told enum-told-2 enum-told-3 returns returns-2 returns-3 returns-4)
+    tie.close (tie.spec (λ c. search needs) (λ c. search needs) (λ c. search needs) returns returns-2 returns-3 returns-4)

@@ -9,12 +9,6 @@ use Rattle.framing.proofs.has_marker.Tie as tie
 returns : tie.Need-returns
 returns c = search (marker-short, needs)
 
-shared-slice-read-if2 : tie.Need-shared-slice-read-if2
-shared-slice-read-if2 c = search needs
-
-shared-slice-read-result : tie.Need-shared-slice-read-result
-shared-slice-read-result c = search needs
-
 returns-2 : tie.Need-returns-2
 unfolding hasMarker
 returns-2 c = search (steps, needs) depth 8
@@ -25,4 +19,4 @@ returns-3 c = search (steps, needs) depth 8
 
 pub has-marker-spec : {M : Type 1} → statement M
 has-marker-spec =
-    tie.close (tie.spec returns shared-slice-read-if2 shared-slice-read-result returns-2 returns-3)
+    tie.close (tie.spec returns (λ c. search needs) (λ c. search needs) returns-2 returns-3)

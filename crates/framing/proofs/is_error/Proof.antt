@@ -6,24 +6,9 @@ use borrow.Author.Needs.{needs}
 use Rattle.framing.proofs.is_error.Statement.{statement}
 use Rattle.framing.proofs.is_error.Tie as tie
 
-enum-told : tie.Need-enum-told
-enum-told c = search needs
-
-slice-aggregate-is-exactly : tie.Need-slice-aggregate-is-exactly
-slice-aggregate-is-exactly c = search needs
-
-is-exactly-requires : tie.Need-is-exactly-requires
-is-exactly-requires c κs = search needs
-
-enum-told-2 : tie.Need-enum-told-2
-enum-told-2 c = search needs
-
 returns : tie.Need-returns
 unfolding isError
 returns c = rw (c .before .enum-told2 .given .1) (byte-past (c .before .before .before .before .args .packet .now) 5 0x7F (c .if1 .taken) refl)
-
-shared-slice-read-result : tie.Need-shared-slice-read-result
-shared-slice-read-result c = search needs
 
 returns-2 : tie.Need-returns-2
 unfolding isError
@@ -37,11 +22,11 @@ pub is-error-spec : {M : Type 1} → statement M
 is-error-spec =
     tie.close
     (tie.spec
-    enum-told
-    slice-aggregate-is-exactly
-    is-exactly-requires
-    enum-told-2
+    (λ c. search needs)
+    (λ c. search needs)
+    (λ c κs. search needs)
+    (λ c. search needs)
     returns
-    shared-slice-read-result
+    (λ c. search needs)
     returns-2
     returns-3)

@@ -9,12 +9,9 @@ returns : tie.Need-returns
 unfolding same
 returns c = search (steps, needs) depth 8
 
-starts-with-requires : tie.Need-starts-with-requires
-starts-with-requires c κs = search needs
-
 returns-2 : tie.Need-returns-2
 unfolding same
 returns-2 c = search (steps, needs) depth 8
 
 pub is-exactly-spec : {M : Type 1} → statement M
-is-exactly-spec = tie.close (tie.spec returns starts-with-requires returns-2)
+is-exactly-spec = tie.close (tie.spec returns (λ c κs. search needs) returns-2)

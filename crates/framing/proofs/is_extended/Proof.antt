@@ -5,21 +5,6 @@ use borrow.Author.Needs.{needs}
 use Rattle.framing.proofs.is_extended.Statement.{statement}
 use Rattle.framing.proofs.is_extended.Tie as tie
 
-enum-told : tie.Need-enum-told
-enum-told c = search needs
-
-enum-told-2 : tie.Need-enum-told-2
-enum-told-2 c = search needs
-
-has-marker-requires : tie.Need-has-marker-requires
-has-marker-requires c κs = search needs
-
-enum-told-3 : tie.Need-enum-told-3
-enum-told-3 c = search needs
-
-has-marker-requires-2 : tie.Need-has-marker-requires-2
-has-marker-requires-2 c κs = search needs
-
 returns : tie.Need-returns
 unfolding marked extends
 returns c = rw (c .enum-told .given .1)
@@ -36,11 +21,11 @@ pub is-extended-spec : {M : Type 1} → statement M
 is-extended-spec =
     tie.close
     (tie.spec
-    enum-told
-    enum-told-2
-    has-marker-requires
-    enum-told-3
-    has-marker-requires-2
+    (λ c. search needs)
+    (λ c. search needs)
+    (λ c κs. search needs)
+    (λ c. search needs)
+    (λ c κs. search needs)
     returns
     returns-2
     returns-3)

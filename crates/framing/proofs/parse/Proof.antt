@@ -5,21 +5,9 @@ use borrow.Author.Needs.{needs}
 use Rattle.framing.proofs.parse.Statement.{statement}
 use Rattle.framing.proofs.parse.Tie as tie
 
-has-sof-requires : tie.Need-has-sof-requires
-has-sof-requires c κs = search needs
-
-slice-aggregate-is-exactly : tie.Need-slice-aggregate-is-exactly
-slice-aggregate-is-exactly c = search needs
-
-is-exactly-requires : tie.Need-is-exactly-requires
-is-exactly-requires c κs = search needs
-
 returns : tie.Need-returns
 unfolding parseOf
 returns c = search (steps, needs) depth 8
-
-is-error-requires : tie.Need-is-error-requires
-is-error-requires c κs = search needs
 
 returns-2 : tie.Need-returns-2
 unfolding parseOf
@@ -40,11 +28,11 @@ pub parse-spec : {M : Type 1} → statement M
 parse-spec =
     tie.close
     (tie.spec
-    has-sof-requires
-    slice-aggregate-is-exactly
-    is-exactly-requires
+    (λ c κs. search needs)
+    (λ c. search needs)
+    (λ c κs. search needs)
     returns
-    is-error-requires
+    (λ c κs. search needs)
     returns-2
     parse-data-requires
     returns-3

@@ -6,14 +6,8 @@ use borrow.Author.Needs.{needs}
 use Rattle.framing.proofs.parse_data.Statement.{statement}
 use Rattle.framing.proofs.parse_data.Tie as tie
 
-is-extended-requires : tie.Need-is-extended-requires
-is-extended-requires c κs = search needs
-
 parse-extended-requires : tie.Need-parse-extended-requires
 parse-extended-requires c κs = (c .before .before .before .pre, search (told, needs))
-
-parse-normal-requires : tie.Need-parse-normal-requires
-parse-normal-requires c κs = search needs
 
 returns : tie.Need-returns
 returns c =
@@ -27,4 +21,4 @@ returns-2 c = search (data-normal, told, needs) depth 6
 pub parse-data-spec : {M : Type 1} → statement M
 parse-data-spec =
     tie.close
-    (tie.spec is-extended-requires parse-extended-requires parse-normal-requires returns returns-2)
+    (tie.spec (λ c κs. search needs) parse-extended-requires (λ c κs. search needs) returns returns-2)

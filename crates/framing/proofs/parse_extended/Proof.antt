@@ -8,21 +8,6 @@ use Rattle.framing.proofs.parse_extended.Tie as tie
 returns : tie.Need-returns
 returns c = search (extended-too-short, needs)
 
-shared-slice-read-pair-length : tie.Need-shared-slice-read-pair-length
-shared-slice-read-pair-length c = search needs
-
-shared-slice-read-pair-length-2 : tie.Need-shared-slice-read-pair-length-2
-shared-slice-read-pair-length-2 c = search needs
-
-pair-length-requires : tie.Need-pair-length-requires
-pair-length-requires c κs = search needs
-
-validated-requires : tie.Need-validated-requires
-validated-requires c κs = search needs
-
-add-t12 : tie.Need-add-t12
-add-t12 c = search needs
-
 returns-2 : tie.Need-returns-2
 returns-2 c =
     let p = c .before .before .before .before .before .before .before .args .packet .now in
@@ -40,10 +25,10 @@ parse-extended-spec =
     tie.close
     (tie.spec
     returns
-    shared-slice-read-pair-length
-    shared-slice-read-pair-length-2
-    pair-length-requires
-    validated-requires
-    add-t12
+    (λ c. search needs)
+    (λ c. search needs)
+    (λ c κs. search needs)
+    (λ c κs. search needs)
+    (λ c. search needs)
     returns-2
     returns-3)

@@ -8,18 +8,6 @@ use Rattle.framing.proofs.parse_normal.Tie as tie
 returns : tie.Need-returns
 returns c = search (normal-too-short, needs)
 
-shared-slice-read-wide : tie.Need-shared-slice-read-wide
-shared-slice-read-wide c = search needs
-
-wide-requires : tie.Need-wide-requires
-wide-requires c κs = search needs
-
-validated-requires : tie.Need-validated-requires
-validated-requires c κs = search needs
-
-add-t9 : tie.Need-add-t9
-add-t9 c = search needs
-
 returns-2 : tie.Need-returns-2
 returns-2 c =
     let p = c .before .before .before .before .before .before .args .packet .now in
@@ -37,9 +25,9 @@ parse-normal-spec =
     tie.close
     (tie.spec
     returns
-    shared-slice-read-wide
-    wide-requires
-    validated-requires
-    add-t9
+    (λ c. search needs)
+    (λ c κs. search needs)
+    (λ c κs. search needs)
+    (λ c. search needs)
     returns-2
     returns-3)

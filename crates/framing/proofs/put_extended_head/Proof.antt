@@ -8,9 +8,6 @@ use borrow.Author.Needs.{needs}
 use Rattle.framing.proofs.put_extended_head.Statement.{statement}
 use Rattle.framing.proofs.put_extended_head.Tie as tie
 
-slice-write-buffer : tie.Need-slice-write-buffer
-slice-write-buffer c = search needs
-
 slice-write-buffer-2 : tie.Need-slice-write-buffer-2
 slice-write-buffer-2 c = simp length-set (omega arith)
 
@@ -29,9 +26,6 @@ slice-write-buffer-6 c = simp length-set (omega arith)
 slice-write-buffer-7 : tie.Need-slice-write-buffer-7
 slice-write-buffer-7 c = simp length-set (omega arith)
 
-pair-checksum-requires : tie.Need-pair-checksum-requires
-pair-checksum-requires c κs = search needs
-
 slice-write-buffer-8 : tie.Need-slice-write-buffer-8
 slice-write-buffer-8 c = simp length-set (omega arith)
 
@@ -47,14 +41,14 @@ pub put-extended-head-spec : {M : Type 1} → statement M
 put-extended-head-spec =
     tie.close
     (tie.spec
-    slice-write-buffer
+    (λ c. search needs)
     slice-write-buffer-2
     slice-write-buffer-3
     slice-write-buffer-4
     slice-write-buffer-5
     slice-write-buffer-6
     slice-write-buffer-7
-    pair-checksum-requires
+    (λ c κs. search needs)
     slice-write-buffer-8
     same-length
     returns)

@@ -9,32 +9,17 @@ use borrow.Author.Needs.{needs}
 use Rattle.framing.proofs.put_head.Statement.{statement}
 use Rattle.framing.proofs.put_head.Tie as tie
 
-cast-high : tie.Need-cast-high
-cast-high c = search needs
-
-cast-low : tie.Need-cast-low
-cast-low c = search needs
-
-enum-told : tie.Need-enum-told
-enum-told c = search needs
-
 put-normal-head-requires : tie.Need-put-normal-head-requires
 unfolding longest startOf
 put-normal-head-requires c κs =
     let h = rw (c .before .enum-told .given .1) at (c .before .before .before .before .pre) in
     omega (arith, h .0, h .1)
 
-enum-told-2 : tie.Need-enum-told-2
-enum-told-2 c = search needs
-
 put-extended-head-requires : tie.Need-put-extended-head-requires
 unfolding longest startOf
 put-extended-head-requires c κs =
     let h = rw (c .before .enum-told2 .given .1) at (c .before .before .before .before .pre) in
     omega (arith, h .0, h .1)
-
-enum-told-3 : tie.Need-enum-told-3
-enum-told-3 c = search needs
 
 put-normal-head-requires-2 : tie.Need-put-normal-head-requires-2
 unfolding longest startOf pick
@@ -48,15 +33,9 @@ put-extended-head-requires-2 c κs =
     let h = rw (c .before .before .enum-told3 .given .1, le-ltb _ _ (c .before .if1 .left)) at (c .before .before .before .before .before .pre) in
     omega (arith, h .0, h .1)
 
-same-length : tie.Need-same-length
-same-length c = search needs
-
 returns : tie.Need-returns
 unfolding headOf startOf
 returns c = rw (c .before .before .before .before .enum-told .given .1) (c .before .before .put-normal-head .ensures)
-
-same-length-2 : tie.Need-same-length-2
-same-length-2 c = search needs
 
 returns-2 : tie.Need-returns-2
 unfolding headOf startOf lengthBytes longest
@@ -66,17 +45,11 @@ returns-2 c =
     let e : n / 256 % 256 ≡ n / 256 = omega (arith, h .0) in
     rw (c .before .before .before .before .enum-told2 .given .1) (rw e at (c .before .before .put-extended-head .ensures))
 
-same-length-3 : tie.Need-same-length-3
-same-length-3 c = search needs
-
 returns-3 : tie.Need-returns-3
 unfolding headOf startOf pick
 returns-3 c =
     rw (c .before .before .before .before .before .enum-told3 .given .1, lt-ltb _ _ (c .before .before .before .before .if1 .taken))
     (c .before .before .put-normal-head2 .ensures)
-
-same-length-4 : tie.Need-same-length-4
-same-length-4 c = search needs
 
 returns-4 : tie.Need-returns-4
 unfolding headOf startOf pick lengthBytes longest
@@ -91,20 +64,20 @@ pub put-head-spec : {M : Type 1} → statement M
 put-head-spec =
     tie.close
     (tie.spec
-    cast-high
-    cast-low
-    enum-told
+    (λ c. search needs)
+    (λ c. search needs)
+    (λ c. search needs)
     put-normal-head-requires
-    enum-told-2
+    (λ c. search needs)
     put-extended-head-requires
-    enum-told-3
+    (λ c. search needs)
     put-normal-head-requires-2
     put-extended-head-requires-2
-    same-length
+    (λ c. search needs)
     returns
-    same-length-2
+    (λ c. search needs)
     returns-2
-    same-length-3
+    (λ c. search needs)
     returns-3
-    same-length-4
+    (λ c. search needs)
     returns-4)

@@ -7,12 +7,6 @@ use borrow.Author.Needs.{needs}
 use Rattle.framing.proofs.put_normal_head.Statement.{statement}
 use Rattle.framing.proofs.put_normal_head.Tie as tie
 
-cast-len : tie.Need-cast-len
-cast-len c = search needs
-
-slice-write-buffer : tie.Need-slice-write-buffer
-slice-write-buffer c = search needs
-
 slice-write-buffer-2 : tie.Need-slice-write-buffer-2
 slice-write-buffer-2 c = simp length-set (omega arith)
 
@@ -21,9 +15,6 @@ slice-write-buffer-3 c = simp length-set (omega arith)
 
 slice-write-buffer-4 : tie.Need-slice-write-buffer-4
 slice-write-buffer-4 c = simp length-set (omega arith)
-
-length-checksum-requires : tie.Need-length-checksum-requires
-length-checksum-requires c κs = search needs
 
 slice-write-buffer-5 : tie.Need-slice-write-buffer-5
 slice-write-buffer-5 c = simp length-set (omega arith)
@@ -40,12 +31,12 @@ pub put-normal-head-spec : {M : Type 1} → statement M
 put-normal-head-spec =
     tie.close
     (tie.spec
-    cast-len
-    slice-write-buffer
+    (λ c. search needs)
+    (λ c. search needs)
     slice-write-buffer-2
     slice-write-buffer-3
     slice-write-buffer-4
-    length-checksum-requires
+    (λ c κs. search needs)
     slice-write-buffer-5
     same-length
     returns)

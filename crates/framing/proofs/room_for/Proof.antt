@@ -5,17 +5,8 @@ use borrow.Author.Needs.{needs}
 use Rattle.framing.proofs.room_for.Statement.{statement}
 use Rattle.framing.proofs.room_for.Tie as tie
 
-longest-payload-requires : tie.Need-longest-payload-requires
-longest-payload-requires c κs = search needs
-
-least-requires : tie.Need-least-requires
-least-requires c κs = search needs
-
 returns : tie.Need-returns
 returns c = search (place-long, needs) depth 6
-
-data-start-requires : tie.Need-data-start-requires
-data-start-requires c κs = search needs
 
 add-if2 : tie.Need-add-if2
 add-if2 c = omega (arith, start-most (c .before .before .before .before .args .format .length) (c .before .before .before .before .args .n), longest-most (c .before .before .before .before .args .format .length))
@@ -33,10 +24,10 @@ pub room-for-spec : {M : Type 1} → statement M
 room-for-spec =
     tie.close
     (tie.spec
-    longest-payload-requires
-    least-requires
+    (λ c κs. search needs)
+    (λ c κs. search needs)
     returns
-    data-start-requires
+    (λ c κs. search needs)
     add-if2
     add-if2-2
     returns-2

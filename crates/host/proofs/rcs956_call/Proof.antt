@@ -46,7 +46,7 @@ use denote.Exit.{yes}
 use Rattle.host.specs.Outcomes.{report, joined}
 use Rattle.host.specs.Entries.{calling, reportFor}
 use Rattle.engine.specs.declared.session.Session.{Session}
-use Rattle.host.specs.declared.outcome.Told.{Told}
+use Rattle.host.specs.declared.outcome.HostStep.{HostStep}
 use Rattle.host.specs.declared.outcome.Outcome.{Outcome}
 use Rattle.engine.proofs.session.Session as T
 use Rattle.engine.proofs.state.State as N
@@ -54,15 +54,15 @@ use Rattle.engine.proofs.state.State.Laws as N′
 use Rattle.calls.specs.declared.start.Numbers.{Numbers}
 use Rattle.calls.proofs.start.Numbers as X
 use Rattle.calls.proofs.start.Numbers.Laws as X′
-use Rattle.host.proofs.outcome.Told as R
-use Rattle.host.proofs.outcome.Told.Laws as R′
+use Rattle.host.proofs.outcome.HostStep as R
+use Rattle.host.proofs.outcome.HostStep.Laws as R′
 use Rattle.host.proofs.outcome.Outcome as O
 use Rattle.host.proofs.outcome.Outcome.Laws as O′
 use Rattle.host.proofs.Apart.{mN, Fits, Array₀, Array₁, Held, Back, apart, together}
-use Rattle.host.proofs.step.called as step
-use Rattle.host.proofs.step.called.Symbol as step-def
-use Rattle.host.proofs.step.called.Symbol.{name as #host·step·called}
-use Rattle.host.proofs.step.called.Met as step-thm
+use Rattle.host.proofs.step.call as step
+use Rattle.host.proofs.step.call.Symbol as step-def
+use Rattle.host.proofs.step.call.Symbol.{name as #host·step·call}
+use Rattle.host.proofs.step.call.Met as step-thm
 use Rattle.host.proofs.rcs956_call.Key.{name as #host·rcs956-call}
 use Rattle.host.proofs.rcs956_call as f
 use Rattle.host.proofs.rcs956_call.Statement as stated
@@ -148,7 +148,7 @@ module _ {M : Type 1} (𝓤 : URA M) (H : Heap 𝓤) (A : Atoms 𝓤) (W : Given
     goes-step : ent 𝓤 (sep 𝓤 (sep 𝓤 (A .lft (α₀ ∷ []) fullShare) (sep 𝓤 (A .lft κ₁ q₁) (sep 𝓤 (A .lft κ₂ q₂) (sep 𝓤 (A .lft κ₃ q₃) (sep 𝓤 (A .lft κ₄ q₄) (sep 𝓤 (A .lft κ₅ q₅) (sem 𝓤 H A ftrue))))))) (sem 𝓤 H A Passed)) (Step₀ 𝓤 H A at-mem run .pre to-step)
     goes-step = qed W ((‵ (flft (α₀ ∷ []) fullShare) ⊛ ‵ (flft κ₁ q₁) ⊛ ‵ (flft κ₂ q₂) ⊛ ‵ (flft κ₃ q₃) ⊛ ‵ (flft κ₄ q₄) ⊛ ‵ (flft κ₅ q₅) ⊛ ‵ ftrue) ∷ ‵ Passed ∷ []) ∵ join ! $ frame ! $ done !
 
-  exits : (r : Told) (x₀ : List ℕ) (zs : List ℕ) → ((found : List ℕ) → report (joined x₀ found (r .state)) (r .outcome) zs ≡ reportFor (joined (h .command) found (h .state)) (calling n₁ n₂ (p₁ .now) (p₂ .now) (p₃ .now) (p₄ .now) ys)) → length zs ≡ length ys
+  exits : (r : HostStep) (x₀ : List ℕ) (zs : List ℕ) → ((found : List ℕ) → report (joined x₀ found (r .state)) (r .outcome) zs ≡ reportFor (joined (h .command) found (h .state)) (calling n₁ n₂ (p₁ .now) (p₂ .now) (p₃ .now) (p₄ .now) ys)) → length zs ≡ length ys
       → ent 𝓤 (⋆ 𝓤 H A (‵ (fobs γ (T.the-row .coded .code (record { command = x₀; found = (h .found); state = r .state }))) ∷ ‵ (fbor κ₀ (Body (mem T.the-row) b o γ)) ∷ ‵ (flft κ₀ q₀) ∷ (‵ (flft κ₁ q₁) ⊛ ‵ (flft κ₂ q₂) ⊛ ‵ (flft κ₃ q₃) ⊛ ‵ (flft κ₄ q₄) ⊛ ‵ (flft κ₅ q₅) ⊛ ‵ ftrue) ∷ ‵ Ownp₁ ∷ ‵ Ownp₂ ∷ ‵ Ownp₃ ∷ ‵ Ownp₄ ∷ ‵ (finally u8 γ′ zs) ∷ ‵ (O.the-row .own (r .outcome) (mO (r .outcome) ∷ [])) ∷ [])) (Post (mO (r .outcome)))
   exits r x₀ zs e l =
       qed W (‵ (fobs γ (T.the-row .coded .code (record { command = x₀; found = (h .found); state = r .state }))) ∷ ‵ (fbor κ₀ (Body (mem T.the-row) b o γ)) ∷ ‵ (flft κ₀ q₀) ∷ (‵ (flft κ₁ q₁) ⊛ ‵ (flft κ₂ q₂) ⊛ ‵ (flft κ₃ q₃) ⊛ ‵ (flft κ₄ q₄) ⊛ ‵ (flft κ₅ q₅) ⊛ ‵ ftrue) ∷ ‵ Ownp₁ ∷ ‵ Ownp₂ ∷ ‵ Ownp₃ ∷ ‵ Ownp₄ ∷ ‵ (finally u8 γ′ zs) ∷ ‵ (O.the-row .own (r .outcome) (mO (r .outcome) ∷ [])) ∷ []) ∵
@@ -156,13 +156,13 @@ module _ {M : Type 1} (𝓤 : URA M) (H : Heap 𝓤) (A : Atoms 𝓤) (W : Given
       move ! (2 ∷ 3 ∷ []) $ join ! $ frame ! $ feqI ! (List Val) (vptr b o ∷ []) (vptr b o ∷ []) refl $ fjoin3 ! $ nothing ! $ move ! (6 ∷ 0 ∷ []) $ fjoin ! $ move ! (5 ∷ 0 ∷ []) $ fjoin ! $ move ! (4 ∷ 0 ∷ []) $ fjoin ! $ move ! (3 ∷ 0 ∷ []) $ fjoin ! $ move ! (2 ∷ 0 ∷ []) $ fjoin ! $ owned ! X.the-row (Is X.the-row) (LL.makes X.the-type X′.the-plain 𝓤 H A) n₂ (mV n₂ ∷ []) n₂-fits $ fjoin ! $ owned ! u8 (Is u8) (uint-makes 𝓤 H A W w8) n₁ _ (refl, n₁-fits) $ fjoin ! $ move ! (1 ∷ 0 ∷ []) $ fjoin ! $ done !
 
   -- what is known of the parts of the result
-  part₀ : (r : Told) (v : Val) → Is R.the-row r (v ∷ []) → Fits (r .state)
+  part₀ : (r : HostStep) (v : Val) → Is R.the-row r (v ∷ []) → Fits (r .state)
   part₀ r v is = LL.owed R.the-type R′.the-laws r _ is .0
 
-  part₁ : (r : Told) (v : Val) → Is R.the-row r (v ∷ []) → Is O.the-row (r .outcome) (mO (r .outcome) ∷ [])
+  part₁ : (r : HostStep) (v : Val) → Is R.the-row r (v ∷ []) → Is O.the-row (r .outcome) (mO (r .outcome) ∷ [])
   part₁ r v is = LL.owed R.the-type R′.the-laws r _ is .1 .0
 
-  module _ (C : Calls 𝓤 H) (Λ : Loops 𝓤 H) (fm : FmC 𝓤 H (W .laws) C) (known : Triple 𝓤 (C #host·step·called) (Step₀ 𝓤 H A at-mem run)) where
+  module _ (C : Calls 𝓤 H) (Λ : Loops 𝓤 H) (fm : FmC 𝓤 H (W .laws) C) (known : Triple 𝓤 (C #host·step·call) (Step₀ 𝓤 H A at-mem run)) where
     walk : Is (ShrSlice (named 1) κ₁ u8) p₁ (vp₁ ∷ []) → Is (ShrSlice (named 2) κ₂ u8) p₂ (vp₂ ∷ []) → Is (ShrSlice (named 3) κ₃ u8) p₃ (vp₃ ∷ []) → Is (ShrSlice (named 4) κ₄ u8) p₄ (vp₄ ∷ []) → Room u8 (length ys) → ent 𝓤 (onEntry 𝓤 H A f.signature (κ₀, (κ₁, (κ₂, (κ₃, (κ₄, (κ₅, tt)))))) (q₀, (q₁, (q₂, (q₃, (q₄, (q₅, tt)))))) a vals) (WpFn 𝓤 H C Λ code.function (vptr b o ∷ vint w8 n₁ ∷ mV n₂ ∷ vp₁ ∷ vp₂ ∷ vp₃ ∷ vp₄ ∷ vw ∷ []) Post)
     walk isp₁ isp₂ isp₃ isp₄ room =
         qed W ((‵ (flft κ₀ q₀) ⊛ ‵ (flft κ₁ q₁) ⊛ ‵ (flft κ₂ q₂) ⊛ ‵ (flft κ₃ q₃) ⊛ ‵ (flft κ₄ q₄) ⊛ ‵ (flft κ₅ q₅) ⊛ ‵ ftrue) ∷ ‵ (owns (MutRef (named 0) κ₀ T.the-row ∷ u8 ∷ X.the-row ∷ ShrSlice (named 1) κ₁ u8 ∷ ShrSlice (named 2) κ₂ u8 ∷ ShrSlice (named 3) κ₃ u8 ∷ ShrSlice (named 4) κ₄ u8 ∷ MutSlice (named 5) κ₅ u8 ∷ []) a vals) ∷ []) ∵
@@ -189,7 +189,7 @@ module _ {M : Type 1} (𝓤 : URA M) (H : Heap 𝓤) (A : Atoms 𝓤) (W : Given
         move ! (6 ∷ 13 ∷ []) $ join ! $ use2 W (raw (Step₀ 𝓤 H A at-mem run .pre (to-step α₀ δ₀))) (goes-step α₀ δ₀) $
         -- the call
         calls-at ! fm (Step₀ 𝓤 H A at-mem run) known (to-step α₀ δ₀) (and-then ! (load ! (from ! (stop !)) (look ! 22 refl)) (and-then ! (load ! (from ! (stop !)) (look ! 16 refl)) (and-then ! (load ! (from ! (stop !)) (look ! 36 refl)) (and-then ! (load ! (from ! (stop !)) (look ! 34 refl)) (and-then ! (load ! (from ! (stop !)) (look ! 32 refl)) (and-then ! (load ! (from ! (stop !)) (look ! 30 refl)) (and-then ! (load ! (from ! (stop !)) (look ! 28 refl)) (and-then ! (load ! (from ! (stop !)) (look ! 26 refl)) (and-then ! (load ! (from ! (stop !)) (look ! 12 refl)) (no-more !)))))))))) (λ v.
-        use1 W (later (some (λ (r : Told). ((‵ (flft (α₀ ∷ []) fullShare) ⊛ ‵ (flft κ₁ q₁) ⊛ ‵ (flft κ₂ q₂) ⊛ ‵ (flft κ₃ q₃) ⊛ ‵ (flft κ₄ q₄) ⊛ ‵ (flft κ₅ q₅) ⊛ ‵ ftrue) ⊛ ‵ (R.the-row .own r (v ∷ []))) ⊛ raw (ensured 𝓤 H A step.ended (step.clauses 𝓤 H A at-mem run) ((α₀ ∷ []), (κ₁, (κ₂, (κ₃, (κ₄, (κ₅, tt)))))) (h .state, ((ref₀ δ₀), (n₁, (n₂, (p₁, (p₂, (p₃, (p₄, (w, tt))))))))) tt r)))) (id⊢ 𝓤 _) $ await ! tt $ pick ! (λ r. split ! $
+        use1 W (later (some (λ (r : HostStep). ((‵ (flft (α₀ ∷ []) fullShare) ⊛ ‵ (flft κ₁ q₁) ⊛ ‵ (flft κ₂ q₂) ⊛ ‵ (flft κ₃ q₃) ⊛ ‵ (flft κ₄ q₄) ⊛ ‵ (flft κ₅ q₅) ⊛ ‵ ftrue) ⊛ ‵ (R.the-row .own r (v ∷ []))) ⊛ raw (ensured 𝓤 H A step.ended (step.clauses 𝓤 H A at-mem run) ((α₀ ∷ []), (κ₁, (κ₂, (κ₃, (κ₄, (κ₅, tt)))))) (h .state, ((ref₀ δ₀), (n₁, (n₂, (p₁, (p₂, (p₃, (p₄, (w, tt))))))))) tt r)))) (id⊢ 𝓤 _) $ await ! tt $ pick ! (λ r. split ! $
         move ! (1 ∷ []) $ use1 W (some (λ (zs : Unit {0} × (List ℕ × (Unit {0} × (Unit {0} × (Unit {0} × (Unit {0} × (Unit {0} × (Unit {0} × (List ℕ × Unit {0}))))))))). ‵ (lasts step.ended ((α₀ ∷ []), (κ₁, (κ₂, (κ₃, (κ₄, (κ₅, tt)))))) (h .state, ((ref₀ δ₀), (n₁, (n₂, (p₁, (p₂, (p₃, (p₄, (w, tt))))))))) zs) ⊛ raw (fact 𝓤 ((found : List ℕ) → report (joined (zs .1 .0) found (r .state)) (r .outcome) (zs .1 .1 .1 .1 .1 .1 .1 .1 .0) ≡ reportFor (joined (h .command) found (h .state)) (calling n₁ n₂ (p₁ .now) (p₂ .now) (p₃ .now) (p₄ .now) ys))))) (id⊢ 𝓤 _) $ pick ! (λ zs. split ! $
         move ! (1 ∷ []) $ heard ! ((found : List ℕ) → report (joined (zs .1 .0) found (r .state)) (r .outcome) (zs .1 .1 .1 .1 .1 .1 .1 .1 .0) ≡ reportFor (joined (h .command) found (h .state)) (calling n₁ n₂ (p₁ .now) (p₂ .now) (p₃ .now) (p₄ .now) ys)) (λ e.
         fsplit ! $ drop ! $ fsplit ! $ move ! (1 ∷ []) $ fsplit ! $ drop ! $ fsplit ! $ drop ! $ fsplit ! $ drop ! $ fsplit ! $ drop ! $ fsplit ! $ drop ! $ fsplit ! $ drop ! $ fsplit ! $ fsplit ! $ move ! (1 ∷ []) $ feqL ! (λ l. move ! (3 ∷ []) $ split ! $ move ! (1 ∷ []) $ peeks ! R.the-row (Is R.the-row) (shows 𝓤 H A R.the-row) r (v ∷ []) (λ is. drop ! $
@@ -209,7 +209,7 @@ module _ {M : Type 1} (𝓤 : URA M) (H : Heap 𝓤) (A : Atoms 𝓤) (W : Given
         keep ! (1 ∷ 2 ∷ 3 ∷ 4 ∷ 10 ∷ 9 ∷ 8 ∷ 7 ∷ 5 ∷ 0 ∷ []) $ by ! (exits r (zs .1 .0) (zs .1 .1 .1 .1 .1 .1 .1 .1 .0) e l)))))))))))))))))))))))))
 
 module _ {M : Type 1} (𝓤 : URA M) (H : Heap 𝓤) (A : Atoms 𝓤) (W : Given 𝓤 H A) (at-mem : Memory → SProp 𝓤) (run : Routine → Fun 𝓤) where
-  rcs956-call-walks : (C : Calls 𝓤 H) (Λ : Loops 𝓤 H) → FmC 𝓤 H (W .laws) C → Triple 𝓤 (C #host·step·called) (Step₀ 𝓤 H A at-mem run) → Walks 𝓤 H A f.ended stayed (WpFn 𝓤 H C Λ code.function) (f.clauses 𝓤 H A at-mem run)
+  rcs956-call-walks : (C : Calls 𝓤 H) (Λ : Loops 𝓤 H) → FmC 𝓤 H (W .laws) C → Triple 𝓤 (C #host·step·call) (Step₀ 𝓤 H A at-mem run) → Walks 𝓤 H A f.ended stayed (WpFn 𝓤 H C Λ code.function) (f.clauses 𝓤 H A at-mem run)
   rcs956-call-walks C Λ fm known = walked 𝓤 H A f.ended stayed (f.clauses 𝓤 H A at-mem run) (WpFn 𝓤 H C Λ code.function)
       (λ κs. (ptr-vals, (uint-vals w8, (LL.vals X.the-type X′.the-laws, (slice-vals, (slice-vals, (slice-vals, (slice-vals, (slice-vals, tt))))))))) (λ κs. (mut-tells (named 0) (κs .0) T.the-row, (uint-tells w8, (LL.tells X.the-type X′.the-laws, (shr-slice-tells (named 1) (κs .1 .0) u8, (shr-slice-tells (named 2) (κs .1 .1 .0) u8, (shr-slice-tells (named 3) (κs .1 .1 .1 .0) u8, (shr-slice-tells (named 4) (κs .1 .1 .1 .1 .0) u8, (mut-slice-tells (named 5) (κs .1 .1 .1 .1 .1 .0) u8, tt)))))))))
       (λ κs qs bounds a _ are. via 𝓤 _ (fst∗ 𝓤 _ (emp 𝓤)) (walk 𝓤 H A W at-mem run (κs .0) (κs .1 .0) (κs .1 .1 .0) (κs .1 .1 .1 .0) (κs .1 .1 .1 .1 .0) (κs .1 .1 .1 .1 .1 .0) (qs .0) (qs .1 .0) (qs .1 .1 .0) (qs .1 .1 .1 .0) (qs .1 .1 .1 .1 .0) (qs .1 .1 .1 .1 .1 .0) (a .0 .ptr .0) (a .0 .ptr .1) (a .0 .name) (a .0 .now)
@@ -218,7 +218,7 @@ module _ {M : Type 1} (𝓤 : URA M) (H : Heap 𝓤) (A : Atoms 𝓤) (W : Given
   goes : AllGo 𝓤 H A W 6 (f.signature .params) (f.ended .kept) stayed
   goes = (goes-ref 𝓤 H A W 6 0 tt (plain (λ _. T.the-row)), (goes-none 𝓤 H A W 6 (λ _. u8) yes (λ κs x f. refl), (goes-none 𝓤 H A W 6 (λ _. X.the-row) yes (λ κs x f. refl), (goes-none-slice 𝓤 H A W 6 (1 ∷ []) tt (plain (λ _. u8)) yes, (goes-none-slice 𝓤 H A W 6 (2 ∷ []) tt (plain (λ _. u8)) yes, (goes-none-slice 𝓤 H A W 6 (3 ∷ []) tt (plain (λ _. u8)) yes, (goes-none-slice 𝓤 H A W 6 (4 ∷ []) tt (plain (λ _. u8)) yes, (goes-gave-slice 𝓤 H A W 6 5 tt (plain (λ _. u8)), tt))))))))
 
-rcs956-call-meets : {M : Type 1} (𝓤 : URA M) (H : Heap 𝓤) (A : Atoms 𝓤) (W : Given 𝓤 H A) (at-mem : Memory → SProp 𝓤) (run : Routine → Fun 𝓤) (𝓣 : Tables 𝓤 H) → Triple 𝓤 (𝓣 .C #host·step·called) (Step₀ 𝓤 H A at-mem run)
+rcs956-call-meets : {M : Type 1} (𝓤 : URA M) (H : Heap 𝓤) (A : Atoms 𝓤) (W : Given 𝓤 H A) (at-mem : Memory → SProp 𝓤) (run : Routine → Fun 𝓤) (𝓣 : Tables 𝓤 H) → Triple 𝓤 (𝓣 .C #host·step·call) (Step₀ 𝓤 H A at-mem run)
     → Meets 𝓤 H A f.signature (WpFn 𝓤 H (𝓣 .C) (𝓣 .Λ) code.function) (f.spec 𝓤 H A at-mem run)
 rcs956-call-meets 𝓤 H A W at-mem run 𝓣 known = walk-meets 𝓤 H A f.ended stayed W (goes 𝓤 H A W at-mem run) (f.clauses 𝓤 H A at-mem run) (WpFn 𝓤 H (𝓣 .C) (𝓣 .Λ) code.function) (WpFn-mono 𝓤 H (W .laws) 𝓣 code.function) (rcs956-call-walks 𝓤 H A W at-mem run (𝓣 .C) (𝓣 .Λ) (fmOf 𝓤 H (W .laws) 𝓣) known)
 
@@ -228,4 +228,4 @@ rcs956-call-spec 𝓤 H 𝓜 𝓖 𝓡 =
     entered 𝓤 H (tripleOf 𝓤 H (𝓖 .A) f.signature (f.spec 𝓤 H (𝓖 .A) (𝓜 .mem) (𝓡 .run)))
     (tables 𝓤 H 𝓜 𝓡 code.env .C) (tables 𝓤 H 𝓜 𝓡 code.env .Λ) #host·rcs956-call code.function (code.unfolded 𝓤 H 𝓜 𝓡)
     (rcs956-call-meets 𝓤 H (𝓖 .A) (givenOf 𝓤 H 𝓜 𝓖) (𝓜 .mem) (𝓡 .run) (tablesOf 𝓤 H 𝓜 (tables 𝓤 H 𝓜 𝓡 code.env))
-    (cited 𝓤 H (Step₀ 𝓤 H (𝓖 .A) (𝓜 .mem) (𝓡 .run)) 𝓜 𝓡 code.env #host·step·called step-def.routine code.calls-host·step·called (step-thm.met 𝓤 H 𝓜 𝓖 𝓡)))
+    (cited 𝓤 H (Step₀ 𝓤 H (𝓖 .A) (𝓜 .mem) (𝓡 .run)) 𝓜 𝓡 code.env #host·step·call step-def.routine code.calls-host·step·call (step-thm.met 𝓤 H 𝓜 𝓖 𝓡)))

@@ -46,20 +46,20 @@ use denote.Exit.{yes}
 use Rattle.host.specs.Outcomes.{report, joined}
 use Rattle.host.specs.Entries.{telling, reportFor}
 use Rattle.engine.specs.declared.session.Session.{Session}
-use Rattle.host.specs.declared.outcome.Told.{Told}
+use Rattle.host.specs.declared.outcome.HostStep.{HostStep}
 use Rattle.host.specs.declared.outcome.Outcome.{Outcome}
 use Rattle.engine.proofs.session.Session as T
 use Rattle.engine.proofs.state.State as N
 use Rattle.engine.proofs.state.State.Laws as N′
-use Rattle.host.proofs.outcome.Told as R
-use Rattle.host.proofs.outcome.Told.Laws as R′
+use Rattle.host.proofs.outcome.HostStep as R
+use Rattle.host.proofs.outcome.HostStep.Laws as R′
 use Rattle.host.proofs.outcome.Outcome as O
 use Rattle.host.proofs.outcome.Outcome.Laws as O′
 use Rattle.host.proofs.Apart.{mN, Fits, Array₀, Array₁, Held, Back, apart, together}
-use Rattle.host.proofs.step.told as step
-use Rattle.host.proofs.step.told.Symbol as step-def
-use Rattle.host.proofs.step.told.Symbol.{name as #host·step·told}
-use Rattle.host.proofs.step.told.Met as step-thm
+use Rattle.host.proofs.step.event as step
+use Rattle.host.proofs.step.event.Symbol as step-def
+use Rattle.host.proofs.step.event.Symbol.{name as #host·step·event}
+use Rattle.host.proofs.step.event.Met as step-thm
 use Rattle.host.proofs.rcs956_event.Key.{name as #host·rcs956-event}
 use Rattle.host.proofs.rcs956_event as f
 use Rattle.host.proofs.rcs956_event.Statement as stated
@@ -132,7 +132,7 @@ module _ {M : Type 1} (𝓤 : URA M) (H : Heap 𝓤) (A : Atoms 𝓤) (W : Given
     goes-step : ent 𝓤 (sep 𝓤 (sep 𝓤 (A .lft (α₀ ∷ []) fullShare) (sep 𝓤 (A .lft (α₁ ∷ []) fullShare) (sep 𝓤 (A .lft κ₁ q₁) (sep 𝓤 (A .lft κ₂ q₂) (sem 𝓤 H A ftrue))))) (sem 𝓤 H A Passed)) (Step₀ 𝓤 H A at-mem run .pre to-step)
     goes-step = qed W ((‵ (flft (α₀ ∷ []) fullShare) ⊛ ‵ (flft (α₁ ∷ []) fullShare) ⊛ ‵ (flft κ₁ q₁) ⊛ ‵ (flft κ₂ q₂) ⊛ ‵ ftrue) ∷ ‵ Passed ∷ []) ∵ join ! $ frame ! $ done !
 
-  exits : (r : Told) (x₀ : List ℕ) (x₁ : List ℕ) (zs : List ℕ) → report (joined x₀ x₁ (r .state)) (r .outcome) zs ≡ reportFor h (telling n₁ (p₁ .now) ys) → length zs ≡ length ys
+  exits : (r : HostStep) (x₀ : List ℕ) (x₁ : List ℕ) (zs : List ℕ) → report (joined x₀ x₁ (r .state)) (r .outcome) zs ≡ reportFor h (telling n₁ (p₁ .now) ys) → length zs ≡ length ys
       → ent 𝓤 (⋆ 𝓤 H A (‵ (fobs γ (T.the-row .coded .code (record { command = x₀; found = x₁; state = r .state }))) ∷ ‵ (fbor κ₀ (Body (mem T.the-row) b o γ)) ∷ ‵ (flft κ₀ q₀) ∷ (‵ (flft κ₁ q₁) ⊛ ‵ (flft κ₂ q₂) ⊛ ‵ ftrue) ∷ ‵ Ownp₁ ∷ ‵ (finally u8 γ′ zs) ∷ ‵ (O.the-row .own (r .outcome) (mO (r .outcome) ∷ [])) ∷ [])) (Post (mO (r .outcome)))
   exits r x₀ x₁ zs e l =
       qed W (‵ (fobs γ (T.the-row .coded .code (record { command = x₀; found = x₁; state = r .state }))) ∷ ‵ (fbor κ₀ (Body (mem T.the-row) b o γ)) ∷ ‵ (flft κ₀ q₀) ∷ (‵ (flft κ₁ q₁) ⊛ ‵ (flft κ₂ q₂) ⊛ ‵ ftrue) ∷ ‵ Ownp₁ ∷ ‵ (finally u8 γ′ zs) ∷ ‵ (O.the-row .own (r .outcome) (mO (r .outcome) ∷ [])) ∷ []) ∵
@@ -140,13 +140,13 @@ module _ {M : Type 1} (𝓤 : URA M) (H : Heap 𝓤) (A : Atoms 𝓤) (W : Given
       move ! (2 ∷ 3 ∷ []) $ join ! $ frame ! $ feqI ! (List Val) (vptr b o ∷ []) (vptr b o ∷ []) refl $ fjoin3 ! $ nothing ! $ move ! (3 ∷ 0 ∷ []) $ fjoin ! $ move ! (2 ∷ 0 ∷ []) $ fjoin ! $ owned ! u8 (Is u8) (uint-makes 𝓤 H A W w8) n₁ _ (refl, n₁-fits) $ fjoin ! $ move ! (1 ∷ 0 ∷ []) $ fjoin ! $ done !
 
   -- what is known of the parts of the result
-  part₀ : (r : Told) (v : Val) → Is R.the-row r (v ∷ []) → Fits (r .state)
+  part₀ : (r : HostStep) (v : Val) → Is R.the-row r (v ∷ []) → Fits (r .state)
   part₀ r v is = LL.owed R.the-type R′.the-laws r _ is .0
 
-  part₁ : (r : Told) (v : Val) → Is R.the-row r (v ∷ []) → Is O.the-row (r .outcome) (mO (r .outcome) ∷ [])
+  part₁ : (r : HostStep) (v : Val) → Is R.the-row r (v ∷ []) → Is O.the-row (r .outcome) (mO (r .outcome) ∷ [])
   part₁ r v is = LL.owed R.the-type R′.the-laws r _ is .1 .0
 
-  module _ (C : Calls 𝓤 H) (Λ : Loops 𝓤 H) (fm : FmC 𝓤 H (W .laws) C) (known : Triple 𝓤 (C #host·step·told) (Step₀ 𝓤 H A at-mem run)) where
+  module _ (C : Calls 𝓤 H) (Λ : Loops 𝓤 H) (fm : FmC 𝓤 H (W .laws) C) (known : Triple 𝓤 (C #host·step·event) (Step₀ 𝓤 H A at-mem run)) where
     walk : Is (ShrSlice (named 1) κ₁ u8) p₁ (vp₁ ∷ []) → Room u8 (length ys) → ent 𝓤 (onEntry 𝓤 H A f.signature (κ₀, (κ₁, (κ₂, tt))) (q₀, (q₁, (q₂, tt))) a vals) (WpFn 𝓤 H C Λ code.function (vptr b o ∷ vint w8 n₁ ∷ vp₁ ∷ vw ∷ []) Post)
     walk isp₁ room =
         qed W ((‵ (flft κ₀ q₀) ⊛ ‵ (flft κ₁ q₁) ⊛ ‵ (flft κ₂ q₂) ⊛ ‵ ftrue) ∷ ‵ (owns (MutRef (named 0) κ₀ T.the-row ∷ u8 ∷ ShrSlice (named 1) κ₁ u8 ∷ MutSlice (named 2) κ₂ u8 ∷ []) a vals) ∷ []) ∵
@@ -172,7 +172,7 @@ module _ {M : Type 1} (𝓤 : URA M) (H : Heap 𝓤) (A : Atoms 𝓤) (W : Given
         move ! (3 ∷ 11 ∷ []) $ join ! $ move ! (5 ∷ 0 ∷ []) $ join ! $ use2 W (raw (Step₀ 𝓤 H A at-mem run .pre (to-step α₀ α₁ δ₀ δ₁))) (goes-step α₀ α₁ δ₀ δ₁) $
         -- the call
         calls-at ! fm (Step₀ 𝓤 H A at-mem run) known (to-step α₀ α₁ δ₀ δ₁) (and-then ! (load ! (from ! (stop !)) (look ! 21 refl)) (and-then ! (load ! (from ! (stop !)) (look ! 15 refl)) (and-then ! (load ! (from ! (stop !)) (look ! 13 refl)) (and-then ! (load ! (from ! (stop !)) (look ! 27 refl)) (and-then ! (load ! (from ! (stop !)) (look ! 25 refl)) (and-then ! (load ! (from ! (stop !)) (look ! 9 refl)) (no-more !))))))) (λ v.
-        use1 W (later (some (λ (r : Told). ((‵ (flft (α₀ ∷ []) fullShare) ⊛ ‵ (flft (α₁ ∷ []) fullShare) ⊛ ‵ (flft κ₁ q₁) ⊛ ‵ (flft κ₂ q₂) ⊛ ‵ ftrue) ⊛ ‵ (R.the-row .own r (v ∷ []))) ⊛ raw (ensured 𝓤 H A step.ended (step.clauses 𝓤 H A at-mem run) ((α₀ ∷ []), ((α₁ ∷ []), (κ₁, (κ₂, tt)))) (h .state, ((ref₀ δ₀), ((ref₁ δ₁), (n₁, (p₁, (w, tt)))))) tt r)))) (id⊢ 𝓤 _) $ await ! tt $ pick ! (λ r. split ! $
+        use1 W (later (some (λ (r : HostStep). ((‵ (flft (α₀ ∷ []) fullShare) ⊛ ‵ (flft (α₁ ∷ []) fullShare) ⊛ ‵ (flft κ₁ q₁) ⊛ ‵ (flft κ₂ q₂) ⊛ ‵ ftrue) ⊛ ‵ (R.the-row .own r (v ∷ []))) ⊛ raw (ensured 𝓤 H A step.ended (step.clauses 𝓤 H A at-mem run) ((α₀ ∷ []), ((α₁ ∷ []), (κ₁, (κ₂, tt)))) (h .state, ((ref₀ δ₀), ((ref₁ δ₁), (n₁, (p₁, (w, tt)))))) tt r)))) (id⊢ 𝓤 _) $ await ! tt $ pick ! (λ r. split ! $
         move ! (1 ∷ []) $ use1 W (some (λ (zs : Unit {0} × (List ℕ × (List ℕ × (Unit {0} × (Unit {0} × (List ℕ × Unit {0})))))). ‵ (lasts step.ended ((α₀ ∷ []), ((α₁ ∷ []), (κ₁, (κ₂, tt)))) (h .state, ((ref₀ δ₀), ((ref₁ δ₁), (n₁, (p₁, (w, tt)))))) zs) ⊛ raw (fact 𝓤 (report (joined (zs .1 .0) (zs .1 .1 .0) (r .state)) (r .outcome) (zs .1 .1 .1 .1 .1 .0) ≡ reportFor h (telling n₁ (p₁ .now) ys))))) (id⊢ 𝓤 _) $ pick ! (λ zs. split ! $
         move ! (1 ∷ []) $ heard ! (report (joined (zs .1 .0) (zs .1 .1 .0) (r .state)) (r .outcome) (zs .1 .1 .1 .1 .1 .0) ≡ reportFor h (telling n₁ (p₁ .now) ys)) (λ e.
         fsplit ! $ drop ! $ fsplit ! $ move ! (1 ∷ []) $ fsplit ! $ move ! (1 ∷ []) $ fsplit ! $ drop ! $ fsplit ! $ drop ! $ fsplit ! $ fsplit ! $ move ! (1 ∷ []) $ feqL ! (λ l. move ! (4 ∷ []) $ split ! $ move ! (1 ∷ []) $ peeks ! R.the-row (Is R.the-row) (shows 𝓤 H A R.the-row) r (v ∷ []) (λ is. drop ! $
@@ -193,7 +193,7 @@ module _ {M : Type 1} (𝓤 : URA M) (H : Heap 𝓤) (A : Atoms 𝓤) (W : Given
         keep ! (1 ∷ 2 ∷ 3 ∷ 4 ∷ 7 ∷ 5 ∷ 0 ∷ []) $ by ! (exits r (zs .1 .0) (zs .1 .1 .0) (zs .1 .1 .1 .1 .1 .0) e l))))))))))))))))))))))))
 
 module _ {M : Type 1} (𝓤 : URA M) (H : Heap 𝓤) (A : Atoms 𝓤) (W : Given 𝓤 H A) (at-mem : Memory → SProp 𝓤) (run : Routine → Fun 𝓤) where
-  rcs956-event-walks : (C : Calls 𝓤 H) (Λ : Loops 𝓤 H) → FmC 𝓤 H (W .laws) C → Triple 𝓤 (C #host·step·told) (Step₀ 𝓤 H A at-mem run) → Walks 𝓤 H A f.ended stayed (WpFn 𝓤 H C Λ code.function) (f.clauses 𝓤 H A at-mem run)
+  rcs956-event-walks : (C : Calls 𝓤 H) (Λ : Loops 𝓤 H) → FmC 𝓤 H (W .laws) C → Triple 𝓤 (C #host·step·event) (Step₀ 𝓤 H A at-mem run) → Walks 𝓤 H A f.ended stayed (WpFn 𝓤 H C Λ code.function) (f.clauses 𝓤 H A at-mem run)
   rcs956-event-walks C Λ fm known = walked 𝓤 H A f.ended stayed (f.clauses 𝓤 H A at-mem run) (WpFn 𝓤 H C Λ code.function)
       (λ κs. (ptr-vals, (uint-vals w8, (slice-vals, (slice-vals, tt))))) (λ κs. (mut-tells (named 0) (κs .0) T.the-row, (uint-tells w8, (shr-slice-tells (named 1) (κs .1 .0) u8, (mut-slice-tells (named 2) (κs .1 .1 .0) u8, tt)))))
       (λ κs qs bounds a _ are. via 𝓤 _ (fst∗ 𝓤 _ (emp 𝓤)) (walk 𝓤 H A W at-mem run (κs .0) (κs .1 .0) (κs .1 .1 .0) (qs .0) (qs .1 .0) (qs .1 .1 .0) (a .0 .ptr .0) (a .0 .ptr .1) (a .0 .name) (a .0 .now)
@@ -202,7 +202,7 @@ module _ {M : Type 1} (𝓤 : URA M) (H : Heap 𝓤) (A : Atoms 𝓤) (W : Given
   goes : AllGo 𝓤 H A W 3 (f.signature .params) (f.ended .kept) stayed
   goes = (goes-ref 𝓤 H A W 3 0 tt (plain (λ _. T.the-row)), (goes-none 𝓤 H A W 3 (λ _. u8) yes (λ κs x f. refl), (goes-none-slice 𝓤 H A W 3 (1 ∷ []) tt (plain (λ _. u8)) yes, (goes-gave-slice 𝓤 H A W 3 2 tt (plain (λ _. u8)), tt))))
 
-rcs956-event-meets : {M : Type 1} (𝓤 : URA M) (H : Heap 𝓤) (A : Atoms 𝓤) (W : Given 𝓤 H A) (at-mem : Memory → SProp 𝓤) (run : Routine → Fun 𝓤) (𝓣 : Tables 𝓤 H) → Triple 𝓤 (𝓣 .C #host·step·told) (Step₀ 𝓤 H A at-mem run)
+rcs956-event-meets : {M : Type 1} (𝓤 : URA M) (H : Heap 𝓤) (A : Atoms 𝓤) (W : Given 𝓤 H A) (at-mem : Memory → SProp 𝓤) (run : Routine → Fun 𝓤) (𝓣 : Tables 𝓤 H) → Triple 𝓤 (𝓣 .C #host·step·event) (Step₀ 𝓤 H A at-mem run)
     → Meets 𝓤 H A f.signature (WpFn 𝓤 H (𝓣 .C) (𝓣 .Λ) code.function) (f.spec 𝓤 H A at-mem run)
 rcs956-event-meets 𝓤 H A W at-mem run 𝓣 known = walk-meets 𝓤 H A f.ended stayed W (goes 𝓤 H A W at-mem run) (f.clauses 𝓤 H A at-mem run) (WpFn 𝓤 H (𝓣 .C) (𝓣 .Λ) code.function) (WpFn-mono 𝓤 H (W .laws) 𝓣 code.function) (rcs956-event-walks 𝓤 H A W at-mem run (𝓣 .C) (𝓣 .Λ) (fmOf 𝓤 H (W .laws) 𝓣) known)
 
@@ -212,4 +212,4 @@ rcs956-event-spec 𝓤 H 𝓜 𝓖 𝓡 =
     entered 𝓤 H (tripleOf 𝓤 H (𝓖 .A) f.signature (f.spec 𝓤 H (𝓖 .A) (𝓜 .mem) (𝓡 .run)))
     (tables 𝓤 H 𝓜 𝓡 code.env .C) (tables 𝓤 H 𝓜 𝓡 code.env .Λ) #host·rcs956-event code.function (code.unfolded 𝓤 H 𝓜 𝓡)
     (rcs956-event-meets 𝓤 H (𝓖 .A) (givenOf 𝓤 H 𝓜 𝓖) (𝓜 .mem) (𝓡 .run) (tablesOf 𝓤 H 𝓜 (tables 𝓤 H 𝓜 𝓡 code.env))
-    (cited 𝓤 H (Step₀ 𝓤 H (𝓖 .A) (𝓜 .mem) (𝓡 .run)) 𝓜 𝓡 code.env #host·step·told step-def.routine code.calls-host·step·told (step-thm.met 𝓤 H 𝓜 𝓖 𝓡)))
+    (cited 𝓤 H (Step₀ 𝓤 H (𝓖 .A) (𝓜 .mem) (𝓡 .run)) 𝓜 𝓡 code.env #host·step·event step-def.routine code.calls-host·step·event (step-thm.met 𝓤 H 𝓜 𝓖 𝓡)))

@@ -4,9 +4,6 @@ use borrow.Author.Needs.{needs}
 use Rattle.stages.proofs.byte_or.Statement.{statement}
 use Rattle.stages.proofs.byte_or.Tie as tie
 
-shared-slice-read-result : tie.Need-shared-slice-read-result
-shared-slice-read-result c = search needs
-
 returns : tie.Need-returns
 returns c = search (any-default, needs)
 
@@ -14,4 +11,4 @@ returns-2 : tie.Need-returns-2
 returns-2 c = search (default-behind, needs)
 
 pub byte-or-spec : {M : Type 1} → statement M
-byte-or-spec = tie.close (tie.spec shared-slice-read-result returns returns-2)
+byte-or-spec = tie.close (tie.spec (λ c. search needs) returns returns-2)

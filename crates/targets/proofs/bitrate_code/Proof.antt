@@ -8,36 +8,6 @@ use Rattle.targets.proofs.Laws.{number, other, same-number}
 use Rattle.targets.proofs.bitrate_code.Statement.{statement}
 use Rattle.targets.proofs.bitrate_code.Tie as tie
 
-sub-number : tie.Need-sub-number
-sub-number c = search needs
-
-cast-number : tie.Need-cast-number
-cast-number c = search needs
-
-mul-number : tie.Need-mul-number
-mul-number c = search needs
-
-sub-number-2 : tie.Need-sub-number-2
-sub-number-2 c = search needs
-
-cast-number-2 : tie.Need-cast-number-2
-cast-number-2 c = search needs
-
-mul-number-2 : tie.Need-mul-number-2
-mul-number-2 c = search needs
-
-add-number : tie.Need-add-number
-add-number c = search needs
-
-sub-number-3 : tie.Need-sub-number-3
-sub-number-3 c = search needs
-
-cast-number-3 : tie.Need-cast-number-3
-cast-number-3 c = search needs
-
-add-number-2 : tie.Need-add-number-2
-add-number-2 c = search needs
-
 returns : tie.Need-returns
 returns c = same-number _ _ _ 49 48 54 (c .before .before .pre) (omega arith) (c .before .match .keys1) _ _ (unfold codeOf same in rw (c .match2 .keys1))
 
@@ -80,16 +50,16 @@ pub bitrate-code-spec : {M : Type 1} → statement M
 bitrate-code-spec =
     tie.close
     (tie.spec
-    sub-number
-    cast-number
-    mul-number
-    sub-number-2
-    cast-number-2
-    mul-number-2
-    add-number
-    sub-number-3
-    cast-number-3
-    add-number-2
+    (λ c. search needs)
+    (λ c. search needs)
+    (λ c. search needs)
+    (λ c. search needs)
+    (λ c. search needs)
+    (λ c. search needs)
+    (λ c. search needs)
+    (λ c. search needs)
+    (λ c. search needs)
+    (λ c. search needs)
     returns
     returns-2
     returns-3

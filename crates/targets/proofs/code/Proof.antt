@@ -4,15 +4,6 @@ use Rattle.targets.proofs.Laws.{refused-too, other-length, four-place, 
 use Rattle.targets.proofs.code.Statement.{statement}
 use Rattle.targets.proofs.code.Tie as tie
 
-parse-requires : tie.Need-parse-requires
-parse-requires c κs = search needs
-
-enum-known-n : tie.Need-enum-known-n
-enum-known-n c = search needs
-
-enum-told : tie.Need-enum-told
-enum-told c = search needs
-
 returns : tie.Need-returns
 returns c = search (refused-too, needs)
 
@@ -43,9 +34,9 @@ pub code-spec : {M : Type 1} → statement M
 code-spec =
     tie.close
     (tie.spec
-    parse-requires
-    enum-known-n
-    enum-told
+    (λ c κs. search needs)
+    (λ c. search needs)
+    (λ c. search needs)
     returns
     returns-2
     shared-slice-read-bitrate-code

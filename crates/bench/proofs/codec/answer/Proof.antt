@@ -6,21 +6,9 @@ use borrow.Author.Needs.{needs}
 use Rattle.bench.proofs.codec.answer.Statement.{statement}
 use Rattle.bench.proofs.codec.answer.Tie as tie
 
-unreadable-requires : tie.Need-unreadable-requires
-unreadable-requires c κs = search needs
-
 returns : tie.Need-returns
 unfolding answerOf
 returns c = search (placed-true, cases, needs)
-
-slice-aggregate-by-words : tie.Need-slice-aggregate-by-words
-slice-aggregate-by-words c = search needs
-
-slice-aggregate-by-words-2 : tie.Need-slice-aggregate-by-words-2
-slice-aggregate-by-words-2 c = search needs
-
-by-words-requires : tie.Need-by-words-requires
-by-words-requires c κs = search needs
 
 returns-2 : tie.Need-returns-2
 unfolding answerOf
@@ -30,9 +18,9 @@ pub answer-spec : {M : Type 1} → statement M
 answer-spec =
     tie.close
     (tie.spec
-    unreadable-requires
+    (λ c κs. search needs)
     returns
-    slice-aggregate-by-words
-    slice-aggregate-by-words-2
-    by-words-requires
+    (λ c. search needs)
+    (λ c. search needs)
+    (λ c κs. search needs)
     returns-2)

@@ -4,21 +4,12 @@ use borrow.Author.Needs.{needs}
 use Rattle.bench.proofs.codec.checksum.Statement.{statement}
 use Rattle.bench.proofs.codec.checksum.Tie as tie
 
-checksum-requires : tie.Need-checksum-requires
-checksum-requires c κs = search needs
-
-slice-aggregate-put : tie.Need-slice-aggregate-put
-slice-aggregate-put c = search needs
-
 put-requires : tie.Need-put-requires
 put-requires c κs = search (one-room, needs)
-
-same-length : tie.Need-same-length
-same-length c = search needs
 
 returns : tie.Need-returns
 returns c = search (checksum-done, needs)
 
 pub checksum-spec : {M : Type 1} → statement M
 checksum-spec =
-    tie.close (tie.spec checksum-requires slice-aggregate-put put-requires same-length returns)
+    tie.close (tie.spec (λ c κs. search needs) (λ c. search needs) put-requires (λ c. search needs) returns)

@@ -4,24 +4,6 @@ use borrow.Author.Needs.{needs}
 use Rattle.bench.proofs.codec.crc_a_append.Statement.{statement}
 use Rattle.bench.proofs.codec.crc_a_append.Tie as tie
 
-add-crc-a-requires : tie.Need-add-crc-a-requires
-add-crc-a-requires c κs = search needs
-
-enum-known-n : tie.Need-enum-known-n
-enum-known-n c = search needs
-
-enum-told : tie.Need-enum-told
-enum-told c = search needs
-
-unreadable-requires : tie.Need-unreadable-requires
-unreadable-requires c κs = search needs
-
-same-length : tie.Need-same-length
-same-length c = search needs
-
-same-length-2 : tie.Need-same-length-2
-same-length-2 c = search needs
-
 returns : tie.Need-returns
 returns c = search (append-refused, needs)
 
@@ -34,12 +16,6 @@ slice-aggregate-put c = search (append-part, needs)
 put-requires : tie.Need-put-requires
 put-requires c κs = search (append-room, needs)
 
-same-length-3 : tie.Need-same-length-3
-same-length-3 c = search needs
-
-same-length-4 : tie.Need-same-length-4
-same-length-4 c = search needs
-
 returns-2 : tie.Need-returns-2
 returns-2 c = search (append-done, needs)
 
@@ -47,16 +23,16 @@ pub crc-a-append-spec : {M : Type 1} → statement M
 crc-a-append-spec =
     tie.close
     (tie.spec
-    add-crc-a-requires
-    enum-known-n
-    enum-told
-    unreadable-requires
-    same-length
-    same-length-2
+    (λ c κs. search needs)
+    (λ c. search needs)
+    (λ c. search needs)
+    (λ c κs. search needs)
+    (λ c. search needs)
+    (λ c. search needs)
     returns
     slice-reshare-prefix-put
     slice-aggregate-put
     put-requires
-    same-length-3
-    same-length-4
+    (λ c. search needs)
+    (λ c. search needs)
     returns-2)

@@ -7,29 +7,14 @@ use borrow.Author.Needs.{needs}
 use Rattle.bench.proofs.codec.reply.Statement.{statement}
 use Rattle.bench.proofs.codec.reply.Tie as tie
 
-enum-known-told : tie.Need-enum-known-told
-enum-known-told c = search needs
-
 slice-aggregate-answer : tie.Need-slice-aggregate-answer
 slice-aggregate-answer c = text-part _ _ _ (c .before .before .told .given .1) (c .before .before .before .before .before .pre .0)
-
-answer-requires : tie.Need-answer-requires
-answer-requires c κs = search needs
 
 put-feed-requires : tie.Need-put-feed-requires
 put-feed-requires c κs = feed-place _ _ _ _ (c .before .answer .ensures) (answer-fits _)
 
-enum-told : tie.Need-enum-told
-enum-told c = search needs
-
-unreadable-requires : tie.Need-unreadable-requires
-unreadable-requires c κs = search needs
-
 put-feed-requires-2 : tie.Need-put-feed-requires-2
 put-feed-requires-2 c κs = feed-place _ _ _ _ (c .before .unreadable .ensures) (omega arith)
-
-enum-told-2 : tie.Need-enum-told-2
-enum-told-2 c = search needs
 
 returns : tie.Need-returns
 returns c =
@@ -48,14 +33,14 @@ pub reply-spec : {M : Type 1} → statement M
 reply-spec =
     tie.close
     (tie.spec
-    enum-known-told
+    (λ c. search needs)
     slice-aggregate-answer
-    answer-requires
+    (λ c κs. search needs)
     put-feed-requires
-    enum-told
-    unreadable-requires
+    (λ c. search needs)
+    (λ c κs. search needs)
     put-feed-requires-2
-    enum-told-2
+    (λ c. search needs)
     returns
     returns-2
     returns-3)

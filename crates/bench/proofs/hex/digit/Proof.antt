@@ -5,12 +5,6 @@ use borrow.Author.Needs.{needs}
 use Rattle.bench.proofs.hex.digit.Statement.{statement}
 use Rattle.bench.proofs.hex.digit.Tie as tie
 
-add-result : tie.Need-add-result
-add-result c = search needs
-
-add-result-2 : tie.Need-add-result-2
-add-result-2 c = search needs
-
 returns : tie.Need-returns
 unfolding digitOf
 returns c = search (cases, needs) depth 8
@@ -20,4 +14,4 @@ unfolding digitOf
 returns-2 c = search (cases, needs) depth 8
 
 pub digit-spec : {M : Type 1} → statement M
-digit-spec = tie.close (tie.spec add-result add-result-2 returns returns-2)
+digit-spec = tie.close (tie.spec (λ c. search needs) (λ c. search needs) returns returns-2)

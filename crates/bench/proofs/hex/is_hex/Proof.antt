@@ -5,18 +5,9 @@ use borrow.Author.Needs.{needs}
 use Rattle.bench.proofs.hex.is_hex.Statement.{statement}
 use Rattle.bench.proofs.hex.is_hex.Tie as tie
 
-slice-aggregate-is : tie.Need-slice-aggregate-is
-slice-aggregate-is c = search needs
-
-is-requires : tie.Need-is-requires
-is-requires c κs = search needs
-
 returns : tie.Need-returns
 unfolding isHex
 returns c = search (steps, needs) depth 12
-
-all-digits-requires : tie.Need-all-digits-requires
-all-digits-requires c κs = search needs
 
 returns-2 : tie.Need-returns-2
 unfolding isHex
@@ -34,10 +25,10 @@ pub is-hex-spec : {M : Type 1} → statement M
 is-hex-spec =
     tie.close
     (tie.spec
-    slice-aggregate-is
-    is-requires
+    (λ c. search needs)
+    (λ c κs. search needs)
     returns
-    all-digits-requires
+    (λ c κs. search needs)
     returns-2
     returns-3
     returns-4)

@@ -5,22 +5,13 @@ use borrow.Author.Needs.{needs}
 use Rattle.bench.proofs.hex.print.Statement.{statement}
 use Rattle.bench.proofs.hex.print.Tie as tie
 
-text-length-requires : tie.Need-text-length-requires
-text-length-requires c κs = search needs
-
 returns : tie.Need-returns
 unfolding outcome
 returns c = search (put-short, needs)
-
-put-requires : tie.Need-put-requires
-put-requires c κs = search needs
-
-same-length : tie.Need-same-length
-same-length c = search needs
 
 returns-2 : tie.Need-returns-2
 unfolding outcome
 returns-2 c = search (put-done, needs)
 
 pub print-spec : {M : Type 1} → statement M
-print-spec = tie.close (tie.spec text-length-requires returns put-requires same-length returns-2)
+print-spec = tie.close (tie.spec (λ c κs. search needs) returns (λ c κs. search needs) (λ c. search needs) returns-2)

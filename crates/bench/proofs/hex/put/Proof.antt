@@ -5,14 +5,8 @@ use borrow.Author.Needs.{needs}
 use Rattle.bench.proofs.hex.put.Statement.{statement}
 use Rattle.bench.proofs.hex.put.Tie as tie
 
-slice-aggregate-put : tie.Need-slice-aggregate-put
-slice-aggregate-put c = search needs
-
 put-requires : tie.Need-put-requires
 put-requires c κs = search (dash-room, needs)
-
-same-length : tie.Need-same-length
-same-length c = search needs
 
 returns : tie.Need-returns
 returns c = search (put-dash, needs)
@@ -20,16 +14,10 @@ returns c = search (put-dash, needs)
 put-digits-requires : tie.Need-put-digits-requires
 put-digits-requires c κs = search (digits-room, needs)
 
-mul-result : tie.Need-mul-result
-mul-result c = search needs
-
 add-result : tie.Need-add-result
 add-result c =
     let h = digits-room _ _ (c .before .before .before .before .if1 .left) _ (c .before .before .before .before .before .before .before .pre) in
     omega arith
-
-same-length-2 : tie.Need-same-length-2
-same-length-2 c = search needs
 
 returns-2 : tie.Need-returns-2
 returns-2 c = search (put-some, needs)
@@ -38,12 +26,12 @@ pub put-spec : {M : Type 1} → statement M
 put-spec =
     tie.close
     (tie.spec
-    slice-aggregate-put
+    (λ c. search needs)
     put-requires
-    same-length
+    (λ c. search needs)
     returns
     put-digits-requires
-    mul-result
+    (λ c. search needs)
     add-result
-    same-length-2
+    (λ c. search needs)
     returns-2)

@@ -5,18 +5,12 @@ use borrow.Author.Needs.{needs}
 use Rattle.bench.proofs.hex.read.Statement.{statement}
 use Rattle.bench.proofs.hex.read.Tie as tie
 
-is-hex-requires : tie.Need-is-hex-requires
-is-hex-requires c κs = search needs
-
 returns : tie.Need-returns
 unfolding outcome
 returns c = search (read-short, needs)
 
 put-bytes-requires : tie.Need-put-bytes-requires
 put-bytes-requires c κs = search (may-read, needs)
-
-same-length : tie.Need-same-length
-same-length c = search needs
 
 returns-2 : tie.Need-returns-2
 unfolding outcome
@@ -28,4 +22,4 @@ returns-3 c = search (read-bad, needs)
 
 pub read-spec : {M : Type 1} → statement M
 read-spec =
-    tie.close (tie.spec is-hex-requires returns put-bytes-requires same-length returns-2 returns-3)
+    tie.close (tie.spec (λ c κs. search needs) returns put-bytes-requires (λ c. search needs) returns-2 returns-3)

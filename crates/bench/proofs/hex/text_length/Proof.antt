@@ -6,9 +6,6 @@ use borrow.Author.Needs.{needs}
 use Rattle.bench.proofs.hex.text_length.Statement.{statement}
 use Rattle.bench.proofs.hex.text_length.Tie as tie
 
-mul-result : tie.Need-mul-result
-mul-result c = search needs
-
 returns : tie.Need-returns
 returns c = sym (ap length (hex-none _ (c .if1 .taken)))
 
@@ -16,4 +13,4 @@ returns-2 : tie.Need-returns-2
 returns-2 c = sym (ap length (hex-some _ (c .if1 .left)) ∙ length-digits _)
 
 pub text-length-spec : {M : Type 1} → statement M
-text-length-spec = tie.close (tie.spec mul-result returns returns-2)
+text-length-spec = tie.close (tie.spec (λ c. search needs) returns returns-2)

@@ -6,12 +6,6 @@ use borrow.Author.Needs.{needs}
 use Rattle.bench.proofs.hex.value.Statement.{statement}
 use Rattle.bench.proofs.hex.value.Tie as tie
 
-add-result : tie.Need-add-result
-add-result c = search needs
-
-add-result-2 : tie.Need-add-result-2
-add-result-2 c = search needs
-
 returns : tie.Need-returns
 unfolding valueOf
 returns c = (search (cases, needs) depth 12, search needs)
@@ -44,8 +38,8 @@ pub value-spec : {M : Type 1} → statement M
 value-spec =
     tie.close
     (tie.spec
-    add-result
-    add-result-2
+    (λ c. search needs)
+    (λ c. search needs)
     returns
     returns-2
     returns-3

@@ -4,11 +4,8 @@ use borrow.Author.Needs.{needs}
 use Rattle.bench.proofs.lines.before_feed.Statement.{statement}
 use Rattle.bench.proofs.lines.before_feed.Tie as tie
 
-find-requires : tie.Need-find-requires
-find-requires c κs = search needs
-
 returns : tie.Need-returns
 returns c = (search (found-feed, needs), (search needs, search (room-counts, needs)))
 
 pub before-feed-spec : {M : Type 1} → statement M
-before-feed-spec = tie.close (tie.spec find-requires returns)
+before-feed-spec = tie.close (tie.spec (λ c κs. search needs) returns)

@@ -5,15 +5,9 @@ use borrow.Author.Needs.{needs}
 use Rattle.bench.proofs.lines.within.Statement.{statement}
 use Rattle.bench.proofs.lines.within.Tie as tie
 
-nothing-requires : tie.Need-nothing-requires
-nothing-requires c κs = search needs
-
 returns : tie.Need-returns
 unfolding heldOf
 returns c = search (cases, needs) depth 8
-
-nothing-requires-2 : tie.Need-nothing-requires-2
-nothing-requires-2 c κs = search needs
 
 returns-2 : tie.Need-returns-2
 unfolding heldOf
@@ -24,4 +18,4 @@ unfolding heldOf
 returns-3 c = search (cases, needs) depth 8
 
 pub within-spec : {M : Type 1} → statement M
-within-spec = tie.close (tie.spec nothing-requires returns nothing-requires-2 returns-2 returns-3)
+within-spec = tie.close (tie.spec (λ c κs. search needs) returns (λ c κs. search needs) returns-2 returns-3)

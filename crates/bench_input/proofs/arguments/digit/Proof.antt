@@ -5,9 +5,6 @@ use Rattle.bench_input.specs.Arguments.{digitOf}
 use Rattle.bench_input.proofs.arguments.digit.Statement.{statement}
 use Rattle.bench_input.proofs.arguments.digit.Tie as tie
 
-cast-result : tie.Need-cast-result
-cast-result c = search needs
-
 returns : tie.Need-returns
 unfolding digitOf
 returns c = search (cases, needs) depth 12
@@ -21,4 +18,4 @@ unfolding digitOf
 returns-3 c = search (cases, needs) depth 12
 
 pub digit-spec : {M : Type 1} → statement M
-digit-spec = tie.close (tie.spec cast-result returns returns-2 returns-3)
+digit-spec = tie.close (tie.spec (λ c. search needs) returns returns-2 returns-3)

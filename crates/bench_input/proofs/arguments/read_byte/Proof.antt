@@ -9,21 +9,6 @@ use Rattle.bench_input.specs.Arguments.{byteArg}
 use Rattle.bench_input.proofs.arguments.read_byte.Statement.{statement}
 use Rattle.bench_input.proofs.arguments.read_byte.Tie as tie
 
-word-requires : tie.Need-word-requires
-word-requires c κs = search needs
-
-slice-aggregate-read : tie.Need-slice-aggregate-read
-slice-aggregate-read c = search needs
-
-read-requires : tie.Need-read-requires
-read-requires c κs = search needs
-
-enum-told : tie.Need-enum-told
-enum-told c = search needs
-
-enum-told-2 : tie.Need-enum-told-2
-enum-told-2 c = search needs
-
 returns : tie.Need-returns
 unfolding byteArg
 returns c = λ f.
@@ -32,9 +17,6 @@ returns c = λ f.
     let at-word = at-if1 .before in
     at-true _ _ _ _ (eq-eqb _ _ (sym (ap length (at-word .word .ensures)) ∙ at-if1 .if1 .taken))
     (pairs-unread _ _ _ _ _ 1 (at-word .word .ensures) (at-if1 .if1 .taken) refl (at-read .read .ensures) _ (c .enum-told2 .given .1) _)
-
-array-read-t12 : tie.Need-array-read-t12
-array-read-t12 c = search needs
 
 returns-2 : tie.Need-returns-2
 unfolding byteArg
@@ -53,12 +35,12 @@ pub read-byte-spec : {M : Type 1} → statement M
 read-byte-spec =
     tie.close
     (tie.spec
-    word-requires
-    slice-aggregate-read
-    read-requires
-    enum-told
-    enum-told-2
+    (λ c κs. search needs)
+    (λ c. search needs)
+    (λ c κs. search needs)
+    (λ c. search needs)
+    (λ c. search needs)
     returns
-    array-read-t12
+    (λ c. search needs)
     returns-2
     returns-3)

@@ -8,15 +8,6 @@ use Rattle.bench_input.proofs.ArgumentLaws.{byte-value, byte-none}
 use Rattle.bench_input.proofs.arguments.read_flag.Statement.{statement}
 use Rattle.bench_input.proofs.arguments.read_flag.Tie as tie
 
-read-byte-requires : tie.Need-read-byte-requires
-read-byte-requires c κs = search needs
-
-enum-known-flag : tie.Need-enum-known-flag
-enum-known-flag c = search needs
-
-enum-told : tie.Need-enum-told
-enum-told c = search needs
-
 returns : tie.Need-returns
 unfolding flagArg
 returns c = λ f. byte-none _ _ _ (c .before .before .read-byte .ensures) (c .enum-told .given .1)
@@ -31,4 +22,4 @@ returns-3 c = λ f. byte-value _ _ _ (c .before .before .before .before .read-by
 
 pub read-flag-spec : {M : Type 1} → statement M
 read-flag-spec =
-    tie.close (tie.spec read-byte-requires enum-known-flag enum-told returns returns-2 returns-3)
+    tie.close (tie.spec (λ c κs. search needs) (λ c. search needs) (λ c. search needs) returns returns-2 returns-3)

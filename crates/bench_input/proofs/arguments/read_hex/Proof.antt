@@ -4,30 +4,6 @@ use Rattle.bench_input.proofs.ReadLaws.{hex-read, hex-unread, hex-behin
 use Rattle.bench_input.proofs.arguments.read_hex.Statement.{statement}
 use Rattle.bench_input.proofs.arguments.read_hex.Tie as tie
 
-word-requires : tie.Need-word-requires
-word-requires c κs = search needs
-
-sub-read : tie.Need-sub-read
-sub-read c = search needs
-
-part-read-start : tie.Need-part-read-start
-part-read-start c = search needs
-
-part-read-end : tie.Need-part-read-end
-part-read-end c = search needs
-
-read-requires : tie.Need-read-requires
-read-requires c κs = search needs
-
-enum-known-n : tie.Need-enum-known-n
-enum-known-n c = search needs
-
-enum-told : tie.Need-enum-told
-enum-told c = search needs
-
-same-length : tie.Need-same-length
-same-length c = search needs
-
 returns : tie.Need-returns
 returns c =
     let at-read = c .before .before .before .before in
@@ -44,9 +20,6 @@ add-t9 c =
     let start = at-word .before .before .before in
     let w = hex-within _ _ (start .args .bytes .now) _ (start .args .at) _ (at-word .word .ensures) (start .pre) (at-read .read .ensures) _ (c .before .n .given .1) in search needs
 
-same-length-2 : tie.Need-same-length-2
-same-length-2 c = search needs
-
 returns-2 : tie.Need-returns-2
 returns-2 c =
     let at-read = c .before .before .before .before .before in
@@ -60,15 +33,15 @@ pub read-hex-spec : {M : Type 1} → statement M
 read-hex-spec =
     tie.close
     (tie.spec
-    word-requires
-    sub-read
-    part-read-start
-    part-read-end
-    read-requires
-    enum-known-n
-    enum-told
-    same-length
+    (λ c κs. search needs)
+    (λ c. search needs)
+    (λ c. search needs)
+    (λ c. search needs)
+    (λ c κs. search needs)
+    (λ c. search needs)
+    (λ c. search needs)
+    (λ c. search needs)
     returns
     add-t9
-    same-length-2
+    (λ c. search needs)
     returns-2)

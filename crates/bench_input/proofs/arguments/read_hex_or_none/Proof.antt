@@ -8,9 +8,6 @@ use Rattle.bench_input.proofs.ReadLaws.{slice-none, none-stays}
 use Rattle.bench_input.proofs.arguments.read_hex_or_none.Statement.{statement}
 use Rattle.bench_input.proofs.arguments.read_hex_or_none.Tie as tie
 
-is-none-requires : tie.Need-is-none-requires
-is-none-requires c κs = search needs
-
 returns : tie.Need-returns
 unfolding hexOrNone
 returns c =
@@ -18,12 +15,6 @@ returns c =
       λ f. at-true _ _ _ _ (sym (c .before .is-none .ensures) ∙ c .if1 .taken) (ap f (slice-none (start .args .at) (start .args .at) (start .args .bytes .now) (omega arith))),
       none-stays _ _ _,
     )
-
-read-hex-requires : tie.Need-read-hex-requires
-read-hex-requires c κs = search needs
-
-same-length : tie.Need-same-length
-same-length c = search needs
 
 returns-2 : tie.Need-returns-2
 unfolding hexOrNone
@@ -35,4 +26,4 @@ returns-2 c =
 
 pub read-hex-or-none-spec : {M : Type 1} → statement M
 read-hex-or-none-spec =
-    tie.close (tie.spec is-none-requires returns read-hex-requires same-length returns-2)
+    tie.close (tie.spec (λ c κs. search needs) returns (λ c κs. search needs) (λ c. search needs) returns-2)

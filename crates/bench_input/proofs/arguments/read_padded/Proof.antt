@@ -7,15 +7,6 @@ use Rattle.bench_input.specs.Arguments.{paddedArg}
 use Rattle.bench_input.proofs.arguments.read_padded.Statement.{statement}
 use Rattle.bench_input.proofs.arguments.read_padded.Tie as tie
 
-word-requires : tie.Need-word-requires
-word-requires c κs = search needs
-
-slice-aggregate-is : tie.Need-slice-aggregate-is
-slice-aggregate-is c = search needs
-
-is-requires : tie.Need-is-requires
-is-requires c κs = search needs
-
 returns : tie.Need-returns
 unfolding paddedArg
 returns c = λ f. at-true _ _ _ _ (sym (c .before .is .ensures ∙ ap (same _) (c .before .before .before .word .ensures)) ∙ c .if1 .taken) refl
@@ -25,4 +16,4 @@ unfolding paddedArg
 returns-2 c = λ f. at-false _ _ _ _ (sym (c .before .is .ensures ∙ ap (same _) (c .before .before .before .word .ensures)) ∙ c .if1 .left) refl
 
 pub read-padded-spec : {M : Type 1} → statement M
-read-padded-spec = tie.close (tie.spec word-requires slice-aggregate-is is-requires returns returns-2)
+read-padded-spec = tie.close (tie.spec (λ c κs. search needs) (λ c. search needs) (λ c κs. search needs) returns returns-2)

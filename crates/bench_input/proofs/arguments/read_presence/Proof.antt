@@ -7,18 +7,9 @@ use Rattle.bench_input.specs.Arguments.{presentArg}
 use Rattle.bench_input.proofs.arguments.read_presence.Statement.{statement}
 use Rattle.bench_input.proofs.arguments.read_presence.Tie as tie
 
-is-none-requires : tie.Need-is-none-requires
-is-none-requires c κs = search needs
-
 returns : tie.Need-returns
 unfolding presentArg
 returns c = λ f. at-true _ _ _ _ (sym (c .before .is-none .ensures) ∙ c .if1 .taken) refl
-
-word-requires : tie.Need-word-requires
-word-requires c κs = search needs
-
-is-hex-requires : tie.Need-is-hex-requires
-is-hex-requires c κs = search needs
 
 returns-2 : tie.Need-returns-2
 unfolding presentArg
@@ -40,4 +31,4 @@ returns-3 c = λ f.
 
 pub read-presence-spec : {M : Type 1} → statement M
 read-presence-spec =
-    tie.close (tie.spec is-none-requires returns word-requires is-hex-requires returns-2 returns-3)
+    tie.close (tie.spec (λ c κs. search needs) returns (λ c κs. search needs) (λ c κs. search needs) returns-2 returns-3)

@@ -7,17 +7,8 @@ use Rattle.bench_input.proofs.ReadLaws.{text-empty, text-dash, text-roo
 use Rattle.bench_input.proofs.arguments.read_text.Statement.{statement}
 use Rattle.bench_input.proofs.arguments.read_text.Tie as tie
 
-word-requires : tie.Need-word-requires
-word-requires c κs = search needs
-
 returns : tie.Need-returns
 returns c = (λ f. text-empty _ _ (c .before .word .ensures) f (c .if1 .taken), tt)
-
-slice-aggregate-is : tie.Need-slice-aggregate-is
-slice-aggregate-is c = search needs
-
-is-requires : tie.Need-is-requires
-is-requires c κs = search needs
 
 returns-2 : tie.Need-returns-2
 returns-2 c =
@@ -27,15 +18,6 @@ returns-2 c =
       λ f. ap f (slice-none (start .args .at) (start .args .at) (start .args .bytes .now) (omega arith)) ∙ text-dash _ _ (at-word .word .ensures) f (at-if1 .if1 .left) (sym (c .before .is .ensures) ∙ c .if2 .taken),
       none-stays _ _ _,
     )
-
-sub-copy : tie.Need-sub-copy
-sub-copy c = search needs
-
-part-copy-start : tie.Need-part-copy-start
-part-copy-start c = search needs
-
-part-copy-end : tie.Need-part-copy-end
-part-copy-end c = search needs
 
 copy-requires : tie.Need-copy-requires
 copy-requires c κs =
@@ -47,9 +29,6 @@ add-t14 : tie.Need-add-t14
 add-t14 c =
     let at-word = c .before .before .before .before .before .before .before .before in
     let e = ap length (at-word .word .ensures) in search needs
-
-same-length : tie.Need-same-length
-same-length c = search needs
 
 returns-3 : tie.Need-returns-3
 returns-3 c =
@@ -67,15 +46,15 @@ pub read-text-spec : {M : Type 1} → statement M
 read-text-spec =
     tie.close
     (tie.spec
-    word-requires
+    (λ c κs. search needs)
     returns
-    slice-aggregate-is
-    is-requires
+    (λ c. search needs)
+    (λ c κs. search needs)
     returns-2
-    sub-copy
-    part-copy-start
-    part-copy-end
+    (λ c. search needs)
+    (λ c. search needs)
+    (λ c. search needs)
     copy-requires
     add-t14
-    same-length
+    (λ c. search needs)
     returns-3)

@@ -8,21 +8,9 @@ use Rattle.bench_input.proofs.ArgumentLaws.{ms-value, ms-none}
 use Rattle.bench_input.proofs.arguments.read_wait.Statement.{statement}
 use Rattle.bench_input.proofs.arguments.read_wait.Tie as tie
 
-is-none-requires : tie.Need-is-none-requires
-is-none-requires c κs = search needs
-
 returns : tie.Need-returns
 unfolding waitArg
 returns c = λ f. at-true _ _ _ _ (sym (c .before .is-none .ensures) ∙ c .if1 .taken) refl
-
-read-ms-requires : tie.Need-read-ms-requires
-read-ms-requires c κs = search needs
-
-enum-known-ms : tie.Need-enum-known-ms
-enum-known-ms c = search needs
-
-enum-told : tie.Need-enum-told
-enum-told c = search needs
 
 returns-2 : tie.Need-returns-2
 unfolding waitArg
@@ -44,9 +32,6 @@ returns-3 c = λ f.
     (ms-value _ _ _ (at-read-ms .read-ms .ensures) _ _ (at-ms .ms .given .1)
     (at-true _ _ _ _ (lt-ltb _ _ (c .if2 .taken)) refl))
 
-cast-t7 : tie.Need-cast-t7
-cast-t7 c = search needs
-
 returns-4 : tie.Need-returns-4
 unfolding waitArg
 returns-4 c = λ f.
@@ -62,12 +47,12 @@ pub read-wait-spec : {M : Type 1} → statement M
 read-wait-spec =
     tie.close
     (tie.spec
-    is-none-requires
+    (λ c κs. search needs)
     returns
-    read-ms-requires
-    enum-known-ms
-    enum-told
+    (λ c κs. search needs)
+    (λ c. search needs)
+    (λ c. search needs)
     returns-2
     returns-3
-    cast-t7
+    (λ c. search needs)
     returns-4)

@@ -12,30 +12,12 @@ use Rattle.bench_input.proofs.ArgumentLaws.{hex-value, hex-none, behind
 use Rattle.bench_input.proofs.arguments.read_whole.Statement.{statement}
 use Rattle.bench_input.proofs.arguments.read_whole.Tie as tie
 
-read-hex-requires : tie.Need-read-hex-requires
-read-hex-requires c κs = search needs
-
-enum-known-end : tie.Need-enum-known-end
-enum-known-end c = search needs
-
-enum-told : tie.Need-enum-told
-enum-told c = search needs
-
-same-length : tie.Need-same-length
-same-length c = search needs
-
 returns : tie.Need-returns
 unfolding wholeArg
 returns c = (λ f. hex-none _ _ _ _ (c .before .before .before .before .read-hex .ensures .0) _ _ (c .enum-told .given .1), tt)
 
 sub-if1 : tie.Need-sub-if1
 sub-if1 c = let b = behind-at _ _ _ _ _ _ (c .before .before .before .before .before .read-hex .ensures .1) (c .before .end .given .1) in search needs
-
-rem-if1 : tie.Need-rem-if1
-rem-if1 c = search needs
-
-same-length-2 : tie.Need-same-length-2
-same-length-2 c = search needs
 
 returns-2 : tie.Need-returns-2
 unfolding wholeArg
@@ -45,9 +27,6 @@ returns-2 c =
     let start = at-read-hex .before .before .before .before in
     let b = behind-at _ _ _ _ _ _ (at-read-hex .read-hex .ensures .1) (at-end .end .given .1) in
     (λ f. hex-value _ _ _ _ (at-read-hex .read-hex .ensures .0) _ _ _ (at-end .end .given .1) (at-true _ _ _ _ (eq-eqb _ _ (ap (λ n. n % start .args .size) (length-slice _ _ _ (omega arith)) ∙ c .if1 .taken)) refl), b)
-
-same-length-3 : tie.Need-same-length-3
-same-length-3 c = search needs
 
 returns-3 : tie.Need-returns-3
 unfolding wholeArg
@@ -61,14 +40,14 @@ pub read-whole-spec : {M : Type 1} → statement M
 read-whole-spec =
     tie.close
     (tie.spec
-    read-hex-requires
-    enum-known-end
-    enum-told
-    same-length
+    (λ c κs. search needs)
+    (λ c. search needs)
+    (λ c. search needs)
+    (λ c. search needs)
     returns
     sub-if1
-    rem-if1
-    same-length-2
+    (λ c. search needs)
+    (λ c. search needs)
     returns-2
-    same-length-3
+    (λ c. search needs)
     returns-3)

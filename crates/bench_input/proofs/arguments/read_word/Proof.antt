@@ -10,21 +10,6 @@ use Rattle.bench_input.specs.Arguments.{wordArg}
 use Rattle.bench_input.proofs.arguments.read_word.Statement.{statement}
 use Rattle.bench_input.proofs.arguments.read_word.Tie as tie
 
-word-requires : tie.Need-word-requires
-word-requires c κs = search needs
-
-slice-aggregate-read : tie.Need-slice-aggregate-read
-slice-aggregate-read c = search needs
-
-read-requires : tie.Need-read-requires
-read-requires c κs = search needs
-
-enum-told : tie.Need-enum-told
-enum-told c = search needs
-
-enum-told-2 : tie.Need-enum-told-2
-enum-told-2 c = search needs
-
 returns : tie.Need-returns
 unfolding wordArg
 returns c = λ f.
@@ -33,15 +18,6 @@ returns c = λ f.
     let at-word = at-if1 .before in
     at-true _ _ _ _ (eq-eqb _ _ (sym (ap length (at-word .word .ensures)) ∙ at-if1 .if1 .taken))
     (pairs-unread _ _ _ _ _ 2 (at-word .word .ensures) (at-if1 .if1 .taken) refl (at-read .read .ensures) _ (c .enum-told2 .given .1) _)
-
-array-read-joined : tie.Need-array-read-joined
-array-read-joined c = search needs
-
-array-read-joined-2 : tie.Need-array-read-joined-2
-array-read-joined-2 c = search needs
-
-joined-requires : tie.Need-joined-requires
-joined-requires c κs = search needs
 
 returns-2 : tie.Need-returns-2
 unfolding wordArg
@@ -60,14 +36,14 @@ pub read-word-spec : {M : Type 1} → statement M
 read-word-spec =
     tie.close
     (tie.spec
-    word-requires
-    slice-aggregate-read
-    read-requires
-    enum-told
-    enum-told-2
+    (λ c κs. search needs)
+    (λ c. search needs)
+    (λ c κs. search needs)
+    (λ c. search needs)
+    (λ c. search needs)
     returns
-    array-read-joined
-    array-read-joined-2
-    joined-requires
+    (λ c. search needs)
+    (λ c. search needs)
+    (λ c κs. search needs)
     returns-2
     returns-3)

@@ -8,54 +8,6 @@ use Rattle.bench_input.specs.Letters.{numberArg}
 use Rattle.bench_input.proofs.letters.number.Statement.{statement}
 use Rattle.bench_input.proofs.letters.number.Tie as tie
 
-read-byte-requires : tie.Need-read-byte-requires
-read-byte-requires c κs = search needs
-
-with-x-requires : tie.Need-with-x-requires
-with-x-requires c κs = search needs
-
-read-byte-requires-2 : tie.Need-read-byte-requires-2
-read-byte-requires-2 c κs = search needs
-
-with-y-requires : tie.Need-with-y-requires
-with-y-requires c κs = search needs
-
-read-flag-requires : tie.Need-read-flag-requires
-read-flag-requires c κs = search needs
-
-with-x-requires-2 : tie.Need-with-x-requires-2
-with-x-requires-2 c κs = search needs
-
-read-presence-requires : tie.Need-read-presence-requires
-read-presence-requires c κs = search needs
-
-with-x-requires-3 : tie.Need-with-x-requires-3
-with-x-requires-3 c κs = search needs
-
-read-word-requires : tie.Need-read-word-requires
-read-word-requires c κs = search needs
-
-with-word-requires : tie.Need-with-word-requires
-with-word-requires c κs = search needs
-
-read-ms-requires : tie.Need-read-ms-requires
-read-ms-requires c κs = search needs
-
-with-ms-requires : tie.Need-with-ms-requires
-with-ms-requires c κs = search needs
-
-read-wait-requires : tie.Need-read-wait-requires
-read-wait-requires c κs = search needs
-
-with-wait-requires : tie.Need-with-wait-requires
-with-wait-requires c κs = search needs
-
-read-padded-requires : tie.Need-read-padded-requires
-read-padded-requires c κs = search needs
-
-with-x-requires-4 : tie.Need-with-x-requires-4
-with-x-requires-4 c κs = search needs
-
 returns : tie.Need-returns
 unfolding numberArg pick
 returns c = λ f. rw (c .before .before .match .keys1) (c .with-x .ensures f ∙ c .before .read-byte .ensures _)
@@ -96,22 +48,22 @@ pub number-spec : {M : Type 1} → statement M
 number-spec =
     tie.close
     (tie.spec
-    read-byte-requires
-    with-x-requires
-    read-byte-requires-2
-    with-y-requires
-    read-flag-requires
-    with-x-requires-2
-    read-presence-requires
-    with-x-requires-3
-    read-word-requires
-    with-word-requires
-    read-ms-requires
-    with-ms-requires
-    read-wait-requires
-    with-wait-requires
-    read-padded-requires
-    with-x-requires-4
+    (λ c κs. search needs)
+    (λ c κs. search needs)
+    (λ c κs. search needs)
+    (λ c κs. search needs)
+    (λ c κs. search needs)
+    (λ c κs. search needs)
+    (λ c κs. search needs)
+    (λ c κs. search needs)
+    (λ c κs. search needs)
+    (λ c κs. search needs)
+    (λ c κs. search needs)
+    (λ c κs. search needs)
+    (λ c κs. search needs)
+    (λ c κs. search needs)
+    (λ c κs. search needs)
+    (λ c κs. search needs)
     returns
     returns-2
     returns-3

@@ -8,51 +8,21 @@ use Rattle.bench_input.specs.Letters.{stringArg}
 use Rattle.bench_input.proofs.letters.string.Statement.{statement}
 use Rattle.bench_input.proofs.letters.string.Tie as tie
 
-read-hex-requires : tie.Need-read-hex-requires
-read-hex-requires c κs = search needs
-
-read-hex-or-none-requires : tie.Need-read-hex-or-none-requires
-read-hex-or-none-requires c κs = search needs
-
-read-text-requires : tie.Need-read-text-requires
-read-text-requires c κs = search needs
-
-read-whole-requires : tie.Need-read-whole-requires
-read-whole-requires c κs = search needs
-
-read-whole-requires-2 : tie.Need-read-whole-requires-2
-read-whole-requires-2 c κs = search needs
-
-same-length : tie.Need-same-length
-same-length c = search needs
-
 returns : tie.Need-returns
 unfolding stringArg pick
 returns c = (λ f. rw (c .before .before .before .before .match .keys1) (c .before .before .read-hex .ensures .0 f), c .before .before .read-hex .ensures .1)
-
-same-length-2 : tie.Need-same-length-2
-same-length-2 c = search needs
 
 returns-2 : tie.Need-returns-2
 unfolding stringArg pick
 returns-2 c = (λ f. rw (c .before .before .before .before .match .keys2) (c .before .before .read-hex-or-none .ensures .0 f), c .before .before .read-hex-or-none .ensures .1)
 
-same-length-3 : tie.Need-same-length-3
-same-length-3 c = search needs
-
 returns-3 : tie.Need-returns-3
 unfolding stringArg pick
 returns-3 c = (λ f. rw (c .before .before .before .before .match .keys3) (c .before .before .read-text .ensures .0 f), c .before .before .read-text .ensures .1)
 
-same-length-4 : tie.Need-same-length-4
-same-length-4 c = search needs
-
 returns-4 : tie.Need-returns-4
 unfolding stringArg pick
 returns-4 c = (λ f. rw (c .before .before .before .before .match .keys4) (c .before .before .read-whole .ensures .0 f), c .before .before .read-whole .ensures .1)
-
-same-length-5 : tie.Need-same-length-5
-same-length-5 c = search needs
 
 returns-5 : tie.Need-returns-5
 unfolding stringArg pick
@@ -66,19 +36,19 @@ pub string-spec : {M : Type 1} → statement M
 string-spec =
     tie.close
     (tie.spec
-    read-hex-requires
-    read-hex-or-none-requires
-    read-text-requires
-    read-whole-requires
-    read-whole-requires-2
-    same-length
+    (λ c κs. search needs)
+    (λ c κs. search needs)
+    (λ c κs. search needs)
+    (λ c κs. search needs)
+    (λ c κs. search needs)
+    (λ c. search needs)
     returns
-    same-length-2
+    (λ c. search needs)
     returns-2
-    same-length-3
+    (λ c. search needs)
     returns-3
-    same-length-4
+    (λ c. search needs)
     returns-4
-    same-length-5
+    (λ c. search needs)
     returns-5
     returns-6)

@@ -9,15 +9,6 @@ use Rattle.bench_input.proofs.ArgumentLaws.{number-value, number-none}
 use Rattle.bench_input.proofs.letters.with_number.Statement.{statement}
 use Rattle.bench_input.proofs.letters.with_number.Tie as tie
 
-number-requires : tie.Need-number-requires
-number-requires c κs = search needs
-
-enum-known-numbers : tie.Need-enum-known-numbers
-enum-known-numbers c = search needs
-
-enum-told : tie.Need-enum-told
-enum-told c = search needs
-
 returns : tie.Need-returns
 unfolding argument
 returns c = λ b.
@@ -37,4 +28,4 @@ returns-2 c = λ b.
 
 pub with-number-spec : {M : Type 1} → statement M
 with-number-spec =
-    tie.close (tie.spec number-requires enum-known-numbers enum-told returns returns-2)
+    tie.close (tie.spec (λ c κs. search needs) (λ c. search needs) (λ c. search needs) returns returns-2)

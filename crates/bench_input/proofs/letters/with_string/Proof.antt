@@ -12,18 +12,6 @@ use Rattle.bench_input.proofs.StandLaws.{ended-count, more-strings, mor
 use Rattle.bench_input.proofs.letters.with_string.Statement.{statement}
 use Rattle.bench_input.proofs.letters.with_string.Tie as tie
 
-string-requires : tie.Need-string-requires
-string-requires c κs = search needs
-
-enum-known-end : tie.Need-enum-known-end
-enum-known-end c = search needs
-
-enum-told : tie.Need-enum-told
-enum-told c = search needs
-
-same-length : tie.Need-same-length
-same-length c = search needs
-
 returns : tie.Need-returns
 unfolding argument
 returns c =
@@ -32,15 +20,6 @@ returns c =
     let start = at-if1 .before .before .before .before .before in
     let few = ap (λ (n : ℕ). ltb n 4) (ended-count (start .args .taken .count) (start .args .taken .ends) (start .args .bytes .now) (start .pre .1)) ∙ lt-ltb _ _ (at-if1 .if1 .taken) in
     record { says = λ f. at-true _ _ _ _ (lt-ltb _ _ (start .pre .0)) (at-true _ _ _ _ few (hex-none _ _ _ _ (at-string .string .ensures .0) _ _ (c .enum-told .given .1))); stands = tt }
-
-add-t14 : tie.Need-add-t14
-add-t14 c = search needs
-
-ended-requires : tie.Need-ended-requires
-ended-requires c κs = search needs
-
-same-length-2 : tie.Need-same-length-2
-same-length-2 c = search needs
 
 returns-2 : tie.Need-returns-2
 unfolding argument
@@ -68,13 +47,13 @@ pub with-string-spec : {M : Type 1} → statement M
 with-string-spec =
     tie.close
     (tie.spec
-    string-requires
-    enum-known-end
-    enum-told
-    same-length
+    (λ c κs. search needs)
+    (λ c. search needs)
+    (λ c. search needs)
+    (λ c. search needs)
     returns
-    add-t14
-    ended-requires
-    same-length-2
+    (λ c. search needs)
+    (λ c κs. search needs)
+    (λ c. search needs)
     returns-2
     returns-3)

@@ -16,23 +16,11 @@ use Rattle.bench_input.proofs.table.is_for.Tie as tie
 mul-word : tie.Need-mul-word
 mul-word c = let e = table-short in search needs
 
-word-requires : tie.Need-word-requires
-word-requires c κs = search needs
-
-is-requires : tie.Need-is-requires
-is-requires c κs = search needs
-
 mul-word-2 : tie.Need-mul-word-2
 mul-word-2 c = let e = table-short in search needs
 
 add-word : tie.Need-add-word
 add-word c = let e = table-short in search needs
-
-word-requires-2 : tie.Need-word-requires-2
-word-requires-2 c κs = search needs
-
-add-result : tie.Need-add-result
-add-result c = search needs
 
 returns : tie.Need-returns
 unfolding isFor
@@ -56,11 +44,11 @@ is-for-spec =
     tie.close
     (tie.spec
     mul-word
-    word-requires
-    is-requires
+    (λ c κs. search needs)
+    (λ c κs. search needs)
     mul-word-2
     add-word
-    word-requires-2
-    add-result
+    (λ c κs. search needs)
+    (λ c. search needs)
     returns
     returns-2)

@@ -4,17 +4,11 @@ use Rattle.bench_session.proofs.OutputLaws.{hex-room, hex-behind}
 use Rattle.bench_session.proofs.output.put_bytes.Statement.{statement}
 use Rattle.bench_session.proofs.output.put_bytes.Tie as tie
 
-put-requires : tie.Need-put-requires
-put-requires c κs = search needs
-
 put-hex-requires : tie.Need-put-hex-requires
 put-hex-requires c κs = (search needs, search (hex-room, needs))
-
-same-length : tie.Need-same-length
-same-length c = search needs
 
 returns : tie.Need-returns
 returns c = search (hex-behind, needs)
 
 pub put-bytes-spec : {M : Type 1} → statement M
-put-bytes-spec = tie.close (tie.spec put-requires put-hex-requires same-length returns)
+put-bytes-spec = tie.close (tie.spec (λ c κs. search needs) put-hex-requires (λ c. search needs) returns)

@@ -5,18 +5,6 @@ use Rattle.bench_session.proofs.PrintLaws.{print-refused, print-text, p
 use Rattle.bench_session.proofs.text.put_hex.Statement.{statement}
 use Rattle.bench_session.proofs.text.put_hex.Tie as tie
 
-slice-aggregate-print : tie.Need-slice-aggregate-print
-slice-aggregate-print c = search needs
-
-print-requires : tie.Need-print-requires
-print-requires c κs = search needs
-
-enum-known-n : tie.Need-enum-known-n
-enum-known-n c = search needs
-
-enum-told : tie.Need-enum-told
-enum-told c = search needs
-
 returns : tie.Need-returns
 returns c = search (print-refused, needs)
 
@@ -29,9 +17,6 @@ slice-aggregate-put c = search (print-part, needs)
 put-requires : tie.Need-put-requires
 put-requires c κs = search (print-room, needs)
 
-same-length : tie.Need-same-length
-same-length c = search needs
-
 returns-2 : tie.Need-returns-2
 returns-2 c = search (put-same, print-text, needs)
 
@@ -39,13 +24,13 @@ pub put-hex-spec : {M : Type 1} → statement M
 put-hex-spec =
     tie.close
     (tie.spec
-    slice-aggregate-print
-    print-requires
-    enum-known-n
-    enum-told
+    (λ c. search needs)
+    (λ c κs. search needs)
+    (λ c. search needs)
+    (λ c. search needs)
     returns
     array-share-prefix-digits
     slice-aggregate-put
     put-requires
-    same-length
+    (λ c. search needs)
     returns-2)

@@ -6,24 +6,6 @@ use borrow.Author.Needs.{needs}
 use Rattle.calls.proofs.start.as_initiator.Statement.{statement}
 use Rattle.calls.proofs.start.as_initiator.Tie as tie
 
-in-list-passive-target-requires : tie.Need-in-list-passive-target-requires
-in-list-passive-target-requires c κs = search needs
-
-in-data-exchange-requires : tie.Need-in-data-exchange-requires
-in-data-exchange-requires c κs = search needs
-
-in-communicate-thru-requires : tie.Need-in-communicate-thru-requires
-in-communicate-thru-requires c κs = search needs
-
-is-set-requires : tie.Need-is-set-requires
-is-set-requires c κs = search needs
-
-in-jump-for-dep-requires : tie.Need-in-jump-for-dep-requires
-in-jump-for-dep-requires c κs = search needs
-
-tg-init-target-requires : tie.Need-tg-init-target-requires
-tg-init-target-requires c κs = search needs
-
 returns : tie.Need-returns
 unfolding callOf startFor
 returns c = rw (c .before .before .match .keys1) (c .in-list-passive-target .ensures)
@@ -48,12 +30,12 @@ pub as-initiator-spec : {M : Type 1} → statement M
 as-initiator-spec =
     tie.close
     (tie.spec
-    in-list-passive-target-requires
-    in-data-exchange-requires
-    in-communicate-thru-requires
-    is-set-requires
-    in-jump-for-dep-requires
-    tg-init-target-requires
+    (λ c κs. search needs)
+    (λ c κs. search needs)
+    (λ c κs. search needs)
+    (λ c κs. search needs)
+    (λ c κs. search needs)
+    (λ c κs. search needs)
     returns
     returns-2
     returns-3

@@ -6,21 +6,6 @@ use borrow.Author.Needs.{needs}
 use Rattle.calls.proofs.start.as_target.Statement.{statement}
 use Rattle.calls.proofs.start.as_target.Tie as tie
 
-tg-set-general-bytes-requires : tie.Need-tg-set-general-bytes-requires
-tg-set-general-bytes-requires c κs = search needs
-
-tg-get-initiator-command-requires : tie.Need-tg-get-initiator-command-requires
-tg-get-initiator-command-requires c κs = search needs
-
-tg-response-to-initiator-requires : tie.Need-tg-response-to-initiator-requires
-tg-response-to-initiator-requires c κs = search needs
-
-tg-get-target-status-requires : tie.Need-tg-get-target-status-requires
-tg-get-target-status-requires c κs = search needs
-
-rf-field-off-requires : tie.Need-rf-field-off-requires
-rf-field-off-requires c κs = search needs
-
 returns : tie.Need-returns
 unfolding callOf startFor
 returns c = λ second third fourth. rw (c .before .before .match .keys1) (c .tg-set-general-bytes .ensures)
@@ -45,11 +30,11 @@ pub as-target-spec : {M : Type 1} → statement M
 as-target-spec =
     tie.close
     (tie.spec
-    tg-set-general-bytes-requires
-    tg-get-initiator-command-requires
-    tg-response-to-initiator-requires
-    tg-get-target-status-requires
-    rf-field-off-requires
+    (λ c κs. search needs)
+    (λ c κs. search needs)
+    (λ c κs. search needs)
+    (λ c κs. search needs)
+    (λ c κs. search needs)
     returns
     returns-2
     returns-3

@@ -4,33 +4,6 @@ use borrow.Author.Needs.{needs}
 use Rattle.calls.proofs.start.chip.Statement.{statement}
 use Rattle.calls.proofs.start.chip.Tie as tie
 
-get-firmware-version-requires : tie.Need-get-firmware-version-requires
-get-firmware-version-requires c κs = search needs
-
-reset-mode-requires : tie.Need-reset-mode-requires
-reset-mode-requires c κs = search needs
-
-set-parameters-requires : tie.Need-set-parameters-requires
-set-parameters-requires c κs = search needs
-
-rf-configuration-requires : tie.Need-rf-configuration-requires
-rf-configuration-requires c κs = search needs
-
-read-register-requires : tie.Need-read-register-requires
-read-register-requires c κs = search needs
-
-write-register-requires : tie.Need-write-register-requires
-write-register-requires c κs = search needs
-
-read-single-register-requires : tie.Need-read-single-register-requires
-read-single-register-requires c κs = search needs
-
-write-single-register-requires : tie.Need-write-single-register-requires
-write-single-register-requires c κs = search needs
-
-refused-requires : tie.Need-refused-requires
-refused-requires c κs = search needs
-
 returns : tie.Need-returns
 unfolding callOf startFor
 returns c = λ second third fourth. rw (c .before .before .match .keys1) (c .get-firmware-version .ensures)
@@ -71,15 +44,15 @@ pub chip-spec : {M : Type 1} → statement M
 chip-spec =
     tie.close
     (tie.spec
-    get-firmware-version-requires
-    reset-mode-requires
-    set-parameters-requires
-    rf-configuration-requires
-    read-register-requires
-    write-register-requires
-    read-single-register-requires
-    write-single-register-requires
-    refused-requires
+    (λ c κs. search needs)
+    (λ c κs. search needs)
+    (λ c κs. search needs)
+    (λ c κs. search needs)
+    (λ c κs. search needs)
+    (λ c κs. search needs)
+    (λ c κs. search needs)
+    (λ c κs. search needs)
+    (λ c κs. search needs)
     returns
     returns-2
     returns-3

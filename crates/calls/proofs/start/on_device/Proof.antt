@@ -4,36 +4,6 @@ use borrow.Author.Needs.{needs}
 use Rattle.calls.proofs.start.on_device.Statement.{statement}
 use Rattle.calls.proofs.start.on_device.Tie as tie
 
-detect-type-a-requires : tie.Need-detect-type-a-requires
-detect-type-a-requires c κs = search needs
-
-detect-type-b-requires : tie.Need-detect-type-b-requires
-detect-type-b-requires c κs = search needs
-
-detect-type-f-requires : tie.Need-detect-type-f-requires
-detect-type-f-requires c κs = search needs
-
-detect-dep-requires : tie.Need-detect-dep-requires
-detect-dep-requires c κs = search needs
-
-is-set-requires : tie.Need-is-set-requires
-is-set-requires c κs = search needs
-
-timeout-requires : tie.Need-timeout-requires
-timeout-requires c κs = search needs
-
-is-set-requires-2 : tie.Need-is-set-requires-2
-is-set-requires-2 c κs = search needs
-
-transceive-requires : tie.Need-transceive-requires
-transceive-requires c κs = search needs
-
-poll-type-f-requires : tie.Need-poll-type-f-requires
-poll-type-f-requires c κs = search needs
-
-refused-requires : tie.Need-refused-requires
-refused-requires c κs = search needs
-
 returns : tie.Need-returns
 unfolding callOf startFor deviceFirst
 returns c = λ fourth. rw (c .before .before .match .keys1) (c .detect-type-a .ensures)
@@ -66,16 +36,16 @@ pub on-device-spec : {M : Type 1} → statement M
 on-device-spec =
     tie.close
     (tie.spec
-    detect-type-a-requires
-    detect-type-b-requires
-    detect-type-f-requires
-    detect-dep-requires
-    is-set-requires
-    timeout-requires
-    is-set-requires-2
-    transceive-requires
-    poll-type-f-requires
-    refused-requires
+    (λ c κs. search needs)
+    (λ c κs. search needs)
+    (λ c κs. search needs)
+    (λ c κs. search needs)
+    (λ c κs. search needs)
+    (λ c κs. search needs)
+    (λ c κs. search needs)
+    (λ c κs. search needs)
+    (λ c κs. search needs)
+    (λ c κs. search needs)
     returns
     returns-2
     returns-3

@@ -6,9 +6,6 @@ use borrow.Author.Needs.{needs}
 use Rattle.chipset.proofs.general.get_firmware_version_response.Statement.{statement}
 use Rattle.chipset.proofs.general.get_firmware_version_response.Tie as tie
 
-part-requires : tie.Need-part-requires
-part-requires c κs = search needs
-
 returns : tie.Need-returns
 unfolding versionAnswer withLength
 returns c = search (verdicts, needs) depth 8
@@ -18,4 +15,4 @@ unfolding versionAnswer withLength
 returns-2 c = comes-false _ _ _ _ _ (search (verdicts, needs)) (c .part .ensures _ (omega arith))
 
 pub get-firmware-version-response-spec : {M : Type 1} → statement M
-get-firmware-version-response-spec = tie.close (tie.spec part-requires returns returns-2)
+get-firmware-version-response-spec = tie.close (tie.spec (λ c κs. search needs) returns returns-2)

@@ -4,11 +4,8 @@ use borrow.Author.Needs.{needs}
 use Rattle.chipset.proofs.general.reset_mode_command.Statement.{statement}
 use Rattle.chipset.proofs.general.reset_mode_command.Tie as tie
 
-with-requires : tie.Need-with-requires
-with-requires c κs = search needs
-
 returns : tie.Need-returns
 returns c = c .with .ensures (omega arith)
 
 pub reset-mode-command-spec : {M : Type 1} → statement M
-reset-mode-command-spec = tie.close (tie.spec with-requires returns)
+reset-mode-command-spec = tie.close (tie.spec (λ c κs. search needs) returns)

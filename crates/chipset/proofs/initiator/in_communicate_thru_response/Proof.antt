@@ -6,9 +6,6 @@ use borrow.Author.Needs.{needs}
 use Rattle.chipset.proofs.initiator.in_communicate_thru_response.Statement.{statement}
 use Rattle.chipset.proofs.initiator.in_communicate_thru_response.Tie as tie
 
-byte-or-requires : tie.Need-byte-or-requires
-byte-or-requires c κs = search needs
-
 from-requires : tie.Need-from-requires
 from-requires c κs = search (has-first, needs)
 
@@ -21,4 +18,4 @@ unfolding withStatus
 returns-2 c = search (verdicts, needs) depth 8
 
 pub in-communicate-thru-response-spec : {M : Type 1} → statement M
-in-communicate-thru-response-spec = tie.close (tie.spec byte-or-requires from-requires returns returns-2)
+in-communicate-thru-response-spec = tie.close (tie.spec (λ c κs. search needs) from-requires returns returns-2)

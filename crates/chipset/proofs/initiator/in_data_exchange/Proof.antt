@@ -3,19 +3,10 @@ use borrow.Author.Needs.{needs}
 use Rattle.chipset.proofs.initiator.in_data_exchange.Statement.{statement}
 use Rattle.chipset.proofs.initiator.in_data_exchange.Tie as tie
 
-slice-aggregate-put-two : tie.Need-slice-aggregate-put-two
-slice-aggregate-put-two c = search needs
-
-put-two-requires : tie.Need-put-two-requires
-put-two-requires c κs = search needs
-
-command-requires : tie.Need-command-requires
-command-requires c κs = search needs
-
 returns : tie.Need-returns
 unfolding firstOf
 returns c = c .command .ensures _ _ _ (c .before .put-two .ensures)
 
 pub in-data-exchange-spec : {M : Type 1} → statement M
 in-data-exchange-spec =
-    tie.close (tie.spec slice-aggregate-put-two put-two-requires command-requires returns)
+    tie.close (tie.spec (λ c. search needs) (λ c κs. search needs) (λ c κs. search needs) returns)

@@ -11,18 +11,6 @@ returns : tie.Need-returns
 unfolding exchangeAnswer
 returns c = search (verdicts, needs) depth 8
 
-shared-slice-read-status : tie.Need-shared-slice-read-status
-shared-slice-read-status c = search needs
-
-shared-slice-read-more : tie.Need-shared-slice-read-more
-shared-slice-read-more c = search needs
-
-sub-tailed : tie.Need-sub-tailed
-sub-tailed c = search needs
-
-tailed-requires : tie.Need-tailed-requires
-tailed-requires c κs = search needs
-
 returns-2 : tie.Need-returns-2
 unfolding exchangeAnswer
 returns-2 c = comes-false _ _ _ _ _ (search (verdicts, needs)) (comes-true _ _ _ _ _ (search (verdicts, needs)) (flagged _ _ _ (omega arith) (λ f. c .tailed .ensures f _ (omega arith) (omega arith) (λ h. omega arith))))
@@ -34,4 +22,4 @@ returns-3 c = search (verdicts, needs) depth 8
 pub in-data-exchange-response-spec : {M : Type 1} → statement M
 in-data-exchange-response-spec =
     tie.close
-    (tie.spec returns shared-slice-read-status shared-slice-read-more sub-tailed tailed-requires returns-2 returns-3)
+    (tie.spec returns (λ c. search needs) (λ c. search needs) (λ c. search needs) (λ c κs. search needs) returns-2 returns-3)

@@ -5,12 +5,6 @@ use borrow.Author.Needs.{needs}
 use Rattle.chipset.proofs.initiator.in_jump_for_dep_response.Statement.{statement}
 use Rattle.chipset.proofs.initiator.in_jump_for_dep_response.Tie as tie
 
-byte-or-requires : tie.Need-byte-or-requires
-byte-or-requires c κs = search needs
-
-from-requires : tie.Need-from-requires
-from-requires c κs = search needs
-
 returns : tie.Need-returns
 unfolding jumpAnswer withStatus withLength
 returns c = search (verdicts, needs) depth 8
@@ -24,4 +18,4 @@ unfolding jumpAnswer withStatus withLength
 returns-3 c = search (verdicts, needs) depth 8
 
 pub in-jump-for-dep-response-spec : {M : Type 1} → statement M
-in-jump-for-dep-response-spec = tie.close (tie.spec byte-or-requires from-requires returns returns-2 returns-3)
+in-jump-for-dep-response-spec = tie.close (tie.spec (λ c κs. search needs) (λ c κs. search needs) returns returns-2 returns-3)

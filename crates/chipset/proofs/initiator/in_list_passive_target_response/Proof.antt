@@ -5,15 +5,9 @@ use borrow.Author.Needs.{needs}
 use Rattle.chipset.proofs.initiator.in_list_passive_target_response.Statement.{statement}
 use Rattle.chipset.proofs.initiator.in_list_passive_target_response.Tie as tie
 
-byte-or-requires : tie.Need-byte-or-requires
-byte-or-requires c κs = search needs
-
 returns : tie.Need-returns
 unfolding listAnswer withLength
 returns c = search (verdicts, needs) depth 8
-
-from-requires : tie.Need-from-requires
-from-requires c κs = search needs
 
 returns-2 : tie.Need-returns-2
 unfolding listAnswer withLength
@@ -24,4 +18,4 @@ unfolding listAnswer withLength
 returns-3 c = search (verdicts, needs) depth 8
 
 pub in-list-passive-target-response-spec : {M : Type 1} → statement M
-in-list-passive-target-response-spec = tie.close (tie.spec byte-or-requires returns from-requires returns-2 returns-3)
+in-list-passive-target-response-spec = tie.close (tie.spec (λ c κs. search needs) returns (λ c κs. search needs) returns-2 returns-3)

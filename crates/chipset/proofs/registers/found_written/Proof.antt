@@ -6,12 +6,6 @@ use borrow.Author.Needs.{needs}
 use Rattle.chipset.proofs.registers.found_written.Statement.{statement}
 use Rattle.chipset.proofs.registers.found_written.Tie as tie
 
-any-nonzero-requires : tie.Need-any-nonzero-requires
-any-nonzero-requires c κs = search needs
-
-found-requires : tie.Need-found-requires
-found-requires c κs = search needs
-
 returns : tie.Need-returns
 unfolding foundWritten
 returns c = search (told, decided, needs) depth 8
@@ -21,4 +15,4 @@ unfolding foundWritten
 returns-2 c = decides-false _ _ _ _ _ _ (search (told, needs)) (decides-done _ _ _ _ (c .found .ensures _))
 
 pub found-written-spec : {M : Type 1} → statement M
-found-written-spec = tie.close (tie.spec any-nonzero-requires found-requires returns returns-2)
+found-written-spec = tie.close (tie.spec (λ c κs. search needs) (λ c κs. search needs) returns returns-2)

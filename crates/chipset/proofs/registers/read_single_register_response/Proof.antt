@@ -6,9 +6,6 @@ use borrow.Author.Needs.{needs}
 use Rattle.chipset.proofs.registers.read_single_register_response.Statement.{statement}
 use Rattle.chipset.proofs.registers.read_single_register_response.Tie as tie
 
-part-requires : tie.Need-part-requires
-part-requires c κs = search needs
-
 returns : tie.Need-returns
 unfolding firstAnswer withLength
 returns c = search (verdicts, needs) depth 8
@@ -18,4 +15,4 @@ unfolding firstAnswer withLength
 returns-2 c = comes-false _ _ _ _ _ (search (verdicts, needs)) (c .part .ensures _ (omega arith))
 
 pub read-single-register-response-spec : {M : Type 1} → statement M
-read-single-register-response-spec = tie.close (tie.spec part-requires returns returns-2)
+read-single-register-response-spec = tie.close (tie.spec (λ c κs. search needs) returns returns-2)

@@ -8,21 +8,6 @@ use borrow.Author.Needs.{needs}
 use Rattle.chipset.proofs.registers.write_register.Statement.{statement}
 use Rattle.chipset.proofs.registers.write_register.Tie as tie
 
-whole-registers-requires : tie.Need-whole-registers-requires
-whole-registers-requires c κs = search needs
-
-slice-aggregate-put-two : tie.Need-slice-aggregate-put-two
-slice-aggregate-put-two c = search needs
-
-put-two-requires : tie.Need-put-two-requires
-put-two-requires c κs = search needs
-
-command-requires : tie.Need-command-requires
-command-requires c κs = search needs
-
-refused-requires : tie.Need-refused-requires
-refused-requires c κs = search needs
-
 returns : tie.Need-returns
 unfolding firstOf asserted
 returns c = let fits = sym (c .before .before .before .before .before .whole-registers .ensures) ∙ c .before .before .before .before .if1 .taken in let l = c .before .before .before .before .before .before .before .args .registers .now in starts-true _ _ _ _ _ _ fits (short-command _ _ _ _ _ (few-triples l fits) (same-command _ _ _ _ _ _ _ _ (append-nil l) (c .command .ensures _ _ _ (c .before .put-two .ensures))))
@@ -35,10 +20,10 @@ pub write-register-spec : {M : Type 1} → statement M
 write-register-spec =
     tie.close
     (tie.spec
-    whole-registers-requires
-    slice-aggregate-put-two
-    put-two-requires
-    command-requires
-    refused-requires
+    (λ c κs. search needs)
+    (λ c. search needs)
+    (λ c κs. search needs)
+    (λ c κs. search needs)
+    (λ c κs. search needs)
     returns
     returns-2)

@@ -7,12 +7,6 @@ use borrow.Author.Needs.{needs}
 use Rattle.chipset.proofs.registers.write_register_response.Statement.{statement}
 use Rattle.chipset.proofs.registers.write_register_response.Tie as tie
 
-any-nonzero-requires : tie.Need-any-nonzero-requires
-any-nonzero-requires c κs = search needs
-
-part-requires : tie.Need-part-requires
-part-requires c κs = search needs
-
 returns : tie.Need-returns
 unfolding writeAnswer
 returns c = search (verdicts, told, needs) depth 8
@@ -22,4 +16,4 @@ unfolding writeAnswer
 returns-2 c = comes-false _ _ _ _ _ (search (told, needs)) (c .part .ensures _ (omega arith))
 
 pub write-register-response-spec : {M : Type 1} → statement M
-write-register-response-spec = tie.close (tie.spec any-nonzero-requires part-requires returns returns-2)
+write-register-response-spec = tie.close (tie.spec (λ c κs. search needs) (λ c κs. search needs) returns returns-2)

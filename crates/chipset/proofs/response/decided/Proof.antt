@@ -7,27 +7,6 @@ use borrow.Author.Needs.{needs}
 use Rattle.chipset.proofs.response.decided.Statement.{statement}
 use Rattle.chipset.proofs.response.decided.Tie as tie
 
-get-firmware-version-response-requires : tie.Need-get-firmware-version-response-requires
-get-firmware-version-response-requires c κs = search needs
-
-from-requires : tie.Need-from-requires
-from-requires c κs = search needs
-
-write-register-response-requires : tie.Need-write-register-response-requires
-write-register-response-requires c κs = search needs
-
-read-single-register-response-requires : tie.Need-read-single-register-response-requires
-read-single-register-response-requires c κs = search needs
-
-in-list-passive-target-response-requires : tie.Need-in-list-passive-target-response-requires
-in-list-passive-target-response-requires c κs = search needs
-
-in-data-exchange-response-requires : tie.Need-in-data-exchange-response-requires
-in-data-exchange-response-requires c κs = search needs
-
-decided-by-status-requires : tie.Need-decided-by-status-requires
-decided-by-status-requires c κs = search needs
-
 returns : tie.Need-returns
 unfolding answerOf pick
 returns c = rw (c .before .match .keys1) (c .get-firmware-version-response .ensures)
@@ -62,13 +41,13 @@ pub decided-spec : {M : Type 1} → statement M
 decided-spec =
     tie.close
     (tie.spec
-    get-firmware-version-response-requires
-    from-requires
-    write-register-response-requires
-    read-single-register-response-requires
-    in-list-passive-target-response-requires
-    in-data-exchange-response-requires
-    decided-by-status-requires
+    (λ c κs. search needs)
+    (λ c κs. search needs)
+    (λ c κs. search needs)
+    (λ c κs. search needs)
+    (λ c κs. search needs)
+    (λ c κs. search needs)
+    (λ c κs. search needs)
     returns
     returns-2
     returns-3

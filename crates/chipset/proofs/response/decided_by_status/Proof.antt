@@ -7,24 +7,6 @@ use borrow.Author.Needs.{needs}
 use Rattle.chipset.proofs.response.decided_by_status.Statement.{statement}
 use Rattle.chipset.proofs.response.decided_by_status.Tie as tie
 
-in-communicate-thru-response-requires : tie.Need-in-communicate-thru-response-requires
-in-communicate-thru-response-requires c κs = search needs
-
-in-jump-for-dep-response-requires : tie.Need-in-jump-for-dep-response-requires
-in-jump-for-dep-response-requires c κs = search needs
-
-status-response-requires : tie.Need-status-response-requires
-status-response-requires c κs = search needs
-
-tg-get-initiator-command-response-requires : tie.Need-tg-get-initiator-command-response-requires
-tg-get-initiator-command-response-requires c κs = search needs
-
-tg-get-target-status-response-requires : tie.Need-tg-get-target-status-response-requires
-tg-get-target-status-response-requires c κs = search needs
-
-part-requires : tie.Need-part-requires
-part-requires c κs = search needs
-
 returns : tie.Need-returns
 unfolding laterAnswer pick
 returns c = rw (c .before .match .keys1) (c .in-communicate-thru-response .ensures)
@@ -55,12 +37,12 @@ pub decided-by-status-spec : {M : Type 1} → statement M
 decided-by-status-spec =
     tie.close
     (tie.spec
-    in-communicate-thru-response-requires
-    in-jump-for-dep-response-requires
-    status-response-requires
-    tg-get-initiator-command-response-requires
-    tg-get-target-status-response-requires
-    part-requires
+    (λ c κs. search needs)
+    (λ c κs. search needs)
+    (λ c κs. search needs)
+    (λ c κs. search needs)
+    (λ c κs. search needs)
+    (λ c κs. search needs)
     returns
     returns-2
     returns-3

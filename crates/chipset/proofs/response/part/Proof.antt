@@ -4,11 +4,8 @@ use Rattle.stages.specs.Laws.{comes-done}
 use Rattle.chipset.proofs.response.part.Statement.{statement}
 use Rattle.chipset.proofs.response.part.Tie as tie
 
-part-requires : tie.Need-part-requires
-part-requires c κs = search needs
-
 returns : tie.Need-returns
 returns c = λ bs h. comes-done bs _ _ (λ f. c .part .ensures f bs h)
 
 pub part-spec : {M : Type 1} → statement M
-part-spec = tie.close (tie.spec part-requires returns)
+part-spec = tie.close (tie.spec (λ c κs. search needs) returns)

@@ -4,9 +4,6 @@ use borrow.Author.Needs.{needs}
 use Rattle.chipset.proofs.target.init_fits.Statement.{statement}
 use Rattle.chipset.proofs.target.init_fits.Tie as tie
 
-is-mode-requires : tie.Need-is-mode-requires
-is-mode-requires c κs = search needs
-
 returns : tie.Need-returns
 returns c = search (steps, needs) depth 8
 
@@ -20,4 +17,4 @@ returns-4 : tie.Need-returns-4
 returns-4 c = search (steps, needs) depth 8
 
 pub init-fits-spec : {M : Type 1} → statement M
-init-fits-spec = tie.close (tie.spec is-mode-requires returns returns-2 returns-3 returns-4)
+init-fits-spec = tie.close (tie.spec (λ c κs. search needs) returns returns-2 returns-3 returns-4)

@@ -6,12 +6,6 @@ use borrow.Author.Needs.{needs}
 use Rattle.chipset.proofs.target.status_response.Statement.{statement}
 use Rattle.chipset.proofs.target.status_response.Tie as tie
 
-byte-or-requires : tie.Need-byte-or-requires
-byte-or-requires c κs = search needs
-
-part-requires : tie.Need-part-requires
-part-requires c κs = search needs
-
 returns : tie.Need-returns
 unfolding withStatus
 returns c = comes-true _ _ _ _ _ (search (verdicts, needs)) (c .part .ensures _ (omega arith))
@@ -21,4 +15,4 @@ unfolding withStatus
 returns-2 c = search (verdicts, needs) depth 8
 
 pub status-response-spec : {M : Type 1} → statement M
-status-response-spec = tie.close (tie.spec byte-or-requires part-requires returns returns-2)
+status-response-spec = tie.close (tie.spec (λ c κs. search needs) (λ c κs. search needs) returns returns-2)

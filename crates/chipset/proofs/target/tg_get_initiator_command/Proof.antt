@@ -5,18 +5,6 @@ use borrow.Author.Needs.{needs}
 use Rattle.chipset.proofs.target.tg_get_initiator_command.Statement.{statement}
 use Rattle.chipset.proofs.target.tg_get_initiator_command.Tie as tie
 
-slice-aggregate-put-two : tie.Need-slice-aggregate-put-two
-slice-aggregate-put-two c = search needs
-
-slice-aggregate-put-two-2 : tie.Need-slice-aggregate-put-two-2
-slice-aggregate-put-two-2 c = search needs
-
-put-two-requires : tie.Need-put-two-requires
-put-two-requires c κs = search needs
-
-command-requires : tie.Need-command-requires
-command-requires c κs = search needs
-
 returns : tie.Need-returns
 unfolding firstOf
 returns c = short-command _ _ _ _ _ (omega arith) (c .command .ensures _ _ _ (c .before .put-two .ensures))
@@ -25,8 +13,8 @@ pub tg-get-initiator-command-spec : {M : Type 1} → statement M
 tg-get-initiator-command-spec =
     tie.close
     (tie.spec
-    slice-aggregate-put-two
-    slice-aggregate-put-two-2
-    put-two-requires
-    command-requires
+    (λ c. search needs)
+    (λ c. search needs)
+    (λ c κs. search needs)
+    (λ c κs. search needs)
     returns)

@@ -6,9 +6,6 @@ use borrow.Author.Needs.{needs}
 use Rattle.chipset.proofs.target.tg_get_initiator_command_response.Statement.{statement}
 use Rattle.chipset.proofs.target.tg_get_initiator_command_response.Tie as tie
 
-byte-or-requires : tie.Need-byte-or-requires
-byte-or-requires c κs = search needs
-
 from-requires : tie.Need-from-requires
 from-requires c κs = search (has-first, needs)
 
@@ -21,4 +18,4 @@ unfolding initiatorAnswer
 returns-2 c = search (verdicts, needs) depth 8
 
 pub tg-get-initiator-command-response-spec : {M : Type 1} → statement M
-tg-get-initiator-command-response-spec = tie.close (tie.spec byte-or-requires from-requires returns returns-2)
+tg-get-initiator-command-response-spec = tie.close (tie.spec (λ c κs. search needs) from-requires returns returns-2)

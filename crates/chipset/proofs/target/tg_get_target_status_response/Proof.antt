@@ -11,15 +11,6 @@ returns : tie.Need-returns
 unfolding targetAnswer withLength
 returns c = search (verdicts, needs) depth 8
 
-shared-slice-read-if2 : tie.Need-shared-slice-read-if2
-shared-slice-read-if2 c = search needs
-
-shared-slice-read-send : tie.Need-shared-slice-read-send
-shared-slice-read-send c = search needs
-
-shared-slice-read-receive : tie.Need-shared-slice-read-receive
-shared-slice-read-receive c = search needs
-
 returns-2 : tie.Need-returns-2
 unfolding targetAnswer withLength
 returns-2 c = search (verdicts, needs) depth 8
@@ -27,18 +18,6 @@ returns-2 c = search (verdicts, needs) depth 8
 returns-3 : tie.Need-returns-3
 unfolding targetAnswer withLength
 returns-3 c = search (verdicts, needs) depth 8
-
-rate-requires : tie.Need-rate-requires
-rate-requires c κs = search needs
-
-rate-requires-2 : tie.Need-rate-requires-2
-rate-requires-2 c κs = search needs
-
-with-rates-requires : tie.Need-with-rates-requires
-with-rates-requires c κs = search needs
-
-with-rates-requires-2 : tie.Need-with-rates-requires-2
-with-rates-requires-2 c κs = search needs
 
 returns-4 : tie.Need-returns-4
 unfolding targetAnswer withLength
@@ -53,14 +32,14 @@ tg-get-target-status-response-spec =
     tie.close
     (tie.spec
     returns
-    shared-slice-read-if2
-    shared-slice-read-send
-    shared-slice-read-receive
+    (λ c. search needs)
+    (λ c. search needs)
+    (λ c. search needs)
     returns-2
     returns-3
-    rate-requires
-    rate-requires-2
-    with-rates-requires
-    with-rates-requires-2
+    (λ c κs. search needs)
+    (λ c κs. search needs)
+    (λ c κs. search needs)
+    (λ c κs. search needs)
     returns-4
     returns-5)

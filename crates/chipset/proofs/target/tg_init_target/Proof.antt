@@ -5,21 +5,6 @@ use borrow.Author.Needs.{needs}
 use Rattle.chipset.proofs.target.tg_init_target.Statement.{statement}
 use Rattle.chipset.proofs.target.tg_init_target.Tie as tie
 
-init-fits-requires : tie.Need-init-fits-requires
-init-fits-requires c κs = search needs
-
-slice-aggregate-put-all : tie.Need-slice-aggregate-put-all
-slice-aggregate-put-all c = search needs
-
-put-all-requires : tie.Need-put-all-requires
-put-all-requires c κs = search needs
-
-command-requires : tie.Need-command-requires
-command-requires c κs = search needs
-
-refused-requires : tie.Need-refused-requires
-refused-requires c κs = search needs
-
 returns : tie.Need-returns
 unfolding firstOf asserted
 returns c = starts-true _ _ _ _ _ _ (search (told, needs)) (c .command .ensures _ _ _ (c .before .put-all .ensures))
@@ -32,10 +17,10 @@ pub tg-init-target-spec : {M : Type 1} → statement M
 tg-init-target-spec =
     tie.close
     (tie.spec
-    init-fits-requires
-    slice-aggregate-put-all
-    put-all-requires
-    command-requires
-    refused-requires
+    (λ c κs. search needs)
+    (λ c. search needs)
+    (λ c κs. search needs)
+    (λ c κs. search needs)
+    (λ c κs. search needs)
     returns
     returns-2)

@@ -7,9 +7,6 @@ use Rattle.device.proofs.transceive.is_sendable.Tie as tie
 returns : tie.Need-returns
 returns c = search (none-sendable, needs)
 
-shared-slice-read-match : tie.Need-shared-slice-read-match
-shared-slice-read-match c = search needs
-
 returns-2 : tie.Need-returns-2
 returns-2 c = other-sendable (c .before .before .before .before .args .bytes .now) (search needs) (search needs) (c .before .match .rest .1)
 
@@ -21,4 +18,4 @@ returns-4 c = low-sendable (c .before .before .before .before .args .bytes .now)
 
 pub is-sendable-spec : {M : Type 1} → statement M
 is-sendable-spec =
-    tie.close (tie.spec returns shared-slice-read-match returns-2 returns-3 returns-4)
+    tie.close (tie.spec returns (λ c. search needs) returns-2 returns-3 returns-4)

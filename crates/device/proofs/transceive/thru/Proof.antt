@@ -4,21 +4,6 @@ use borrow.Author.Needs.{needs}
 use Rattle.device.proofs.transceive.thru.Statement.{statement}
 use Rattle.device.proofs.transceive.thru.Tie as tie
 
-slice-aggregate-put-two : tie.Need-slice-aggregate-put-two
-slice-aggregate-put-two c = search needs
-
-put-two-requires : tie.Need-put-two-requires
-put-two-requires c κs = search needs
-
-is-type2-106a-requires : tie.Need-is-type2-106a-requires
-is-type2-106a-requires c κs = search needs
-
-command-requires : tie.Need-command-requires
-command-requires c κs = search needs
-
-command-requires-2 : tie.Need-command-requires-2
-command-requires-2 c κs = search needs
-
 returns : tie.Need-returns
 unfolding thruFirst
 returns c = kind-type2 _ _ _ _ _ (sym (c .before .before .is-type2-106a .ensures) ∙ c .before .if1 .taken) (c .command .ensures _ _ _ (c .before .before .before .put-two .ensures))
@@ -31,10 +16,10 @@ pub thru-spec : {M : Type 1} → statement M
 thru-spec =
     tie.close
     (tie.spec
-    slice-aggregate-put-two
-    put-two-requires
-    is-type2-106a-requires
-    command-requires
-    command-requires-2
+    (λ c. search needs)
+    (λ c κs. search needs)
+    (λ c κs. search needs)
+    (λ c κs. search needs)
+    (λ c κs. search needs)
     returns
     returns-2)

@@ -5,21 +5,6 @@ use borrow.Author.Needs.{needs}
 use Rattle.device.proofs.transceive.type1.Statement.{statement}
 use Rattle.device.proofs.transceive.type1.Tie as tie
 
-is-sendable-requires : tie.Need-is-sendable-requires
-is-sendable-requires c κs = search needs
-
-slice-aggregate-put-two : tie.Need-slice-aggregate-put-two
-slice-aggregate-put-two c = search needs
-
-put-two-requires : tie.Need-put-two-requires
-put-two-requires c κs = search needs
-
-command-requires : tie.Need-command-requires
-command-requires c κs = search needs
-
-refused-requires : tie.Need-refused-requires
-refused-requires c κs = search needs
-
 returns : tie.Need-returns
 unfolding type1First
 returns c = starts-true _ _ _ _ _ _ (sym (c .before .before .before .before .before .is-sendable .ensures) ∙ c .before .before .before .before .if1 .taken) (c .command .ensures _ _ _ (c .before .put-two .ensures))
@@ -32,10 +17,10 @@ pub type1-spec : {M : Type 1} → statement M
 type1-spec =
     tie.close
     (tie.spec
-    is-sendable-requires
-    slice-aggregate-put-two
-    put-two-requires
-    command-requires
-    refused-requires
+    (λ c κs. search needs)
+    (λ c. search needs)
+    (λ c κs. search needs)
+    (λ c κs. search needs)
+    (λ c κs. search needs)
     returns
     returns-2)

@@ -9,12 +9,6 @@ returns : tie.Need-returns
 unfolding type1Answer
 returns c = search (verdicts, needs) depth 8
 
-shared-slice-read-status : tie.Need-shared-slice-read-status
-shared-slice-read-status c = search needs
-
-from-requires : tie.Need-from-requires
-from-requires c κs = search needs
-
 returns-2 : tie.Need-returns-2
 unfolding type1Answer
 returns-2 c = search (verdicts, needs) depth 8
@@ -24,4 +18,4 @@ unfolding type1Answer
 returns-3 c = search (verdicts, needs) depth 8
 
 pub type1-response-spec : {M : Type 1} → statement M
-type1-response-spec = tie.close (tie.spec returns shared-slice-read-status from-requires returns-2 returns-3)
+type1-response-spec = tie.close (tie.spec returns (λ c. search needs) (λ c κs. search needs) returns-2 returns-3)

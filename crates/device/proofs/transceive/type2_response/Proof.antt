@@ -9,27 +9,6 @@ use borrow.Author.Needs.{needs}
 use Rattle.device.proofs.transceive.type2_response.Statement.{statement}
 use Rattle.device.proofs.transceive.type2_response.Tie as tie
 
-byte-or-requires : tie.Need-byte-or-requires
-byte-or-requires c κs = search needs
-
-sub-check-crc-a : tie.Need-sub-check-crc-a
-sub-check-crc-a c = search needs
-
-part-check-crc-a-start : tie.Need-part-check-crc-a-start
-part-check-crc-a-start c = search needs
-
-part-check-crc-a-end : tie.Need-part-check-crc-a-end
-part-check-crc-a-end c = search needs
-
-check-crc-a-requires : tie.Need-check-crc-a-requires
-check-crc-a-requires c κs = search needs
-
-sub-part : tie.Need-sub-part
-sub-part c = search needs
-
-part-requires : tie.Need-part-requires
-part-requires c κs = search needs
-
 from-requires : tie.Need-from-requires
 from-requires c κs = search (has-first, needs)
 
@@ -56,13 +35,13 @@ pub type2-response-spec : {M : Type 1} → statement M
 type2-response-spec =
     tie.close
     (tie.spec
-    byte-or-requires
-    sub-check-crc-a
-    part-check-crc-a-start
-    part-check-crc-a-end
-    check-crc-a-requires
-    sub-part
-    part-requires
+    (λ c κs. search needs)
+    (λ c. search needs)
+    (λ c. search needs)
+    (λ c. search needs)
+    (λ c κs. search needs)
+    (λ c. search needs)
+    (λ c κs. search needs)
     from-requires
     returns
     returns-2

@@ -6,15 +6,6 @@ use borrow.Author.Needs.{needs}
 use Rattle.discovery.proofs.dep.command.Statement.{statement}
 use Rattle.discovery.proofs.dep.command.Tie as tie
 
-with-requires : tie.Need-with-requires
-with-requires c κs = search needs
-
-pending-requires : tie.Need-pending-requires
-pending-requires c κs = search needs
-
-write-single-register-command-requires : tie.Need-write-single-register-command-requires
-write-single-register-command-requires c κs = search needs
-
 returns : tie.Need-returns
 unfolding depCommand pick
 returns c = rw (c .before .match .keys1) (c .with .ensures (omega arith))
@@ -31,9 +22,9 @@ pub command-spec : {M : Type 1} → statement M
 command-spec =
     tie.close
     (tie.spec
-    with-requires
-    pending-requires
-    write-single-register-command-requires
+    (λ c κs. search needs)
+    (λ c κs. search needs)
+    (λ c κs. search needs)
     returns
     returns-2
     returns-3)

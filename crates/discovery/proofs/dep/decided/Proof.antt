@@ -8,12 +8,6 @@ use borrow.Author.Needs.{needs}
 use Rattle.discovery.proofs.dep.decided.Statement.{statement}
 use Rattle.discovery.proofs.dep.decided.Tie as tie
 
-jumped-requires : tie.Need-jumped-requires
-jumped-requires c κs = search needs
-
-found-written-requires : tie.Need-found-written-requires
-found-written-requires c κs = search needs
-
 returns : tie.Need-returns
 unfolding depDecision jumpedTo pick
 returns c = rw (c .match .keys1) (decides-send _ _ _)
@@ -29,4 +23,4 @@ returns-3 c =
     rw (ne-eqb _ 0 (r .0 .1), ne-eqb _ 1 (r .1)) (c .found-written .ensures)
 
 pub decided-spec : {M : Type 1} → statement M
-decided-spec = tie.close (tie.spec jumped-requires found-written-requires returns returns-2 returns-3)
+decided-spec = tie.close (tie.spec (λ c κs. search needs) (λ c κs. search needs) returns returns-2 returns-3)

@@ -7,9 +7,6 @@ use borrow.Author.Needs.{needs}
 use Rattle.discovery.proofs.dep.failed.Statement.{statement}
 use Rattle.discovery.proofs.dep.failed.Tie as tie
 
-jump-failed-requires : tie.Need-jump-failed-requires
-jump-failed-requires c κs = search needs
-
 returns : tie.Need-returns
 unfolding depFailure pick
 returns c = λ f b. rw (c .before .match .keys1) (c .jump-failed .ensures _ _)
@@ -19,4 +16,4 @@ unfolding depFailure pick
 returns-2 c = λ f b. rw (ne-eqb _ 1 (c .match .rest .1)) (decides-refused _ _ _)
 
 pub failed-spec : {M : Type 1} → statement M
-failed-spec = tie.close (tie.spec jump-failed-requires returns returns-2)
+failed-spec = tie.close (tie.spec (λ c κs. search needs) returns returns-2)

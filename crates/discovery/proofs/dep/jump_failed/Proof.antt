@@ -6,19 +6,13 @@ use Rattle.discovery.proofs.Tags.{not-status}
 use Rattle.discovery.proofs.dep.jump_failed.Statement.{statement}
 use Rattle.discovery.proofs.dep.jump_failed.Tie as tie
 
-enum-known-fault : tie.Need-enum-known-fault
-enum-known-fault c = search needs
-
 returns : tie.Need-returns
 unfolding jumpFailure
 returns c = λ f b. rw (not-status _ _ (c .before .args .fault) (c .match .keys2)) (decides-refused _ _ _)
-
-no-partner-requires : tie.Need-no-partner-requires
-no-partner-requires c κs = search needs
 
 returns-2 : tie.Need-returns-2
 unfolding jumpFailure
 returns-2 c = λ f b. rw (c .before .before .fault .given .1) (c .no-partner .ensures f b)
 
 pub jump-failed-spec : {M : Type 1} → statement M
-jump-failed-spec = tie.close (tie.spec enum-known-fault returns no-partner-requires returns-2)
+jump-failed-spec = tie.close (tie.spec (λ c. search needs) returns (λ c κs. search needs) returns-2)

@@ -8,15 +8,6 @@ use borrow.Author.Needs.{needs}
 use Rattle.discovery.proofs.dep.jumped.Statement.{statement}
 use Rattle.discovery.proofs.dep.jumped.Tie as tie
 
-byte-or-requires : tie.Need-byte-or-requires
-byte-or-requires c κs = search needs
-
-headed-requires : tie.Need-headed-requires
-headed-requires c κs = search needs
-
-no-partner-requires : tie.Need-no-partner-requires
-no-partner-requires c κs = search needs
-
 returns : tie.Need-returns
 unfolding jumpedTo withLength
 returns c = λ f. search (decided, needs) depth 8
@@ -30,4 +21,4 @@ unfolding jumpedTo withLength
 returns-3 c = λ f. decides-false _ _ _ _ _ _ (search (decided, needs)) (decides-partner _ _ _ _ _ (c .before .before .byte-or .ensures) (c .no-partner .ensures f _))
 
 pub jumped-spec : {M : Type 1} → statement M
-jumped-spec = tie.close (tie.spec byte-or-requires headed-requires no-partner-requires returns returns-2 returns-3)
+jumped-spec = tie.close (tie.spec (λ c κs. search needs) (λ c κs. search needs) (λ c κs. search needs) returns returns-2 returns-3)

@@ -11,27 +11,6 @@ use borrow.Author.Needs.{needs}
 use Rattle.discovery.proofs.poll_type_f.command.Statement.{statement}
 use Rattle.discovery.proofs.poll_type_f.command.Tie as tie
 
-command-requires : tie.Need-command-requires
-command-requires c κs = search needs
-
-mul-at : tie.Need-mul-at
-mul-at c = search needs
-
-byte-or-requires : tie.Need-byte-or-requires
-byte-or-requires c κs = search needs
-
-add-byte-or : tie.Need-add-byte-or
-add-byte-or c = search needs
-
-byte-or-requires-2 : tie.Need-byte-or-requires-2
-byte-or-requires-2 c κs = search needs
-
-add-byte-or-2 : tie.Need-add-byte-or-2
-add-byte-or-2 c = search needs
-
-byte-or-requires-3 : tie.Need-byte-or-requires-3
-byte-or-requires-3 c κs = search needs
-
 returns : tie.Need-returns
 unfolding pollCommand pick
 returns c =
@@ -66,12 +45,12 @@ pub command-spec : {M : Type 1} → statement M
 command-spec =
     tie.close
     (tie.spec
-    command-requires
-    mul-at
-    byte-or-requires
-    add-byte-or
-    byte-or-requires-2
-    add-byte-or-2
-    byte-or-requires-3
+    (λ c κs. search needs)
+    (λ c. search needs)
+    (λ c κs. search needs)
+    (λ c. search needs)
+    (λ c κs. search needs)
+    (λ c. search needs)
+    (λ c κs. search needs)
     returns
     returns-2)

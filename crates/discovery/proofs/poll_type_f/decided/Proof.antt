@@ -6,21 +6,6 @@ use borrow.Author.Needs.{needs}
 use Rattle.discovery.proofs.poll_type_f.decided.Statement.{statement}
 use Rattle.discovery.proofs.poll_type_f.decided.Tie as tie
 
-decided-requires : tie.Need-decided-requires
-decided-requires c κs = search needs
-
-enum-told : tie.Need-enum-told
-enum-told c = search needs
-
-finished-requires : tie.Need-finished-requires
-finished-requires c κs = search needs
-
-enum-known-decision : tie.Need-enum-known-decision
-enum-known-decision c = search needs
-
-failed-requires : tie.Need-failed-requires
-failed-requires c κs = search needs
-
 returns : tie.Need-returns
 returns c =
     poll-done _ _ _ _ _ _ _ (c .before .before .before .decided .ensures _) _ (c .before .enum-told .given .1)
@@ -38,11 +23,11 @@ pub decided-spec : {M : Type 1} → statement M
 decided-spec =
     tie.close
     (tie.spec
-    decided-requires
-    enum-told
-    finished-requires
-    enum-known-decision
-    failed-requires
+    (λ c κs. search needs)
+    (λ c. search needs)
+    (λ c κs. search needs)
+    (λ c. search needs)
+    (λ c κs. search needs)
     returns
     returns-2
     returns-3)

@@ -6,12 +6,6 @@ use borrow.Author.Needs.{needs}
 use Rattle.discovery.proofs.poll_type_f.failed.Statement.{statement}
 use Rattle.discovery.proofs.poll_type_f.failed.Tie as tie
 
-enum-told : tie.Need-enum-told
-enum-told c = search needs
-
-finished-requires : tie.Need-finished-requires
-finished-requires c κs = search needs
-
 returns : tie.Need-returns
 unfolding pollFailure
 returns c = λ b. rw (c .before .enum-told .given .1) (c .finished .ensures b (omega arith) (omega arith))
@@ -21,4 +15,4 @@ unfolding pollFailure
 returns-2 c = λ b. rw (not-no-card _ _ (c .before .before .before .args .fault) (c .match .keys2)) (decides-after _ _ _ _)
 
 pub failed-spec : {M : Type 1} → statement M
-failed-spec = tie.close (tie.spec enum-told finished-requires returns returns-2)
+failed-spec = tie.close (tie.spec (λ c. search needs) (λ c κs. search needs) returns returns-2)

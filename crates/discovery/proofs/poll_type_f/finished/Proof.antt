@@ -7,15 +7,6 @@ use borrow.Author.Needs.{needs}
 use Rattle.discovery.proofs.poll_type_f.finished.Statement.{statement}
 use Rattle.discovery.proofs.poll_type_f.finished.Tie as tie
 
-kept-requires : tie.Need-kept-requires
-kept-requires c κs = search needs
-
-marked-requires : tie.Need-marked-requires
-marked-requires c κs = search needs
-
-has-next-requires : tie.Need-has-next-requires
-has-next-requires c κs = search needs
-
 add-t11 : tie.Need-add-t11
 add-t11 c = omega (arith, next-within _ _ (sym (c .before .has-next .ensures) ∙ c .if1 .taken))
 
@@ -35,4 +26,4 @@ returns-2 c = λ b p q.
 
 pub finished-spec : {M : Type 1} → statement M
 finished-spec =
-    tie.close (tie.spec kept-requires marked-requires has-next-requires add-t11 returns returns-2)
+    tie.close (tie.spec (λ c κs. search needs) (λ c κs. search needs) (λ c κs. search needs) add-t11 returns returns-2)

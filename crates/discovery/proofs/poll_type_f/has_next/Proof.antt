@@ -4,12 +4,6 @@ use borrow.Author.Needs.{needs}
 use Rattle.discovery.proofs.poll_type_f.has_next.Statement.{statement}
 use Rattle.discovery.proofs.poll_type_f.has_next.Tie as tie
 
-mul-result : tie.Need-mul-result
-mul-result c = search needs
-
-add-result : tie.Need-add-result
-add-result c = search needs
-
 returns : tie.Need-returns
 unfolding hasNext
 returns c = search (steps, needs) depth 8
@@ -19,4 +13,4 @@ unfolding hasNext
 returns-2 c = search (steps, needs) depth 8
 
 pub has-next-spec : {M : Type 1} → statement M
-has-next-spec = tie.close (tie.spec mul-result add-result returns returns-2)
+has-next-spec = tie.close (tie.spec (λ c. search needs) (λ c. search needs) returns returns-2)

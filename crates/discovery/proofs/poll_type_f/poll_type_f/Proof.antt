@@ -8,38 +8,11 @@ use borrow.Author.Needs.{needs}
 use Rattle.discovery.proofs.poll_type_f.poll_type_f.Statement.{statement}
 use Rattle.discovery.proofs.poll_type_f.poll_type_f.Tie as tie
 
-is-list-requires : tie.Need-is-list-requires
-is-list-requires c κs = search needs
-
-code-requires : tie.Need-code-requires
-code-requires c κs = search needs
-
-enum-known-rate : tie.Need-enum-known-rate
-enum-known-rate c = search needs
-
-enum-told : tie.Need-enum-told
-enum-told c = search needs
-
-refused-requires : tie.Need-refused-requires
-refused-requires c κs = search needs
-
 returns : tie.Need-returns
 unfolding pollAsserted asserted codeFor
 returns c =
     starts-true _ _ _ _ _ _ (sym (c .before .before .before .before .before .is-list .ensures) ∙ c .before .before .before .before .if1 .taken)
     (rate-refused _ _ _ _ _ _ (c .before .before .before .code .ensures) _ (c .before .enum-told .given .1) (c .refused .ensures _))
-
-type-f-code-requires : tie.Need-type-f-code-requires
-type-f-code-requires c κs = search needs
-
-enum-known-code : tie.Need-enum-known-code
-enum-known-code c = search needs
-
-enum-told-2 : tie.Need-enum-told-2
-enum-told-2 c = search needs
-
-refused-requires-2 : tie.Need-refused-requires-2
-refused-requires-2 c κs = search needs
 
 returns-2 : tie.Need-returns-2
 unfolding pollAsserted asserted codeFor
@@ -48,18 +21,6 @@ returns-2 c =
     starts-true _ _ _ _ _ _ (sym (at-code .before .before .is-list .ensures) ∙ at-code .before .if1 .taken)
     (rate-chosen _ _ _ _ _ _ (at-code .code .ensures) _ (c .before .before .before .before .before .rate .given .1)
     (not-supported _ _ _ _ _ _ (c .before .before .before .type-f-code .ensures) (c .before .enum-told2 .given .1) (c .refused2 .ensures _)))
-
-slice-aggregate-put-two : tie.Need-slice-aggregate-put-two
-slice-aggregate-put-two c = search needs
-
-put-two-requires : tie.Need-put-two-requires
-put-two-requires c κs = search needs
-
-staged-requires : tie.Need-staged-requires
-staged-requires c κs = search needs
-
-refused-requires-3 : tie.Need-refused-requires-3
-refused-requires-3 c κs = search needs
 
 returns-3 : tie.Need-returns-3
 unfolding pollAsserted asserted codeFor pollFirst
@@ -79,20 +40,20 @@ pub poll-type-f-spec : {M : Type 1} → statement M
 poll-type-f-spec =
     tie.close
     (tie.spec
-    is-list-requires
-    code-requires
-    enum-known-rate
-    enum-told
-    refused-requires
+    (λ c κs. search needs)
+    (λ c κs. search needs)
+    (λ c. search needs)
+    (λ c. search needs)
+    (λ c κs. search needs)
     returns
-    type-f-code-requires
-    enum-known-code
-    enum-told-2
-    refused-requires-2
+    (λ c κs. search needs)
+    (λ c. search needs)
+    (λ c. search needs)
+    (λ c κs. search needs)
     returns-2
-    slice-aggregate-put-two
-    put-two-requires
-    staged-requires
-    refused-requires-3
+    (λ c. search needs)
+    (λ c κs. search needs)
+    (λ c κs. search needs)
+    (λ c κs. search needs)
     returns-3
     returns-4)

@@ -6,24 +6,6 @@ use borrow.Author.Needs.{needs}
 use Rattle.discovery.proofs.type_a.command.Statement.{statement}
 use Rattle.discovery.proofs.type_a.command.Tie as tie
 
-pending-requires : tie.Need-pending-requires
-pending-requires c κs = search needs
-
-read-single-register-command-requires : tie.Need-read-single-register-command-requires
-read-single-register-command-requires c κs = search needs
-
-with-requires : tie.Need-with-requires
-with-requires c κs = search needs
-
-with-requires-2 : tie.Need-with-requires-2
-with-requires-2 c κs = search needs
-
-read-single-register-command-requires-2 : tie.Need-read-single-register-command-requires-2
-read-single-register-command-requires-2 c κs = search needs
-
-pending-requires-2 : tie.Need-pending-requires-2
-pending-requires-2 c κs = search needs
-
 returns : tie.Need-returns
 unfolding typeACommand pick
 returns c = rw (c .before .match .keys1) (c .pending .ensures)
@@ -52,12 +34,12 @@ pub command-spec : {M : Type 1} → statement M
 command-spec =
     tie.close
     (tie.spec
-    pending-requires
-    read-single-register-command-requires
-    with-requires
-    with-requires-2
-    read-single-register-command-requires-2
-    pending-requires-2
+    (λ c κs. search needs)
+    (λ c κs. search needs)
+    (λ c κs. search needs)
+    (λ c κs. search needs)
+    (λ c κs. search needs)
+    (λ c κs. search needs)
     returns
     returns-2
     returns-3

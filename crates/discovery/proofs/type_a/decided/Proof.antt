@@ -7,24 +7,6 @@ use borrow.Author.Needs.{needs}
 use Rattle.discovery.proofs.type_a.decided.Statement.{statement}
 use Rattle.discovery.proofs.type_a.decided.Tie as tie
 
-listed-a-requires : tie.Need-listed-a-requires
-listed-a-requires c κs = search needs
-
-fifo-requires : tie.Need-fifo-requires
-fifo-requires c κs = search needs
-
-listed-type1-requires : tie.Need-listed-type1-requires
-listed-type1-requires c κs = search needs
-
-rid-requires : tie.Need-rid-requires
-rid-requires c κs = search needs
-
-rx-mode-requires : tie.Need-rx-mode-requires
-rx-mode-requires c κs = search needs
-
-found-written-requires : tie.Need-found-written-requires
-found-written-requires c κs = search needs
-
 returns : tie.Need-returns
 unfolding typeADecision fifoRead rxModeRead pick
 returns c = rw (c .before .match .keys1) (c .listed-a .ensures _)
@@ -55,12 +37,12 @@ pub decided-spec : {M : Type 1} → statement M
 decided-spec =
     tie.close
     (tie.spec
-    listed-a-requires
-    fifo-requires
-    listed-type1-requires
-    rid-requires
-    rx-mode-requires
-    found-written-requires
+    (λ c κs. search needs)
+    (λ c κs. search needs)
+    (λ c κs. search needs)
+    (λ c κs. search needs)
+    (λ c κs. search needs)
+    (λ c κs. search needs)
     returns
     returns-2
     returns-3

@@ -4,40 +4,13 @@ use borrow.Author.Needs.{needs}
 use Rattle.discovery.proofs.type_a.detect_type_a.Statement.{statement}
 use Rattle.discovery.proofs.type_a.detect_type_a.Tie as tie
 
-code-requires : tie.Need-code-requires
-code-requires c κs = search needs
-
-enum-known-rate : tie.Need-enum-known-rate
-enum-known-rate c = search needs
-
-enum-told : tie.Need-enum-told
-enum-told c = search needs
-
-refused-requires : tie.Need-refused-requires
-refused-requires c κs = search needs
-
 returns : tie.Need-returns
 unfolding codeFor
 returns c = rate-refused _ _ _ _ _ _ (c .before .before .before .code .ensures) _ (c .before .enum-told .given .1) (c .refused .ensures _)
 
-type-a-code-requires : tie.Need-type-a-code-requires
-type-a-code-requires c κs = search needs
-
-enum-known-code : tie.Need-enum-known-code
-enum-known-code c = search needs
-
-enum-told-2 : tie.Need-enum-told-2
-enum-told-2 c = search needs
-
-refused-requires-2 : tie.Need-refused-requires-2
-refused-requires-2 c κs = search needs
-
 returns-2 : tie.Need-returns-2
 unfolding codeFor
 returns-2 c = rate-chosen _ _ _ _ _ _ (c .before .before .before .before .before .before .before .code .ensures) _ (c .before .before .before .before .before .rate .given .1) (not-supported _ _ _ _ _ _ (c .before .before .before .type-a-code .ensures) (c .before .enum-told2 .given .1) (c .refused2 .ensures _))
-
-list-requires : tie.Need-list-requires
-list-requires c κs = search needs
 
 returns-3 : tie.Need-returns-3
 unfolding codeFor
@@ -47,15 +20,15 @@ pub detect-type-a-spec : {M : Type 1} → statement M
 detect-type-a-spec =
     tie.close
     (tie.spec
-    code-requires
-    enum-known-rate
-    enum-told
-    refused-requires
+    (λ c κs. search needs)
+    (λ c. search needs)
+    (λ c. search needs)
+    (λ c κs. search needs)
     returns
-    type-a-code-requires
-    enum-known-code
-    enum-told-2
-    refused-requires-2
+    (λ c κs. search needs)
+    (λ c. search needs)
+    (λ c. search needs)
+    (λ c κs. search needs)
     returns-2
-    list-requires
+    (λ c κs. search needs)
     returns-3)

@@ -7,9 +7,6 @@ use borrow.Author.Needs.{needs}
 use Rattle.discovery.proofs.type_a.failed.Statement.{statement}
 use Rattle.discovery.proofs.type_a.failed.Tie as tie
 
-rid-failed-requires : tie.Need-rid-failed-requires
-rid-failed-requires c κs = search needs
-
 returns : tie.Need-returns
 unfolding typeAFailure pick
 returns c = λ f b. rw (c .match .keys1) (decides-send _ _ _)
@@ -25,4 +22,4 @@ returns-3 c = λ f b.
     rw (ne-eqb _ 1 (r .0 .1), ne-eqb _ 3 (r .1)) (decides-refused _ _ _)
 
 pub failed-spec : {M : Type 1} → statement M
-failed-spec = tie.close (tie.spec rid-failed-requires returns returns-2 returns-3)
+failed-spec = tie.close (tie.spec (λ c κs. search needs) returns returns-2 returns-3)

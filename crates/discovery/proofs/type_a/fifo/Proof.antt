@@ -5,9 +5,6 @@ use borrow.Author.Needs.{needs}
 use Rattle.discovery.proofs.type_a.fifo.Statement.{statement}
 use Rattle.discovery.proofs.type_a.fifo.Tie as tie
 
-byte-or-requires : tie.Need-byte-or-requires
-byte-or-requires c κs = search needs
-
 returns : tie.Need-returns
 unfolding fifoRead
 returns c = λ f. search (decided, needs) depth 8
@@ -17,4 +14,4 @@ unfolding fifoRead
 returns-2 c = λ f. search (decided, needs) depth 8
 
 pub fifo-spec : {M : Type 1} → statement M
-fifo-spec = tie.close (tie.spec byte-or-requires returns returns-2)
+fifo-spec = tie.close (tie.spec (λ c κs. search needs) returns returns-2)

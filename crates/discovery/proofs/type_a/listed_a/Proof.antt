@@ -5,9 +5,6 @@ use borrow.Author.Needs.{needs}
 use Rattle.discovery.proofs.type_a.listed_a.Statement.{statement}
 use Rattle.discovery.proofs.type_a.listed_a.Tie as tie
 
-byte-or-requires : tie.Need-byte-or-requires
-byte-or-requires c κs = search needs
-
 returns : tie.Need-returns
 unfolding listedA withLength
 returns c = λ f. search (decided, needs) depth 8
@@ -19,15 +16,6 @@ returns-2 c = λ f. search (decided, needs) depth 8
 returns-3 : tie.Need-returns-3
 unfolding listedA withLength
 returns-3 c = λ f. search (decided, needs) depth 8
-
-shared-slice-read-if4 : tie.Need-shared-slice-read-if4
-shared-slice-read-if4 c = search needs
-
-card-requires : tie.Need-card-requires
-card-requires c κs = search needs
-
-card-requires-2 : tie.Need-card-requires-2
-card-requires-2 c κs = search needs
 
 returns-4 : tie.Need-returns-4
 unfolding listedA withLength
@@ -41,12 +29,12 @@ pub listed-a-spec : {M : Type 1} → statement M
 listed-a-spec =
     tie.close
     (tie.spec
-    byte-or-requires
+    (λ c κs. search needs)
     returns
     returns-2
     returns-3
-    shared-slice-read-if4
-    card-requires
-    card-requires-2
+    (λ c. search needs)
+    (λ c κs. search needs)
+    (λ c κs. search needs)
     returns-4
     returns-5)

@@ -5,15 +5,9 @@ use borrow.Author.Needs.{needs}
 use Rattle.discovery.proofs.type_a.listed_type1.Statement.{statement}
 use Rattle.discovery.proofs.type_a.listed_type1.Tie as tie
 
-byte-or-requires : tie.Need-byte-or-requires
-byte-or-requires c κs = search needs
-
 returns : tie.Need-returns
 unfolding listedType1 withLength
 returns c = λ f. search (decided, needs) depth 8
-
-sens-res-requires : tie.Need-sens-res-requires
-sens-res-requires c κs = search needs
 
 returns-2 : tie.Need-returns-2
 unfolding listedType1 withLength
@@ -25,4 +19,4 @@ returns-3 c = λ f. decides-false _ _ _ _ _ _ (search (decided, needs)) (decides
 
 pub listed-type1-spec : {M : Type 1} → statement M
 listed-type1-spec =
-    tie.close (tie.spec byte-or-requires returns sens-res-requires returns-2 returns-3)
+    tie.close (tie.spec (λ c κs. search needs) returns (λ c κs. search needs) returns-2 returns-3)

@@ -11,9 +11,6 @@ returns : tie.Need-returns
 unfolding ridOf withLength
 returns c = search (decided, needs) depth 8
 
-shared-slice-read-if2 : tie.Need-shared-slice-read-if2
-shared-slice-read-if2 c = search needs
-
 returns-2 : tie.Need-returns-2
 unfolding ridOf withLength
 returns-2 c = search (decided, needs) depth 8
@@ -21,12 +18,6 @@ returns-2 c = search (decided, needs) depth 8
 returns-3 : tie.Need-returns-3
 unfolding ridOf withLength
 returns-3 c = search (decided, needs) depth 8
-
-sub-behind : tie.Need-sub-behind
-sub-behind c = search needs
-
-behind-requires : tie.Need-behind-requires
-behind-requires c κs = search needs
 
 returns-4 : tie.Need-returns-4
 unfolding ridOf withLength
@@ -37,9 +28,9 @@ rid-spec =
     tie.close
     (tie.spec
     returns
-    shared-slice-read-if2
+    (λ c. search needs)
     returns-2
     returns-3
-    sub-behind
-    behind-requires
+    (λ c. search needs)
+    (λ c κs. search needs)
     returns-4)

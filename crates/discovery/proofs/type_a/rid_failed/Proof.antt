@@ -6,9 +6,6 @@ use Rattle.discovery.proofs.Tags.{not-status}
 use Rattle.discovery.proofs.type_a.rid_failed.Statement.{statement}
 use Rattle.discovery.proofs.type_a.rid_failed.Tie as tie
 
-enum-told : tie.Need-enum-told
-enum-told c = search needs
-
 returns : tie.Need-returns
 unfolding ridFailure
 returns c = λ f b. rw (not-status _ _ (c .before .args .fault) (c .match .keys2)) (decides-refused _ _ _)
@@ -18,4 +15,4 @@ unfolding ridFailure
 returns-2 c = λ f b. rw (c .enum-told .given .1) (decides-nothing _ _)
 
 pub rid-failed-spec : {M : Type 1} → statement M
-rid-failed-spec = tie.close (tie.spec enum-told returns returns-2)
+rid-failed-spec = tie.close (tie.spec (λ c. search needs) returns returns-2)

@@ -4,18 +4,6 @@ use borrow.Author.Needs.{needs}
 use Rattle.discovery.proofs.type_a.sens_res.Statement.{statement}
 use Rattle.discovery.proofs.type_a.sens_res.Tie as tie
 
-part-requires : tie.Need-part-requires
-part-requires c κs = search needs
-
-shared-slice-read-t6 : tie.Need-shared-slice-read-t6
-shared-slice-read-t6 c = search needs
-
-shared-slice-read-t8 : tie.Need-shared-slice-read-t8
-shared-slice-read-t8 c = search needs
-
-headed-requires : tie.Need-headed-requires
-headed-requires c κs = search needs
-
 returns : tie.Need-returns
 returns c = λ f. lays-no-sens-res f _ _ (omega arith) (c .part .ensures f _ (omega arith))
 
@@ -26,9 +14,9 @@ pub sens-res-spec : {M : Type 1} → statement M
 sens-res-spec =
     tie.close
     (tie.spec
-    part-requires
-    shared-slice-read-t6
-    shared-slice-read-t8
-    headed-requires
+    (λ c κs. search needs)
+    (λ c. search needs)
+    (λ c. search needs)
+    (λ c κs. search needs)
     returns
     returns-2)

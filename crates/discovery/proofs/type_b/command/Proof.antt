@@ -6,15 +6,6 @@ use borrow.Author.Needs.{needs}
 use Rattle.discovery.proofs.type_b.command.Statement.{statement}
 use Rattle.discovery.proofs.type_b.command.Tie as tie
 
-pending-requires : tie.Need-pending-requires
-pending-requires c κs = search needs
-
-with-requires : tie.Need-with-requires
-with-requires c κs = search needs
-
-pending-requires-2 : tie.Need-pending-requires-2
-pending-requires-2 c κs = search needs
-
 returns : tie.Need-returns
 unfolding typeBCommand pick
 returns c = rw (c .before .match .keys1) (c .pending .ensures)
@@ -30,4 +21,4 @@ returns-3 c = let r = c .before .match .rest in let e = c .pending2 .ensures in 
 pub command-spec : {M : Type 1} → statement M
 command-spec =
     tie.close
-    (tie.spec pending-requires with-requires pending-requires-2 returns returns-2 returns-3)
+    (tie.spec (λ c κs. search needs) (λ c κs. search needs) (λ c κs. search needs) returns returns-2 returns-3)

@@ -6,12 +6,6 @@ use borrow.Author.Needs.{needs}
 use Rattle.discovery.proofs.type_b.decided.Statement.{statement}
 use Rattle.discovery.proofs.type_b.decided.Tie as tie
 
-listed-b-requires : tie.Need-listed-b-requires
-listed-b-requires c κs = search needs
-
-woken-requires : tie.Need-woken-requires
-woken-requires c κs = search needs
-
 returns : tie.Need-returns
 unfolding typeBDecision pick
 returns c = λ f. rw (c .before .match .keys1) (c .listed-b .ensures _)
@@ -25,4 +19,4 @@ unfolding typeBDecision pick
 returns-3 c = λ f. let r = c .before .match .rest in rw (ne-eqb _ 0 (r .0 .1), ne-eqb _ 1 (r .1)) (c .woken .ensures _)
 
 pub decided-spec : {M : Type 1} → statement M
-decided-spec = tie.close (tie.spec listed-b-requires woken-requires returns returns-2 returns-3)
+decided-spec = tie.close (tie.spec (λ c κs. search needs) (λ c κs. search needs) returns returns-2 returns-3)

@@ -7,9 +7,6 @@ use borrow.Author.Needs.{needs}
 use Rattle.discovery.proofs.type_b.listed_b.Statement.{statement}
 use Rattle.discovery.proofs.type_b.listed_b.Tie as tie
 
-byte-or-requires : tie.Need-byte-or-requires
-byte-or-requires c κs = search needs
-
 returns : tie.Need-returns
 unfolding listedB withLength
 returns c = λ f. search (decided, needs) depth 8
@@ -17,15 +14,6 @@ returns c = λ f. search (decided, needs) depth 8
 returns-2 : tie.Need-returns-2
 unfolding listedB withLength
 returns-2 c = λ f. search (decided, needs) depth 8
-
-shared-slice-read-iso-dep : tie.Need-shared-slice-read-iso-dep
-shared-slice-read-iso-dep c = search needs
-
-byte-or-requires-2 : tie.Need-byte-or-requires-2
-byte-or-requires-2 c κs = search needs
-
-iso-dep-requires : tie.Need-iso-dep-requires
-iso-dep-requires c κs = search needs
 
 returns-3 : tie.Need-returns-3
 unfolding listedB withLength
@@ -39,11 +27,11 @@ pub listed-b-spec : {M : Type 1} → statement M
 listed-b-spec =
     tie.close
     (tie.spec
-    byte-or-requires
+    (λ c κs. search needs)
     returns
     returns-2
-    shared-slice-read-iso-dep
-    byte-or-requires-2
-    iso-dep-requires
+    (λ c. search needs)
+    (λ c κs. search needs)
+    (λ c κs. search needs)
     returns-3
     returns-4)

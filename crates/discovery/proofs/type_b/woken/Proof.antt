@@ -5,12 +5,6 @@ use borrow.Author.Needs.{needs}
 use Rattle.discovery.proofs.type_b.woken.Statement.{statement}
 use Rattle.discovery.proofs.type_b.woken.Tie as tie
 
-byte-or-requires : tie.Need-byte-or-requires
-byte-or-requires c κs = search needs
-
-rest-requires : tie.Need-rest-requires
-rest-requires c κs = search needs
-
 returns : tie.Need-returns
 unfolding wokenUp
 returns c = λ f. decides-true _ _ _ _ _ _ (search (decided, needs)) (decides-done _ _ _ _ (c .rest .ensures f))
@@ -20,4 +14,4 @@ unfolding wokenUp
 returns-2 c = λ f. search (decided, needs) depth 8
 
 pub woken-spec : {M : Type 1} → statement M
-woken-spec = tie.close (tie.spec byte-or-requires rest-requires returns returns-2)
+woken-spec = tie.close (tie.spec (λ c κs. search needs) (λ c κs. search needs) returns returns-2)

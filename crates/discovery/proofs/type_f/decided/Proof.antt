@@ -8,12 +8,6 @@ use borrow.Author.Needs.{needs}
 use Rattle.discovery.proofs.type_f.decided.Statement.{statement}
 use Rattle.discovery.proofs.type_f.decided.Tie as tie
 
-tx-control-requires : tie.Need-tx-control-requires
-tx-control-requires c κs = search needs
-
-polled-requires : tie.Need-polled-requires
-polled-requires c κs = search needs
-
 returns : tie.Need-returns
 unfolding typeFDecision txControlRead pick
 returns c = λ f. rw (c .before .match .keys1) (c .tx-control .ensures _)
@@ -29,4 +23,4 @@ returns-3 c = λ f.
     rw (ne-eqb _ 0 (r .0 .1), ne-eqb _ 1 (r .1)) (c .polled .ensures _)
 
 pub decided-spec : {M : Type 1} → statement M
-decided-spec = tie.close (tie.spec tx-control-requires polled-requires returns returns-2 returns-3)
+decided-spec = tie.close (tie.spec (λ c κs. search needs) (λ c κs. search needs) returns returns-2 returns-3)

@@ -8,15 +8,9 @@ use borrow.Author.Needs.{needs}
 use Rattle.discovery.proofs.type_f.polled.Statement.{statement}
 use Rattle.discovery.proofs.type_f.polled.Tie as tie
 
-byte-or-requires : tie.Need-byte-or-requires
-byte-or-requires c κs = search needs
-
 returns : tie.Need-returns
 unfolding polled withLength
 returns c = λ f. search (decided, needs) depth 8
-
-rest-requires : tie.Need-rest-requires
-rest-requires c κs = search needs
 
 returns-2 : tie.Need-returns-2
 unfolding polled
@@ -27,4 +21,4 @@ unfolding polled withLength
 returns-3 c = λ f. decides-false _ _ _ _ _ _ (search (decided, needs)) (decides-false _ _ _ _ _ _ (search (not-short, needs)) (decides-false _ _ _ _ _ _ (search (decided, needs)) (decides-done _ _ _ _ (c .rest .ensures f))))
 
 pub polled-spec : {M : Type 1} → statement M
-polled-spec = tie.close (tie.spec byte-or-requires returns rest-requires returns-2 returns-3)
+polled-spec = tie.close (tie.spec (λ c κs. search needs) returns (λ c κs. search needs) returns-2 returns-3)

@@ -10,9 +10,6 @@ returns : tie.Need-returns
 unfolding txControlRead withLength
 returns c = λ f. search (decided, needs) depth 8
 
-shared-slice-read-if2 : tie.Need-shared-slice-read-if2
-shared-slice-read-if2 c = search needs
-
 returns-2 : tie.Need-returns-2
 unfolding txControlRead withLength
 returns-2 c = λ f. search (decided, needs) depth 8
@@ -22,4 +19,4 @@ unfolding txControlRead withLength
 returns-3 c = λ f. search (decided, needs) depth 8
 
 pub tx-control-spec : {M : Type 1} → statement M
-tx-control-spec = tie.close (tie.spec returns shared-slice-read-if2 returns-2 returns-3)
+tx-control-spec = tie.close (tie.spec returns (λ c. search needs) returns-2 returns-3)

@@ -5,9 +5,6 @@ use borrow.Author.Needs.{needs}
 use Rattle.engine.proofs.books.one_more.Statement.{statement}
 use Rattle.engine.proofs.books.one_more.Tie as tie
 
-add-result : tie.Need-add-result
-add-result c = search needs
-
 returns : tie.Need-returns
 unfolding oneMore
 returns c = search (steps, needs) depth 8
@@ -17,4 +14,4 @@ unfolding oneMore
 returns-2 c = search (steps, needs) depth 8
 
 pub one-more-spec : {M : Type 1} → statement M
-one-more-spec = tie.close (tie.spec add-result returns returns-2)
+one-more-spec = tie.close (tie.spec (λ c. search needs) returns returns-2)

@@ -10,15 +10,6 @@ use Rattle.engine.proofs.reply.answer.Tie as tie
 slice-aggregate-append : tie.Need-slice-aggregate-append
 slice-aggregate-append c = sym (length-take-le (c .before .before .before .before .args .layout .kept) (c .before .before .before .before .args .found .now) (c .before .before .before .before .pre .0 .kept))
 
-append-requires : tie.Need-append-requires
-append-requires c κs = search needs
-
-lay-requires : tie.Need-lay-requires
-lay-requires c κs = search needs
-
-same-length : tie.Need-same-length
-same-length c = search needs
-
 returns : tie.Need-returns
 returns c = let a = c .before .before .before .before .before .before .before .before .before .before .before .before .args in
     let h = c .before .before .before .before .before .before .append .ensures .puts _ _ (omega (arith, length-take (a .layout .kept) (a .found .now), c .before .before .before .before .before .before .before .before .before .before .before .before .pre .1)) (puts-none _) in
@@ -27,4 +18,4 @@ returns c = let a = c .before .before .before .before .before .before .before .b
 
 pub answer-spec : {M : Type 1} → statement M
 answer-spec =
-    tie.close (tie.spec slice-aggregate-append append-requires lay-requires same-length returns)
+    tie.close (tie.spec slice-aggregate-append (λ c κs. search needs) (λ c κs. search needs) (λ c. search needs) returns)

@@ -9,41 +9,11 @@ use borrow.Author.Needs.{needs}
 use Rattle.engine.proofs.reply.lay.Statement.{statement}
 use Rattle.engine.proofs.reply.lay.Tie as tie
 
-add-end : tie.Need-add-end
-add-end c = search needs
-
-array-share-prefix-head : tie.Need-array-share-prefix-head
-array-share-prefix-head c = search needs
-
 slice-aggregate-append : tie.Need-slice-aggregate-append
 slice-aggregate-append c = let l = c .before .before .before .before .before .before .args .layout in sym (length-take-le (l .«head_len») (headBytes (l .head)) (c .before .before .before .before .before .before .pre .0 .0))
 
-append-requires : tie.Need-append-requires
-append-requires c κs = search needs
-
-sub-append : tie.Need-sub-append
-sub-append c = search needs
-
-part-append-start : tie.Need-part-append-start
-part-append-start c = search needs
-
-part-append-end : tie.Need-part-append-end
-part-append-end c = search needs
-
-append-requires-2 : tie.Need-append-requires-2
-append-requires-2 c κs = search needs
-
-array-share-prefix-tail : tie.Need-array-share-prefix-tail
-array-share-prefix-tail c = search needs
-
 slice-aggregate-append-2 : tie.Need-slice-aggregate-append-2
 slice-aggregate-append-2 c = let l = c .before .before .before .before .before .before .before .before .before .before .before .before .before .before .before .before .args .layout in sym (length-take-le (l .«tail_len») (tailBytes (l .tail)) (c .before .before .before .before .before .before .before .before .before .before .before .before .before .before .before .before .pre .0 .2))
-
-append-requires-3 : tie.Need-append-requires-3
-append-requires-3 c κs = search needs
-
-same-length : tie.Need-same-length
-same-length c = search needs
 
 returns : tie.Need-returns
 returns c = λ f k h.
@@ -64,16 +34,16 @@ pub lay-spec : {M : Type 1} → statement M
 lay-spec =
     tie.close
     (tie.spec
-    add-end
-    array-share-prefix-head
+    (λ c. search needs)
+    (λ c. search needs)
     slice-aggregate-append
-    append-requires
-    sub-append
-    part-append-start
-    part-append-end
-    append-requires-2
-    array-share-prefix-tail
+    (λ c κs. search needs)
+    (λ c. search needs)
+    (λ c. search needs)
+    (λ c. search needs)
+    (λ c κs. search needs)
+    (λ c. search needs)
     slice-aggregate-append-2
-    append-requires-3
-    same-length
+    (λ c κs. search needs)
+    (λ c. search needs)
     returns)

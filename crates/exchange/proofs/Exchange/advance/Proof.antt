@@ -7,27 +7,6 @@ use Rattle.exchange.specs.Steps.{stepOf}
 use Rattle.exchange.proofs.Exchange.advance.Statement.{statement}
 use Rattle.exchange.proofs.Exchange.advance.Tie as tie
 
-on-sent-requires : tie.Need-on-sent-requires
-on-sent-requires c κs = search needs
-
-on-first-read-requires : tie.Need-on-first-read-requires
-on-first-read-requires c κs = search needs
-
-on-later-read-requires : tie.Need-on-later-read-requires
-on-later-read-requires c κs = search needs
-
-on-cancelled-requires : tie.Need-on-cancelled-requires
-on-cancelled-requires c κs = search needs
-
-on-cancelled-requires-2 : tie.Need-on-cancelled-requires-2
-on-cancelled-requires-2 c κs = search needs
-
-on-rejected-requires : tie.Need-on-rejected-requires
-on-rejected-requires c κs = search needs
-
-on-drain-requires : tie.Need-on-drain-requires
-on-drain-requires c κs = search needs
-
 returns : tie.Need-returns
 unfolding stepOf
 returns c = in-phase _ 0 _ _ _ (c .before .match .keys1) (c .on-sent .ensures (c .before .before .before .args .packet .now))
@@ -62,13 +41,13 @@ pub advance-spec : {M : Type 1} → statement M
 advance-spec =
     tie.close
     (tie.spec
-    on-sent-requires
-    on-first-read-requires
-    on-later-read-requires
-    on-cancelled-requires
-    on-cancelled-requires-2
-    on-rejected-requires
-    on-drain-requires
+    (λ c κs. search needs)
+    (λ c κs. search needs)
+    (λ c κs. search needs)
+    (λ c κs. search needs)
+    (λ c κs. search needs)
+    (λ c κs. search needs)
+    (λ c κs. search needs)
     returns
     returns-2
     returns-3

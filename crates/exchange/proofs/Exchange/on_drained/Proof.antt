@@ -9,12 +9,9 @@ returns : tie.Need-returns
 unfolding stepOf
 returns c = search (follows, needs) depth 8
 
-pending-requires : tie.Need-pending-requires
-pending-requires c κs = search needs
-
 returns-2 : tie.Need-returns-2
 unfolding stepOf
 returns-2 c = search (follows, needs) depth 8
 
 pub on-drained-spec : {M : Type 1} → statement M
-on-drained-spec = tie.close (tie.spec returns pending-requires returns-2)
+on-drained-spec = tie.close (tie.spec returns (λ c κs. search needs) returns-2)

@@ -9,15 +9,6 @@ use Rattle.exchange.proofs.Exchange.on_first_packet.Tie as tie
 returns : tie.Need-returns
 returns c = search (follows, needs) depth 8
 
-has-sof-requires : tie.Need-has-sof-requires
-has-sof-requires c κs = search needs
-
-on-packet-requires : tie.Need-on-packet-requires
-on-packet-requires c κs = search needs
-
-pending-requires : tie.Need-pending-requires
-pending-requires c κs = search needs
-
 returns-2 : tie.Need-returns-2
 unfolding hasStart
 returns-2 c = search (follows, needs) depth 8
@@ -31,8 +22,8 @@ on-first-packet-spec =
     tie.close
     (tie.spec
     returns
-    has-sof-requires
-    on-packet-requires
-    pending-requires
+    (λ c κs. search needs)
+    (λ c κs. search needs)
+    (λ c κs. search needs)
     returns-2
     returns-3)

@@ -6,18 +6,6 @@ use Rattle.exchange.proofs.Tags.{not-read-first}
 use Rattle.exchange.proofs.Exchange.on_first_read.Statement.{statement}
 use Rattle.exchange.proofs.Exchange.on_first_read.Tie as tie
 
-enum-told : tie.Need-enum-told
-enum-told c = search needs
-
-on-first-packet-requires : tie.Need-on-first-packet-requires
-on-first-packet-requires c κs = search needs
-
-enum-told-2 : tie.Need-enum-told-2
-enum-told-2 c = search needs
-
-enum-told-3 : tie.Need-enum-told-3
-enum-told-3 c = search needs
-
 returns : tie.Need-returns
 returns c = rw (c .before .enum-told .given .1) (c .on-first-packet .ensures)
 
@@ -34,10 +22,10 @@ pub on-first-read-spec : {M : Type 1} → statement M
 on-first-read-spec =
     tie.close
     (tie.spec
-    enum-told
-    on-first-packet-requires
-    enum-told-2
-    enum-told-3
+    (λ c. search needs)
+    (λ c κs. search needs)
+    (λ c. search needs)
+    (λ c. search needs)
     returns
     returns-2
     returns-3

@@ -7,24 +7,6 @@ use Rattle.exchange.proofs.Tags.{not-read}
 use Rattle.exchange.proofs.Exchange.on_later_read.Statement.{statement}
 use Rattle.exchange.proofs.Exchange.on_later_read.Tie as tie
 
-enum-told : tie.Need-enum-told
-enum-told c = search needs
-
-on-later-packet-requires : tie.Need-on-later-packet-requires
-on-later-packet-requires c κs = search needs
-
-enum-told-2 : tie.Need-enum-told-2
-enum-told-2 c = search needs
-
-enum-told-3 : tie.Need-enum-told-3
-enum-told-3 c = search needs
-
-enum-told-4 : tie.Need-enum-told-4
-enum-told-4 c = search needs
-
-pending-requires : tie.Need-pending-requires
-pending-requires c κs = search needs
-
 returns : tie.Need-returns
 returns c = rw (c .before .enum-told .given .1) (c .on-later-packet .ensures)
 
@@ -45,12 +27,12 @@ pub on-later-read-spec : {M : Type 1} → statement M
 on-later-read-spec =
     tie.close
     (tie.spec
-    enum-told
-    on-later-packet-requires
-    enum-told-2
-    enum-told-3
-    enum-told-4
-    pending-requires
+    (λ c. search needs)
+    (λ c κs. search needs)
+    (λ c. search needs)
+    (λ c. search needs)
+    (λ c. search needs)
+    (λ c κs. search needs)
     returns
     returns-2
     returns-3

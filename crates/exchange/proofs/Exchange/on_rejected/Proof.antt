@@ -6,18 +6,6 @@ use Rattle.exchange.proofs.Tags.{not-written}
 use Rattle.exchange.proofs.Exchange.on_rejected.Statement.{statement}
 use Rattle.exchange.proofs.Exchange.on_rejected.Tie as tie
 
-enum-told : tie.Need-enum-told
-enum-told c = search needs
-
-pending-requires : tie.Need-pending-requires
-pending-requires c κs = search needs
-
-enum-told-2 : tie.Need-enum-told-2
-enum-told-2 c = search needs
-
-pending-requires-2 : tie.Need-pending-requires-2
-pending-requires-2 c κs = search needs
-
 returns : tie.Need-returns
 unfolding stepOf
 returns c p = rw (c .before .enum-told .given .1) (search (goes-on, needs) depth 6)
@@ -33,10 +21,10 @@ pub on-rejected-spec : {M : Type 1} → statement M
 on-rejected-spec =
     tie.close
     (tie.spec
-    enum-told
-    pending-requires
-    enum-told-2
-    pending-requires-2
+    (λ c. search needs)
+    (λ c κs. search needs)
+    (λ c. search needs)
+    (λ c κs. search needs)
     returns
     returns-2
     returns-3)

@@ -12,18 +12,6 @@ use borrow.Author.Needs.{needs}
 use Rattle.framing.proofs.frame.build_command.Statement.{statement}
 use Rattle.framing.proofs.frame.build_command.Tie as tie
 
-add-n : tie.Need-add-n
-add-n c = search needs
-
-format-requires : tie.Need-format-requires
-format-requires c κs = search needs
-
-room-for-requires : tie.Need-room-for-requires
-room-for-requires c κs = search needs
-
-enum-known-start : tie.Need-enum-known-start
-enum-known-start c = search needs
-
 -- what the place that was found says
 placed : (c : tie.After-start) → At (c .start .given .0 .0) ≡ placeOf rcs956 (length (c .before .before .before .before .before .before .args .bytes .now) + 2) (length (c .before .before .before .before .before .before .args .buffer .now))
 placed c = rw (c .before .before .before .format .ensures) at (sym (c .start .given .1) ∙ c .before .before .room-for .ensures)
@@ -61,9 +49,6 @@ part-copy-start c =
     let k = fits (c .before) in
     simp length-set (omega arith)
 
-part-copy-end : tie.Need-part-copy-end
-part-copy-end c = search needs
-
 copy-requires : tie.Need-copy-requires
 copy-requires c κs =
     let k = fits (c .before .before) in
@@ -84,9 +69,6 @@ add-t14 c =
     let k = fits (c .before .before .before .before .before .before .before .before .before) in
     omega arith
 
-enum-known-refusal : tie.Need-enum-known-refusal
-enum-known-refusal c = search needs
-
 same-length : tie.Need-same-length
 same-length c = c .before .before .enclose .kept .1 .1 .0 ∙ (c .before .before .before .before .before .buffer .given .1 ∙ simp length-set)
 
@@ -104,22 +86,22 @@ pub build-command-spec : {M : Type 1} → statement M
 build-command-spec =
     tie.close
     (tie.spec
-    add-n
-    format-requires
-    room-for-requires
-    enum-known-start
+    (λ c. search needs)
+    (λ c κs. search needs)
+    (λ c κs. search needs)
+    (λ c. search needs)
     slice-write-buffer
     add-buffer
     slice-write-buffer-2
     add-copy
     sub-copy
     part-copy-start
-    part-copy-end
+    (λ c. search needs)
     copy-requires
     enclose-requires
     add-t12
     add-t14
-    enum-known-refusal
+    (λ c. search needs)
     same-length
     returns
     returns-2)

@@ -4,20 +4,8 @@ use borrow.Author.Needs.{needs}
 use Rattle.framing.proofs.padded.behind.Statement.{statement}
 use Rattle.framing.proofs.padded.behind.Tie as tie
 
-enum-known-found : tie.Need-enum-known-found
-enum-known-found c = search needs
-
-enum-known-found-2 : tie.Need-enum-known-found-2
-enum-known-found-2 c = search needs
-
-enum-known-found-3 : tie.Need-enum-known-found-3
-enum-known-found-3 c = search needs
-
 add-t9 : tie.Need-add-t9
 add-t9 c = let low = rw (c .before .found3 .given .1) at (c .before .before .before .pre .1) in omega (arith, low)
-
-enum-told : tie.Need-enum-told
-enum-told c = search needs
 
 returns : tie.Need-returns
 returns c = rw (c .before .found .given .1)
@@ -35,11 +23,11 @@ pub behind-spec : {M : Type 1} → statement M
 behind-spec =
     tie.close
     (tie.spec
-    enum-known-found
-    enum-known-found-2
-    enum-known-found-3
+    (λ c. search needs)
+    (λ c. search needs)
+    (λ c. search needs)
     add-t9
-    enum-told
+    (λ c. search needs)
     returns
     returns-2
     returns-3

@@ -5,9 +5,6 @@ use borrow.Author.Needs.{needs}
 use Rattle.framing.proofs.padded.parse_padded.Statement.{statement}
 use Rattle.framing.proofs.padded.parse_padded.Tie as tie
 
-zeros-in-requires : tie.Need-zeros-in-requires
-zeros-in-requires c κs = search needs
-
 sub-parse : tie.Need-sub-parse
 sub-parse c =
     let a = c .before .before .args in
@@ -17,12 +14,6 @@ part-parse-start : tie.Need-part-parse-start
 part-parse-start c =
     let a = c .before .before .args in
     omega (arith, c .zeros-in .ensures, zeros-fit (a .padded) (a .packet .now))
-
-part-parse-end : tie.Need-part-parse-end
-part-parse-end c = search needs
-
-parse-requires : tie.Need-parse-requires
-parse-requires c κs = search needs
 
 behind-requires : tie.Need-behind-requires
 behind-requires c κs =
@@ -38,10 +29,10 @@ pub parse-padded-spec : {M : Type 1} → statement M
 parse-padded-spec =
     tie.close
     (tie.spec
-    zeros-in-requires
+    (λ c κs. search needs)
     sub-parse
     part-parse-start
-    part-parse-end
-    parse-requires
+    (λ c. search needs)
+    (λ c κs. search needs)
     behind-requires
     returns)

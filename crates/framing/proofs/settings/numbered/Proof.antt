@@ -8,24 +8,6 @@ use borrow.Author.Needs.{needs}
 use Rattle.framing.proofs.settings.numbered.Statement.{statement}
 use Rattle.framing.proofs.settings.numbered.Tie as tie
 
-format-requires : tie.Need-format-requires
-format-requires c κs = search needs
-
-format-requires-2 : tie.Need-format-requires-2
-format-requires-2 c κs = search needs
-
-format-requires-3 : tie.Need-format-requires-3
-format-requires-3 c κs = search needs
-
-format-requires-4 : tie.Need-format-requires-4
-format-requires-4 c κs = search needs
-
-format-requires-5 : tie.Need-format-requires-5
-format-requires-5 c κs = search needs
-
-format-requires-6 : tie.Need-format-requires-6
-format-requires-6 c κs = search needs
-
 returns : tie.Need-returns
 unfolding settingOf pick
 returns c = rw (c .before .match .keys1) (ap Format (c .format .ensures))
@@ -58,12 +40,12 @@ pub numbered-spec : {M : Type 1} → statement M
 numbered-spec =
     tie.close
     (tie.spec
-    format-requires
-    format-requires-2
-    format-requires-3
-    format-requires-4
-    format-requires-5
-    format-requires-6
+    (λ c κs. search needs)
+    (λ c κs. search needs)
+    (λ c κs. search needs)
+    (λ c κs. search needs)
+    (λ c κs. search needs)
+    (λ c κs. search needs)
     returns
     returns-2
     returns-3

@@ -6,12 +6,6 @@ use borrow.Author.Needs.{needs}
 use Rattle.framing.proofs.sums.checksum.Statement.{statement}
 use Rattle.framing.proofs.sums.checksum.Tie as tie
 
-sum-requires : tie.Need-sum-requires
-sum-requires c κs = search needs
-
-wrapping-sub-u8-requires : tie.Need-wrapping-sub-u8-requires
-wrapping-sub-u8-requires c κs = search needs
-
 returns : tie.Need-returns
 returns c =
     let l = c .before .before .before .args .bytes .now in
@@ -20,4 +14,4 @@ returns c =
     checksum-only l r byte (omega (arith, wraps l _ r (c .before .sum .ensures)))
 
 pub checksum-spec : {M : Type 1} → statement M
-checksum-spec = tie.close (tie.spec sum-requires wrapping-sub-u8-requires returns)
+checksum-spec = tie.close (tie.spec (λ c κs. search needs) (λ c κs. search needs) returns)

@@ -5,12 +5,9 @@ use borrow.Author.Needs.{needs}
 use Rattle.framing.proofs.sums.length_checksum.Statement.{statement}
 use Rattle.framing.proofs.sums.length_checksum.Tie as tie
 
-wrapping-sub-u8-requires : tie.Need-wrapping-sub-u8-requires
-wrapping-sub-u8-requires c κs = search needs
-
 returns : tie.Need-returns
 unfolding total checksumOf
 returns c = omega arith
 
 pub length-checksum-spec : {M : Type 1} → statement M
-length-checksum-spec = tie.close (tie.spec wrapping-sub-u8-requires returns)
+length-checksum-spec = tie.close (tie.spec (λ c κs. search needs) returns)

@@ -7,12 +7,6 @@ use borrow.Author.Needs.{needs}
 use Rattle.framing.proofs.sums.length_matches.Statement.{statement}
 use Rattle.framing.proofs.sums.length_matches.Tie as tie
 
-plain-sum-requires : tie.Need-plain-sum-requires
-plain-sum-requires c κs = search needs
-
-wrapping-add-u8-requires : tie.Need-wrapping-add-u8-requires
-wrapping-add-u8-requires c κs = search needs
-
 returns : tie.Need-returns
 unfolding matches
 returns c =
@@ -20,4 +14,4 @@ returns c =
     ap (λ n. eqb n 0) (c .wrapping-add-u8 .ensures ∙ wraps (a .bytes .now) _ (a .byte) (c .before .plain-sum .ensures))
 
 pub length-matches-spec : {M : Type 1} → statement M
-length-matches-spec = tie.close (tie.spec plain-sum-requires wrapping-add-u8-requires returns)
+length-matches-spec = tie.close (tie.spec (λ c κs. search needs) (λ c κs. search needs) returns)

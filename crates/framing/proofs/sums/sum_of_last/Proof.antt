@@ -10,30 +10,6 @@ use borrow.Author.Needs.{needs}
 use Rattle.framing.proofs.sums.sum_of_last.Statement.{statement}
 use Rattle.framing.proofs.sums.sum_of_last.Tie as tie
 
-slice-aggregate-copy : tie.Need-slice-aggregate-copy
-slice-aggregate-copy c = search needs
-
-copy-requires : tie.Need-copy-requires
-copy-requires c κs = search needs
-
-sub-from : tie.Need-sub-from
-sub-from c = search needs
-
-add-plain-sum : tie.Need-add-plain-sum
-add-plain-sum c = search needs
-
-sub-plain-sum : tie.Need-sub-plain-sum
-sub-plain-sum c = search needs
-
-part-plain-sum-start : tie.Need-part-plain-sum-start
-part-plain-sum-start c = search needs
-
-part-plain-sum-end : tie.Need-part-plain-sum-end
-part-plain-sum-end c = search needs
-
-plain-sum-requires : tie.Need-plain-sum-requires
-plain-sum-requires c κs = search needs
-
 returns : tie.Need-returns
 returns c =
     let a = c .before .before .before .before .before .before .before .args in
@@ -50,12 +26,12 @@ pub sum-of-last-spec : {M : Type 1} → statement M
 sum-of-last-spec =
     tie.close
     (tie.spec
-    slice-aggregate-copy
-    copy-requires
-    sub-from
-    add-plain-sum
-    sub-plain-sum
-    part-plain-sum-start
-    part-plain-sum-end
-    plain-sum-requires
+    (λ c. search needs)
+    (λ c κs. search needs)
+    (λ c. search needs)
+    (λ c. search needs)
+    (λ c. search needs)
+    (λ c. search needs)
+    (λ c. search needs)
+    (λ c κs. search needs)
     returns)

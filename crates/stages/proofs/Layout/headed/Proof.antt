@@ -5,9 +5,6 @@ use borrow.Author.Needs.{needs}
 use Rattle.stages.proofs.Layout.headed.Statement.{statement}
 use Rattle.stages.proofs.Layout.headed.Tie as tie
 
-sub-len : tie.Need-sub-len
-sub-len c = search needs
-
 returns : tie.Need-returns
 returns c = λ f p q r. lays-headed f _ _ _ _ _ _ p q r refl
 
@@ -15,4 +12,4 @@ returns-2 : tie.Need-returns-2
 returns-2 c = λ f p q r. absurd (omega arith)
 
 pub headed-spec : {M : Type 1} → statement M
-headed-spec = tie.close (tie.spec sub-len returns returns-2)
+headed-spec = tie.close (tie.spec (λ c. search needs) returns returns-2)

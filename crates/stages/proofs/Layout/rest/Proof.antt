@@ -4,15 +4,6 @@ use borrow.Author.Needs.{needs}
 use Rattle.stages.proofs.Layout.rest.Statement.{statement}
 use Rattle.stages.proofs.Layout.rest.Tie as tie
 
-sub-part : tie.Need-sub-part
-sub-part c = search needs
-
-part-requires : tie.Need-part-requires
-part-requires c κs = search needs
-
-part-requires-2 : tie.Need-part-requires-2
-part-requires-2 c κs = search needs
-
 returns : tie.Need-returns
 returns c = λ f. lays-rest f _ _ _ (search needs) (c .part .ensures f _ (omega arith))
 
@@ -20,4 +11,4 @@ returns-2 : tie.Need-returns-2
 returns-2 c = λ f. let a = c .before .before .before .args in lays-none f (a .response .now) _ (a .start) (omega arith) (c .part2 .ensures f _ (omega arith))
 
 pub rest-spec : {M : Type 1} → statement M
-rest-spec = tie.close (tie.spec sub-part part-requires part-requires-2 returns returns-2)
+rest-spec = tie.close (tie.spec (λ c. search needs) (λ c κs. search needs) (λ c κs. search needs) returns returns-2)

@@ -7,17 +7,11 @@ use Rattle.stages.proofs.put.longer.Tie as tie
 returns : tie.Need-returns
 returns c = λ n h. sum-over _ n _ h (omega arith)
 
-add-result : tie.Need-add-result
-add-result c = search needs
-
 returns-2 : tie.Need-returns-2
 returns-2 c = λ n h. sum-passed _ n _ h (omega arith) (omega arith)
-
-add-result-2 : tie.Need-add-result-2
-add-result-2 c = search needs
 
 returns-3 : tie.Need-returns-3
 returns-3 c = λ n h. sum-more _ n _ h (omega arith) (omega arith)
 
 pub longer-spec : {M : Type 1} → statement M
-longer-spec = tie.close (tie.spec returns add-result returns-2 add-result-2 returns-3)
+longer-spec = tie.close (tie.spec returns (λ c. search needs) returns-2 (λ c. search needs) returns-3)

@@ -7,38 +7,8 @@ use borrow.Author.Needs.{needs}
 use Rattle.stages.proofs.put.put_all.Statement.{statement}
 use Rattle.stages.proofs.put.put_all.Tie as tie
 
-longer-requires : tie.Need-longer-requires
-longer-requires c κs = search needs
-
-longer-requires-2 : tie.Need-longer-requires-2
-longer-requires-2 c κs = search needs
-
-longer-requires-3 : tie.Need-longer-requires-3
-longer-requires-3 c κs = search needs
-
-longer-requires-4 : tie.Need-longer-requires-4
-longer-requires-4 c κs = search needs
-
-longer-requires-5 : tie.Need-longer-requires-5
-longer-requires-5 c κs = search needs
-
 returns : tie.Need-returns
 returns c = let a = c .before .before .before .before .before .before .before .before .before .before .before .args in let s = c .before .longer5 .ensures _ (c .before .before .longer4 .ensures _ (c .before .before .before .longer3 .ensures _ (c .before .before .before .before .longer2 .ensures _ (c .before .before .before .before .before .longer .ensures _ (sum-none))))) in joins-over _ _ _ _ (omega (arith, length-append (a .head .now) (a .first .now), length-append (a .head .now ++ a .first .now) (a .second .now), length-append (a .head .now ++ a .first .now ++ a .second .now) (a .third .now), length-append (a .head .now ++ a .first .now ++ a .second .now ++ a .third .now) (a .fourth .now), s .over (omega arith))) (omega arith) refl
-
-append-requires : tie.Need-append-requires
-append-requires c κs = search needs
-
-append-requires-2 : tie.Need-append-requires-2
-append-requires-2 c κs = search needs
-
-append-requires-3 : tie.Need-append-requires-3
-append-requires-3 c κs = search needs
-
-append-requires-4 : tie.Need-append-requires-4
-append-requires-4 c κs = search needs
-
-append-requires-5 : tie.Need-append-requires-5
-append-requires-5 c κs = search needs
 
 returns-2 : tie.Need-returns-2
 returns-2 c = let a = c .before .before .before .before .before .before .before .before .before .before .before .before .before .before .before .before .before .before .before .before .before .args in let s = c .before .before .before .before .before .before .before .before .before .before .before .longer5 .ensures _ (c .before .before .before .before .before .before .before .before .before .before .before .before .longer4 .ensures _ (c .before .before .before .before .before .before .before .before .before .before .before .before .before .longer3 .ensures _ (c .before .before .before .before .before .before .before .before .before .before .before .before .before .before .longer2 .ensures _ (c .before .before .before .before .before .before .before .before .before .before .before .before .before .before .before .longer .ensures _ (sum-none))))) in let few = s .within (omega arith) in let start : length (a .command .now) ≡ 512 = search needs in let c0 = c .before .before .before .before .before .before .before .before .append .ensures .count (omega (arith, few)) in let p0 = c .before .before .before .before .before .before .before .before .append .ensures .puts _ _ (omega (arith, few)) (puts-none _) in let c1 = c .before .before .before .before .before .before .append2 .ensures .count (omega (arith, few, c0)) in let p1 = c .before .before .before .before .before .before .append2 .ensures .puts _ _ (omega (arith, few, c0)) (p0) in let c2 = c .before .before .before .before .append3 .ensures .count (omega (arith, few, c0, c1)) in let p2 = c .before .before .before .before .append3 .ensures .puts _ _ (omega (arith, few, c0, c1)) (p1) in let c3 = c .before .before .append4 .ensures .count (omega (arith, few, c0, c1, c2)) in let p3 = c .before .before .append4 .ensures .puts _ _ (omega (arith, few, c0, c1, c2)) (p2) in let c4 = c .append5 .ensures .count (omega (arith, few, c0, c1, c2, c3)) in let p4 = c .append5 .ensures .puts _ _ (omega (arith, few, c0, c1, c2, c3)) (p3) in joins-within _ _ _ _ (omega (arith, few, length-append (a .head .now) (a .first .now), length-append (a .head .now ++ a .first .now) (a .second .now), length-append (a .head .now ++ a .first .now ++ a .second .now) (a .third .now), length-append (a .head .now ++ a .first .now ++ a .second .now ++ a .third .now) (a .fourth .now))) p4
@@ -47,15 +17,15 @@ pub put-all-spec : {M : Type 1} → statement M
 put-all-spec =
     tie.close
     (tie.spec
-    longer-requires
-    longer-requires-2
-    longer-requires-3
-    longer-requires-4
-    longer-requires-5
+    (λ c κs. search needs)
+    (λ c κs. search needs)
+    (λ c κs. search needs)
+    (λ c κs. search needs)
+    (λ c κs. search needs)
     returns
-    append-requires
-    append-requires-2
-    append-requires-3
-    append-requires-4
-    append-requires-5
+    (λ c κs. search needs)
+    (λ c κs. search needs)
+    (λ c κs. search needs)
+    (λ c κs. search needs)
+    (λ c κs. search needs)
     returns-2)

@@ -7,20 +7,8 @@ use borrow.Author.Needs.{needs}
 use Rattle.stages.proofs.put.put_two.Statement.{statement}
 use Rattle.stages.proofs.put.put_two.Tie as tie
 
-longer-requires : tie.Need-longer-requires
-longer-requires c κs = search needs
-
-longer-requires-2 : tie.Need-longer-requires-2
-longer-requires-2 c κs = search needs
-
 returns : tie.Need-returns
 returns c = let a = c .before .before .before .before .before .args in let s = c .before .longer2 .ensures _ (c .before .before .longer .ensures _ (sum-none)) in joins-over _ _ _ _ (omega (arith, length-append (a .head .now) (a .rest .now), s .over (omega arith))) (omega arith) refl
-
-append-requires : tie.Need-append-requires
-append-requires c κs = search needs
-
-append-requires-2 : tie.Need-append-requires-2
-append-requires-2 c κs = search needs
 
 returns-2 : tie.Need-returns-2
 returns-2 c = let a = c .before .before .before .before .before .before .before .before .before .args in let s = c .before .before .before .before .before .longer2 .ensures _ (c .before .before .before .before .before .before .longer .ensures _ (sum-none)) in let few = s .within (omega arith) in let start : length (a .command .now) ≡ 512 = search needs in let c0 = c .before .before .append .ensures .count (omega (arith, few)) in let p0 = c .before .before .append .ensures .puts _ _ (omega (arith, few)) (puts-none _) in let c1 = c .append2 .ensures .count (omega (arith, few, c0)) in let p1 = c .append2 .ensures .puts _ _ (omega (arith, few, c0)) (p0) in joins-within _ _ _ _ (omega (arith, few, length-append (a .head .now) (a .rest .now))) p1
@@ -29,9 +17,9 @@ pub put-two-spec : {M : Type 1} → statement M
 put-two-spec =
     tie.close
     (tie.spec
-    longer-requires
-    longer-requires-2
+    (λ c κs. search needs)
+    (λ c κs. search needs)
     returns
-    append-requires
-    append-requires-2
+    (λ c κs. search needs)
+    (λ c κs. search needs)
     returns-2)

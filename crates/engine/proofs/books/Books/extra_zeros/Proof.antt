@@ -8,9 +8,6 @@ returns : tie.Need-returns
 unfolding extraIn
 returns c = search (steps, needs) depth 12
 
-extra-zeros-requires : tie.Need-extra-zeros-requires
-extra-zeros-requires c κs = search needs
-
 returns-2 : tie.Need-returns-2
 unfolding extraIn
 returns-2 c = search (steps, needs) depth 12
@@ -20,4 +17,4 @@ unfolding extraIn
 returns-3 c = search (steps, needs) depth 12
 
 pub extra-zeros-spec : {M : Type 1} → statement M
-extra-zeros-spec = tie.close (tie.spec returns extra-zeros-requires returns-2 returns-3)
+extra-zeros-spec = tie.close (tie.spec returns (λ c κs. search needs) returns-2 returns-3)

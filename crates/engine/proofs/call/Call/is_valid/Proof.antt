@@ -1,6 +1,6 @@
 -- `engine::call::Call::is_valid` meets its contract.
 use Rattle.framing.specs.Rules.{steps}
-use Rattle.engine.specs.Moves.{validCall}
+use Rattle.engine.specs.Transitions.{validCall}
 use borrow.Author.Needs.{needs}
 use Rattle.engine.proofs.call.Call.is_valid.Statement.{statement}
 use Rattle.engine.proofs.call.Call.is_valid.Tie as tie

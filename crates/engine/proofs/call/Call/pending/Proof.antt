@@ -3,15 +3,6 @@ use borrow.Author.Needs.{needs}
 use Rattle.engine.proofs.call.Call.pending.Statement.{statement}
 use Rattle.engine.proofs.call.Call.pending.Tie as tie
 
-enum-told : tie.Need-enum-told
-enum-told c = search needs
-
-enum-known-next : tie.Need-enum-known-next
-enum-known-next c = search needs
-
-enum-told-2 : tie.Need-enum-told-2
-enum-told-2 c = search needs
-
 returns : tie.Need-returns
 returns c = λ code p. rw (c .enum-told .given .1)
 
@@ -23,4 +14,4 @@ returns-3 c = λ code p. rw (c .enum-told2 .given .1)
 
 pub pending-spec : {M : Type 1} → statement M
 pending-spec =
-    tie.close (tie.spec enum-told enum-known-next enum-told-2 returns returns-2 returns-3)
+    tie.close (tie.spec (λ c. search needs) (λ c. search needs) (λ c. search needs) returns returns-2 returns-3)

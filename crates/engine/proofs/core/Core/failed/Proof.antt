@@ -18,23 +18,8 @@ slice-reshare-prefix-failed-2 c = omega (arith, c .before .before .before .befor
 slice-aggregate-failed-2 : tie.Need-slice-aggregate-failed-2
 slice-aggregate-failed-2 c = sym (length-take-le (c .before .before .before .before .before .before .args .self .found) (c .before .before .before .before .before .before .args .found .now) (omega (arith, c .before .before .before .before .before .before .pre .0, c .before .before .before .before .before .before .pre .3)))
 
-failed-requires : tie.Need-failed-requires
-failed-requires c κs = search needs
-
-slice-aggregate-followed : tie.Need-slice-aggregate-followed
-slice-aggregate-followed c = search needs
-
 followed-requires : tie.Need-followed-requires
 followed-requires c κs = (omega arith, c .before .before .before .before .before .before .before .before .before .before .before .pre .0, c .before .before .before .before .before .before .before .before .before .before .before .pre .1, c .before .before .before .before .before .before .before .before .before .before .before .pre .2, c .before .before .before .before .before .before .before .before .before .before .before .pre .3, c .before .before .before .before .before .before .before .before .before .before .before .pre .4, c .before .before .before .before .failed .ensures _ .fits)
-
-same-length : tie.Need-same-length
-same-length c = search needs
-
-same-length-2 : tie.Need-same-length-2
-same-length-2 c = search needs
-
-same-length-3 : tie.Need-same-length-3
-same-length-3 c = search needs
 
 returns : tie.Need-returns
 unfolding failsOf
@@ -51,10 +36,10 @@ failed-spec =
     slice-aggregate-failed
     slice-reshare-prefix-failed-2
     slice-aggregate-failed-2
-    failed-requires
-    slice-aggregate-followed
+    (λ c κs. search needs)
+    (λ c. search needs)
     followed-requires
-    same-length
-    same-length-2
-    same-length-3
+    (λ c. search needs)
+    (λ c. search needs)
+    (λ c. search needs)
     returns)

@@ -7,62 +7,29 @@ use Rattle.exchange.specs.Exchange.{pause}
 use Rattle.stages.specs.Decided.{layoutBytes, DecisionFits}
 use Rattle.engine.specs.Core.{held, stageOf, ordersOf, keepsOf, followsOf}
 use Rattle.engine.specs.Laws.{done-copied, type1-copied}
-use Rattle.engine.specs.Moves.{at}
+use Rattle.engine.specs.Transitions.{at}
 use borrow.Author.Needs.{needs}
 use Rattle.engine.proofs.core.Core.followed.Statement.{statement}
 use Rattle.engine.proofs.core.Core.followed.Tie as tie
 
-enum-known-decision : tie.Need-enum-known-decision
-enum-known-decision c = search needs
-
-to-stage-requires : tie.Need-to-stage-requires
-to-stage-requires c κs = search needs
-
 send-requires : tie.Need-send-requires
 send-requires c κs = (c .before .before .before .before .before .before .before .before .before .before .before .before .pre .2, c .before .before .before .before .before .before .before .before .before .before .before .before .pre .3, c .before .before .before .before .before .before .before .before .before .before .before .before .pre .5)
-
-enum-known-decision-2 : tie.Need-enum-known-decision-2
-enum-known-decision-2 c = search needs
-
-to-stage-requires-2 : tie.Need-to-stage-requires-2
-to-stage-requires-2 c κs = search needs
 
 kept-requires : tie.Need-kept-requires
 kept-requires c κs =
     let a = c .before .before .before .before .before .before .before .before .before .before .before .before .before .args in
     (c .before .before .before .before .before .before .before .before .before .before .before .before .before .pre .0, c .before .before .before .before .before .before .before .before .before .before .before .before .before .pre .1, c .before .before .before .before .before .before .before .before .before .before .before .before .before .pre .2, c .before .before .before .before .before .before .before .before .before .before .before .before .before .pre .3, c .before .before .before .before .before .before .before .before .before .before .before .before .before .pre .4, c .before .before .before .before .before .before .before .before .before .before .before .before .before .pre .5, subst (λ x. DecisionFits (take (a .self .found) (a .found .now)) (a .response .now) x) (c .before .before .before .before .before .decision2 .given .1) (c .before .before .before .before .before .before .before .before .before .before .before .before .before .pre .6))
 
-enum-known-decision-3 : tie.Need-enum-known-decision-3
-enum-known-decision-3 c = search needs
-
-to-cursor-requires : tie.Need-to-cursor-requires
-to-cursor-requires c κs = search needs
-
 kept-requires-2 : tie.Need-kept-requires-2
 kept-requires-2 c κs =
     let a = c .before .before .before .before .before .before .before .before .before .before .before .before .before .args in
     (c .before .before .before .before .before .before .before .before .before .before .before .before .before .pre .0, c .before .before .before .before .before .before .before .before .before .before .before .before .before .pre .1, c .before .before .before .before .before .before .before .before .before .before .before .before .before .pre .2, c .before .before .before .before .before .before .before .before .before .before .before .before .before .pre .3, c .before .before .before .before .before .before .before .before .before .before .before .before .before .pre .4, c .before .before .before .before .before .before .before .before .before .before .before .before .before .pre .5, subst (λ x. DecisionFits (take (a .self .found) (a .found .now)) (a .response .now) x) (c .before .before .before .before .before .decision3 .given .1) (c .before .before .before .before .before .before .before .before .before .before .before .before .before .pre .6))
 
-enum-known-decision-4 : tie.Need-enum-known-decision-4
-enum-known-decision-4 c = search needs
-
 put-by-requires : tie.Need-put-by-requires
 put-by-requires c κs = (c .before .before .before .before .before .before .before .before .before .before .before .pre .3, c .before .before .before .before .before .before .before .before .before .before .before .pre .5)
 
-enum-known-decision-5 : tie.Need-enum-known-decision-5
-enum-known-decision-5 c = search needs
-
-to-stage-requires-3 : tie.Need-to-stage-requires-3
-to-stage-requires-3 c κs = search needs
-
-at-requires : tie.Need-at-requires
-at-requires c κs = search needs
-
 ordered-requires : tie.Need-ordered-requires
 ordered-requires c κs = c .before .before .before .before .before .before .before .before .before .before .before .before .pre .5
-
-enum-known-decision-6 : tie.Need-enum-known-decision-6
-enum-known-decision-6 c = search needs
 
 slice-reshare-prefix-answer : tie.Need-slice-reshare-prefix-answer
 slice-reshare-prefix-answer c = omega (arith, c .before .before .before .before .before .before .before .before .before .pre .1, c .before .before .before .before .before .before .before .before .before .pre .4)
@@ -77,12 +44,6 @@ answer-requires c κs =
     let f = subst (λ x. DecisionFits (take (a .self .found) (a .found .now)) (a .response .now) x) (c .before .before .before .decision6 .given .1) (c .before .before .before .before .before .before .before .before .before .before .before .pre .6) in
     (f, omega (arith, f .room n (c .before .before .before .before .before .before .before .before .before .before .before .pre .0), c .before .before .before .before .before .before .before .before .before .before .before .pre .5))
 
-ended-requires : tie.Need-ended-requires
-ended-requires c κs = search needs
-
-enum-known-decision-7 : tie.Need-enum-known-decision-7
-enum-known-decision-7 c = search needs
-
 slice-reshare-prefix-answer-2 : tie.Need-slice-reshare-prefix-answer-2
 slice-reshare-prefix-answer-2 c = omega (arith, c .before .before .before .before .before .before .before .before .before .pre .1, c .before .before .before .before .before .before .before .before .before .pre .4)
 
@@ -96,48 +57,12 @@ answer-requires-2 c κs =
     let f = subst (λ x. DecisionFits (take (a .self .found) (a .found .now)) (a .response .now) x) (c .before .before .before .decision7 .given .1) (c .before .before .before .before .before .before .before .before .before .before .before .pre .6) in
     (f, omega (arith, f .room n (c .before .before .before .before .before .before .before .before .before .before .before .pre .0), c .before .before .before .before .before .before .before .before .before .before .before .pre .5))
 
-ended-requires-2 : tie.Need-ended-requires-2
-ended-requires-2 c κs = search needs
-
-enum-told : tie.Need-enum-told
-enum-told c = search needs
-
-ended-requires-3 : tie.Need-ended-requires-3
-ended-requires-3 c κs = search needs
-
-enum-known-decision-8 : tie.Need-enum-known-decision-8
-enum-known-decision-8 c = search needs
-
-ended-requires-4 : tie.Need-ended-requires-4
-ended-requires-4 c κs = search needs
-
-enum-known-decision-9 : tie.Need-enum-known-decision-9
-enum-known-decision-9 c = search needs
-
-ended-requires-5 : tie.Need-ended-requires-5
-ended-requires-5 c κs = search needs
-
-same-length : tie.Need-same-length
-same-length c = search needs
-
-same-length-2 : tie.Need-same-length-2
-same-length-2 c = search needs
-
 returns : tie.Need-returns
 unfolding followsOf
 returns c =
     let a = c .before .before .before .before .before .before .before .before .before .before .before .before .before .before .before .args in
     rw (c .before .before .before .before .before .before .before .decision .given .1)
     (c .before .before .send .ensures _ ∙ ap (λ d. stageOf (a .self) (held (a .command .now) (a .found .now)) d (a .buffer .now)) (c .before .before .before .before .before .to-stage .ensures))
-
-same-length-3 : tie.Need-same-length-3
-same-length-3 c = search needs
-
-same-length-4 : tie.Need-same-length-4
-same-length-4 c = search needs
-
-same-length-5 : tie.Need-same-length-5
-same-length-5 c = search needs
 
 returns-2 : tie.Need-returns-2
 unfolding followsOf
@@ -146,15 +71,6 @@ returns-2 c =
     rw (c .before .before .before .before .before .before .before .before .before .before .decision2 .given .1)
     (c .before .before .before .before .kept .ensures ∙ ap (λ x. keepsOf (a .self) (held (a .command .now) (a .found .now)) x (layoutBytes (take (a .self .found) (a .found .now)) (a .response .now) (c .before .before .before .before .before .before .before .before .before .before .decision2 .given .0 .1 .0)) (a .buffer .now)) (c .before .before .before .before .before .before .before .before .to-stage2 .ensures))
 
-same-length-6 : tie.Need-same-length-6
-same-length-6 c = search needs
-
-same-length-7 : tie.Need-same-length-7
-same-length-7 c = search needs
-
-same-length-8 : tie.Need-same-length-8
-same-length-8 c = search needs
-
 returns-3 : tie.Need-returns-3
 unfolding followsOf
 returns-3 c =
@@ -162,17 +78,8 @@ returns-3 c =
     rw (c .before .before .before .before .before .before .before .before .before .before .decision3 .given .1)
     (c .before .before .before .before .kept2 .ensures ∙ ap (λ x. keepsOf (a .self) (held (a .command .now) (a .found .now)) x (layoutBytes (take (a .self .found) (a .found .now)) (a .response .now) (c .before .before .before .before .before .before .before .before .before .before .decision3 .given .0 .1 .1 .0)) (a .buffer .now)) (c .before .before .before .before .before .before .before .before .to-cursor .ensures))
 
-same-length-9 : tie.Need-same-length-9
-same-length-9 c = search needs
-
-same-length-10 : tie.Need-same-length-10
-same-length-10 c = search needs
-
 returns-4 : tie.Need-returns-4
 returns-4 c = rw (c .before .before .before .before .before .before .before .before .decision4 .given .1) (c .before .before .before .before .put-by .ensures _)
-
-same-length-11 : tie.Need-same-length-11
-same-length-11 c = search needs
 
 returns-5 : tie.Need-returns-5
 unfolding followsOf
@@ -183,24 +90,12 @@ returns-5 c =
     ∙ ap (λ d. ordersOf (a .self) (held (a .command .now) (a .found .now)) (pause (c .before .before .before .before .before .before .before .decision5 .given .0 .0)) d (a .self .exchange) (a .buffer .now))
     (c .before .before .before .before .at .ensures ∙ ap (λ k. at k 5) (c .before .before .before .before .before .to-stage3 .ensures)))
 
-same-length-12 : tie.Need-same-length-12
-same-length-12 c = search needs
-
-same-length-13 : tie.Need-same-length-13
-same-length-13 c = search needs
-
 returns-6 : tie.Need-returns-6
 unfolding followsOf
 returns-6 c =
     let a = c .before .before .before .before .before .before .before .before .before .before .before .before .before .before .before .args in
     rw (c .before .before .before .before .before .before .before .decision6 .given .1)
     (done-copied (a .self) _ (layoutBytes (take (a .self .found) (a .found .now)) (a .response .now) (c .before .before .before .before .before .before .before .decision6 .given .0 .0)) (a .buffer .now) _ _ _ (c .before .before .before .answer .ensures .0) (c .before .before .before .answer .ensures .1) (c .ended .ensures _ _))
-
-same-length-14 : tie.Need-same-length-14
-same-length-14 c = search needs
-
-same-length-15 : tie.Need-same-length-15
-same-length-15 c = search needs
 
 returns-7 : tie.Need-returns-7
 unfolding followsOf
@@ -225,58 +120,58 @@ pub followed-spec : {M : Type 1} → statement M
 followed-spec =
     tie.close
     (tie.spec
-    enum-known-decision
-    to-stage-requires
+    (λ c. search needs)
+    (λ c κs. search needs)
     send-requires
-    enum-known-decision-2
-    to-stage-requires-2
+    (λ c. search needs)
+    (λ c κs. search needs)
     kept-requires
-    enum-known-decision-3
-    to-cursor-requires
+    (λ c. search needs)
+    (λ c κs. search needs)
     kept-requires-2
-    enum-known-decision-4
+    (λ c. search needs)
     put-by-requires
-    enum-known-decision-5
-    to-stage-requires-3
-    at-requires
+    (λ c. search needs)
+    (λ c κs. search needs)
+    (λ c κs. search needs)
     ordered-requires
-    enum-known-decision-6
+    (λ c. search needs)
     slice-reshare-prefix-answer
     slice-aggregate-answer
     answer-requires
-    ended-requires
-    enum-known-decision-7
+    (λ c κs. search needs)
+    (λ c. search needs)
     slice-reshare-prefix-answer-2
     slice-aggregate-answer-2
     answer-requires-2
-    ended-requires-2
-    enum-told
-    ended-requires-3
-    enum-known-decision-8
-    ended-requires-4
-    enum-known-decision-9
-    ended-requires-5
-    same-length
-    same-length-2
+    (λ c κs. search needs)
+    (λ c. search needs)
+    (λ c κs. search needs)
+    (λ c. search needs)
+    (λ c κs. search needs)
+    (λ c. search needs)
+    (λ c κs. search needs)
+    (λ c. search needs)
+    (λ c. search needs)
     returns
-    same-length-3
-    same-length-4
-    same-length-5
+    (λ c. search needs)
+    (λ c. search needs)
+    (λ c. search needs)
     returns-2
-    same-length-6
-    same-length-7
-    same-length-8
+    (λ c. search needs)
+    (λ c. search needs)
+    (λ c. search needs)
     returns-3
-    same-length-9
-    same-length-10
+    (λ c. search needs)
+    (λ c. search needs)
     returns-4
-    same-length-11
+    (λ c. search needs)
     returns-5
-    same-length-12
-    same-length-13
+    (λ c. search needs)
+    (λ c. search needs)
     returns-6
-    same-length-14
-    same-length-15
+    (λ c. search needs)
+    (λ c. search needs)
     returns-7
     returns-8
     returns-9

@@ -17,12 +17,9 @@ returns-3 : tie.Need-returns-3
 unfolding isValid
 returns-3 c = search (steps, needs) depth 10
 
-is-valid-requires : tie.Need-is-valid-requires
-is-valid-requires c κs = search needs
-
 returns-4 : tie.Need-returns-4
 unfolding isValid
 returns-4 c = search (steps, needs) depth 10
 
 pub is-valid-spec : {M : Type 1} → statement M
-is-valid-spec = tie.close (tie.spec returns returns-2 returns-3 is-valid-requires returns-4)
+is-valid-spec = tie.close (tie.spec returns returns-2 returns-3 (λ c κs. search needs) returns-4)

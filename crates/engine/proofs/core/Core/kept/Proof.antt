@@ -16,17 +16,8 @@ lay-requires c κs =
     let n : length (take (a .self .found) (a .found .now)) ≤ 1024 = omega (arith, length-take (a .self .found) (a .found .now), c .before .before .before .before .before .pre .4) in
     ((f .head, f .part, f .tail), omega (arith, f .room n (c .before .before .before .before .before .pre .0), c .before .before .before .before .before .pre .4))
 
-with-found-requires : tie.Need-with-found-requires
-with-found-requires c κs = search needs
-
 send-requires : tie.Need-send-requires
 send-requires c κs = (subst (λ (s : Core). s .command ≤ 512) (sym (c .before .with-found .ensures)) (c .before .before .before .before .before .before .before .before .before .before .pre .2), c .before .before .before .before .before .before .before .before .before .before .pre .3, c .before .before .before .before .before .before .before .before .before .before .pre .5)
-
-same-length : tie.Need-same-length
-same-length c = search needs
-
-same-length-2 : tie.Need-same-length-2
-same-length-2 c = search needs
 
 returns : tie.Need-returns
 returns c =
@@ -40,8 +31,8 @@ kept-spec =
     tie.close
     (tie.spec
     lay-requires
-    with-found-requires
+    (λ c κs. search needs)
     send-requires
-    same-length
-    same-length-2
+    (λ c. search needs)
+    (λ c. search needs)
     returns)

@@ -9,26 +9,11 @@ use borrow.Author.Needs.{needs}
 use Rattle.engine.proofs.core.Core.put_by.Statement.{statement}
 use Rattle.engine.proofs.core.Core.put_by.Tie as tie
 
-slice-aggregate-copy : tie.Need-slice-aggregate-copy
-slice-aggregate-copy c = search needs
-
 copy-requires : tie.Need-copy-requires
 copy-requires c κs = omega (arith, c .before .before .before .before .before .pre .0)
 
-with-command-requires : tie.Need-with-command-requires
-with-command-requires c κs = search needs
-
-to-stage-requires : tie.Need-to-stage-requires
-to-stage-requires c κs = search needs
-
 send-requires : tie.Need-send-requires
 send-requires c κs = (subst (λ (s : Core). s .command ≤ 512) (sym (c .before .before .before .with-command .ensures)) (omega arith), search needs, c .before .before .before .before .before .before .before .before .before .before .before .before .pre .1)
-
-same-length : tie.Need-same-length
-same-length c = search needs
-
-same-length-2 : tie.Need-same-length-2
-same-length-2 c = search needs
 
 returns : tie.Need-returns
 unfolding followsOf
@@ -38,11 +23,11 @@ pub put-by-spec : {M : Type 1} → statement M
 put-by-spec =
     tie.close
     (tie.spec
-    slice-aggregate-copy
+    (λ c. search needs)
     copy-requires
-    with-command-requires
-    to-stage-requires
+    (λ c κs. search needs)
+    (λ c κs. search needs)
     send-requires
-    same-length
-    same-length-2
+    (λ c. search needs)
+    (λ c. search needs)
     returns)

@@ -18,20 +18,8 @@ slice-reshare-prefix-decided-2 c = omega (arith, c .before .before .before .befo
 slice-aggregate-decided-2 : tie.Need-slice-aggregate-decided-2
 slice-aggregate-decided-2 c = sym (length-take-le (c .before .before .before .before .before .before .before .args .self .found) (c .before .before .before .before .before .before .before .args .found .now) (omega (arith, c .before .before .before .before .before .before .before .pre .1, c .before .before .before .before .before .before .before .pre .4)))
 
-decided-requires : tie.Need-decided-requires
-decided-requires c κs = search needs
-
 followed-requires : tie.Need-followed-requires
 followed-requires c κs = (c .before .before .before .before .before .before .before .before .before .before .before .pre .0, c .before .before .before .before .before .before .before .before .before .before .before .pre .1, c .before .before .before .before .before .before .before .before .before .before .before .pre .2, c .before .before .before .before .before .before .before .before .before .before .before .pre .3, c .before .before .before .before .before .before .before .before .before .before .before .pre .4, c .before .before .before .before .before .before .before .before .before .before .before .pre .5, c .before .before .before .decided .ensures .fits)
-
-same-length : tie.Need-same-length
-same-length c = search needs
-
-same-length-2 : tie.Need-same-length-2
-same-length-2 c = search needs
-
-same-length-3 : tie.Need-same-length-3
-same-length-3 c = search needs
 
 returns : tie.Need-returns
 unfolding repliesOf
@@ -45,9 +33,9 @@ replied-spec =
     slice-aggregate-decided
     slice-reshare-prefix-decided-2
     slice-aggregate-decided-2
-    decided-requires
+    (λ c κs. search needs)
     followed-requires
-    same-length
-    same-length-2
-    same-length-3
+    (λ c. search needs)
+    (λ c. search needs)
+    (λ c. search needs)
     returns)

@@ -13,9 +13,6 @@ use Rattle.engine.proofs.core.Core.send.Tie as tie
 slice-aggregate-command : tie.Need-slice-aggregate-command
 slice-aggregate-command c = sym (length-take-le (c .before .before .before .args .self .command) (c .before .before .before .args .command .now) (omega (arith, c .before .before .before .pre .0, c .before .before .before .pre .1)))
 
-command-requires : tie.Need-command-requires
-command-requires c κs = search needs
-
 slice-aggregate-sent : tie.Need-slice-aggregate-sent
 slice-aggregate-sent c = sym (length-take-le (c .before .before .before .before .before .before .args .self .command) (c .before .before .before .before .before .before .args .command .now) (omega (arith, c .before .before .before .before .before .before .pre .0, c .before .before .before .before .before .before .pre .1)))
 
@@ -31,9 +28,6 @@ slice-aggregate-sent-2 c = let l = c .before .before .before .command .result .b
 sent-requires-2 : tie.Need-sent-requires-2
 sent-requires-2 c κs = let l = c .before .before .before .before .command .result .bytes in let n : c .before .before .before .before .command .result .len ≤ 12 = c .before .before .before .before .command .ensures .fits in (omega (arith, length-take (c .before .before .before .before .command .result .len) l), c .before .before .before .before .before .before .before .before .pre .2)
 
-same-length : tie.Need-same-length
-same-length c = search needs
-
 returns : tie.Need-returns
 unfolding stageOf pick
 returns c = λ f.
@@ -43,9 +37,6 @@ returns c = λ f.
     c .before .before .sent .ensures (held (a .command .now) f)
     ∙ ap (λ m. sendsOf (a .self) (held (a .command .now) f) (a .call) m (a .buffer .now))
     (sym (ap (λ t. cmd (p .code) (p .clock) (pick t later (take (p .len) (p .bytes)))) (c .before .before .before .before .before .if1 .taken)) ∙ c .before .before .before .before .before .before .command .ensures .is)
-
-same-length-2 : tie.Need-same-length-2
-same-length-2 c = search needs
 
 returns-2 : tie.Need-returns-2
 unfolding stageOf pick
@@ -62,13 +53,13 @@ send-spec =
     tie.close
     (tie.spec
     slice-aggregate-command
-    command-requires
+    (λ c κs. search needs)
     slice-aggregate-sent
     sent-requires
     array-share-prefix-bytes
     slice-aggregate-sent-2
     sent-requires-2
-    same-length
+    (λ c. search needs)
     returns
-    same-length-2
+    (λ c. search needs)
     returns-2)

@@ -8,19 +8,10 @@ use Rattle.stages.specs.Stages.{cmd}
 use Rattle.stages.specs.Starts.{Starts, StartFits, commanded, as-staged, at-once}
 use Rattle.engine.specs.declared.core.Core.{Core}
 use Rattle.engine.specs.Core.{held, withCommand, sendsOf, stageOf, unchanged, startOn}
-use Rattle.engine.specs.Moves.{firstCall}
+use Rattle.engine.specs.Transitions.{firstCall}
 use borrow.Author.Needs.{needs}
 use Rattle.engine.proofs.core.Core.start.Statement.{statement}
 use Rattle.engine.proofs.core.Core.start.Tie as tie
-
-enum-known-start : tie.Need-enum-known-start
-enum-known-start c = search needs
-
-with-command-requires : tie.Need-with-command-requires
-with-command-requires c κs = search needs
-
-first-requires : tie.Need-first-requires
-first-requires c κs = search needs
 
 slice-aggregate-sent : tie.Need-slice-aggregate-sent
 slice-aggregate-sent c = let n = subst StartFits (c .before .before .before .before .start .given .1) (c .before .before .before .before .before .before .before .before .pre .0) in sym (length-take-le _ (c .before .before .before .before .before .before .before .before .args .command .now) (omega (arith, n, c .before .before .before .before .before .before .before .before .pre .1)))
@@ -28,26 +19,8 @@ slice-aggregate-sent c = let n = subst StartFits (c .before .before .before .bef
 sent-requires : tie.Need-sent-requires
 sent-requires c κs = let n = subst StartFits (c .before .before .before .before .before .start .given .1) (c .before .before .before .before .before .before .before .before .before .pre .0) in (omega (arith, n, length-take (c .before .before .before .before .before .start .given .0 .0 .len) (c .before .before .before .before .before .before .before .before .before .args .command .now)), c .before .before .before .before .before .before .before .before .before .pre .2)
 
-enum-known-start-2 : tie.Need-enum-known-start-2
-enum-known-start-2 c = search needs
-
-with-command-requires-2 : tie.Need-with-command-requires-2
-with-command-requires-2 c κs = search needs
-
-first-requires-2 : tie.Need-first-requires-2
-first-requires-2 c κs = search needs
-
 send-requires : tie.Need-send-requires
 send-requires c κs = let n = subst StartFits (c .before .before .before .before .start2 .given .1) (c .before .before .before .before .before .before .before .before .pre .0) in (subst (λ (s : Core). s .command ≤ 512) (sym (c .before .before .with-command2 .ensures)) n, c .before .before .before .before .before .before .before .before .pre .1, c .before .before .before .before .before .before .before .before .pre .2)
-
-enum-known-start-3 : tie.Need-enum-known-start-3
-enum-known-start-3 c = search needs
-
-refused-requires : tie.Need-refused-requires
-refused-requires c κs = search needs
-
-same-length : tie.Need-same-length
-same-length c = search needs
 
 returns : tie.Need-returns
 unfolding startOn
@@ -58,9 +31,6 @@ returns c = λ f k s h.
     rw (r .is)
     (c .before .before .sent .ensures _
     ∙ (λ i. sendsOf ((c .before .before .before .before .before .before .with-command .ensures ∙ ap (withCommand (a .self)) (r .puts .count)) i) (held (r .puts .is i) f) (c .before .before .before .before .before .first .ensures i) (cmd (c .before .before .before .before .before .before .before .before .start .given .0 .0 .code) (c .before .before .before .before .before .before .before .before .start .given .0 .0 .clock) (part i)) (a .buffer .now)))
-
-same-length-2 : tie.Need-same-length-2
-same-length-2 c = search needs
 
 returns-2 : tie.Need-returns-2
 unfolding startOn
@@ -82,19 +52,19 @@ pub start-spec : {M : Type 1} → statement M
 start-spec =
     tie.close
     (tie.spec
-    enum-known-start
-    with-command-requires
-    first-requires
+    (λ c. search needs)
+    (λ c κs. search needs)
+    (λ c κs. search needs)
     slice-aggregate-sent
     sent-requires
-    enum-known-start-2
-    with-command-requires-2
-    first-requires-2
+    (λ c. search needs)
+    (λ c κs. search needs)
+    (λ c κs. search needs)
     send-requires
-    enum-known-start-3
-    refused-requires
-    same-length
+    (λ c. search needs)
+    (λ c κs. search needs)
+    (λ c. search needs)
     returns
-    same-length-2
+    (λ c. search needs)
     returns-2
     returns-3)

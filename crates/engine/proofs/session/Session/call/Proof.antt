@@ -4,14 +4,8 @@ use Rattle.engine.specs.Sessions.{sessionAfter}
 use Rattle.engine.proofs.session.Session.call.Statement.{statement}
 use Rattle.engine.proofs.session.Session.call.Tie as tie
 
-call-requires : tie.Need-call-requires
-call-requires c κs = search needs
-
-same-length : tie.Need-same-length
-same-length c = search needs
-
 returns : tie.Need-returns
 returns c = ap sessionAfter (c .before .before .before .call .ensures _)
 
 pub call-spec : {M : Type 1} → statement M
-call-spec = tie.close (tie.spec call-requires same-length returns)
+call-spec = tie.close (tie.spec (λ c κs. search needs) (λ c. search needs) returns)

@@ -10,27 +10,12 @@ use borrow.Author.Needs.{needs}
 use Rattle.engine.proofs.state.State.call.Statement.{statement}
 use Rattle.engine.proofs.state.State.call.Tie as tie
 
-open-requires : tie.Need-open-requires
-open-requires c κs = search needs
-
-same-length : tie.Need-same-length
-same-length c = search needs
-
 returns : tie.Need-returns
 returns c = λ f. c .before .before .«open» .ensures _ ∙ opening-input _ _ _ _ _ _ _ _ _ (c .before .before .before .before .if1 .taken)
-
-is-admitted-requires : tie.Need-is-admitted-requires
-is-admitted-requires c κs = search needs
-
-refused-requires : tie.Need-refused-requires
-refused-requires c κs = search needs
 
 returns-2 : tie.Need-returns-2
 unfolding startAfter
 returns-2 c = λ f. at-true _ _ _ _ (sym (c .before .before .before .is-admitted .ensures) ∙ c .before .before .if2 .taken) (at-true _ _ _ _ (lt-ltb _ _ (c .before .if3 .taken)) (c .refused .ensures _ _)) ∙ reader-input _ _ _ _ _ _ _ _ _ (c .before .before .before .before .if1 .left)
-
-refused-requires-2 : tie.Need-refused-requires-2
-refused-requires-2 c κs = search needs
 
 returns-3 : tie.Need-returns-3
 unfolding startAfter
@@ -39,20 +24,8 @@ returns-3 c = λ f.
     (at-false _ _ _ _ (le-ltb _ _ (c .before .before .before .if3 .left)) (at-true _ _ _ _ (lt-ltb _ _ (c .before .if4 .taken)) (c .refused2 .ensures _ _)))
     ∙ reader-input _ _ _ _ _ _ _ _ _ (c .before .before .before .before .before .before .if1 .left)
 
-start-requires : tie.Need-start-requires
-start-requires c κs = search needs
-
 start-requires-2 : tie.Need-start-requires-2
 start-requires-2 c κs = (starts-fit (c .before .before .before .start .ensures), search needs, search needs)
-
-booked-requires : tie.Need-booked-requires
-booked-requires c κs = search needs
-
-refused-requires-3 : tie.Need-refused-requires-3
-refused-requires-3 c κs = search needs
-
-same-length-2 : tie.Need-same-length-2
-same-length-2 c = search needs
 
 returns-4 : tie.Need-returns-4
 unfolding startAfter
@@ -71,18 +44,18 @@ pub call-spec : {M : Type 1} → statement M
 call-spec =
     tie.close
     (tie.spec
-    open-requires
-    same-length
+    (λ c κs. search needs)
+    (λ c. search needs)
     returns
-    is-admitted-requires
-    refused-requires
+    (λ c κs. search needs)
+    (λ c κs. search needs)
     returns-2
-    refused-requires-2
+    (λ c κs. search needs)
     returns-3
-    start-requires
+    (λ c κs. search needs)
     start-requires-2
-    booked-requires
-    refused-requires-3
-    same-length-2
+    (λ c κs. search needs)
+    (λ c κs. search needs)
+    (λ c. search needs)
     returns-4
     returns-5)

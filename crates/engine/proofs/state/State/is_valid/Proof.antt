@@ -4,12 +4,6 @@ use Rattle.framing.specs.Rules.{steps}
 use Rattle.engine.proofs.state.State.is_valid.Statement.{statement}
 use Rattle.engine.proofs.state.State.is_valid.Tie as tie
 
-is-valid-requires : tie.Need-is-valid-requires
-is-valid-requires c κs = search needs
-
-is-in-range-requires : tie.Need-is-in-range-requires
-is-in-range-requires c κs = search needs
-
 returns : tie.Need-returns
 unfolding isValid
 returns c = search (steps, needs) depth 10
@@ -19,4 +13,4 @@ unfolding isValid
 returns-2 c = search (steps, needs) depth 10
 
 pub is-valid-spec : {M : Type 1} → statement M
-is-valid-spec = tie.close (tie.spec is-valid-requires is-in-range-requires returns returns-2)
+is-valid-spec = tie.close (tie.spec (λ c κs. search needs) (λ c κs. search needs) returns returns-2)

@@ -7,18 +7,9 @@ use Rattle.framing.specs.Rules.{at-true, at-false}
 use Rattle.engine.proofs.state.State.open.Statement.{statement}
 use Rattle.engine.proofs.state.State.open.Tie as tie
 
-is-free-requires : tie.Need-is-free-requires
-is-free-requires c κs = search needs
-
-refused-requires : tie.Need-refused-requires
-refused-requires c κs = search needs
-
 returns : tie.Need-returns
 unfolding openAfter
 returns c = λ f. at-true _ _ _ _ (sym (c .before .before .before .is-free .ensures) ∙ c .before .before .if1 .taken) (at-true _ _ _ _ (lt-ltb _ _ (c .before .if2 .taken)) (c .refused .ensures _ _))
-
-refused-requires-2 : tie.Need-refused-requires-2
-refused-requires-2 c κs = search needs
 
 returns-2 : tie.Need-returns-2
 unfolding openAfter
@@ -26,30 +17,12 @@ returns-2 c = λ f.
     at-true _ _ _ _ (sym (c .before .before .before .before .is-free .ensures) ∙ c .before .before .before .if1 .taken)
     (at-false _ _ _ _ (le-ltb _ _ (c .before .before .if2 .left)) (at-true _ _ _ _ (lt-ltb _ _ (c .before .if3 .taken)) (c .refused2 .ensures _ _)))
 
-refused-requires-3 : tie.Need-refused-requires-3
-refused-requires-3 c κs = search needs
-
 returns-3 : tie.Need-returns-3
 unfolding openAfter
 returns-3 c = λ f.
     at-true _ _ _ _ (sym (c .before .before .before .before .before .is-free .ensures) ∙ c .before .before .before .before .if1 .taken)
     (at-false _ _ _ _ (le-ltb _ _ (c .before .before .before .if2 .left))
     (at-false _ _ _ _ (le-ltb _ _ (c .before .before .if3 .left)) (at-true _ _ _ _ (lt-ltb _ _ (c .before .if4 .taken)) (c .refused3 .ensures _ _))))
-
-open-requires : tie.Need-open-requires
-open-requires c κs = search needs
-
-none-requires : tie.Need-none-requires
-none-requires c κs = search needs
-
-booked-requires : tie.Need-booked-requires
-booked-requires c κs = search needs
-
-refused-requires-4 : tie.Need-refused-requires-4
-refused-requires-4 c κs = search needs
-
-same-length : tie.Need-same-length
-same-length c = search needs
 
 returns-4 : tie.Need-returns-4
 unfolding openAfter
@@ -68,17 +41,17 @@ pub open-spec : {M : Type 1} → statement M
 open-spec =
     tie.close
     (tie.spec
-    is-free-requires
-    refused-requires
+    (λ c κs. search needs)
+    (λ c κs. search needs)
     returns
-    refused-requires-2
+    (λ c κs. search needs)
     returns-2
-    refused-requires-3
+    (λ c κs. search needs)
     returns-3
-    open-requires
-    none-requires
-    booked-requires
-    refused-requires-4
-    same-length
+    (λ c κs. search needs)
+    (λ c κs. search needs)
+    (λ c κs. search needs)
+    (λ c κs. search needs)
+    (λ c. search needs)
     returns-4
     returns-5)

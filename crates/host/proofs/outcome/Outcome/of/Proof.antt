@@ -2,81 +2,6 @@ use borrow.Author.Needs.{needs}
 use Rattle.host.proofs.outcome.Outcome.of.Statement.{statement}
 use Rattle.host.proofs.outcome.Outcome.of.Tie as tie
 
-enum-told : tie.Need-enum-told
-enum-told c = search needs
-
-bytes-requires : tie.Need-bytes-requires
-bytes-requires c κs = search needs
-
-enum-known-output : tie.Need-enum-known-output
-enum-known-output c = search needs
-
-bytes-requires-2 : tie.Need-bytes-requires-2
-bytes-requires-2 c κs = search needs
-
-enum-known-output-2 : tie.Need-enum-known-output-2
-enum-known-output-2 c = search needs
-
-timed-requires : tie.Need-timed-requires
-timed-requires c κs = search needs
-
-enum-told-2 : tie.Need-enum-told-2
-enum-told-2 c = search needs
-
-bytes-requires-3 : tie.Need-bytes-requires-3
-bytes-requires-3 c κs = search needs
-
-enum-known-output-3 : tie.Need-enum-known-output-3
-enum-known-output-3 c = search needs
-
-timed-requires-2 : tie.Need-timed-requires-2
-timed-requires-2 c κs = search needs
-
-enum-known-output-4 : tie.Need-enum-known-output-4
-enum-known-output-4 c = search needs
-
-bytes-requires-4 : tie.Need-bytes-requires-4
-bytes-requires-4 c κs = search needs
-
-enum-known-output-5 : tie.Need-enum-known-output-5
-enum-known-output-5 c = search needs
-
-bytes-requires-5 : tie.Need-bytes-requires-5
-bytes-requires-5 c κs = search needs
-
-enum-told-3 : tie.Need-enum-told-3
-enum-told-3 c = search needs
-
-bytes-requires-6 : tie.Need-bytes-requires-6
-bytes-requires-6 c κs = search needs
-
-enum-known-output-6 : tie.Need-enum-known-output-6
-enum-known-output-6 c = search needs
-
-numbered-requires : tie.Need-numbered-requires
-numbered-requires c κs = search needs
-
-refused-requires : tie.Need-refused-requires
-refused-requires c κs = search needs
-
-enum-known-output-7 : tie.Need-enum-known-output-7
-enum-known-output-7 c = search needs
-
-numbered-requires-2 : tie.Need-numbered-requires-2
-numbered-requires-2 c κs = search needs
-
-list-refused-requires : tie.Need-list-refused-requires
-list-refused-requires c κs = search needs
-
-enum-known-output-8 : tie.Need-enum-known-output-8
-enum-known-output-8 c = search needs
-
-numbered-requires-3 : tie.Need-numbered-requires-3
-numbered-requires-3 c κs = search needs
-
-refused-requires-2 : tie.Need-refused-requires-2
-refused-requires-2 c κs = search needs
-
 returns : tie.Need-returns
 returns c = rw (c .before .enum-told .given .1) (c .bytes .ensures)
 
@@ -114,31 +39,31 @@ pub of-spec : {M : Type 1} → statement M
 of-spec =
     tie.close
     (tie.spec
-    enum-told
-    bytes-requires
-    enum-known-output
-    bytes-requires-2
-    enum-known-output-2
-    timed-requires
-    enum-told-2
-    bytes-requires-3
-    enum-known-output-3
-    timed-requires-2
-    enum-known-output-4
-    bytes-requires-4
-    enum-known-output-5
-    bytes-requires-5
-    enum-told-3
-    bytes-requires-6
-    enum-known-output-6
-    numbered-requires
-    refused-requires
-    enum-known-output-7
-    numbered-requires-2
-    list-refused-requires
-    enum-known-output-8
-    numbered-requires-3
-    refused-requires-2
+    (λ c. search needs)
+    (λ c κs. search needs)
+    (λ c. search needs)
+    (λ c κs. search needs)
+    (λ c. search needs)
+    (λ c κs. search needs)
+    (λ c. search needs)
+    (λ c κs. search needs)
+    (λ c. search needs)
+    (λ c κs. search needs)
+    (λ c. search needs)
+    (λ c κs. search needs)
+    (λ c. search needs)
+    (λ c κs. search needs)
+    (λ c. search needs)
+    (λ c κs. search needs)
+    (λ c. search needs)
+    (λ c κs. search needs)
+    (λ c κs. search needs)
+    (λ c. search needs)
+    (λ c κs. search needs)
+    (λ c κs. search needs)
+    (λ c. search needs)
+    (λ c κs. search needs)
+    (λ c κs. search needs)
     returns
     returns-2
     returns-3

@@ -1,28 +1,10 @@
--- `engine::call::Move::fits` meets its contract.
+-- `engine::call::Transition::fits` meets its contract.
 use borrow.Author.Needs.{needs}
 use mathlib.Core.Path.{sym}
 use Rattle.exchange.specs.Packets.{replyOf}
-use Rattle.engine.specs.Moves.{reply-fits}
-use Rattle.engine.proofs.call.Move.fits.Statement.{statement}
-use Rattle.engine.proofs.call.Move.fits.Tie as tie
-
-enum-told : tie.Need-enum-told
-enum-told c = search needs
-
-enum-told-2 : tie.Need-enum-told-2
-enum-told-2 c = search needs
-
-enum-told-3 : tie.Need-enum-told-3
-enum-told-3 c = search needs
-
-enum-told-4 : tie.Need-enum-told-4
-enum-told-4 c = search needs
-
-enum-told-5 : tie.Need-enum-told-5
-enum-told-5 c = search needs
-
-enum-told-6 : tie.Need-enum-told-6
-enum-told-6 c = search needs
+use Rattle.engine.specs.Transitions.{reply-fits}
+use Rattle.engine.proofs.call.Transition.fits.Statement.{statement}
+use Rattle.engine.proofs.call.Transition.fits.Tie as tie
 
 returns : tie.Need-returns
 returns c = λ code p. rw (c .enum-told .given .1)
@@ -46,12 +28,12 @@ pub fits-spec : {M : Type 1} → statement M
 fits-spec =
     tie.close
     (tie.spec
-    enum-told
-    enum-told-2
-    enum-told-3
-    enum-told-4
-    enum-told-5
-    enum-told-6
+    (λ c. search needs)
+    (λ c. search needs)
+    (λ c. search needs)
+    (λ c. search needs)
+    (λ c. search needs)
+    (λ c. search needs)
     returns
     returns-2
     returns-3

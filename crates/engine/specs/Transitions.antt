@@ -25,8 +25,9 @@ use Rattle.calls.specs.Tables.{isResetOf}
 use Rattle.engine.specs.declared.call.Call.{Call}
 use Rattle.engine.specs.declared.call.Order.{Order}
 use Rattle.engine.specs.declared.call.Order.the-variants.{Ack, Read, Drain, Pause}
-use Rattle.engine.specs.declared.call.Move.{Move}
-use Rattle.engine.specs.declared.call.Move.the-variants.{Unfit, Orders, Sends, ResetDone, Arrives, Fails}
+use Rattle.engine.specs.declared.call.Transition.{Transition}
+use Rattle.engine.specs.declared.call.Transition.the-variants.{Unfit, Orders, Sends, ResetDone, Arrives, Fails}
+use Rattle.protocol.specs.Names.{openingReadTime, resetPauseTime}
 
 abbrev pub noCall : Call
 noCall = record { kind = 0; stage = 0; cursor = 0; phase = 0 }
@@ -74,14 +75,14 @@ phaseOf draining = 6
 abbrev pub exchangeIn : Exchange → Step → Exchange
 exchangeIn x step = exchangeAt (phaseOf step) (x .code) (x .clock)
 
--- what the code's Move says, with a response by its bytes
-pub data Moved : Type 0 where
-  unfitting : Moved
-  orders : HostOrder → Call → Exchange → Moved
-  sends : Call → Moved  -- the command of the call's stage
-  resetDone : Moved
-  replies : List ℕ → Moved
-  refuses : Fault → Moved
+-- what the code's Transition says, with a response by its bytes
+pub data Transitioned : Type 0 where
+  unfitting : Transitioned
+  orders : HostOrder → Call → Exchange → Transitioned
+  sends : Call → Transitioned  -- the command of the call's stage
+  resetDone : Transitioned
+  replies : List ℕ → Transitioned
+  refuses : Fault → Transitioned
 
 abbrev pub orderOf : Order → HostOrder
 orderOf Ack = write ack
@@ -90,56 +91,56 @@ orderOf Drain = drain
 orderOf (Pause us) = pause us
 
 -- the response in a packet, or its fault
-abbrev pub replyMove : Reply → Moved
-replyMove (response bytes) = replies bytes
-replyMove (failed r) = refuses r
+abbrev pub replyTransition : Reply → Transitioned
+replyTransition (response bytes) = replies bytes
+replyTransition (failed r) = refuses r
 
 -- of a packet that a command with this code waits for
-abbrev pub moveIn : ℕ → List ℕ → Move → Moved
-moveIn code packet Unfit = unfitting
-moveIn code packet (Orders o c x) = orders (orderOf o) c x
-moveIn code packet (Sends c) = sends c
-moveIn code packet ResetDone = resetDone
-moveIn code packet Arrives = replyMove (replyOf code packet)
-moveIn code packet (Fails r) = refuses r
+abbrev pub transitionIn : ℕ → List ℕ → Transition → Transitioned
+transitionIn code packet Unfit = unfitting
+transitionIn code packet (Orders o c x) = orders (orderOf o) c x
+transitionIn code packet (Sends c) = sends c
+transitionIn code packet ResetDone = resetDone
+transitionIn code packet Arrives = replyTransition (replyOf code packet)
+transitionIn code packet (Fails r) = refuses r
 
 -- a command's exchange is over: behind a reset's follows ACK, whatever came of it
-unfoldable pub overMove : Call → Exchange → Moved → Moved
-overMove c x m = pick (isResetOf (c .kind) (c .stage)) (orders (write ack) (at c 1) x) m
+unfoldable pub overTransition : Call → Exchange → Transitioned → Transitioned
+overTransition c x m = pick (isResetOf (c .kind) (c .stage)) (orders (write ack) (at c 1) x) m
 
-abbrev pub endedMove : Call → Exchange → Reply → Moved
-endedMove c x r = overMove c x (replyMove r)
+abbrev pub endedTransition : Call → Exchange → Reply → Transitioned
+endedTransition c x r = overTransition c x (replyTransition r)
 
-unfoldable pub exchangeMove : Call → Exchange → ExchangeResult → Moved
-exchangeMove c x unfit = unfitting
-exchangeMove c x (pending o step) = orders o c (exchangeIn x step)
-exchangeMove c x (ended r) = endedMove c x r
+unfoldable pub exchangeTransition : Call → Exchange → ExchangeResult → Transitioned
+exchangeTransition c x unfit = unfitting
+exchangeTransition c x (pending o step) = orders o c (exchangeIn x step)
+exchangeTransition c x (ended r) = endedTransition c x r
 
-abbrev pub resetAckMove : Call → Exchange → Event → Moved
-resetAckMove c x e = onWrite unfitting (orders (pause 10000) (at c 2) x) (refuses Transport) e
+abbrev pub resetAckTransition : Call → Exchange → Event → Transitioned
+resetAckTransition c x e = onWrite unfitting (orders (pause resetPauseTime) (at c 2) x) (refuses Transport) e
 
-abbrev pub resetPauseMove : Event → Moved
-resetPauseMove e = onPause unfitting resetDone e
+abbrev pub resetPauseTransition : Event → Transitioned
+resetPauseTransition e = onPause unfitting resetDone e
 
-abbrev pub openingAckMove : Call → Exchange → Event → Moved
-openingAckMove c x e = onWrite unfitting (orders (read 10) (at c 4) x) (refuses Transport) e
+abbrev pub openingAckTransition : Call → Exchange → Event → Transitioned
+openingAckTransition c x e = onWrite unfitting (orders (read openingReadTime) (at c 4) x) (refuses Transport) e
 
-abbrev pub openingReadsMove : Call → Exchange → Event → Moved
-openingReadsMove c x e = onRead unfitting (λ p. orders (read 10) c x) (sends (at c 0)) (sends (at c 0)) unfitting e
+abbrev pub openingReadsTransition : Call → Exchange → Event → Transitioned
+openingReadsTransition c x e = onRead unfitting (λ p. orders (read openingReadTime) c x) (sends (at c 0)) (sends (at c 0)) unfitting e
 
-abbrev pub pauseMove : Call → Event → Moved
-pauseMove c e = onPause unfitting (sends (at c 0)) e
+abbrev pub pauseTransition : Call → Event → Transitioned
+pauseTransition c e = onPause unfitting (sends (at c 0)) e
 
-unfoldable pub moveOf : Call → Exchange → Event → Moved
-moveOf c x e =
-    pick (eqb (c .phase) 0) (exchangeMove c x (advance (stepOf x) e))
-    (pick (eqb (c .phase) 1) (resetAckMove c x e)
-    (pick (eqb (c .phase) 2) (resetPauseMove e)
-    (pick (eqb (c .phase) 3) (openingAckMove c x e)
-    (pick (eqb (c .phase) 4) (openingReadsMove c x e)
-    (pick (eqb (c .phase) 5) (pauseMove c e) unfitting)))))
+unfoldable pub transitionOf : Call → Exchange → Event → Transitioned
+transitionOf c x e =
+    pick (eqb (c .phase) 0) (exchangeTransition c x (advance (stepOf x) e))
+    (pick (eqb (c .phase) 1) (resetAckTransition c x e)
+    (pick (eqb (c .phase) 2) (resetPauseTransition e)
+    (pick (eqb (c .phase) 3) (openingAckTransition c x e)
+    (pick (eqb (c .phase) 4) (openingReadsTransition c x e)
+    (pick (eqb (c .phase) 5) (pauseTransition c e) unfitting)))))
 
-abbrev pub fits : Moved → Bool
+abbrev pub fits : Transitioned → Bool
 fits unfitting = false
 fits (orders o c x) = true
 fits (sends c) = true
@@ -148,7 +149,7 @@ fits (replies bytes) = true
 fits (refuses r) = true
 
 -- a reply fits the order that waits for it
-pub reply-fits : (r : Reply) → fits (replyMove r) ≡ true
+pub reply-fits : (r : Reply) → fits (replyTransition r) ≡ true
 reply-fits (response bytes) = refl
 reply-fits (failed r) = refl
 
@@ -156,7 +157,7 @@ reply-fits (failed r) = refl
 abbrev pub packetLength : Event → ℕ
 packetLength e = onRead 0 length 0 0 0 e
 
-abbrev pub replyLength : Moved → ℕ
+abbrev pub replyLength : Transitioned → ℕ
 replyLength unfitting = 0
 replyLength (orders o c x) = 0
 replyLength (sends c) = 0
@@ -170,12 +171,12 @@ validCall c = both (leb (c .kind) 21) (both (leb (c .stage) 9) (leb (c .phase) 5
 
 -- ---- laws
 
-pub over-reset : (c k : Call) (x : Exchange) (m : Moved) → isResetOf (c .kind) (c .stage) ≡ true → k ≡ at c 1 → orders (write ack) k x ≡ overMove c x m
-unfolding overMove pick
+pub over-reset : (c k : Call) (x : Exchange) (m : Transitioned) → isResetOf (c .kind) (c .stage) ≡ true → k ≡ at c 1 → orders (write ack) k x ≡ overTransition c x m
+unfolding overTransition pick
 over-reset c k x m h e = rw h (ap (λ d. orders (write ack) d x) e)
 
-pub over-other : (c : Call) (x : Exchange) (m : Moved) → isResetOf (c .kind) (c .stage) ≡ false → m ≡ overMove c x m
-unfolding overMove pick
+pub over-other : (c : Call) (x : Exchange) (m : Transitioned) → isResetOf (c .kind) (c .stage) ≡ false → m ≡ overTransition c x m
+unfolding overTransition pick
 over-other c x m h = rw h
 
 -- the exchange that goes on is the old one at its new step
@@ -195,47 +196,47 @@ exchange-kept x y h p q =
     λ i. exchangeAt (sym (phase-of (y .phase) (y .code) (y .clock) h) i) (p i) (q i)
 
 module _ (c : Call) (x : Exchange) (packet : List ℕ) (a : Advanced) (r : ExchangeResult) (is : resultIn x packet a ≡ r) where
-  pub exchange-unfit : a ≡ Advanced.Unfit → unfitting ≡ exchangeMove c x r
-  unfolding exchangeMove
+  pub exchange-unfit : a ≡ Advanced.Unfit → unfitting ≡ exchangeTransition c x r
+  unfolding exchangeTransition
   exchange-unfit h = let e : r ≡ unfit = sym is ∙ ap (resultIn x packet) h in rw e
 
-  pub exchange-pending : (m : Moved) (n : Next) (y : Exchange) → a ≡ Advanced.Pending n y → Kept x a → m ≡ orders (nextOrder n) c y → m ≡ exchangeMove c x r
-  unfolding exchangeMove
+  pub exchange-pending : (m : Transitioned) (n : Next) (y : Exchange) → a ≡ Advanced.Pending n y → Kept x a → m ≡ orders (nextOrder n) c y → m ≡ exchangeTransition c x r
+  unfolding exchangeTransition
   exchange-pending m n y h kept p =
       let e : r ≡ pending (nextOrder n) (stepOf y) = sym is ∙ ap (resultIn x packet) h in
       let k = subst (Kept x) h kept in
       rw e (p ∙ ap (λ z. orders (nextOrder n) c z) (exchange-kept x y (k .0) (k .1) (k .2)))
 
-  pub exchange-arrived : (m : Moved) → a ≡ Advanced.Arrived → m ≡ overMove c x (replyMove (replyOf (x .code) packet)) → m ≡ exchangeMove c x r
-  unfolding exchangeMove
+  pub exchange-arrived : (m : Transitioned) → a ≡ Advanced.Arrived → m ≡ overTransition c x (replyTransition (replyOf (x .code) packet)) → m ≡ exchangeTransition c x r
+  unfolding exchangeTransition
   exchange-arrived m h p = let e : r ≡ ended (replyOf (x .code) packet) = sym is ∙ ap (resultIn x packet) h in rw e p
 
-  pub exchange-failed : (m : Moved) (q : Fault) → a ≡ Advanced.Failed q → m ≡ overMove c x (refuses q) → m ≡ exchangeMove c x r
-  unfolding exchangeMove
+  pub exchange-failed : (m : Transitioned) (q : Fault) → a ≡ Advanced.Failed q → m ≡ overTransition c x (refuses q) → m ≡ exchangeTransition c x r
+  unfolding exchangeTransition
   exchange-failed m q h p = let e : r ≡ ended (failed q) = sym is ∙ ap (resultIn x packet) h in rw e p
 
 -- a number that is n is none that n is not
 other : {p : ℕ} (n : ℕ) → p ≡ n → (k : ℕ) → eqb n k ≡ false → eqb p k ≡ false
 other n h k q = ap (λ j. eqb j k) h ∙ q
 
-module _ (c : Call) (x : Exchange) (e : Event) (m : Moved) where
-  pub moves-exchange : c .phase ≡ 0 → m ≡ exchangeMove c x (advance (stepOf x) e) → m ≡ moveOf c x e
-  unfolding moveOf
-  moves-exchange h p = at-true m _ _ _ (eq-eqb (c .phase) 0 h) p
+module _ (c : Call) (x : Exchange) (e : Event) (m : Transitioned) where
+  pub transition-exchange : c .phase ≡ 0 → m ≡ exchangeTransition c x (advance (stepOf x) e) → m ≡ transitionOf c x e
+  unfolding transitionOf
+  transition-exchange h p = at-true m _ _ _ (eq-eqb (c .phase) 0 h) p
 
-  pub moves-pause : c .phase ≡ 2 → m ≡ resetPauseMove e → m ≡ moveOf c x e
-  unfolding moveOf
-  moves-pause h p =
+  pub transition-pause : c .phase ≡ 2 → m ≡ resetPauseTransition e → m ≡ transitionOf c x e
+  unfolding transitionOf
+  transition-pause h p =
       at-false m _ _ _ (other 2 h 0 refl) (at-false m _ _ _ (other 2 h 1 refl) (at-true m _ _ _ (eq-eqb (c .phase) 2 h) p))
 
-  pub moves-reads : c .phase ≡ 4 → m ≡ openingReadsMove c x e → m ≡ moveOf c x e
-  unfolding moveOf
-  moves-reads h p =
+  pub transition-reads : c .phase ≡ 4 → m ≡ openingReadsTransition c x e → m ≡ transitionOf c x e
+  unfolding transitionOf
+  transition-reads h p =
       at-false m _ _ _ (other 4 h 0 refl) (at-false m _ _ _ (other 4 h 1 refl) (at-false m _ _ _ (other 4 h 2 refl) (at-false m _ _ _ (other 4 h 3 refl)
       (at-true m _ _ _ (eq-eqb (c .phase) 4 h) p))))
 
-  pub moves-awaited : c .phase ≡ 5 → m ≡ pauseMove c e → m ≡ moveOf c x e
-  unfolding moveOf
-  moves-awaited h p =
+  pub transition-awaited : c .phase ≡ 5 → m ≡ pauseTransition c e → m ≡ transitionOf c x e
+  unfolding transitionOf
+  transition-awaited h p =
       at-false m _ _ _ (other 5 h 0 refl) (at-false m _ _ _ (other 5 h 1 refl) (at-false m _ _ _ (other 5 h 2 refl) (at-false m _ _ _ (other 5 h 3 refl)
       (at-false m _ _ _ (other 5 h 4 refl) (at-true m _ _ _ (eq-eqb (c .phase) 5 h) p)))))
