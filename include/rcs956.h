@@ -32,7 +32,7 @@
  * The session. Each reader has one, made by rcs956_fresh and kept by the host for the reader's life; it is handed to each call and
  * event of that reader, by one thread at a time. Any number of sessions may be in use side by side. A session is plain memory: it
  * may be moved or copied between calls, and needs no end. Zeroed memory is a fresh session. Any other bytes are allowed as well: a
- * session with a field out of range gets refusal 1, and any other is served. The fields of `state.books` may be read; the others
+ * session with a field out of range gets refusal 1, and any other is served. The fields `books` and `frames` may be read; the others
  * are the engine's own.
  *
  * Memory. No function keeps a pointer or allocates, and none has a state but the session. The caller sees to it that, for the time
@@ -151,25 +151,21 @@ typedef struct rcs956_core {
     rcs956_call_state call;
 } rcs956_core;
 
-/* The reader's books. An opening that is accepted begins them anew: its mode, its caller, and else 0. */
+/* The reader's books, but for the counts. An opening that is accepted begins them anew: its mode, its caller, and else 0. */
 typedef struct rcs956_books {
     uint8_t opened; /* 1 where the reader is open, else 0, also while an opening runs; any other value is out of range */
     uint8_t mode;   /* of the last opening that was accepted; above 1 is out of range */
     uint8_t caller; /* of the last call that was accepted; above 7 is out of range */
-    uint32_t frames[RCS956_CALLERS]; /* of each caller the command frames that its calls ordered since the last opening began, the
-                                        opening's own included, each stopping at 4,294,967,295 */
 } rcs956_books;
-
-typedef struct rcs956_state {
-    rcs956_core core;
-    rcs956_books books;
-} rcs956_state;
 
 /* One reader's session. */
 typedef struct rcs956_session {
     uint8_t command[512]; /* the command to send later */
     uint8_t found[1024];  /* a response that the answer is made of */
-    rcs956_state state;
+    uint32_t frames[RCS956_CALLERS]; /* of each caller the command frames that its calls ordered since the last opening began, the
+                                        opening's own included, each stopping at 4,294,967,295 */
+    rcs956_books books;
+    rcs956_core core;
 } rcs956_session;
 
 /* What comes out of a call or an event. What does not apply is 0. */
@@ -192,13 +188,13 @@ typedef struct rcs956_numbers {
 
 /* The layout that the archive has. An array of -1 elements is an error. */
 typedef char rcs956_session_has_1608_bytes[sizeof(rcs956_session) == 1608 ? 1 : -1];
-typedef char rcs956_session_state_is_at_1536[offsetof(rcs956_session, state) == 1536 ? 1 : -1];
-typedef char rcs956_state_books_is_at_32[offsetof(rcs956_state, books) == 32 ? 1 : -1];
+typedef char rcs956_session_frames_is_at_1536[offsetof(rcs956_session, frames) == 1536 ? 1 : -1];
+typedef char rcs956_session_books_is_at_1568[offsetof(rcs956_session, books) == 1568 ? 1 : -1];
+typedef char rcs956_session_core_is_at_1576[offsetof(rcs956_session, core) == 1576 ? 1 : -1];
 typedef char rcs956_core_exchange_is_at_16[offsetof(rcs956_core, exchange) == 16 ? 1 : -1];
 typedef char rcs956_core_call_is_at_24[offsetof(rcs956_core, call) == 24 ? 1 : -1];
 typedef char rcs956_books_mode_is_at_1[offsetof(rcs956_books, mode) == 1 ? 1 : -1];
 typedef char rcs956_books_caller_is_at_2[offsetof(rcs956_books, caller) == 2 ? 1 : -1];
-typedef char rcs956_books_frames_is_at_4[offsetof(rcs956_books, frames) == 4 ? 1 : -1];
 typedef char rcs956_call_has_4_bytes[sizeof(rcs956_call_state) == 4 ? 1 : -1];
 typedef char rcs956_outcome_has_16_bytes[sizeof(rcs956_outcome) == 16 ? 1 : -1];
 typedef char rcs956_outcome_time_is_at_4[offsetof(rcs956_outcome, time) == 4 ? 1 : -1];

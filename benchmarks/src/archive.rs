@@ -72,13 +72,9 @@ pub struct Numbers {
 pub struct Session {
     command: [u8; 512],
     found: [u8; 1024],
-    state: State,
-}
-
-#[repr(C)]
-struct State {
-    core: Core,
+    frames: [u32; 8],
     books: Books,
+    core: Core,
 }
 
 #[repr(C)]
@@ -94,7 +90,6 @@ struct Books {
     opened: u8,
     mode: u8,
     caller: u8,
-    frames: [u32; 8],
 }
 
 #[repr(C)]

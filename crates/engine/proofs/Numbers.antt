@@ -10,9 +10,8 @@ use Rattle.exchange.specs.Exchange as exchange
 use Rattle.exchange.specs.Steps.{eventOf}
 use Rattle.exchange.specs.declared.Event.{Event}
 use Rattle.engine.specs.Core.{Held, After, unchanged}
-use Rattle.engine.specs.Sessions.{eventAfter}
+use Rattle.engine.specs.Sessions.{State, eventAfter}
 use Rattle.engine.specs.Numbers.{knownIn, numberedAfter}
-use Rattle.engine.specs.declared.state.State.{State}
 use Rattle.engine.specs.declared.numbered.Known.{Known}
 use Rattle.engine.specs.declared.numbered.Known.the-variants.{Is, Not}
 use Rattle.engine.proofs.numbered.Known.{the-type}

@@ -18,8 +18,7 @@ use Rattle.protocol.specs.Count.{length-counted}
 use Rattle.protocol.specs.Session.{lastCaller, addFrame, counted, countedFor, ceiling, answered, bookOrder, bookAnswer, Outcome, unchanged, runs, ends, bookOutcome}
 use Rattle.protocol.specs.Session as Meant
 use Rattle.protocol.specs.Laws.{frame-not-ack, ack-is-ack}
-use Rattle.engine.specs.Books.{books, noBooks, isInRange, isOpen, oneMore, byCaller, ended, booked}
-use Rattle.engine.specs.declared.books.Books.{Books}
+use Rattle.engine.specs.Books.{Books, books, booksOf, openedIn, modeIn, callerIn, noBooks, isInRange, oneMore, byCaller, ended, booked}
 use Rattle.engine.specs.declared.core.Output.the-variants.{Command}
 
 -- a flag as a number
@@ -54,10 +53,10 @@ bookNumbers b = books (flag (b .opened)) (flag (b .padded)) (b .caller) (b .coun
 pub books-in-range : (b : Meant.Books) → Bounded b → isInRange (bookNumbers b) ≡ true
 books-in-range b h = rw (flag-fits (b .opened), flag-fits (b .padded)) (le-leb (b .caller) 7 (h .caller))
 
-pub open-flag : (b : Meant.Books) → isOpen (bookNumbers b) ≡ b .opened
+pub open-flag : (b : Meant.Books) → eqb (openedIn (bookNumbers b)) 1 ≡ b .opened
 open-flag b = flag-is (b .opened)
 
-pub mode-flag : (b : Meant.Books) → isPaddedMode ((bookNumbers b) .mode) ≡ b .padded
+pub mode-flag : (b : Meant.Books) → isPaddedMode (modeIn (bookNumbers b)) ≡ b .padded
 mode-flag b = flag-is (b .padded)
 
 -- where an opening begins, in a mode that there is
@@ -121,20 +120,24 @@ end-booked c a k b = go (isOpening c)
     go false = refl
 
 -- books in range have one of the eight callers
-pub range-caller : (b : Books) → isInRange b ≡ true → b .caller ≤ 7
-range-caller b h = leb-true (b .caller) 7 (both-right (leb (b .mode) 1) _ (both-right (leb (b .opened) 1) _ h))
+pub range-caller : (b : Books) → isInRange b ≡ true → callerIn b ≤ 7
+range-caller b h = leb-true (callerIn b) 7 (both-right (leb (modeIn b) 1) _ (both-right (leb (openedIn b) 1) _ h))
 
 -- a fault leaves the books in range
 pub ended-range : (b : Books) (k : ℕ) (t : Bool) → isInRange b ≡ true → k ≤ 7 → isInRange (ended (byCaller k b) t 0) ≡ true
 unfolding ended pick
-ended-range b k t h q =
-    let open-fits = both-left (leb (b .opened) 1) _ h in
-    let mode-fits = both-left (leb (b .mode) 1) _ (both-right (leb (b .opened) 1) _ h) in
-    go t open-fits mode-fits (le-leb k 7 q)
+ended-range b k t h q = go (b .numbers) t h (le-leb k 7 q)
   where
-    go : (t : Bool) → leb (b .opened) 1 ≡ true → leb (b .mode) 1 ≡ true → leb k 7 ≡ true → isInRange (ended (byCaller k b) t 0) ≡ true
-    go true o m c = rw (m, c)
-    go false o m c = rw (o, m, c)
+    go : (l : List ℕ) (t : Bool) → isInRange (booksOf l (b .frames)) ≡ true → leb k 7 ≡ true
+        → isInRange (ended (byCaller k (booksOf l (b .frames))) t 0) ≡ true
+    go [] true h c = refl
+    go [] false h c = refl
+    go (o ∷ []) true h c = refl
+    go (o ∷ []) false h c = h
+    go (o ∷ m ∷ []) true h c = both-right (leb o 1) _ h
+    go (o ∷ m ∷ []) false h c = h
+    go (o ∷ m ∷ j ∷ l) true h c = rw (both-left (leb m 1) _ (both-right (leb o 1) _ h), c) refl
+    go (o ∷ m ∷ j ∷ l) false h c = rw (both-left (leb o 1) _ h, both-left (leb m 1) _ (both-right (leb o 1) _ h), c) refl
 
 -- ---- the books stay bounded
 

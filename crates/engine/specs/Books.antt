@@ -1,6 +1,6 @@
--- The reader's books, as books.rt has them: their range, whether a call is admitted, and what is booked of what comes out.
+-- The reader's books, as books.rt has them in two arrays: their range, and what is booked of what comes out.
 use mathlib.Core.Bool.{Bool}
-use mathlib.Core.List.{List}
+use mathlib.Core.List.{List, [], _∷_}
 use Prim.Native.Nat.{ℕ, _+_}
 use lib.Dec.{eqb, leb, ltb}
 use lib.ListN.{length, replicate, getD, set}
@@ -8,21 +8,36 @@ use Rattle.errors.specs.Choice.{pick}
 use Rattle.framing.specs.Lists.{both}
 use Rattle.framing.specs.Padded.{extraZeros}
 use Rattle.protocol.specs.Calls.{isPaddedMode}
-use Rattle.engine.specs.declared.books.Books.{Books}
 use Rattle.engine.specs.declared.core.Output.{Output}
 use Rattle.engine.specs.declared.core.Output.the-variants.{Ack, Command, Read, Drain, Pause, Done, Type1, Nothing, Failed, FailedAfter, Refused}
 
+pub record Books : Type 0 where
+  pub numbers : List ℕ  -- whether the reader is open, the mode, the caller
+  pub frames : List ℕ  -- the counts, by caller
+
+abbrev pub booksOf : List ℕ → List ℕ → Books
+booksOf numbers frames = record { numbers = numbers; frames = frames }
+
 abbrev pub books : ℕ → ℕ → ℕ → List ℕ → Books
-books opened mode caller frames = record { opened = opened; mode = mode; caller = caller; frames = frames }
+books opened mode caller frames = booksOf (opened ∷ mode ∷ caller ∷ []) frames
+
+abbrev pub openedIn : Books → ℕ
+openedIn b = getD (b .numbers) 0 0
+
+abbrev pub modeIn : Books → ℕ
+modeIn b = getD (b .numbers) 1 0
+
+abbrev pub callerIn : Books → ℕ
+callerIn b = getD (b .numbers) 2 0
 
 abbrev pub noBooks : ℕ → Books
 noBooks mode = books 0 mode 0 (replicate 8 0)
 
-abbrev pub isInRange : Books → Bool
-isInRange b = both (leb (b .opened) 1) (both (leb (b .mode) 1) (leb (b .caller) 7))
+abbrev pub inRange : ℕ → ℕ → ℕ → Bool
+inRange opened mode caller = both (leb opened 1) (both (leb mode 1) (leb caller 7))
 
-abbrev pub isOpen : Books → Bool
-isOpen b = eqb (b .opened) 1
+abbrev pub isInRange : Books → Bool
+isInRange b = inRange (openedIn b) (modeIn b) (callerIn b)
 
 -- how many bytes the mode takes off a packet's start: its extra zeros in the padded one, unless it is over-long
 unfoldable pub extraIn : ℕ → List ℕ → ℕ
@@ -34,20 +49,23 @@ oneMore n = pick (ltb n 4294967295) (n + 1) n
 
 -- the same, for the call of another caller
 abbrev pub byCaller : ℕ → Books → Books
-byCaller k b = books (b .opened) (b .mode) k (b .frames)
+byCaller k b = booksOf (set (b .numbers) 2 k) (b .frames)
 
--- a command frame counts for the caller
-abbrev pub counted : Books → Books
-counted b = books (b .opened) (b .mode) (b .caller) (set (b .frames) (b .caller) (oneMore (getD (b .frames) (b .caller) 0)))
+-- a command frame counts for a caller
+abbrev pub countedIn : ℕ → List ℕ → List ℕ
+countedIn k n = set n k (oneMore (getD n k 0))
+
+abbrev pub counted : ℕ → Books → Books
+counted k b = booksOf (b .numbers) (countedIn k (b .frames))
 
 -- an opening that ends leaves the reader open or not; any other call leaves it as it was
 unfoldable pub ended : Books → Bool → ℕ → Books
-ended b isOpening opened = pick isOpening (books opened (b .mode) (b .caller) (b .frames)) b
+ended b isOpening opened = pick isOpening (booksOf (set (b .numbers) 0 opened) (b .frames)) b
 
 -- a refusal at once leaves the books, the caller too
 abbrev pub booked : ℕ → Bool → Output → Books → Books
 booked k isOpening Ack b = byCaller k b
-booked k isOpening (Command n) b = counted (byCaller k b)
+booked k isOpening (Command n) b = counted k (byCaller k b)
 booked k isOpening (Read ms) b = byCaller k b
 booked k isOpening Drain b = byCaller k b
 booked k isOpening (Pause us) b = byCaller k b

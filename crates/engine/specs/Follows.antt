@@ -22,14 +22,13 @@ use Rattle.engine.specs.Books.{noBooks, booked as bookedBy}
 use Rattle.engine.specs.Core.{Held, After, unchanged, eventCore}
 use Rattle.engine.specs.Core.{isValid as validCore}
 use Rattle.engine.specs.Transitions.{noCall, validCall}
-use Rattle.engine.specs.Sessions.{state, isValid, bookedAfter, sessionAfter, eventAfter, openIn, openAfter, startAfter, heldIn, freshSession}
+use Rattle.engine.specs.Sessions.{State, state, stateIn, valid, isValid, bookedAfter, sessionAfter, eventAfter, openIn, openAfter, startAfter, heldIn, freshSession}
 use Rattle.engine.specs.Inputs.{Input, opens, asks, tells, entryOf, outputOf, afterInput, act}
 use Rattle.engine.specs.Relation.{Place, Wait, callAt, Fields, coreWith, heldAt, Agrees, coreAt, runningAt, Represents, free, runs, Means}
 use Rattle.engine.specs.Simulation.{Simulates}
 use Rattle.engine.specs.Events.{call-fits, event-sims, open-sims, call-sims}
 use Rattle.engine.specs.declared.call.Call.{Call as CallNumbers}
 use Rattle.engine.specs.declared.core.Core.{Core}
-use Rattle.engine.specs.declared.state.State.{State}
 use Rattle.engine.specs.declared.session.Session.{Session}
 
 -- ---- what an entry leaves of a session, beside what the definitions say
@@ -99,7 +98,7 @@ refines-caller {m} {e} k {x} {y} {u} {w} h g = go (ltb 7 k) refl
 
 -- numbers that stand for a running call, and books that stand for books, are in range
 in-range : (v : Fields) (c : CallNumbers) (b : Meant.Books) → Bounded b → validCall c ≡ true → isValid (state (coreWith v c) (bookNumbers b)) ≡ true
-unfolding isValid validCore
+unfolding valid validCore
 in-range v c b bounds h = rw (v .pendingFits, v .keptFits, v .phaseFits, h) (books-in-range b bounds)
 
 running-refines : (p : Place) (w : Wait p) (v : Fields) → Agrees p v → (b : Meant.Books) (bounds : Bounded b) (i : Input)
@@ -162,7 +161,7 @@ free-refines v b bounds i = go i (in-range v noCall b bounds refl)
 abbrev pub Follows : Input → Session → Meant.Session → Type 0
 Follows i s m = Means ((act s i) .0) ((step m (entryOf i)) .0) × ((act s i) .1 ≡ plain ((step m (entryOf i)) .1))
 
-by-input : (i : Input) (s : Session) (m : Meant.Session) → Refines m (entryOf i) (afterInput (s .state) (heldIn s) i) (outcomeOf (m .running) (m .books) (entryOf i)) → Follows i s m
+by-input : (i : Input) (s : Session) (m : Meant.Session) → Refines m (entryOf i) (afterInput (stateIn s) (heldIn s) i) (outcomeOf (m .running) (m .books) (entryOf i)) → Follows i s m
 by-input i s m h = (h .means, h .told)
 
 parts-refine : (s : Core) (f : Held) (r : Running) (b : Meant.Books) (bounds : Bounded b) (i : Input) → Represents s f r
@@ -173,10 +172,10 @@ parts-refine s f r b bounds i (runs p w v a q e g) = rw (q, e, g) (running-refin
 pub follow : (s : Session) (m : Meant.Session) (i : Input) → Means s m → Follows i s m
 follow s m i h =
     by-input i s m
-    (subst (λ b. Refines m (entryOf i) (afterInput (state (s .state .core) b) (heldIn s) i) (outcomeOf (m .running) (m .books) (entryOf i))) (sym (h .booked))
-    (parts-refine (s .state .core) (heldIn s) (m .running) (m .books) (h .bounded) i (h .call)))
+    (subst (λ b. Refines m (entryOf i) (afterInput (state (s .core) b) (heldIn s) i) (outcomeOf (m .running) (m .books) (entryOf i))) (sym (h .booked))
+    (parts-refine (s .core) (heldIn s) (m .running) (m .books) (h .bounded) i (h .call)))
 
-pub same-counts : (s : Session) (m : Meant.Session) → Means s m → s .state .books .frames ≡ m .books .counts
+pub same-counts : (s : Session) (m : Meant.Session) → Means s m → s .frames ≡ m .books .counts
 same-counts s m h = ap (λ b. b .frames) (h .booked)
 
 pub fresh-means : Means freshSession fresh
@@ -200,7 +199,7 @@ engine = record {
   entry = entryOf;
   new = freshSession;
   act = act;
-  frames = λ s. s .state .books .frames;
+  frames = λ s. s .frames;
   Means = Means;
   begins = fresh-means;
   counts = same-counts;
@@ -217,5 +216,5 @@ engine-reference is js = machine-reference engine is js
 
 pub engine-plain : (is js : List Input) → Plain (entries engine is) → entries engine js ≡ map offEntry (entries engine is)
     → (givenOut engine freshSession is ≡ givenOut engine freshSession js)
-    × ((stateAfter engine freshSession is) .state .books .frames ≡ (stateAfter engine freshSession js) .state .books .frames)
+    × ((stateAfter engine freshSession is) .frames ≡ (stateAfter engine freshSession js) .frames)
 engine-plain is js = machine-plain engine is js

@@ -9,9 +9,8 @@ use Rattle.protocol.specs.Session.{Entry, call, event}
 use Rattle.protocol.specs.Session.{Output as Given, orders, answers, rejects}
 use Rattle.calls.specs.Firsts.{startFor}
 use Rattle.engine.specs.Core.{Held, After}
-use Rattle.engine.specs.Sessions.{heldIn, sessionAfter, eventAfter, Stepped}
+use Rattle.engine.specs.Sessions.{State, heldIn, stateIn, sessionAfter, eventAfter, Stepped}
 use Rattle.engine.specs.Sessions.{openAfter as openedAt, startAfter}
-use Rattle.engine.specs.declared.state.State.{State}
 use Rattle.engine.specs.declared.core.Output.{Output}
 use Rattle.engine.specs.declared.core.Output.the-variants.{Ack, Command, Read, Drain, Pause, Done, Type1, Nothing, Failed, FailedAfter, Refused}
 use Rattle.engine.specs.declared.session.Session.{Session}
@@ -52,7 +51,7 @@ afterInput s f (asks k c b) = startAfter s f k (startFor c) b
 afterInput s f (tells e b) = eventAfter s f e b
 
 abbrev pub stepWith : Session → Input → Stepped
-stepWith s i = sessionAfter (afterInput (s .state) (heldIn s) i)
+stepWith s i = sessionAfter (afterInput (stateIn s) (heldIn s) i)
 
 abbrev pub act : Session → Input → Session × Given ℕ
 act s i = ((stepWith s i) .session, outputOf ((stepWith s i) .output) ((stepWith s i) .buffer))

@@ -33,11 +33,11 @@ use Rattle.stages.specs.Stages.{Command}
 use Rattle.protocol.specs.Scripts.{type1}
 use Rattle.protocol.specs.Calls.{isPaddedMode}
 use Rattle.protocol.specs.Session.{seen}
-use Rattle.engine.specs.Books.{extraIn}
+use Rattle.engine.specs.Books.{Books, booksOf, callerIn, booked, extraIn}
+use Rattle.engine.specs.declared.core.Progress.{Progress}
 use Rattle.engine.specs.Booking.{range-caller}
-use Rattle.engine.specs.Sessions.{isValid as validState}
-use Rattle.engine.specs.declared.state.State.{State}
-use Rattle.engine.specs.Core.{isValid, Held, After, eventCore, endsOf, doneOf, answersOf, sendsOf, running, after}
+use Rattle.engine.specs.Sessions.{State, state, effected, bookedAfter, valid, isValid as validState}
+use Rattle.engine.specs.Core.{isValid, Held, progressed, After, eventCore, endsOf, doneOf, answersOf, sendsOf, running, after}
 use Rattle.engine.specs.Transitions.{validCall}
 use Rattle.engine.specs.declared.call.Call.{Call}
 use Rattle.engine.specs.declared.core.Core.{Core}
@@ -98,9 +98,14 @@ pub valid-found : (s : Core) → isValid s ≡ true → s .found ≤ 1024
 unfolding isValid
 valid-found s h = leb-true (s .found) 1024 (both-left (leb (s .found) 1024) _ (both-right (leb (s .command) 512) _ h))
 
--- and one of the eight callers
-pub valid-caller : (s : State) → validState s ≡ true → s .books .caller ≤ 7
-unfolding validState
+-- what came out of the running call, with the books as they are booked
+pub booked-after : (k : ℕ) (t : Bool) (p : Progress) (b : Books) (m n : List ℕ) → booksOf m n ≡ booked k t (p .output) b
+    → (f : Held) (buffer : List ℕ) → effected p m n f buffer ≡ bookedAfter k t b (progressed p f buffer)
+booked-after k t p b m n h f buffer = ap (λ x. after (state (p .core) x) f (p .output) buffer) h
+
+-- numbers in range have one of the eight callers
+pub valid-caller : (s : State) → validState s ≡ true → callerIn (s .books) ≤ 7
+unfolding valid
 valid-caller s h = range-caller (s .books) (both-right (isValid (s .core)) _ h)
 
 -- the part of a packet behind what the mode takes off, n bytes, is what the mode sees of it

@@ -9,12 +9,11 @@ use Rattle.exchange.specs.Exchange.{Event, ok, bad, pkt, time, fail, late, slep
 use Rattle.exchange.specs.Steps as steps
 use Rattle.protocol.specs.Calls.{Call, opening, reader}
 use Rattle.engine.specs.Core.{Held, After, unchanged}
-use Rattle.engine.specs.Sessions.{eventAfter, openAfter, startAfter}
+use Rattle.engine.specs.Sessions.{State, eventAfter, openAfter, startAfter}
 use Rattle.calls.specs.Numbers.{callOf, reader-call}
 use Rattle.calls.specs.Firsts.{startBy}
 use Rattle.calls.specs.declared.start.Numbers.{Numbers}
 use Rattle.engine.specs.Inputs.{Input, opens, asks, afterInput}
-use Rattle.engine.specs.declared.state.State.{State}
 use Rattle.engine.specs.declared.numbered.Known.{Known}
 use Rattle.engine.specs.declared.numbered.Known.the-variants.{Is, Not}
 

@@ -18,7 +18,7 @@ use Rattle.calls.specs.Refines.{Refines, Awaits}
 use Rattle.engine.specs.Booking.{bookNumbers, Bounded}
 use Rattle.engine.specs.Core.{Held, held}
 use Rattle.engine.specs.Transitions.{noCall}
-use Rattle.engine.specs.Sessions.{heldIn}
+use Rattle.engine.specs.Sessions.{heldIn, stateIn}
 use Rattle.engine.specs.declared.call.Call.{Call}
 use Rattle.engine.specs.declared.core.Core.{Core}
 use Rattle.engine.specs.declared.session.Session.{Session}
@@ -104,6 +104,6 @@ pub data Represents (s : Core) (f : Held) (m : Running) : Type 0 where
 
 -- the session of the definitions that a session's fields represent
 pub record Means (s : Session) (m : Meant.Session) : Type 0 where
-  pub call : Represents (s .state .core) (heldIn s) (m .running)
-  pub booked : s .state .books ≡ bookNumbers (m .books)
+  pub call : Represents (s .core) (heldIn s) (m .running)
+  pub booked : (stateIn s) .books ≡ bookNumbers (m .books)
   pub bounded : Bounded (m .books)

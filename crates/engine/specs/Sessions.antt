@@ -11,26 +11,39 @@ use Rattle.exchange.specs.Exchange.{Event}
 use Rattle.protocol.specs.Calls.{isPaddedMode}
 use Rattle.protocol.specs.Session.{seen}
 use Rattle.stages.specs.Starts.{Start}
-use Rattle.engine.specs.Books.{noBooks, isInRange, isOpen, booked}
-use Rattle.engine.specs.Core.{noCore, Held, held, After, after, unchanged, eventCore, openCore, startOn}
+use Rattle.engine.specs.Books.{Books, booksOf, openedIn, modeIn, callerIn, noBooks, inRange, booked}
+use Rattle.engine.specs.Core.{noCore, Held, held, progressed, After, after, unchanged, eventCore, openCore, startOn}
 use Rattle.engine.specs.Core.{isValid as validCore}
-use Rattle.engine.specs.declared.books.Books.{Books}
 use Rattle.engine.specs.declared.core.Core.{Core}
 use Rattle.engine.specs.declared.core.Output.{Output}
-use Rattle.engine.specs.declared.state.State.{State}
-use Rattle.engine.specs.declared.state.Effect.{Effect}
+use Rattle.engine.specs.declared.core.Progress.{Progress}
 use Rattle.engine.specs.declared.session.Session.{Session}
 use Rattle.engine.specs.declared.session.Step.{Step}
+
+-- the running call's numbers, and the books
+pub record State : Type 0 where
+  pub core : Core
+  pub books : Books
 
 abbrev pub state : Core → Books → State
 state c b = record { core = c; books = b }
 
--- every field is in its range
-unfoldable pub isValid : State → Bool
-isValid s = both (validCore (s .core)) (isInRange (s .books))
+-- the numbers of the running call with those of the books and the counts, which lie beside them
+abbrev pub stateOf : Core → List ℕ → List ℕ → State
+stateOf c b n = state c (booksOf b n)
 
-abbrev pub effected : Effect → Held → List ℕ → After State
-effected e f b = after (e .state) f (e .output) b
+-- every number is in its range
+unfoldable pub valid : Core → ℕ → ℕ → ℕ → Bool
+valid c opened mode caller = both (validCore c) (inRange opened mode caller)
+
+abbrev pub isValid : State → Bool
+isValid s = valid (s .core) (openedIn (s .books)) (modeIn (s .books)) (callerIn (s .books))
+
+abbrev pub withBooks : List ℕ → List ℕ → After Core → After State
+withBooks b n a = after (stateOf (a .state) b n) (a .held) (a .output) (a .buffer)
+
+abbrev pub effected : Progress → List ℕ → List ℕ → Held → List ℕ → After State
+effected p b n f buffer = withBooks b n (progressed p f buffer)
 
 -- what came out of a caller's call, an opening or not, is booked
 abbrev pub bookedAfter : ℕ → Bool → Books → After Core → After State
@@ -41,11 +54,14 @@ bookedAfter k isOpening b a = after (state (a .state) (booked k isOpening (a .ou
 -- an event is taken as the mode sees it
 unfoldable pub eventAfter : State → Held → Event → List ℕ → After State
 eventAfter s f e b =
-    pick (isValid s) (bookedAfter (s .books .caller) (eqb (s .core .call .kind) 1) (s .books) (eventCore (s .core) f (seen (isPaddedMode (s .books .mode)) e) b)) (unchanged s f OutOfTurn b)
+    pick (isValid s) (bookedAfter (callerIn (s .books)) (eqb (s .core .call .kind) 1) (s .books) (eventCore (s .core) f (seen (isPaddedMode (modeIn (s .books))) e) b)) (unchanged s f OutOfTurn b)
 
 -- a call: 1, 2, then its own refusals
+abbrev pub free : Core → ℕ → ℕ → ℕ → Bool
+free c opened mode caller = both (valid c opened mode caller) (eqb (c .call .kind) 0)
+
 abbrev pub isFree : State → Bool
-isFree s = both (isValid s) (eqb (s .core .call .kind) 0)
+isFree s = free (s .core) (openedIn (s .books)) (modeIn (s .books)) (callerIn (s .books))
 
 abbrev pub withRoom : State → Held → List ℕ → After State → After State
 withRoom s f b x = pick (ltb (length b) 1024) (unchanged s f ShortBuffer b) x
@@ -62,8 +78,11 @@ unfoldable pub openAfter : State → Held → ℕ → ℕ → List ℕ → After
 openAfter s f k mode b = pick (isFree s) (withRoom s f b (withCaller s f k b (openIn s f k mode b))) (unchanged s f OutOfTurn b)
 
 -- a call of an open reader
+abbrev pub admitted : Core → ℕ → ℕ → ℕ → Bool
+admitted c opened mode caller = both (free c opened mode caller) (eqb opened 1)
+
 abbrev pub isAdmitted : State → Bool
-isAdmitted s = both (isFree s) (isOpen (s .books))
+isAdmitted s = admitted (s .core) (openedIn (s .books)) (modeIn (s .books)) (callerIn (s .books))
 
 unfoldable pub startAfter : State → Held → ℕ → Start → List ℕ → After State
 startAfter s f k x b =
@@ -81,15 +100,20 @@ stepped r b = record { session = r .session; output = r .output; buffer = b }
 
 abbrev pub sessionAfter : After State → Stepped
 sessionAfter a =
-    record { session = record { command = a .held .command; found = a .held .found; state = a .state }; output = a .output; buffer = a .buffer }
+    record { session = record { command = a .held .command; found = a .held .found; frames = a .state .books .frames; books = a .state .books .numbers; core = a .state .core }; output = a .output; buffer = a .buffer }
 
 abbrev pub heldIn : Session → Held
 heldIn s = held (s .command) (s .found)
+
+abbrev pub stateIn : Session → State
+stateIn s = stateOf (s .core) (s .books) (s .frames)
 
 abbrev pub freshSession : Session
 freshSession =
     record {
       command = replicate 512 0;
       found = replicate 1024 0;
-      state = state noCore (noBooks 0);
+      frames = replicate 8 0;
+      books = replicate 3 0;
+      core = noCore;
     }

@@ -20,7 +20,7 @@ use Rattle.protocol.specs.Scripts.{Answer, done, type1, nothing, refused, refus
 use Rattle.stages.specs.Starts.{Start, staged, sends as sendsFirst, refuses as refusesAtOnce}
 use Rattle.stages.specs.Stages.{Decision, send, keep, next, put as putBy, pause as pauseFor, ends as endsDecision}
 use Rattle.calls.specs.Firsts.{startFor}
-use Rattle.engine.specs.Books.{isInRange, isOpen, byCaller, ended, booked}
+use Rattle.engine.specs.Books.{Books, isInRange, byCaller, ended, booked}
 use Rattle.engine.specs.Booking.{ended-range}
 use Rattle.engine.specs.Laws.{valid-caller}
 use Rattle.engine.specs.Core.{Held, After, after, unchanged, idle, ordersOf, stageOf, endsOf, answersOf, followsOf, repliesOf, failsOf, transitionedOf, isLong, admittedOf, eventCore, openCore, startOn}
@@ -28,13 +28,11 @@ use Rattle.engine.specs.Core.{isValid as validCore}
 use Rattle.engine.specs.Exchanges.{by-pick}
 use Rattle.engine.specs.Inputs.{Input, opens as opened, asks, tells, bufferOf, stepWith, afterInput}
 use Rattle.engine.specs.Transitions.{Transitioned, unfitting, orders, sends as sendsStage, resetDone, replies, refuses, fits, transitionOf, validCall}
-use Rattle.engine.specs.Sessions.{state, isValid, isFree, isAdmitted, bookedAfter, eventAfter, openAfter, startAfter, heldIn, sessionAfter}
-use Rattle.engine.specs.declared.books.Books.{Books}
+use Rattle.engine.specs.Sessions.{State, state, stateIn, valid, isValid, isFree, isAdmitted, bookedAfter, eventAfter, openAfter, startAfter, heldIn, sessionAfter}
 use Rattle.engine.specs.declared.call.Call.{Call}
 use Rattle.engine.specs.declared.core.Core.{Core}
 use Rattle.engine.specs.declared.core.Output.{Output}
 use Rattle.engine.specs.declared.core.Output.the-variants.{Ack, Command, Read, Drain, Pause, Done, Type1, Nothing, Failed, FailedAfter, Refused}
-use Rattle.engine.specs.declared.state.State.{State}
 use Rattle.engine.specs.declared.session.Session.{Session}
 
 -- a fault 1, a refusal at once 2, any other output 0
@@ -150,7 +148,7 @@ fault-booked k t b (Refused r) e = absurd (omega (arith, e))
 
 -- numbers whose call has ended are free
 idle-free : (s : Core) (b : Books) → validCore s ≡ true → isInRange b ≡ true → isFree (state (idle s) b) ≡ true
-unfolding isValid validCore validCall
+unfolding valid validCore validCall
 idle-free s b h r =
     let k = both-right (leb (s .command) 512) _ h in
     rw (both-left (leb (s .command) 512) _ h, both-left (leb (s .found) 1024) _ k, both-left (leb (s .exchange .phase) 6) _ (both-right (leb (s .found) 1024) _ k), r) refl
@@ -175,7 +173,7 @@ module _ (s : State) (f : Held) (b : List ℕ) where
 
   -- what is booked of the running call
   booked-stays : (k : ℕ) (t : Bool) (a : After Core) → k ≤ 7 → isValid s ≡ true → Keeps (s .core) f b a → Stays (bookedAfter k t (s .books) a)
-  unfolding isValid
+  unfolding valid
   booked-stays c t a few valid k = record {
     early = λ r e. ap (bookedAfter c t (s .books)) (k .early r e);
     late = λ e.
@@ -216,22 +214,22 @@ all-stay s f (tells e b) = event-stays s f b e
 
 -- ---- the session
 
-stays : (s : Session) (i : Input) → Stays (s .state) (heldIn s) (bufferOf i) (afterInput (s .state) (heldIn s) i)
-stays s i = all-stay (s .state) (heldIn s) i
+stays : (s : Session) (i : Input) → Stays (stateIn s) (heldIn s) (bufferOf i) (afterInput (stateIn s) (heldIn s) i)
+stays s i = all-stay (stateIn s) (heldIn s) i
 
 pub refused-unchanged : (s : Session) (i : Input) (r : Refusal) → (stepWith s i) .output ≡ Refused r → numbered r .number ≤ 6
     → stepWith s i ≡ record { session = s; output = Refused r; buffer = bufferOf i }
 refused-unchanged s i r e h = ap sessionAfter (stays s i .early r e)
 
 ends-free : (s : Session) (i : Input) → class ((stepWith s i) .output) ≡ 1
-    → (isFree ((stepWith s i) .session .state) ≡ true) × ((stepWith s i) .buffer ≡ bufferOf i)
+    → (isFree (stateIn ((stepWith s i) .session)) ≡ true) × ((stepWith s i) .buffer ≡ bufferOf i)
 ends-free s i e = stays s i .late e
 
 pub refused-ends : (s : Session) (i : Input) (r : Fault) → (stepWith s i) .output ≡ Failed r
-    → (isFree ((stepWith s i) .session .state) ≡ true) × ((stepWith s i) .buffer ≡ bufferOf i)
+    → (isFree (stateIn ((stepWith s i) .session)) ≡ true) × ((stepWith s i) .buffer ≡ bufferOf i)
 refused-ends s i r e = ends-free s i (ap class e)
 
 -- the same of a list's
 pub list-ends : (s : Session) (i : Input) (r : Fault) (n : ℕ) → (stepWith s i) .output ≡ FailedAfter r n
-    → (isFree ((stepWith s i) .session .state) ≡ true) × ((stepWith s i) .buffer ≡ bufferOf i)
+    → (isFree (stateIn ((stepWith s i) .session)) ≡ true) × ((stepWith s i) .buffer ≡ bufferOf i)
 list-ends s i r n e = ends-free s i (ap class e)

@@ -1,9 +1,18 @@
-// The reader's books: what a session keeps beside its running call.
+// The reader's books: what a session keeps beside its running call. They lie in two arrays, which are lent: three numbers, and the command
+// frames ordered since the last opening began, by caller.
 use super::core::Output;
-use framing::padded::extra_zeros;
+use framing::padded;
+ghost use mathlib.Core.List.{List};
 ghost use mathlib.Core.Path.{_≡_};
-ghost use Prim.Native.Nat.{_≤_};
-ghost use Rattle.engine.specs.Books.{isInRange, noBooks, isOpen, extraIn, oneMore, byCaller, counted, ended, booked as bookedOf};
+ghost use Prim.Native.Nat.{ℕ, _≤_};
+ghost use Rattle.engine.specs.Books.{booksOf, inRange, noBooks, extraIn, oneMore, countedIn, ended, booked};
+
+// The places of the three numbers: whether the reader is open, the mode that the last opening chose, whose call runs or ran last.
+pub const OPENED: usize = 0;
+
+pub const MODE: usize = 1;
+
+pub const CALLER: usize = 2;
 
 pub const CLOSED: u8 = 0;
 
@@ -20,14 +29,39 @@ pub const LAST_CALLER: u8 = 7;
 // The frame count stops here.
 pub const CEILING: u32 = 4294967295;
 
-// Whether the reader is open, the mode that the last opening chose, whose call runs or ran last, and the command frames ordered since the
-// last opening began, by caller.
-#[repr(C)]
-pub struct Books {
-    pub opened: u8,
-    pub mode: u8,
-    pub caller: u8,
-    pub frames: [u32; 8],
+// Every number is in its range.
+pub fn is_in_range(opened: u8, mode: u8, caller: u8) -> bool
+    ensures { λ r. ⌜ r ≡ inRange opened mode caller ⌝ }
+{
+    if opened > OPEN {
+        return false;
+    }
+    if mode > PADDED {
+        return false;
+    }
+    caller <= LAST_CALLER
+}
+
+// How many bytes the mode takes off a packet's start: its extra zeros, unless it is over-long.
+pub fn extra_zeros(mode: u8, packet: &[u8]) -> usize
+    ensures { λ r. ⌜ r ≡ extraIn mode (now (packet .entry)) ⌝ }
+{
+    if mode == PADDED {
+        if 1024 < packet.len() {
+            return 0;
+        }
+        padded::extra_zeros(packet)
+    } else {
+        0
+    }
+}
+
+// Where an opening begins, in its mode. The books of a fresh session have it off.
+pub(crate) fn begin(frames: &mut [u32; 8], books: &mut [u8; 3], mode: u8)
+    ensures { λ _. ⌜ booksOf (now (books .exit)) (now (frames .exit)) ≡ noBooks mode ⌝ }
+{
+    *books = [CLOSED, mode, 0];
+    *frames = [0; 8];
 }
 
 // One command frame more, up to the ceiling.
@@ -37,100 +71,65 @@ fn one_more(frames: u32) -> u32
     if frames < CEILING { frames + 1 } else { frames }
 }
 
-impl Books {
-    // Where an opening begins, in its mode. Those of a fresh session have it off.
-    pub fn none(mode: u8) -> Books
-        ensures { λ r. ⌜ r ≡ noBooks mode ⌝ }
-    {
-        Books {
-            opened: CLOSED,
-            mode,
-            caller: 0,
-            frames: [0; 8],
+// A command frame counts for a caller.
+fn count(frames: &mut [u32; 8], caller: u8)
+    requires { ⌜ caller ≤ 7 ⌝ }
+    ensures { λ _. ⌜ now (frames .exit) ≡ countedIn caller (now (frames .entry)) ⌝ }
+{
+    let at = caller as usize;
+    let more = one_more(frames[at]);
+    frames[at] = more;
+}
+
+// A call has ended: an opening leaves the reader open or not, any other call leaves it as it was.
+fn end(books: &mut [u8; 3], opening: bool, opened: u8)
+    ensures { λ _. ⌜ ((n : List ℕ) → booksOf (now (books .exit)) n ≡ ended (booksOf (now (books .entry)) n) opening opened) ⌝ }
+{
+    if opening {
+        books[OPENED] = opened;
+    }
+}
+
+// What came out of a caller's call, an opening or not: a command frame counts, and an opening's end says whether the reader is open.
+pub(crate) fn book(
+    frames: &mut [u32; 8],
+    books: &mut [u8; 3],
+    caller: u8,
+    opening: bool,
+    output: Output,
+)
+    requires { ⌜ caller ≤ 7 ⌝ }
+    ensures { λ _. ⌜ booksOf (now (books .exit)) (now (frames .exit)) ≡ booked caller opening output (booksOf (now (books .entry)) (now (frames .entry))) ⌝ }
+{
+    match output {
+        Output::Command(_) => {
+            books[CALLER] = caller;
+            count(frames, caller);
         }
-    }
-
-    // Every field is in its range.
-    pub fn is_in_range(self) -> bool
-        ensures { λ r. ⌜ r ≡ isInRange self ⌝ }
-    {
-        if self.opened > OPEN {
-            return false;
+        Output::Done(_) => {
+            books[CALLER] = caller;
+            end(books, opening, OPEN);
         }
-        if self.mode > PADDED {
-            return false;
+        Output::Type1(_) => {
+            books[CALLER] = caller;
+            end(books, opening, OPEN);
         }
-        self.caller <= LAST_CALLER
-    }
-
-    // The reader is open.
-    pub fn is_open(self) -> bool
-        ensures { λ r. ⌜ r ≡ isOpen self ⌝ }
-    {
-        self.opened == OPEN
-    }
-
-    // How many bytes the mode takes off a packet's start: its extra zeros, unless it is over-long.
-    pub fn extra_zeros(self, packet: &[u8]) -> usize
-        ensures { λ r. ⌜ r ≡ extraIn (self .mode) (now (packet .entry)) ⌝ }
-    {
-        if self.mode == PADDED {
-            if 1024 < packet.len() {
-                return 0;
-            }
-            extra_zeros(packet)
-        } else {
-            0
+        Output::Nothing => {
+            books[CALLER] = caller;
+            end(books, opening, CLOSED);
         }
-    }
-
-    // The same, for the call of another caller.
-    fn by_caller(mut self, caller: u8) -> Books
-        ensures { λ r. ⌜ r ≡ byCaller caller self ⌝ }
-    {
-        self.caller = caller;
-        self
-    }
-
-    // A command frame counts for the caller.
-    fn counted(mut self) -> Books
-        requires { ⌜ self .caller ≤ 7 ⌝ }
-        ensures { λ r. ⌜ r ≡ counted self ⌝ }
-    {
-        let caller = self.caller as usize;
-        let frames = one_more(self.frames[caller]);
-        self.frames[caller] = frames;
-        self
-    }
-
-    // A call has ended: an opening leaves the reader open or not, any other call leaves it as it was.
-    fn ended(mut self, opening: bool, opened: u8) -> Books
-        ensures { λ r. ⌜ r ≡ ended self opening opened ⌝ }
-    {
-        if opening {
-            self.opened = opened;
-            return self;
+        Output::Failed(_) => {
+            books[CALLER] = caller;
+            end(books, opening, CLOSED);
         }
-        self
-    }
-
-    // What came out of a caller's call, an opening or not: a command frame counts, and an opening's end says whether the reader is open.
-    pub(crate) fn booked(self, caller: u8, opening: bool, output: Output) -> Books
-        requires { ⌜ caller ≤ 7 ⌝ }
-        ensures { λ r. ⌜ r ≡ bookedOf caller opening output self ⌝ }
-    {
-        match output {
-            Output::Command(_) => self.by_caller(caller).counted(),
-            Output::Done(_) => self.by_caller(caller).ended(opening, OPEN),
-            Output::Type1(_) => self.by_caller(caller).ended(opening, OPEN),
-            Output::Nothing => self.by_caller(caller).ended(opening, CLOSED),
-            Output::Failed(_) => self.by_caller(caller).ended(opening, CLOSED),
-            Output::FailedAfter(_, _) => self.by_caller(caller).ended(opening, CLOSED),
-            Output::Ack => self.by_caller(caller),
-            Output::Read(_) => self.by_caller(caller),
-            Output::Drain => self.by_caller(caller),
-            Output::Pause(_) => self.by_caller(caller),
-            Output::Refused(_) => self,
+        Output::FailedAfter(_, _) => {
+            books[CALLER] = caller;
+            end(books, opening, CLOSED);
         }
+        Output::Ack => books[CALLER] = caller,
+        Output::Read(_) => books[CALLER] = caller,
+        Output::Drain => books[CALLER] = caller,
+        Output::Pause(_) => books[CALLER] = caller,
+        Output::Refused(_) => {}
     }
 }

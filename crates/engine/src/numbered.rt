@@ -1,13 +1,14 @@
-// Events by their numbers, for a host: the session's numbers go by value, and its arrays are lent.
-use super::state::Effect;
-use super::state::State;
+// Events by their numbers, for a host: the running call's numbers go by value, and the session's arrays are lent.
+use super::core::Core;
+use super::core::Progress;
+use super::state;
 use errors::Refusal;
 use exchange::Event;
 ghost use mathlib.Core.List.{List};
 ghost use mathlib.Core.Path.{_≡_};
 ghost use Prim.Native.Nat.{ℕ};
 ghost use Rattle.engine.specs.Core.{held};
-ghost use Rattle.engine.specs.Sessions.{effected};
+ghost use Rattle.engine.specs.Sessions.{stateOf, effected};
 ghost use Rattle.engine.specs.Numbers.{eventBy, knownIn, numberedAfter};
 
 // The event of a number, where it has one.
@@ -33,17 +34,19 @@ pub fn event_by(number: u8) -> Known
 
 // An event. One with a number that has none fits no order.
 pub fn event(
-    state: State,
+    core: Core,
     command: &mut [u8; 512],
     found: &mut [u8; 1024],
+    frames: &mut [u32; 8],
+    books: &mut [u8; 3],
     number: u8,
     packet: &[u8],
     buffer: &mut [u8],
-) -> Effect
-    ensures { λ r. ⌜ effected r (held (now (command .exit)) (now (found .exit))) (now (buffer .exit)) ≡ numberedAfter state (held (now (command .entry)) (now (found .entry))) (eventBy number (now (packet .entry))) (now (buffer .entry)) ⌝ }
+) -> Progress
+    ensures { λ r. ⌜ effected r (now (books .exit)) (now (frames .exit)) (held (now (command .exit)) (now (found .exit))) (now (buffer .exit)) ≡ numberedAfter (stateOf core (now (books .entry)) (now (frames .entry))) (held (now (command .entry)) (now (found .entry))) (eventBy number (now (packet .entry))) (now (buffer .entry)) ⌝ }
 {
     let Known::Is(event) = event_by(number) else {
-        return state.refused(Refusal::OutOfTurn);
+        return core.refused(Refusal::OutOfTurn);
     };
-    state.event(event, packet, command, found, buffer)
+    state::event(core, command, found, frames, books, event, packet, buffer)
 }

@@ -1,9 +1,7 @@
 // The session and its entries: a call or an event goes in with the buffer; the session comes back with an order or an answer.
-use super::books::Books;
-use super::books::OFF;
 use super::core::Core;
 use super::core::Output;
-use super::state::State;
+use super::state;
 use calls::start::Numbers;
 use exchange::Event;
 ghost use mathlib.Core.Path.{_≡_};
@@ -17,7 +15,9 @@ ghost use Rattle.engine.specs.Sessions.{stepped, freshSession};
 pub struct Session {
     pub command: [u8; 512],
     pub found: [u8; 1024],
-    pub state: State,
+    pub frames: [u32; 8],
+    pub books: [u8; 3],
+    pub core: Core,
 }
 
 pub struct Step {
@@ -30,14 +30,13 @@ impl Session {
     pub fn fresh() -> Session
         ensures { λ r. ⌜ r ≡ freshSession ⌝ }
     {
-        let state = State {
-            core: Core::none(),
-            books: Books::none(OFF),
-        };
+        let core = Core::none();
         Session {
             command: [0; 512],
             found: [0; 1024],
-            state,
+            frames: [0; 8],
+            books: [0; 3],
+            core,
         }
     }
 
@@ -54,10 +53,15 @@ impl Session {
     ) -> Step
         ensures { λ r. ⌜ stepped r (now (buffer .exit)) ≡ stepWith self (callInput (numbers .caller) (callOf number numbers (now (first .entry)) (now (second .entry)) (now (third .entry)) (now (fourth .entry))) (now (buffer .entry))) ⌝ }
     {
-        let state = self.state;
+        let core = self.core;
         let mut command = self.command;
-        let effect = state.call(
+        let mut frames = self.frames;
+        let mut books = self.books;
+        let progress = state::call(
+            core,
             &mut command,
+            &mut frames,
+            &mut books,
             number,
             numbers,
             first,
@@ -66,10 +70,12 @@ impl Session {
             fourth,
             buffer,
         );
-        let output = effect.output;
-        let after = effect.state;
+        let output = progress.output;
+        let after = progress.core;
         self.command = command;
-        self.state = after;
+        self.frames = frames;
+        self.books = books;
+        self.core = after;
         Step {
             session: self,
             output,
@@ -80,15 +86,28 @@ impl Session {
     pub fn event(mut self, event: Event, packet: &[u8], buffer: &mut [u8]) -> Step
         ensures { λ r. ⌜ stepped r (now (buffer .exit)) ≡ stepWith self (tells (eventOf event (now (packet .entry))) (now (buffer .entry))) ⌝ }
     {
-        let state = self.state;
+        let core = self.core;
         let mut command = self.command;
         let mut found = self.found;
-        let effect = state.event(event, packet, &mut command, &mut found, buffer);
-        let output = effect.output;
-        let after = effect.state;
+        let mut frames = self.frames;
+        let mut books = self.books;
+        let progress = state::event(
+            core,
+            &mut command,
+            &mut found,
+            &mut frames,
+            &mut books,
+            event,
+            packet,
+            buffer,
+        );
+        let output = progress.output;
+        let after = progress.core;
         self.command = command;
         self.found = found;
-        self.state = after;
+        self.frames = frames;
+        self.books = books;
+        self.core = after;
         Step {
             session: self,
             output,

@@ -4,8 +4,8 @@ use Prim.Native.Nat.{ℕ}
 use Rattle.errors.specs.Refusals.{numbered, faultNumbered}
 use Rattle.errors.specs.declared.Numbered.{Numbered}
 use Rattle.engine.specs.Sessions.{Stepped}
-use Rattle.engine.specs.declared.state.State.{State}
-use Rattle.engine.specs.declared.state.Effect.{Effect}
+use Rattle.engine.specs.declared.core.Core.{Core}
+use Rattle.engine.specs.declared.core.Progress.{Progress}
 use Rattle.engine.specs.declared.session.Session.{Session}
 use Rattle.engine.specs.declared.core.Output.{Output}
 use Rattle.engine.specs.declared.core.Output.the-variants.{Ack, Command, Read, Drain, Pause, Done, Type1, Nothing, Failed, FailedAfter, Refused}
@@ -40,12 +40,12 @@ outcomeOf (Failed e) = refusedAs (faultNumbered e)
 outcomeOf (FailedAfter e finished) = listRefusedAs (faultNumbered e) finished
 outcomeOf (Refused e) = refusedAs (numbered e)
 
-abbrev pub hostStepOf : Effect → HostStep
-hostStepOf e = record { state = e .state; outcome = outcomeOf (e .output) }
+abbrev pub hostStepOf : Progress → HostStep
+hostStepOf p = record { core = p .core; outcome = outcomeOf (p .output) }
 
 -- a session of its parts
-abbrev pub joined : List ℕ → List ℕ → State → Session
-joined command found state = record { command = command; found = found; state = state }
+abbrev pub joined : List ℕ → List ℕ → List ℕ → List ℕ → Core → Session
+joined command found frames books core = record { command = command; found = found; frames = frames; books = books; core = core }
 
 -- the session and the buffer after an entry, and what came out
 pub record Report : Type 0 where

@@ -16,7 +16,7 @@ use Rattle.protocol.specs.Calls.{Call, opening, reader}
 use Rattle.engine.specs.Inputs.{Input, opens, asks, tells, bufferOf, stepWith}
 use Rattle.calls.specs.Numbers.{callOf}
 use Rattle.engine.specs.Numbers.{callInput, eventBy}
-use Rattle.engine.specs.Sessions.{isFree}
+use Rattle.engine.specs.Sessions.{stateIn, isFree}
 use Rattle.engine.specs.Unchanged.{refused-unchanged, refused-ends, list-ends}
 use Rattle.engine.specs.declared.session.Session.{Session}
 use Rattle.engine.specs.declared.core.Output.{Output}
@@ -27,8 +27,8 @@ use Rattle.host.specs.Entries.{HostEntry, calling, telling, bufferIn, ev
 -- what a report has to say of the session s and the buffer b that went in
 pub record Kept (s : Session) (b : List ℕ) (r : Report) : Type 0 where
   pub early : (r .outcome) .kind ≡ 7 → (r .outcome) .refusal ≤ 6 → (r .session ≡ s) × (r .buffer ≡ b)
-  pub late : (r .outcome) .kind ≡ 7 → 7 ≤ (r .outcome) .refusal → (isFree (r .session .state) ≡ true) × (r .buffer ≡ b)
-  pub listed : (r .outcome) .kind ≡ 8 → (isFree (r .session .state) ≡ true) × (r .buffer ≡ b)
+  pub late : (r .outcome) .kind ≡ 7 → 7 ≤ (r .outcome) .refusal → (isFree (stateIn (r .session)) ≡ true) × (r .buffer ≡ b)
+  pub listed : (r .outcome) .kind ≡ 8 → (isFree (stateIn (r .session)) ≡ true) × (r .buffer ≡ b)
 
 -- a fault's number is none of the first six, and only a refusal and a fault have the kind 7
 fault-late : (r : Fault) → 7 ≤ faultNumbered r .number
@@ -103,7 +103,7 @@ step-kept s i = record {
     early (at-once r e) h = let same = refused-unchanged s i r e (refusal-early r) in (ap (λ x. x .session) same, ap (λ x. x .buffer) same)
     early (later r e) h = absurd (omega (arith, h, ap (λ x. (outcomeOf x) .refusal) e, fault-late r))
 
-    late : IsRefused ((stepWith s i) .output) → 7 ≤ number → (isFree ((stepWith s i) .session .state) ≡ true) × ((stepWith s i) .buffer ≡ bufferOf i)
+    late : IsRefused ((stepWith s i) .output) → 7 ≤ number → (isFree (stateIn ((stepWith s i) .session)) ≡ true) × ((stepWith s i) .buffer ≡ bufferOf i)
     late (at-once r e) h = absurd (omega (arith, h, ap (λ x. (outcomeOf x) .refusal) e, refusal-early r))
     late (later r e) h = refused-ends s i r e
 

@@ -34,10 +34,12 @@ pub extern "C" fn rcs956_call(
 ) -> Outcome
     ensures { λ r. ⌜ report (now (session .exit)) r (now (buffer .exit)) ≡ reportFor (now (session .entry)) (calling number numbers (now (first .entry)) (now (second .entry)) (now (third .entry)) (now (fourth .entry)) (now (buffer .entry))) ⌝ }
 {
-    let state = session.state;
+    let core = session.core;
     let step = call(
-        state,
+        core,
         &mut session.command,
+        &mut session.frames,
+        &mut session.books,
         number,
         numbers,
         first,
@@ -46,8 +48,8 @@ pub extern "C" fn rcs956_call(
         fourth,
         buffer,
     );
-    let after = step.state;
-    session.state = after;
+    let after = step.core;
+    session.core = after;
     step.outcome
 }
 
@@ -61,16 +63,18 @@ pub extern "C" fn rcs956_event(
 ) -> Outcome
     ensures { λ r. ⌜ report (now (session .exit)) r (now (buffer .exit)) ≡ reportFor (now (session .entry)) (telling number (now (packet .entry)) (now (buffer .entry))) ⌝ }
 {
-    let state = session.state;
+    let core = session.core;
     let step = event(
-        state,
+        core,
         &mut session.command,
         &mut session.found,
+        &mut session.frames,
+        &mut session.books,
         number,
         packet,
         buffer,
     );
-    let after = step.state;
-    session.state = after;
+    let after = step.core;
+    session.core = after;
     step.outcome
 }

@@ -1,7 +1,7 @@
 // What the host is told, in numbers.
+use engine::core::Core;
 use engine::core::Output;
-use engine::state::Effect;
-use engine::state::State;
+use engine::core::Progress;
 use errors::Numbered;
 ghost use mathlib.Core.Path.{_≡_};
 ghost use Rattle.host.specs.Outcomes.{withBytes, withTime, refusedAs, listRefusedAs, outcomeOf, hostStepOf};
@@ -37,9 +37,9 @@ pub struct Outcome {
     pub len: usize,
 }
 
-// The session's numbers after a call or an event, and what came out.
+// The running call's numbers after a call or an event, and what came out.
 pub struct HostStep {
-    pub state: State,
+    pub core: Core,
     pub outcome: Outcome,
 }
 
@@ -119,13 +119,13 @@ impl Outcome {
 }
 
 impl HostStep {
-    pub fn of(effect: Effect) -> HostStep
-        ensures { λ r. ⌜ r ≡ hostStepOf effect ⌝ }
+    pub fn of(progress: Progress) -> HostStep
+        ensures { λ r. ⌜ r ≡ hostStepOf progress ⌝ }
     {
-        let state = effect.state;
-        let output = effect.output;
+        let core = progress.core;
+        let output = progress.output;
         HostStep {
-            state,
+            core,
             outcome: Outcome::of(output),
         }
     }

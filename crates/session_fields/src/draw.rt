@@ -1,9 +1,7 @@
 // Numbers drawn from a seed, and sessions made of them.
-use engine::books::Books;
 use engine::call::Call;
 use engine::core::Core;
 use engine::session::Session;
-use engine::state::State;
 use exchange::Exchange;
 
 // The next seed: a linear congruential generator.
@@ -130,27 +128,23 @@ pub(crate) fn caller(x: u64) -> u8 {
     }
 }
 
-fn books(seed: u64) -> Books {
-    let frames = wide(number(seed, 10));
-    Books {
-        opened: opened(number(seed, 9)),
-        mode: mode(number(seed, 14)),
-        caller: caller(number(seed, 15)),
-        frames: [frames; 8],
-    }
+fn books(seed: u64) -> [u8; 3] {
+    [opened(number(seed, 9)), mode(number(seed, 14)), caller(number(seed, 15))]
 }
 
 // A session with any fields, most of them in their ranges.
 pub(crate) fn session(seed: u64) -> Session {
     let core = core(seed);
     let books = books(seed);
-    let state = State { core, books };
     let command = byte(number(seed, 11));
     let found = byte(number(seed, 12));
+    let frames = wide(number(seed, 10));
     Session {
         command: [command; 512],
         found: [found; 1024],
-        state,
+        frames: [frames; 8],
+        books,
+        core,
     }
 }
 

@@ -1,8 +1,7 @@
 // The outcomes counted, and what an outcome must not be.
-use engine::books::Books;
 use engine::core::Core;
 use engine::core::Output;
-use engine::state::State;
+use engine::session::Session;
 use errors::Numbered;
 
 const OUTCOMES: usize = 272;
@@ -77,16 +76,16 @@ fn core_in_range(core: Core) -> bool {
 }
 
 // Every field of a session is in its range.
-fn in_range(state: State) -> bool {
-    let core = state.core;
-    let books = state.books;
-    if books.opened > 1 {
+fn in_range(session: Session) -> bool {
+    let core = session.core;
+    let books = session.books;
+    if books[0] > 1 {
         return false;
     }
-    if books.mode > 1 {
+    if books[1] > 1 {
         return false;
     }
-    if books.caller > 7 {
+    if books[2] > 7 {
         return false;
     }
     core_in_range(core)
@@ -154,27 +153,27 @@ fn same_frames(before: [u32; 8], after: [u32; 8]) -> bool {
     before[7] == after[7]
 }
 
-fn same_books(before: Books, after: Books) -> bool {
-    if before.opened != after.opened {
+fn same_books(before: [u8; 3], after: [u8; 3]) -> bool {
+    if before[0] != after[0] {
         return false;
     }
-    if before.mode != after.mode {
+    if before[1] != after[1] {
         return false;
     }
-    if before.caller != after.caller {
-        return false;
-    }
-    let first = before.frames;
-    let second = after.frames;
-    same_frames(first, second)
+    before[2] == after[2]
 }
 
-fn same(before: State, after: State) -> bool {
-    if same_books(before.books, after.books) {
-        same_core(before.core, after.core)
-    } else {
-        false
+fn same(before: Session, after: Session) -> bool {
+    let first = before.books;
+    let second = after.books;
+    if same_books(first, second) {
+        let first = before.frames;
+        let second = after.frames;
+        if same_frames(first, second) {
+            return same_core(before.core, after.core);
+        }
     }
+    false
 }
 
 fn one_more(n: u64, more: bool) -> u64 {
@@ -190,7 +189,7 @@ fn is_early(kind: usize) -> bool {
     if kind == 1 { true } else { kind == 2 }
 }
 
-fn is_unfit(before: State, kind: usize) -> bool {
+fn is_unfit(before: Session, kind: usize) -> bool {
     if in_range(before) { false } else { kind != 1 }
 }
 
@@ -198,7 +197,7 @@ fn is_short(size: usize, kind: usize) -> bool {
     if size < 1024 { !is_early(kind) } else { false }
 }
 
-fn is_changed(before: State, after: State, kind: usize) -> bool {
+fn is_changed(before: Session, after: Session, kind: usize) -> bool {
     if is_early(kind) {
         !same(before, after)
     } else {
@@ -240,7 +239,7 @@ impl Tally {
     }
 
     // Counts an outcome, and what is wrong with it.
-    pub(crate) fn judged(self, before: State, after: State, output: Output, size: usize) -> Tally {
+    pub(crate) fn judged(self, before: Session, after: Session, output: Output, size: usize) -> Tally {
         let kind = kind(output);
         let mut counts = self.counts;
         if kind < OUTCOMES {

@@ -174,8 +174,7 @@ fn response(code: u8, n: u8, status: u8) -> [u8; ROOM] {
 
 // Hands the session an event.
 fn event(session: Session, seed: u64, buffer: &mut [u8]) -> Step {
-    let state = session.state;
-    let core = state.core;
+    let core = session.core;
     let exchange = core.exchange;
     let n = draw::byte(draw::number(seed, 22));
     let x = draw::number(seed, 23);

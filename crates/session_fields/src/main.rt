@@ -10,13 +10,11 @@ const SESSIONS: u64 = 50000;
 // One session, one call or event, and what was wrong with the outcome.
 fn turn(seed: u64, tally: Tally) -> Tally {
     let session = draw::session(seed);
-    let before = session.state;
     let size = draw::size(seed);
     let step = made::handed(session, seed, size);
     let output = step.output;
-    let stepped = step.session;
-    let after = stepped.state;
-    tally.judged(before, after, output, size)
+    let after = step.session;
+    tally.judged(session, after, output, size)
 }
 
 fn main() {

@@ -78,8 +78,8 @@ impl Draw {
     /// A fresh session, mostly as if the reader were open.
     pub fn fresh(&mut self) -> Box<RawSession> {
         let mut session = Box::new(raw::fresh());
-        session.state.books.opened = !self.once(8) as u8;
-        session.state.books.mode = self.below(2) as u8;
+        session.books.opened = !self.once(8) as u8;
+        session.books.mode = self.below(2) as u8;
         session
     }
 
@@ -98,7 +98,7 @@ impl Draw {
         if self.once(16) {
             return session;
         }
-        let (core, books) = (&mut session.state.core, &mut session.state.books);
+        let (core, books) = (&mut session.core, &mut session.books);
         core.command = self.used(512);
         core.found = self.used(1024);
         core.exchange.phase = self.small(6);
@@ -110,7 +110,7 @@ impl Draw {
         books.opened = self.opened();
         books.mode = self.small(1);
         books.caller = self.small(7);
-        books.frames = std::array::from_fn(|_| self.pick(&[0, 1, 77, u32::MAX - 1, u32::MAX, u32::MAX]));
+        session.frames = std::array::from_fn(|_| self.pick(&[0, 1, 77, u32::MAX - 1, u32::MAX, u32::MAX]));
         session
     }
 
@@ -147,7 +147,7 @@ impl Draw {
         if self.once(10) {
             return if self.once(4) { self.byte() } else { self.below(8) as u8 };
         }
-        match (session.state.core.call.phase, session.state.core.exchange.phase) {
+        match (session.core.call.phase, session.core.exchange.phase) {
             (1 | 3, _) | (0, 0 | 3 | 4 | 5) => self.pick(&[event::OK, event::OK, event::OK, event::BAD]),
             (2 | 5, _) => event::SLEPT,
             _ if self.once(5) => self.pick(&[event::TIME, event::FAIL, event::LATE]),

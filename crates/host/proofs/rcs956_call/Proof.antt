@@ -1,4 +1,4 @@
--- `host::rcs956_call` meets its contract: a walk of its MIR, by hand. The borrow of the session is opened and the session taken apart (`Apart.antt`). The state is copied out. The array is lent where it lies, for a lifetime that is made for the call, and the callee is called with the state by value, the slices' borrows copied and the buffer's given up to it.
+-- `host::rcs956_call` meets its contract: a walk of its MIR, by hand. The borrow of the session is opened and the session taken apart (`Apart.antt`). The state is copied out. Each array is lent where it lies, for a lifetime that is made for the call, and the callee is called with the state by value, the slices' borrows copied and the buffer's given up to it.
 -- Then the lifetimes are ended, the arrays are back at their last values, the state that came back is stored, and the borrow is closed at the new record. All that the proof knows of the callee is that it meets its contract. Assumes nothing.
 use mathlib.Core.Path.{_≡_, refl, ap}
 use Prim.Native.Nat.{ℕ, _+_, _<_, _^_}
@@ -27,7 +27,7 @@ use denote.RattleType.{owns}
 use denote.Laws.{Is, shows}
 use denote.Memory.{mem}
 use denote.Array.{Array}
-use denote.Builtin.{u8}
+use denote.Builtin.{u8, u32}
 use denote.Plain.{uint-vals, uint-tells, uint-makes}
 use denote.Ref.{RefT, MutRef, ptr-vals, mut-tells}
 use denote.Slice.{sliceVal, MutSlice, ShrSlice, Room, finally, slice-vals, mut-slice-tells, shr-slice-tells, shr-slice-lawful, shr-slice-copy}
@@ -49,8 +49,8 @@ use Rattle.engine.specs.declared.session.Session.{Session}
 use Rattle.host.specs.declared.outcome.HostStep.{HostStep}
 use Rattle.host.specs.declared.outcome.Outcome.{Outcome}
 use Rattle.engine.proofs.session.Session as T
-use Rattle.engine.proofs.state.State as N
-use Rattle.engine.proofs.state.State.Laws as N′
+use Rattle.engine.proofs.core.Core as N
+use Rattle.engine.proofs.core.Core.Laws as N′
 use Rattle.calls.specs.declared.start.Numbers.{Numbers}
 use Rattle.calls.proofs.start.Numbers as X
 use Rattle.calls.proofs.start.Numbers.Laws as X′
@@ -58,7 +58,7 @@ use Rattle.host.proofs.outcome.HostStep as R
 use Rattle.host.proofs.outcome.HostStep.Laws as R′
 use Rattle.host.proofs.outcome.Outcome as O
 use Rattle.host.proofs.outcome.Outcome.Laws as O′
-use Rattle.host.proofs.Apart.{mN, Fits, Array₀, Array₁, Held, Back, apart, together}
+use Rattle.host.proofs.Apart.{mN, Fits, Array₀, Array₁, Array₂, Array₃, Held, Back, apart, together}
 use Rattle.host.proofs.step.call as step
 use Rattle.host.proofs.step.call.Symbol as step-def
 use Rattle.host.proofs.step.call.Symbol.{name as #host·step·call}
@@ -134,29 +134,47 @@ module _ {M : Type 1} (𝓤 : URA M) (H : Heap 𝓤) (A : Atoms 𝓤) (W : Given
   abbrev Lent₀ : ℕ → GName → Fml
   Lent₀ α δ = flent (α ∷ []) (Body (mem (Array u8 512)) b (o + 0) δ)
 
+  abbrev ref₂ : GName → RefT (List ℕ)
+  ref₂ δ = record { ptr = (b, o + 1536); name = δ; now = h .frames }
+
+  abbrev Ref₂ : ℕ → GName → Fml
+  Ref₂ α δ = MutRef (named 1) (α ∷ []) (Array u32 8) .own (ref₂ δ) (vptr b (o + 1536) ∷ [])
+
+  abbrev Lent₂ : ℕ → GName → Fml
+  Lent₂ α δ = flent (α ∷ []) (Body (mem (Array u32 8)) b (o + 1536) δ)
+
+  abbrev ref₃ : GName → RefT (List ℕ)
+  ref₃ δ = record { ptr = (b, o + 1568); name = δ; now = h .books }
+
+  abbrev Ref₃ : ℕ → GName → Fml
+  Ref₃ α δ = MutRef (named 2) (α ∷ []) (Array u8 3) .own (ref₃ δ) (vptr b (o + 1568) ∷ [])
+
+  abbrev Lent₃ : ℕ → GName → Fml
+  Lent₃ α δ = flent (α ∷ []) (Body (mem (Array u8 3)) b (o + 1568) δ)
+
   abbrev Post : Val → SProp 𝓤
   Post = walkOf 𝓤 H A f.ended stayed (f.clauses 𝓤 H A at-mem run) .post (((κ₀, (κ₁, (κ₂, (κ₃, (κ₄, (κ₅, tt)))))), (q₀, (q₁, (q₂, (q₃, (q₄, (q₅, tt)))))), tt, a, vals), tt)
 
   -- what the callee's triple binds outside, and that the caller has what it asks
-  module _ (α₀ : ℕ) (δ₀ : GName) where
+  module _ (α₀ α₂ α₃ : ℕ) (δ₀ δ₂ δ₃ : GName) where
     abbrev to-step : Step₀ 𝓤 H A at-mem run .Ghost
-    to-step = ((((α₀ ∷ []), (κ₁, (κ₂, (κ₃, (κ₄, (κ₅, tt)))))), (fullShare, (q₁, (q₂, (q₃, (q₄, (q₅, tt)))))), tt, (h .state, ((ref₀ δ₀), (n₁, (n₂, (p₁, (p₂, (p₃, (p₄, (w, tt))))))))), (mN (h .state) ∷ [], (vptr b (o + 0) ∷ [], (vint w8 n₁ ∷ [], (mV n₂ ∷ [], (vp₁ ∷ [], (vp₂ ∷ [], (vp₃ ∷ [], (vp₄ ∷ [], (vw ∷ [], tt)))))))))), tt)
+    to-step = ((((α₀ ∷ []), ((α₂ ∷ []), ((α₃ ∷ []), (κ₁, (κ₂, (κ₃, (κ₄, (κ₅, tt)))))))), (fullShare, (fullShare, (fullShare, (q₁, (q₂, (q₃, (q₄, (q₅, tt)))))))), tt, (h .core, ((ref₀ δ₀), ((ref₂ δ₂), ((ref₃ δ₃), (n₁, (n₂, (p₁, (p₂, (p₃, (p₄, (w, tt))))))))))), (mN (h .core) ∷ [], (vptr b (o + 0) ∷ [], (vptr b (o + 1536) ∷ [], (vptr b (o + 1568) ∷ [], (vint w8 n₁ ∷ [], (mV n₂ ∷ [], (vp₁ ∷ [], (vp₂ ∷ [], (vp₃ ∷ [], (vp₄ ∷ [], (vw ∷ [], tt)))))))))))), tt)
 
     abbrev Passed : Fml
-    Passed = owns (N.the-row ∷ MutRef (named 0) (α₀ ∷ []) (Array u8 512) ∷ u8 ∷ X.the-row ∷ ShrSlice (named 1) κ₁ u8 ∷ ShrSlice (named 2) κ₂ u8 ∷ ShrSlice (named 3) κ₃ u8 ∷ ShrSlice (named 4) κ₄ u8 ∷ MutSlice (named 5) κ₅ u8 ∷ []) (h .state, ((ref₀ δ₀), (n₁, (n₂, (p₁, (p₂, (p₃, (p₄, (w, tt))))))))) (mN (h .state) ∷ [], (vptr b (o + 0) ∷ [], (vint w8 n₁ ∷ [], (mV n₂ ∷ [], (vp₁ ∷ [], (vp₂ ∷ [], (vp₃ ∷ [], (vp₄ ∷ [], (vw ∷ [], tt)))))))))
+    Passed = owns (N.the-row ∷ MutRef (named 0) (α₀ ∷ []) (Array u8 512) ∷ MutRef (named 1) (α₂ ∷ []) (Array u32 8) ∷ MutRef (named 2) (α₃ ∷ []) (Array u8 3) ∷ u8 ∷ X.the-row ∷ ShrSlice (named 3) κ₁ u8 ∷ ShrSlice (named 4) κ₂ u8 ∷ ShrSlice (named 5) κ₃ u8 ∷ ShrSlice (named 6) κ₄ u8 ∷ MutSlice (named 7) κ₅ u8 ∷ []) (h .core, ((ref₀ δ₀), ((ref₂ δ₂), ((ref₃ δ₃), (n₁, (n₂, (p₁, (p₂, (p₃, (p₄, (w, tt))))))))))) (mN (h .core) ∷ [], (vptr b (o + 0) ∷ [], (vptr b (o + 1536) ∷ [], (vptr b (o + 1568) ∷ [], (vint w8 n₁ ∷ [], (mV n₂ ∷ [], (vp₁ ∷ [], (vp₂ ∷ [], (vp₃ ∷ [], (vp₄ ∷ [], (vw ∷ [], tt)))))))))))
 
-    goes-step : ent 𝓤 (sep 𝓤 (sep 𝓤 (A .lft (α₀ ∷ []) fullShare) (sep 𝓤 (A .lft κ₁ q₁) (sep 𝓤 (A .lft κ₂ q₂) (sep 𝓤 (A .lft κ₃ q₃) (sep 𝓤 (A .lft κ₄ q₄) (sep 𝓤 (A .lft κ₅ q₅) (sem 𝓤 H A ftrue))))))) (sem 𝓤 H A Passed)) (Step₀ 𝓤 H A at-mem run .pre to-step)
-    goes-step = qed W ((‵ (flft (α₀ ∷ []) fullShare) ⊛ ‵ (flft κ₁ q₁) ⊛ ‵ (flft κ₂ q₂) ⊛ ‵ (flft κ₃ q₃) ⊛ ‵ (flft κ₄ q₄) ⊛ ‵ (flft κ₅ q₅) ⊛ ‵ ftrue) ∷ ‵ Passed ∷ []) ∵ join ! $ frame ! $ done !
+    goes-step : ent 𝓤 (sep 𝓤 (sep 𝓤 (A .lft (α₀ ∷ []) fullShare) (sep 𝓤 (A .lft (α₂ ∷ []) fullShare) (sep 𝓤 (A .lft (α₃ ∷ []) fullShare) (sep 𝓤 (A .lft κ₁ q₁) (sep 𝓤 (A .lft κ₂ q₂) (sep 𝓤 (A .lft κ₃ q₃) (sep 𝓤 (A .lft κ₄ q₄) (sep 𝓤 (A .lft κ₅ q₅) (sem 𝓤 H A ftrue))))))))) (sem 𝓤 H A Passed)) (Step₀ 𝓤 H A at-mem run .pre to-step)
+    goes-step = qed W ((‵ (flft (α₀ ∷ []) fullShare) ⊛ ‵ (flft (α₂ ∷ []) fullShare) ⊛ ‵ (flft (α₃ ∷ []) fullShare) ⊛ ‵ (flft κ₁ q₁) ⊛ ‵ (flft κ₂ q₂) ⊛ ‵ (flft κ₃ q₃) ⊛ ‵ (flft κ₄ q₄) ⊛ ‵ (flft κ₅ q₅) ⊛ ‵ ftrue) ∷ ‵ Passed ∷ []) ∵ join ! $ frame ! $ done !
 
-  exits : (r : HostStep) (x₀ : List ℕ) (zs : List ℕ) → ((found : List ℕ) → report (joined x₀ found (r .state)) (r .outcome) zs ≡ reportFor (joined (h .command) found (h .state)) (calling n₁ n₂ (p₁ .now) (p₂ .now) (p₃ .now) (p₄ .now) ys)) → length zs ≡ length ys
-      → ent 𝓤 (⋆ 𝓤 H A (‵ (fobs γ (T.the-row .coded .code (record { command = x₀; found = (h .found); state = r .state }))) ∷ ‵ (fbor κ₀ (Body (mem T.the-row) b o γ)) ∷ ‵ (flft κ₀ q₀) ∷ (‵ (flft κ₁ q₁) ⊛ ‵ (flft κ₂ q₂) ⊛ ‵ (flft κ₃ q₃) ⊛ ‵ (flft κ₄ q₄) ⊛ ‵ (flft κ₅ q₅) ⊛ ‵ ftrue) ∷ ‵ Ownp₁ ∷ ‵ Ownp₂ ∷ ‵ Ownp₃ ∷ ‵ Ownp₄ ∷ ‵ (finally u8 γ′ zs) ∷ ‵ (O.the-row .own (r .outcome) (mO (r .outcome) ∷ [])) ∷ [])) (Post (mO (r .outcome)))
-  exits r x₀ zs e l =
-      qed W (‵ (fobs γ (T.the-row .coded .code (record { command = x₀; found = (h .found); state = r .state }))) ∷ ‵ (fbor κ₀ (Body (mem T.the-row) b o γ)) ∷ ‵ (flft κ₀ q₀) ∷ (‵ (flft κ₁ q₁) ⊛ ‵ (flft κ₂ q₂) ⊛ ‵ (flft κ₃ q₃) ⊛ ‵ (flft κ₄ q₄) ⊛ ‵ (flft κ₅ q₅) ⊛ ‵ ftrue) ∷ ‵ Ownp₁ ∷ ‵ Ownp₂ ∷ ‵ Ownp₃ ∷ ‵ Ownp₄ ∷ ‵ (finally u8 γ′ zs) ∷ ‵ (O.the-row .own (r .outcome) (mO (r .outcome) ∷ [])) ∷ []) ∵
-      suffices ! _ (ends-at 𝓤 H A f.ended stayed (f.clauses 𝓤 H A at-mem run) W (((κ₀, (κ₁, (κ₂, (κ₃, (κ₄, (κ₅, tt)))))), (q₀, (q₁, (q₂, (q₃, (q₄, (q₅, tt)))))), tt, a, vals), tt) (mO (r .outcome)) (r .outcome) ((record { command = x₀; found = (h .found); state = r .state }), (tt, (tt, (tt, (tt, (tt, (tt, (zs, tt)))))))) (tt, (tt, (tt, (tt, (tt, (tt, (tt, (l, tt))))))))) $ says ! (e (h .found)) $
+  exits : (r : HostStep) (x₀ : List ℕ) (x₂ : List ℕ) (x₃ : List ℕ) (zs : List ℕ) → ((found : List ℕ) → report (joined x₀ found x₂ x₃ (r .core)) (r .outcome) zs ≡ reportFor (joined (h .command) found (h .frames) (h .books) (h .core)) (calling n₁ n₂ (p₁ .now) (p₂ .now) (p₃ .now) (p₄ .now) ys)) → length zs ≡ length ys
+      → ent 𝓤 (⋆ 𝓤 H A (‵ (fobs γ (T.the-row .coded .code (record { command = x₀; found = (h .found); frames = x₂; books = x₃; core = r .core }))) ∷ ‵ (fbor κ₀ (Body (mem T.the-row) b o γ)) ∷ ‵ (flft κ₀ q₀) ∷ (‵ (flft κ₁ q₁) ⊛ ‵ (flft κ₂ q₂) ⊛ ‵ (flft κ₃ q₃) ⊛ ‵ (flft κ₄ q₄) ⊛ ‵ (flft κ₅ q₅) ⊛ ‵ ftrue) ∷ ‵ Ownp₁ ∷ ‵ Ownp₂ ∷ ‵ Ownp₃ ∷ ‵ Ownp₄ ∷ ‵ (finally u8 γ′ zs) ∷ ‵ (O.the-row .own (r .outcome) (mO (r .outcome) ∷ [])) ∷ [])) (Post (mO (r .outcome)))
+  exits r x₀ x₂ x₃ zs e l =
+      qed W (‵ (fobs γ (T.the-row .coded .code (record { command = x₀; found = (h .found); frames = x₂; books = x₃; core = r .core }))) ∷ ‵ (fbor κ₀ (Body (mem T.the-row) b o γ)) ∷ ‵ (flft κ₀ q₀) ∷ (‵ (flft κ₁ q₁) ⊛ ‵ (flft κ₂ q₂) ⊛ ‵ (flft κ₃ q₃) ⊛ ‵ (flft κ₄ q₄) ⊛ ‵ (flft κ₅ q₅) ⊛ ‵ ftrue) ∷ ‵ Ownp₁ ∷ ‵ Ownp₂ ∷ ‵ Ownp₃ ∷ ‵ Ownp₄ ∷ ‵ (finally u8 γ′ zs) ∷ ‵ (O.the-row .own (r .outcome) (mO (r .outcome) ∷ [])) ∷ []) ∵
+      suffices ! _ (ends-at 𝓤 H A f.ended stayed (f.clauses 𝓤 H A at-mem run) W (((κ₀, (κ₁, (κ₂, (κ₃, (κ₄, (κ₅, tt)))))), (q₀, (q₁, (q₂, (q₃, (q₄, (q₅, tt)))))), tt, a, vals), tt) (mO (r .outcome)) (r .outcome) ((record { command = x₀; found = (h .found); frames = x₂; books = x₃; core = r .core }), (tt, (tt, (tt, (tt, (tt, (tt, (zs, tt)))))))) (tt, (tt, (tt, (tt, (tt, (tt, (tt, (l, tt))))))))) $ says ! (e (h .found)) $
       move ! (2 ∷ 3 ∷ []) $ join ! $ frame ! $ feqI ! (List Val) (vptr b o ∷ []) (vptr b o ∷ []) refl $ fjoin3 ! $ nothing ! $ move ! (6 ∷ 0 ∷ []) $ fjoin ! $ move ! (5 ∷ 0 ∷ []) $ fjoin ! $ move ! (4 ∷ 0 ∷ []) $ fjoin ! $ move ! (3 ∷ 0 ∷ []) $ fjoin ! $ move ! (2 ∷ 0 ∷ []) $ fjoin ! $ owned ! X.the-row (Is X.the-row) (LL.makes X.the-type X′.the-plain 𝓤 H A) n₂ (mV n₂ ∷ []) n₂-fits $ fjoin ! $ owned ! u8 (Is u8) (uint-makes 𝓤 H A W w8) n₁ _ (refl, n₁-fits) $ fjoin ! $ move ! (1 ∷ 0 ∷ []) $ fjoin ! $ done !
 
   -- what is known of the parts of the result
-  part₀ : (r : HostStep) (v : Val) → Is R.the-row r (v ∷ []) → Fits (r .state)
+  part₀ : (r : HostStep) (v : Val) → Is R.the-row r (v ∷ []) → Fits (r .core)
   part₀ r v is = LL.owed R.the-type R′.the-laws r _ is .0
 
   part₁ : (r : HostStep) (v : Val) → Is R.the-row r (v ∷ []) → Is O.the-row (r .outcome) (mO (r .outcome) ∷ [])
@@ -167,46 +185,52 @@ module _ {M : Type 1} (𝓤 : URA M) (H : Heap 𝓤) (A : Atoms 𝓤) (W : Given
     walk isp₁ isp₂ isp₃ isp₄ room =
         qed W ((‵ (flft κ₀ q₀) ⊛ ‵ (flft κ₁ q₁) ⊛ ‵ (flft κ₂ q₂) ⊛ ‵ (flft κ₃ q₃) ⊛ ‵ (flft κ₄ q₄) ⊛ ‵ (flft κ₅ q₅) ⊛ ‵ ftrue) ∷ ‵ (owns (MutRef (named 0) κ₀ T.the-row ∷ u8 ∷ X.the-row ∷ ShrSlice (named 1) κ₁ u8 ∷ ShrSlice (named 2) κ₂ u8 ∷ ShrSlice (named 3) κ₃ u8 ∷ ShrSlice (named 4) κ₄ u8 ∷ MutSlice (named 5) κ₅ u8 ∷ []) a vals) ∷ []) ∵
         enter ! C Λ code.function (vptr b o ∷ vint w8 n₁ ∷ mV n₂ ∷ vp₁ ∷ vp₂ ∷ vp₃ ∷ vp₄ ∷ vw ∷ []) _ $
-        alloc1 ! (λ l₀. alloc1 ! (λ l₁. alloc1 ! (λ l₂. alloc1 ! (λ l₃. alloc1 ! (λ l₄. alloc1 ! (λ l₅. alloc1 ! (λ l₆. alloc1 ! (λ l₇. alloc1 ! (λ l₈. alloc1 ! (λ l₉. alloc1 ! (λ l₁₀. alloc1 ! (λ l₁₁. alloc1 ! (λ l₁₂. alloc1 ! (λ l₁₃. alloc1 ! (λ l₁₄. alloc0 ! $ params1 ! $
-        pass1 ! (init ! 26 refl (tt, tt)) $ pass1 ! (init ! 24 refl (tt, record { fits = n₁-fits })) $ pass1 ! (init ! 22 refl (LL.lawful X.the-type X′.the-laws 𝓤 H A W .typed n₂ _ n₂-fits .0)) $ pass1 ! (init ! 20 refl (shr-slice-lawful 𝓤 H A W (named 1) κ₁ u8 .typed p₁ (vp₁ ∷ []) isp₁ .0)) $ pass1 ! (init ! 18 refl (shr-slice-lawful 𝓤 H A W (named 2) κ₂ u8 .typed p₂ (vp₂ ∷ []) isp₂ .0)) $ pass1 ! (init ! 16 refl (shr-slice-lawful 𝓤 H A W (named 3) κ₃ u8 .typed p₃ (vp₃ ∷ []) isp₃ .0)) $ pass1 ! (init ! 14 refl (shr-slice-lawful 𝓤 H A W (named 4) κ₄ u8 .typed p₄ (vp₄ ∷ []) isp₄ .0)) $ pass1 ! (init ! 12 refl (tt, (tt, (record { fits = room .0 }, tt)))) $ pass0 ! $
+        alloc1 ! (λ l₀. alloc1 ! (λ l₁. alloc1 ! (λ l₂. alloc1 ! (λ l₃. alloc1 ! (λ l₄. alloc1 ! (λ l₅. alloc1 ! (λ l₆. alloc1 ! (λ l₇. alloc1 ! (λ l₈. alloc1 ! (λ l₉. alloc1 ! (λ l₁₀. alloc1 ! (λ l₁₁. alloc1 ! (λ l₁₂. alloc1 ! (λ l₁₃. alloc1 ! (λ l₁₄. alloc1 ! (λ l₁₅. alloc1 ! (λ l₁₆. alloc0 ! $ params1 ! $
+        pass1 ! (init ! 30 refl (tt, tt)) $ pass1 ! (init ! 28 refl (tt, record { fits = n₁-fits })) $ pass1 ! (init ! 26 refl (LL.lawful X.the-type X′.the-laws 𝓤 H A W .typed n₂ _ n₂-fits .0)) $ pass1 ! (init ! 24 refl (shr-slice-lawful 𝓤 H A W (named 1) κ₁ u8 .typed p₁ (vp₁ ∷ []) isp₁ .0)) $ pass1 ! (init ! 22 refl (shr-slice-lawful 𝓤 H A W (named 2) κ₂ u8 .typed p₂ (vp₂ ∷ []) isp₂ .0)) $ pass1 ! (init ! 20 refl (shr-slice-lawful 𝓤 H A W (named 3) κ₃ u8 .typed p₃ (vp₃ ∷ []) isp₃ .0)) $ pass1 ! (init ! 18 refl (shr-slice-lawful 𝓤 H A W (named 4) κ₄ u8 .typed p₄ (vp₄ ∷ []) isp₄ .0)) $ pass1 ! (init ! 16 refl (tt, (tt, (record { fits = room .0 }, tt)))) $ pass0 ! $
         -- what the parameters own is taken apart
-        move ! (31 ∷ []) $ fsplit ! $ fsplit3 ! $ drop ! $ move ! (2 ∷ []) $ fsplit ! $ drop ! $ fsplit ! $ drop ! $ fsplit ! $ move ! (1 ∷ []) $ fsplit ! $ move ! (1 ∷ []) $ fsplit ! $ move ! (1 ∷ []) $ fsplit ! $ move ! (1 ∷ []) $ fsplit ! $ move ! (38 ∷ []) $ split ! $
+        move ! (35 ∷ []) $ fsplit ! $ fsplit3 ! $ drop ! $ move ! (2 ∷ []) $ fsplit ! $ drop ! $ fsplit ! $ drop ! $ fsplit ! $ move ! (1 ∷ []) $ fsplit ! $ move ! (1 ∷ []) $ fsplit ! $ move ! (1 ∷ []) $ fsplit ! $ move ! (1 ∷ []) $ fsplit ! $ move ! (42 ∷ []) $ split ! $
         -- the session's borrow is opened, and the session taken apart
-        move ! (8 ∷ 9 ∷ 0 ∷ []) $ open-ref ! tt (mem T.the-row) {x = h} {b = b} {o = o} $ use1 W (‵ (Array₀ b o (h .command)) ⊛ (‵ (Array₁ b o (h .found)) ⊛ (given (Fits (h .state)) (‵ (Held b o (h .state)) ⊛ raw (Back 𝓤 H A b o))))) (apart 𝓤 H A W b o h) $ split ! $ move ! (1 ∷ []) $ split ! $ move ! (1 ∷ []) $ learn ! (λ was. split ! $
+        move ! (8 ∷ 9 ∷ 0 ∷ []) $ open-ref ! tt (mem T.the-row) {x = h} {b = b} {o = o} $ use1 W (‵ (Array₀ b o (h .command)) ⊛ (‵ (Array₁ b o (h .found)) ⊛ (‵ (Array₂ b o (h .frames)) ⊛ (‵ (Array₃ b o (h .books)) ⊛ (given (Fits (h .core)) (‵ (Held b o (h .core)) ⊛ raw (Back 𝓤 H A b o))))))) (apart 𝓤 H A W b o h) $ split ! $ move ! (1 ∷ []) $ split ! $ move ! (1 ∷ []) $ split ! $ move ! (1 ∷ []) $ split ! $ move ! (1 ∷ []) $ learn ! (λ was. split ! $
         -- the state is copied out, and the addresses are taken
-        assigns ! (of-opd ! (load ! (from ! (hop ! (look ! 40 refl) (fld ! refl (stop !)))) (look ! 0 refl))) (from ! (stop !)) (init ! 24 refl (LL.lawful N.the-type N′.the-laws 𝓤 H A W .typed (h .state) _ was .0)) $
-        assigns ! (addr ! (from ! (hop ! (look ! 40 refl) (fld ! refl (stop !))))) (from ! (stop !)) (init ! 18 refl (tt, tt)) $
-        assigns ! (addr ! (from ! (fld ! refl (hop ! (look-in ! 26 (sub ! 0 refl (whole !))) (stop !))))) (from ! (stop !)) (init ! 16 refl (tt, tt)) $
-        assigns ! (agg ! (and-then ! (load ! (from ! (stop !)) (look ! 16 refl)) (and-then ! (load ! (from ! (fld ! refl (stop !))) (look-in ! 26 (sub ! 1 refl (whole !)))) (no-more !)))) (from ! (stop !)) (init ! 14 refl (tt, (tt, (record { fits = room .0 }, tt)))) $
+        assigns ! (of-opd ! (load ! (from ! (hop ! (look ! 46 refl) (fld ! refl (stop !)))) (look ! 0 refl))) (from ! (stop !)) (init ! 30 refl (LL.lawful N.the-type N′.the-laws 𝓤 H A W .typed (h .core) _ was .0)) $
+        assigns ! (addr ! (from ! (hop ! (look ! 46 refl) (fld ! refl (stop !))))) (from ! (stop !)) (init ! 24 refl (tt, tt)) $
+        assigns ! (addr ! (from ! (hop ! (look ! 46 refl) (fld ! refl (stop !))))) (from ! (stop !)) (init ! 22 refl (tt, tt)) $
+        assigns ! (addr ! (from ! (hop ! (look ! 46 refl) (fld ! refl (stop !))))) (from ! (stop !)) (init ! 20 refl (tt, tt)) $
+        assigns ! (addr ! (from ! (fld ! refl (hop ! (look-in ! 32 (sub ! 0 refl (whole !))) (stop !))))) (from ! (stop !)) (init ! 18 refl (tt, tt)) $
+        assigns ! (agg ! (and-then ! (load ! (from ! (stop !)) (look ! 18 refl)) (and-then ! (load ! (from ! (fld ! refl (stop !))) (look-in ! 32 (sub ! 1 refl (whole !)))) (no-more !)))) (from ! (stop !)) (init ! 16 refl (tt, (tt, (record { fits = room .0 }, tt)))) $
         -- each array is lent, for a lifetime of its own
-        lft-new ! tt (λ α₀. move ! (4 ∷ []) $ use1 W (later (some (λ (δ : GName). ‵ (Ref₀ α₀ δ) ⊛ ‵ (Lent₀ α₀ δ)))) (lends-ref 𝓤 H A W (Array u8 512) (named 0) (α₀ ∷ []) (h .command) b (o + 0)) $ await ! tt $ pick ! (λ δ₀. split ! $
+        lft-new ! tt (λ α₀. move ! (6 ∷ []) $ use1 W (later (some (λ (δ : GName). ‵ (Ref₀ α₀ δ) ⊛ ‵ (Lent₀ α₀ δ)))) (lends-ref 𝓤 H A W (Array u8 512) (named 0) (α₀ ∷ []) (h .command) b (o + 0)) $ await ! tt $ pick ! (λ δ₀. split ! $
+        lft-new ! tt (λ α₂. move ! (7 ∷ []) $ use1 W (later (some (λ (δ : GName). ‵ (Ref₂ α₂ δ) ⊛ ‵ (Lent₂ α₂ δ)))) (lends-ref 𝓤 H A W (Array u32 8) (named 1) (α₂ ∷ []) (h .frames) b (o + 1536)) $ await ! tt $ pick ! (λ δ₂. split ! $
+        lft-new ! tt (λ α₃. move ! (9 ∷ []) $ use1 W (later (some (λ (δ : GName). ‵ (Ref₃ α₃ δ) ⊛ ‵ (Lent₃ α₃ δ)))) (lends-ref 𝓤 H A W (Array u8 3) (named 2) (α₃ ∷ []) (h .books) b (o + 1568)) $ await ! tt $ pick ! (λ δ₃. split ! $
         -- the slices' borrows are copied, and what the callee takes is put together
-        move ! (15 ∷ []) $ use1 W (‵ Ownp₁ ⊛ ‵ Ownp₁) (shr-slice-copy 𝓤 H A W (named 1) κ₁ u8 .twice p₁ (vp₁ ∷ [])) $ split ! $
-        move ! (16 ∷ []) $ use1 W (‵ Ownp₂ ⊛ ‵ Ownp₂) (shr-slice-copy 𝓤 H A W (named 2) κ₂ u8 .twice p₂ (vp₂ ∷ [])) $ split ! $
-        move ! (17 ∷ []) $ use1 W (‵ Ownp₃ ⊛ ‵ Ownp₃) (shr-slice-copy 𝓤 H A W (named 3) κ₃ u8 .twice p₃ (vp₃ ∷ [])) $ split ! $
-        move ! (18 ∷ []) $ use1 W (‵ Ownp₄ ⊛ ‵ Ownp₄) (shr-slice-copy 𝓤 H A W (named 4) κ₄ u8 .twice p₄ (vp₄ ∷ [])) $ split ! $
-        move ! (18 ∷ 19 ∷ []) $ fjoin ! $ move ! (2 ∷ 0 ∷ []) $ fjoin ! $ move ! (3 ∷ 0 ∷ []) $ fjoin ! $ move ! (4 ∷ 0 ∷ []) $ fjoin ! $ move ! (5 ∷ 0 ∷ []) $ fjoin ! $ owned ! X.the-row (Is X.the-row) (LL.makes X.the-type X′.the-plain 𝓤 H A) n₂ (mV n₂ ∷ []) n₂-fits $ fjoin ! $ owned ! u8 (Is u8) (uint-makes 𝓤 H A W w8) n₁ _ (refl, n₁-fits) $ fjoin ! $ move ! (5 ∷ 0 ∷ []) $ fjoin ! $ owned ! N.the-row (Is N.the-row) (LL.makes N.the-type N′.the-plain 𝓤 H A) (h .state) (mN (h .state) ∷ []) was $ fjoin ! $
-        move ! (6 ∷ 13 ∷ []) $ join ! $ use2 W (raw (Step₀ 𝓤 H A at-mem run .pre (to-step α₀ δ₀))) (goes-step α₀ δ₀) $
+        move ! (21 ∷ []) $ use1 W (‵ Ownp₁ ⊛ ‵ Ownp₁) (shr-slice-copy 𝓤 H A W (named 1) κ₁ u8 .twice p₁ (vp₁ ∷ [])) $ split ! $
+        move ! (22 ∷ []) $ use1 W (‵ Ownp₂ ⊛ ‵ Ownp₂) (shr-slice-copy 𝓤 H A W (named 2) κ₂ u8 .twice p₂ (vp₂ ∷ [])) $ split ! $
+        move ! (23 ∷ []) $ use1 W (‵ Ownp₃ ⊛ ‵ Ownp₃) (shr-slice-copy 𝓤 H A W (named 3) κ₃ u8 .twice p₃ (vp₃ ∷ [])) $ split ! $
+        move ! (24 ∷ []) $ use1 W (‵ Ownp₄ ⊛ ‵ Ownp₄) (shr-slice-copy 𝓤 H A W (named 4) κ₄ u8 .twice p₄ (vp₄ ∷ [])) $ split ! $
+        move ! (24 ∷ 25 ∷ []) $ fjoin ! $ move ! (2 ∷ 0 ∷ []) $ fjoin ! $ move ! (3 ∷ 0 ∷ []) $ fjoin ! $ move ! (4 ∷ 0 ∷ []) $ fjoin ! $ move ! (5 ∷ 0 ∷ []) $ fjoin ! $ owned ! X.the-row (Is X.the-row) (LL.makes X.the-type X′.the-plain 𝓤 H A) n₂ (mV n₂ ∷ []) n₂-fits $ fjoin ! $ owned ! u8 (Is u8) (uint-makes 𝓤 H A W w8) n₁ _ (refl, n₁-fits) $ fjoin ! $ move ! (5 ∷ 0 ∷ []) $ fjoin ! $ move ! (7 ∷ 0 ∷ []) $ fjoin ! $ move ! (9 ∷ 0 ∷ []) $ fjoin ! $ owned ! N.the-row (Is N.the-row) (LL.makes N.the-type N′.the-plain 𝓤 H A) (h .core) (mN (h .core) ∷ []) was $ fjoin ! $
+        move ! (6 ∷ 17 ∷ []) $ join ! $ move ! (8 ∷ 0 ∷ []) $ join ! $ move ! (9 ∷ 0 ∷ []) $ join ! $ use2 W (raw (Step₀ 𝓤 H A at-mem run .pre (to-step α₀ α₂ α₃ δ₀ δ₂ δ₃))) (goes-step α₀ α₂ α₃ δ₀ δ₂ δ₃) $
         -- the call
-        calls-at ! fm (Step₀ 𝓤 H A at-mem run) known (to-step α₀ δ₀) (and-then ! (load ! (from ! (stop !)) (look ! 22 refl)) (and-then ! (load ! (from ! (stop !)) (look ! 16 refl)) (and-then ! (load ! (from ! (stop !)) (look ! 36 refl)) (and-then ! (load ! (from ! (stop !)) (look ! 34 refl)) (and-then ! (load ! (from ! (stop !)) (look ! 32 refl)) (and-then ! (load ! (from ! (stop !)) (look ! 30 refl)) (and-then ! (load ! (from ! (stop !)) (look ! 28 refl)) (and-then ! (load ! (from ! (stop !)) (look ! 26 refl)) (and-then ! (load ! (from ! (stop !)) (look ! 12 refl)) (no-more !)))))))))) (λ v.
-        use1 W (later (some (λ (r : HostStep). ((‵ (flft (α₀ ∷ []) fullShare) ⊛ ‵ (flft κ₁ q₁) ⊛ ‵ (flft κ₂ q₂) ⊛ ‵ (flft κ₃ q₃) ⊛ ‵ (flft κ₄ q₄) ⊛ ‵ (flft κ₅ q₅) ⊛ ‵ ftrue) ⊛ ‵ (R.the-row .own r (v ∷ []))) ⊛ raw (ensured 𝓤 H A step.ended (step.clauses 𝓤 H A at-mem run) ((α₀ ∷ []), (κ₁, (κ₂, (κ₃, (κ₄, (κ₅, tt)))))) (h .state, ((ref₀ δ₀), (n₁, (n₂, (p₁, (p₂, (p₃, (p₄, (w, tt))))))))) tt r)))) (id⊢ 𝓤 _) $ await ! tt $ pick ! (λ r. split ! $
-        move ! (1 ∷ []) $ use1 W (some (λ (zs : Unit {0} × (List ℕ × (Unit {0} × (Unit {0} × (Unit {0} × (Unit {0} × (Unit {0} × (Unit {0} × (List ℕ × Unit {0}))))))))). ‵ (lasts step.ended ((α₀ ∷ []), (κ₁, (κ₂, (κ₃, (κ₄, (κ₅, tt)))))) (h .state, ((ref₀ δ₀), (n₁, (n₂, (p₁, (p₂, (p₃, (p₄, (w, tt))))))))) zs) ⊛ raw (fact 𝓤 ((found : List ℕ) → report (joined (zs .1 .0) found (r .state)) (r .outcome) (zs .1 .1 .1 .1 .1 .1 .1 .1 .0) ≡ reportFor (joined (h .command) found (h .state)) (calling n₁ n₂ (p₁ .now) (p₂ .now) (p₃ .now) (p₄ .now) ys))))) (id⊢ 𝓤 _) $ pick ! (λ zs. split ! $
-        move ! (1 ∷ []) $ heard ! ((found : List ℕ) → report (joined (zs .1 .0) found (r .state)) (r .outcome) (zs .1 .1 .1 .1 .1 .1 .1 .1 .0) ≡ reportFor (joined (h .command) found (h .state)) (calling n₁ n₂ (p₁ .now) (p₂ .now) (p₃ .now) (p₄ .now) ys)) (λ e.
-        fsplit ! $ drop ! $ fsplit ! $ move ! (1 ∷ []) $ fsplit ! $ drop ! $ fsplit ! $ drop ! $ fsplit ! $ drop ! $ fsplit ! $ drop ! $ fsplit ! $ drop ! $ fsplit ! $ drop ! $ fsplit ! $ fsplit ! $ move ! (1 ∷ []) $ feqL ! (λ l. move ! (3 ∷ []) $ split ! $ move ! (1 ∷ []) $ peeks ! R.the-row (Is R.the-row) (shows 𝓤 H A R.the-row) r (v ∷ []) (λ is. drop ! $
+        calls-at ! fm (Step₀ 𝓤 H A at-mem run) known (to-step α₀ α₂ α₃ δ₀ δ₂ δ₃) (and-then ! (load ! (from ! (stop !)) (look ! 28 refl)) (and-then ! (load ! (from ! (stop !)) (look ! 22 refl)) (and-then ! (load ! (from ! (stop !)) (look ! 20 refl)) (and-then ! (load ! (from ! (stop !)) (look ! 18 refl)) (and-then ! (load ! (from ! (stop !)) (look ! 42 refl)) (and-then ! (load ! (from ! (stop !)) (look ! 40 refl)) (and-then ! (load ! (from ! (stop !)) (look ! 38 refl)) (and-then ! (load ! (from ! (stop !)) (look ! 36 refl)) (and-then ! (load ! (from ! (stop !)) (look ! 34 refl)) (and-then ! (load ! (from ! (stop !)) (look ! 32 refl)) (and-then ! (load ! (from ! (stop !)) (look ! 14 refl)) (no-more !)))))))))))) (λ v.
+        use1 W (later (some (λ (r : HostStep). ((‵ (flft (α₀ ∷ []) fullShare) ⊛ ‵ (flft (α₂ ∷ []) fullShare) ⊛ ‵ (flft (α₃ ∷ []) fullShare) ⊛ ‵ (flft κ₁ q₁) ⊛ ‵ (flft κ₂ q₂) ⊛ ‵ (flft κ₃ q₃) ⊛ ‵ (flft κ₄ q₄) ⊛ ‵ (flft κ₅ q₅) ⊛ ‵ ftrue) ⊛ ‵ (R.the-row .own r (v ∷ []))) ⊛ raw (ensured 𝓤 H A step.ended (step.clauses 𝓤 H A at-mem run) ((α₀ ∷ []), ((α₂ ∷ []), ((α₃ ∷ []), (κ₁, (κ₂, (κ₃, (κ₄, (κ₅, tt)))))))) (h .core, ((ref₀ δ₀), ((ref₂ δ₂), ((ref₃ δ₃), (n₁, (n₂, (p₁, (p₂, (p₃, (p₄, (w, tt))))))))))) tt r)))) (id⊢ 𝓤 _) $ await ! tt $ pick ! (λ r. split ! $
+        move ! (1 ∷ []) $ use1 W (some (λ (zs : Unit {0} × (List ℕ × (List ℕ × (List ℕ × (Unit {0} × (Unit {0} × (Unit {0} × (Unit {0} × (Unit {0} × (Unit {0} × (List ℕ × Unit {0}))))))))))). ‵ (lasts step.ended ((α₀ ∷ []), ((α₂ ∷ []), ((α₃ ∷ []), (κ₁, (κ₂, (κ₃, (κ₄, (κ₅, tt)))))))) (h .core, ((ref₀ δ₀), ((ref₂ δ₂), ((ref₃ δ₃), (n₁, (n₂, (p₁, (p₂, (p₃, (p₄, (w, tt))))))))))) zs) ⊛ raw (fact 𝓤 ((found : List ℕ) → report (joined (zs .1 .0) found (zs .1 .1 .0) (zs .1 .1 .1 .0) (r .core)) (r .outcome) (zs .1 .1 .1 .1 .1 .1 .1 .1 .1 .1 .0) ≡ reportFor (joined (h .command) found (h .frames) (h .books) (h .core)) (calling n₁ n₂ (p₁ .now) (p₂ .now) (p₃ .now) (p₄ .now) ys))))) (id⊢ 𝓤 _) $ pick ! (λ zs. split ! $
+        move ! (1 ∷ []) $ heard ! ((found : List ℕ) → report (joined (zs .1 .0) found (zs .1 .1 .0) (zs .1 .1 .1 .0) (r .core)) (r .outcome) (zs .1 .1 .1 .1 .1 .1 .1 .1 .1 .1 .0) ≡ reportFor (joined (h .command) found (h .frames) (h .books) (h .core)) (calling n₁ n₂ (p₁ .now) (p₂ .now) (p₃ .now) (p₄ .now) ys)) (λ e.
+        fsplit ! $ drop ! $ fsplit ! $ move ! (1 ∷ []) $ fsplit ! $ move ! (1 ∷ []) $ fsplit ! $ move ! (1 ∷ []) $ fsplit ! $ drop ! $ fsplit ! $ drop ! $ fsplit ! $ drop ! $ fsplit ! $ drop ! $ fsplit ! $ drop ! $ fsplit ! $ drop ! $ fsplit ! $ fsplit ! $ move ! (1 ∷ []) $ feqL ! (λ l. move ! (5 ∷ []) $ split ! $ move ! (1 ∷ []) $ peeks ! R.the-row (Is R.the-row) (shows 𝓤 H A R.the-row) r (v ∷ []) (λ is. drop ! $
         -- the lifetimes are ended, and the arrays are back
-        split ! $
-        lft-end ! tt $ move ! (0 ∷ 9 ∷ 4 ∷ []) $ use3 W (later (‵ (Array₀ b o (zs .1 .0)))) (ref-back 𝓤 H A W (Array u8 512) (α₀ ∷ []) δ₀ (zs .1 .0) b (o + 0)) $ await ! tt $
+        split ! $ move ! (1 ∷ []) $ split ! $ move ! (1 ∷ []) $ split ! $
+        move ! (3 ∷ []) $ lft-end ! tt $ move ! (0 ∷ 15 ∷ 8 ∷ []) $ use3 W (later (‵ (Array₀ b o (zs .1 .0)))) (ref-back 𝓤 H A W (Array u8 512) (α₀ ∷ []) δ₀ (zs .1 .0) b (o + 0)) $ await ! tt $
+        move ! (3 ∷ []) $ lft-end ! tt $ move ! (0 ∷ 13 ∷ 7 ∷ []) $ use3 W (later (‵ (Array₂ b o (zs .1 .1 .0)))) (ref-back 𝓤 H A W (Array u32 8) (α₂ ∷ []) δ₂ (zs .1 .1 .0) b (o + 1536)) $ await ! tt $
+        move ! (2 ∷ []) $ lft-end ! tt $ move ! (0 ∷ 11 ∷ 6 ∷ []) $ use3 W (later (‵ (Array₃ b o (zs .1 .1 .1 .0)))) (ref-back 𝓤 H A W (Array u8 3) (α₃ ∷ []) δ₃ (zs .1 .1 .1 .0) b (o + 1568)) $ await ! tt $
         -- the result is stored, the state in its place and the answer in the result
-        land ! (from ! (stop !)) (init ! 22 refl (LL.lawful R.the-type R′.the-laws 𝓤 H A W .typed r _ is .0)) $ rewrite ! 22 (λ (u : Val). ‵ (fat fullShare R′.mir l₁₀ 0 u)) (ap only (LL.tells R.the-type R′.the-laws r _ is)) refl $
-        assigns ! (of-opd ! (load ! (from ! (fld ! refl (stop !))) (look-in ! 22 (sub ! 0 refl (whole !))))) (from ! (stop !)) (init ! 20 refl (LL.lawful N.the-type N′.the-laws 𝓤 H A W .typed (r .state) _ (part₀ r v is) .0)) $
-        assigns ! (of-opd ! (load ! (from ! (stop !)) (look ! 20 refl))) (from ! (hop ! (look ! 40 refl) (fld ! refl (stop !)))) (store ! 8 refl (LL.lawful N.the-type N′.the-laws 𝓤 H A W .typed (r .state) _ (part₀ r v is) .0)) $
-        assigns ! (of-opd ! (load ! (from ! (fld ! refl (stop !))) (look-in ! 22 (sub ! 1 refl (whole !))))) (from ! (stop !)) (init ! 42 refl (LL.lawful O.the-type O′.the-laws 𝓤 H A W .typed (r .outcome) _ (part₁ r v is) .0)) $
+        land ! (from ! (stop !)) (init ! 28 refl (LL.lawful R.the-type R′.the-laws 𝓤 H A W .typed r _ is .0)) $ rewrite ! 28 (λ (u : Val). ‵ (fat fullShare R′.mir l₁₀ 0 u)) (ap only (LL.tells R.the-type R′.the-laws r _ is)) refl $
+        assigns ! (of-opd ! (load ! (from ! (fld ! refl (stop !))) (look-in ! 28 (sub ! 0 refl (whole !))))) (from ! (stop !)) (init ! 26 refl (LL.lawful N.the-type N′.the-laws 𝓤 H A W .typed (r .core) _ (part₀ r v is) .0)) $
+        assigns ! (of-opd ! (load ! (from ! (stop !)) (look ! 26 refl))) (from ! (hop ! (look ! 46 refl) (fld ! refl (stop !)))) (store ! 10 refl (LL.lawful N.the-type N′.the-laws 𝓤 H A W .typed (r .core) _ (part₀ r v is) .0)) $
+        assigns ! (of-opd ! (load ! (from ! (fld ! refl (stop !))) (look-in ! 28 (sub ! 1 refl (whole !))))) (from ! (stop !)) (init ! 48 refl (LL.lawful O.the-type O′.the-laws 𝓤 H A W .typed (r .outcome) _ (part₁ r v is) .0)) $
         -- the session is put together, and its borrow is closed at the new record
-        move ! (8 ∷ 9 ∷ []) $ join ! $ move ! (9 ∷ 0 ∷ []) $ join ! $ move ! (1 ∷ 0 ∷ []) $ join ! $ use1 W (‵ (mem T.the-row .lies (record { command = (zs .1 .0); found = (h .found); state = r .state }) b o)) (together 𝓤 H A W b o (record { command = (zs .1 .0); found = (h .found); state = r .state }) (part₀ r v is)) $
-        move ! (0 ∷ 8 ∷ 9 ∷ 10 ∷ []) $ close-ref ! tt (mem T.the-row) (record { command = (zs .1 .0); found = (h .found); state = r .state }) {b = b} {o = o} $ owned ! O.the-row (Is O.the-row) (LL.makes O.the-type O′.the-plain 𝓤 H A) (r .outcome) _ (part₁ r v is) $
-        returns ! (look ! 39 refl) $ forget ! 11 refl $ forget ! 13 refl $ forget ! 15 refl $ forget ! 17 refl $ forget ! 19 refl $ forget ! 21 refl $ forget ! 23 refl $ forget ! 25 refl $ forget ! 27 refl $ forget ! 29 refl $ forget ! 31 refl $ forget ! 33 refl $ forget ! 35 refl $ forget ! 37 refl $ forget ! 39 refl $
-        move ! (39 ∷ 40 ∷ []) $ free1 ! $ move ! (37 ∷ 38 ∷ []) $ free1 ! $ move ! (35 ∷ 36 ∷ []) $ free1 ! $ move ! (33 ∷ 34 ∷ []) $ free1 ! $ move ! (31 ∷ 32 ∷ []) $ free1 ! $ move ! (29 ∷ 30 ∷ []) $ free1 ! $ move ! (27 ∷ 28 ∷ []) $ free1 ! $ move ! (25 ∷ 26 ∷ []) $ free1 ! $ move ! (23 ∷ 24 ∷ []) $ free1 ! $ move ! (21 ∷ 22 ∷ []) $ free1 ! $ move ! (19 ∷ 20 ∷ []) $ free1 ! $ move ! (17 ∷ 18 ∷ []) $ free1 ! $ move ! (15 ∷ 16 ∷ []) $ free1 ! $ move ! (13 ∷ 14 ∷ []) $ free1 ! $ move ! (11 ∷ 12 ∷ []) $ free1 ! $ free0 ! $
-        keep ! (1 ∷ 2 ∷ 3 ∷ 4 ∷ 10 ∷ 9 ∷ 8 ∷ 7 ∷ 5 ∷ 0 ∷ []) $ by ! (exits r (zs .1 .0) (zs .1 .1 .1 .1 .1 .1 .1 .1 .0) e l)))))))))))))))))))))))))
+        move ! (10 ∷ 11 ∷ []) $ join ! $ move ! (1 ∷ 0 ∷ []) $ join ! $ move ! (1 ∷ 0 ∷ []) $ join ! $ move ! (9 ∷ 0 ∷ []) $ join ! $ move ! (1 ∷ 0 ∷ []) $ join ! $ use1 W (‵ (mem T.the-row .lies (record { command = (zs .1 .0); found = (h .found); frames = (zs .1 .1 .0); books = (zs .1 .1 .1 .0); core = r .core }) b o)) (together 𝓤 H A W b o (record { command = (zs .1 .0); found = (h .found); frames = (zs .1 .1 .0); books = (zs .1 .1 .1 .0); core = r .core }) (part₀ r v is)) $
+        move ! (0 ∷ 8 ∷ 9 ∷ 10 ∷ []) $ close-ref ! tt (mem T.the-row) (record { command = (zs .1 .0); found = (h .found); frames = (zs .1 .1 .0); books = (zs .1 .1 .1 .0); core = r .core }) {b = b} {o = o} $ owned ! O.the-row (Is O.the-row) (LL.makes O.the-type O′.the-plain 𝓤 H A) (r .outcome) _ (part₁ r v is) $
+        returns ! (look ! 43 refl) $ forget ! 11 refl $ forget ! 13 refl $ forget ! 15 refl $ forget ! 17 refl $ forget ! 19 refl $ forget ! 21 refl $ forget ! 23 refl $ forget ! 25 refl $ forget ! 27 refl $ forget ! 29 refl $ forget ! 31 refl $ forget ! 33 refl $ forget ! 35 refl $ forget ! 37 refl $ forget ! 39 refl $ forget ! 41 refl $ forget ! 43 refl $
+        move ! (43 ∷ 44 ∷ []) $ free1 ! $ move ! (41 ∷ 42 ∷ []) $ free1 ! $ move ! (39 ∷ 40 ∷ []) $ free1 ! $ move ! (37 ∷ 38 ∷ []) $ free1 ! $ move ! (35 ∷ 36 ∷ []) $ free1 ! $ move ! (33 ∷ 34 ∷ []) $ free1 ! $ move ! (31 ∷ 32 ∷ []) $ free1 ! $ move ! (29 ∷ 30 ∷ []) $ free1 ! $ move ! (27 ∷ 28 ∷ []) $ free1 ! $ move ! (25 ∷ 26 ∷ []) $ free1 ! $ move ! (23 ∷ 24 ∷ []) $ free1 ! $ move ! (21 ∷ 22 ∷ []) $ free1 ! $ move ! (19 ∷ 20 ∷ []) $ free1 ! $ move ! (17 ∷ 18 ∷ []) $ free1 ! $ move ! (15 ∷ 16 ∷ []) $ free1 ! $ move ! (13 ∷ 14 ∷ []) $ free1 ! $ move ! (11 ∷ 12 ∷ []) $ free1 ! $ free0 ! $
+        keep ! (1 ∷ 2 ∷ 3 ∷ 4 ∷ 10 ∷ 9 ∷ 8 ∷ 7 ∷ 5 ∷ 0 ∷ []) $ by ! (exits r (zs .1 .0) (zs .1 .1 .0) (zs .1 .1 .1 .0) (zs .1 .1 .1 .1 .1 .1 .1 .1 .1 .1 .0) e l)))))))))))))))))))))))))))))))
 
 module _ {M : Type 1} (𝓤 : URA M) (H : Heap 𝓤) (A : Atoms 𝓤) (W : Given 𝓤 H A) (at-mem : Memory → SProp 𝓤) (run : Routine → Fun 𝓤) where
   rcs956-call-walks : (C : Calls 𝓤 H) (Λ : Loops 𝓤 H) → FmC 𝓤 H (W .laws) C → Triple 𝓤 (C #host·step·call) (Step₀ 𝓤 H A at-mem run) → Walks 𝓤 H A f.ended stayed (WpFn 𝓤 H C Λ code.function) (f.clauses 𝓤 H A at-mem run)

@@ -27,7 +27,7 @@ use denote.RattleType.{owns}
 use denote.Laws.{Is, shows}
 use denote.Memory.{mem}
 use denote.Array.{Array}
-use denote.Builtin.{u8}
+use denote.Builtin.{u8, u32}
 use denote.Plain.{uint-vals, uint-tells, uint-makes}
 use denote.Ref.{RefT, MutRef, ptr-vals, mut-tells}
 use denote.Slice.{sliceVal, MutSlice, ShrSlice, Room, finally, slice-vals, mut-slice-tells, shr-slice-tells, shr-slice-lawful, shr-slice-copy}
@@ -49,13 +49,13 @@ use Rattle.engine.specs.declared.session.Session.{Session}
 use Rattle.host.specs.declared.outcome.HostStep.{HostStep}
 use Rattle.host.specs.declared.outcome.Outcome.{Outcome}
 use Rattle.engine.proofs.session.Session as T
-use Rattle.engine.proofs.state.State as N
-use Rattle.engine.proofs.state.State.Laws as N′
+use Rattle.engine.proofs.core.Core as N
+use Rattle.engine.proofs.core.Core.Laws as N′
 use Rattle.host.proofs.outcome.HostStep as R
 use Rattle.host.proofs.outcome.HostStep.Laws as R′
 use Rattle.host.proofs.outcome.Outcome as O
 use Rattle.host.proofs.outcome.Outcome.Laws as O′
-use Rattle.host.proofs.Apart.{mN, Fits, Array₀, Array₁, Held, Back, apart, together}
+use Rattle.host.proofs.Apart.{mN, Fits, Array₀, Array₁, Array₂, Array₃, Held, Back, apart, together}
 use Rattle.host.proofs.step.event as step
 use Rattle.host.proofs.step.event.Symbol as step-def
 use Rattle.host.proofs.step.event.Symbol.{name as #host·step·event}
@@ -118,29 +118,47 @@ module _ {M : Type 1} (𝓤 : URA M) (H : Heap 𝓤) (A : Atoms 𝓤) (W : Given
   abbrev Lent₁ : ℕ → GName → Fml
   Lent₁ α δ = flent (α ∷ []) (Body (mem (Array u8 1024)) b (o + 512) δ)
 
+  abbrev ref₂ : GName → RefT (List ℕ)
+  ref₂ δ = record { ptr = (b, o + 1536); name = δ; now = h .frames }
+
+  abbrev Ref₂ : ℕ → GName → Fml
+  Ref₂ α δ = MutRef (named 2) (α ∷ []) (Array u32 8) .own (ref₂ δ) (vptr b (o + 1536) ∷ [])
+
+  abbrev Lent₂ : ℕ → GName → Fml
+  Lent₂ α δ = flent (α ∷ []) (Body (mem (Array u32 8)) b (o + 1536) δ)
+
+  abbrev ref₃ : GName → RefT (List ℕ)
+  ref₃ δ = record { ptr = (b, o + 1568); name = δ; now = h .books }
+
+  abbrev Ref₃ : ℕ → GName → Fml
+  Ref₃ α δ = MutRef (named 3) (α ∷ []) (Array u8 3) .own (ref₃ δ) (vptr b (o + 1568) ∷ [])
+
+  abbrev Lent₃ : ℕ → GName → Fml
+  Lent₃ α δ = flent (α ∷ []) (Body (mem (Array u8 3)) b (o + 1568) δ)
+
   abbrev Post : Val → SProp 𝓤
   Post = walkOf 𝓤 H A f.ended stayed (f.clauses 𝓤 H A at-mem run) .post (((κ₀, (κ₁, (κ₂, tt))), (q₀, (q₁, (q₂, tt))), tt, a, vals), tt)
 
   -- what the callee's triple binds outside, and that the caller has what it asks
-  module _ (α₀ α₁ : ℕ) (δ₀ δ₁ : GName) where
+  module _ (α₀ α₁ α₂ α₃ : ℕ) (δ₀ δ₁ δ₂ δ₃ : GName) where
     abbrev to-step : Step₀ 𝓤 H A at-mem run .Ghost
-    to-step = ((((α₀ ∷ []), ((α₁ ∷ []), (κ₁, (κ₂, tt)))), (fullShare, (fullShare, (q₁, (q₂, tt)))), tt, (h .state, ((ref₀ δ₀), ((ref₁ δ₁), (n₁, (p₁, (w, tt)))))), (mN (h .state) ∷ [], (vptr b (o + 0) ∷ [], (vptr b (o + 512) ∷ [], (vint w8 n₁ ∷ [], (vp₁ ∷ [], (vw ∷ [], tt))))))), tt)
+    to-step = ((((α₀ ∷ []), ((α₁ ∷ []), ((α₂ ∷ []), ((α₃ ∷ []), (κ₁, (κ₂, tt)))))), (fullShare, (fullShare, (fullShare, (fullShare, (q₁, (q₂, tt)))))), tt, (h .core, ((ref₀ δ₀), ((ref₁ δ₁), ((ref₂ δ₂), ((ref₃ δ₃), (n₁, (p₁, (w, tt)))))))), (mN (h .core) ∷ [], (vptr b (o + 0) ∷ [], (vptr b (o + 512) ∷ [], (vptr b (o + 1536) ∷ [], (vptr b (o + 1568) ∷ [], (vint w8 n₁ ∷ [], (vp₁ ∷ [], (vw ∷ [], tt))))))))), tt)
 
     abbrev Passed : Fml
-    Passed = owns (N.the-row ∷ MutRef (named 0) (α₀ ∷ []) (Array u8 512) ∷ MutRef (named 1) (α₁ ∷ []) (Array u8 1024) ∷ u8 ∷ ShrSlice (named 2) κ₁ u8 ∷ MutSlice (named 3) κ₂ u8 ∷ []) (h .state, ((ref₀ δ₀), ((ref₁ δ₁), (n₁, (p₁, (w, tt)))))) (mN (h .state) ∷ [], (vptr b (o + 0) ∷ [], (vptr b (o + 512) ∷ [], (vint w8 n₁ ∷ [], (vp₁ ∷ [], (vw ∷ [], tt))))))
+    Passed = owns (N.the-row ∷ MutRef (named 0) (α₀ ∷ []) (Array u8 512) ∷ MutRef (named 1) (α₁ ∷ []) (Array u8 1024) ∷ MutRef (named 2) (α₂ ∷ []) (Array u32 8) ∷ MutRef (named 3) (α₃ ∷ []) (Array u8 3) ∷ u8 ∷ ShrSlice (named 4) κ₁ u8 ∷ MutSlice (named 5) κ₂ u8 ∷ []) (h .core, ((ref₀ δ₀), ((ref₁ δ₁), ((ref₂ δ₂), ((ref₃ δ₃), (n₁, (p₁, (w, tt)))))))) (mN (h .core) ∷ [], (vptr b (o + 0) ∷ [], (vptr b (o + 512) ∷ [], (vptr b (o + 1536) ∷ [], (vptr b (o + 1568) ∷ [], (vint w8 n₁ ∷ [], (vp₁ ∷ [], (vw ∷ [], tt))))))))
 
-    goes-step : ent 𝓤 (sep 𝓤 (sep 𝓤 (A .lft (α₀ ∷ []) fullShare) (sep 𝓤 (A .lft (α₁ ∷ []) fullShare) (sep 𝓤 (A .lft κ₁ q₁) (sep 𝓤 (A .lft κ₂ q₂) (sem 𝓤 H A ftrue))))) (sem 𝓤 H A Passed)) (Step₀ 𝓤 H A at-mem run .pre to-step)
-    goes-step = qed W ((‵ (flft (α₀ ∷ []) fullShare) ⊛ ‵ (flft (α₁ ∷ []) fullShare) ⊛ ‵ (flft κ₁ q₁) ⊛ ‵ (flft κ₂ q₂) ⊛ ‵ ftrue) ∷ ‵ Passed ∷ []) ∵ join ! $ frame ! $ done !
+    goes-step : ent 𝓤 (sep 𝓤 (sep 𝓤 (A .lft (α₀ ∷ []) fullShare) (sep 𝓤 (A .lft (α₁ ∷ []) fullShare) (sep 𝓤 (A .lft (α₂ ∷ []) fullShare) (sep 𝓤 (A .lft (α₃ ∷ []) fullShare) (sep 𝓤 (A .lft κ₁ q₁) (sep 𝓤 (A .lft κ₂ q₂) (sem 𝓤 H A ftrue))))))) (sem 𝓤 H A Passed)) (Step₀ 𝓤 H A at-mem run .pre to-step)
+    goes-step = qed W ((‵ (flft (α₀ ∷ []) fullShare) ⊛ ‵ (flft (α₁ ∷ []) fullShare) ⊛ ‵ (flft (α₂ ∷ []) fullShare) ⊛ ‵ (flft (α₃ ∷ []) fullShare) ⊛ ‵ (flft κ₁ q₁) ⊛ ‵ (flft κ₂ q₂) ⊛ ‵ ftrue) ∷ ‵ Passed ∷ []) ∵ join ! $ frame ! $ done !
 
-  exits : (r : HostStep) (x₀ : List ℕ) (x₁ : List ℕ) (zs : List ℕ) → report (joined x₀ x₁ (r .state)) (r .outcome) zs ≡ reportFor h (telling n₁ (p₁ .now) ys) → length zs ≡ length ys
-      → ent 𝓤 (⋆ 𝓤 H A (‵ (fobs γ (T.the-row .coded .code (record { command = x₀; found = x₁; state = r .state }))) ∷ ‵ (fbor κ₀ (Body (mem T.the-row) b o γ)) ∷ ‵ (flft κ₀ q₀) ∷ (‵ (flft κ₁ q₁) ⊛ ‵ (flft κ₂ q₂) ⊛ ‵ ftrue) ∷ ‵ Ownp₁ ∷ ‵ (finally u8 γ′ zs) ∷ ‵ (O.the-row .own (r .outcome) (mO (r .outcome) ∷ [])) ∷ [])) (Post (mO (r .outcome)))
-  exits r x₀ x₁ zs e l =
-      qed W (‵ (fobs γ (T.the-row .coded .code (record { command = x₀; found = x₁; state = r .state }))) ∷ ‵ (fbor κ₀ (Body (mem T.the-row) b o γ)) ∷ ‵ (flft κ₀ q₀) ∷ (‵ (flft κ₁ q₁) ⊛ ‵ (flft κ₂ q₂) ⊛ ‵ ftrue) ∷ ‵ Ownp₁ ∷ ‵ (finally u8 γ′ zs) ∷ ‵ (O.the-row .own (r .outcome) (mO (r .outcome) ∷ [])) ∷ []) ∵
-      suffices ! _ (ends-at 𝓤 H A f.ended stayed (f.clauses 𝓤 H A at-mem run) W (((κ₀, (κ₁, (κ₂, tt))), (q₀, (q₁, (q₂, tt))), tt, a, vals), tt) (mO (r .outcome)) (r .outcome) ((record { command = x₀; found = x₁; state = r .state }), (tt, (tt, (zs, tt)))) (tt, (tt, (tt, (l, tt))))) $ says ! e $
+  exits : (r : HostStep) (x₀ : List ℕ) (x₁ : List ℕ) (x₂ : List ℕ) (x₃ : List ℕ) (zs : List ℕ) → report (joined x₀ x₁ x₂ x₃ (r .core)) (r .outcome) zs ≡ reportFor h (telling n₁ (p₁ .now) ys) → length zs ≡ length ys
+      → ent 𝓤 (⋆ 𝓤 H A (‵ (fobs γ (T.the-row .coded .code (record { command = x₀; found = x₁; frames = x₂; books = x₃; core = r .core }))) ∷ ‵ (fbor κ₀ (Body (mem T.the-row) b o γ)) ∷ ‵ (flft κ₀ q₀) ∷ (‵ (flft κ₁ q₁) ⊛ ‵ (flft κ₂ q₂) ⊛ ‵ ftrue) ∷ ‵ Ownp₁ ∷ ‵ (finally u8 γ′ zs) ∷ ‵ (O.the-row .own (r .outcome) (mO (r .outcome) ∷ [])) ∷ [])) (Post (mO (r .outcome)))
+  exits r x₀ x₁ x₂ x₃ zs e l =
+      qed W (‵ (fobs γ (T.the-row .coded .code (record { command = x₀; found = x₁; frames = x₂; books = x₃; core = r .core }))) ∷ ‵ (fbor κ₀ (Body (mem T.the-row) b o γ)) ∷ ‵ (flft κ₀ q₀) ∷ (‵ (flft κ₁ q₁) ⊛ ‵ (flft κ₂ q₂) ⊛ ‵ ftrue) ∷ ‵ Ownp₁ ∷ ‵ (finally u8 γ′ zs) ∷ ‵ (O.the-row .own (r .outcome) (mO (r .outcome) ∷ [])) ∷ []) ∵
+      suffices ! _ (ends-at 𝓤 H A f.ended stayed (f.clauses 𝓤 H A at-mem run) W (((κ₀, (κ₁, (κ₂, tt))), (q₀, (q₁, (q₂, tt))), tt, a, vals), tt) (mO (r .outcome)) (r .outcome) ((record { command = x₀; found = x₁; frames = x₂; books = x₃; core = r .core }), (tt, (tt, (zs, tt)))) (tt, (tt, (tt, (l, tt))))) $ says ! e $
       move ! (2 ∷ 3 ∷ []) $ join ! $ frame ! $ feqI ! (List Val) (vptr b o ∷ []) (vptr b o ∷ []) refl $ fjoin3 ! $ nothing ! $ move ! (3 ∷ 0 ∷ []) $ fjoin ! $ move ! (2 ∷ 0 ∷ []) $ fjoin ! $ owned ! u8 (Is u8) (uint-makes 𝓤 H A W w8) n₁ _ (refl, n₁-fits) $ fjoin ! $ move ! (1 ∷ 0 ∷ []) $ fjoin ! $ done !
 
   -- what is known of the parts of the result
-  part₀ : (r : HostStep) (v : Val) → Is R.the-row r (v ∷ []) → Fits (r .state)
+  part₀ : (r : HostStep) (v : Val) → Is R.the-row r (v ∷ []) → Fits (r .core)
   part₀ r v is = LL.owed R.the-type R′.the-laws r _ is .0
 
   part₁ : (r : HostStep) (v : Val) → Is R.the-row r (v ∷ []) → Is O.the-row (r .outcome) (mO (r .outcome) ∷ [])
@@ -151,46 +169,52 @@ module _ {M : Type 1} (𝓤 : URA M) (H : Heap 𝓤) (A : Atoms 𝓤) (W : Given
     walk isp₁ room =
         qed W ((‵ (flft κ₀ q₀) ⊛ ‵ (flft κ₁ q₁) ⊛ ‵ (flft κ₂ q₂) ⊛ ‵ ftrue) ∷ ‵ (owns (MutRef (named 0) κ₀ T.the-row ∷ u8 ∷ ShrSlice (named 1) κ₁ u8 ∷ MutSlice (named 2) κ₂ u8 ∷ []) a vals) ∷ []) ∵
         enter ! C Λ code.function (vptr b o ∷ vint w8 n₁ ∷ vp₁ ∷ vw ∷ []) _ $
-        alloc1 ! (λ l₀. alloc1 ! (λ l₁. alloc1 ! (λ l₂. alloc1 ! (λ l₃. alloc1 ! (λ l₄. alloc1 ! (λ l₅. alloc1 ! (λ l₆. alloc1 ! (λ l₇. alloc1 ! (λ l₈. alloc1 ! (λ l₉. alloc1 ! (λ l₁₀. alloc1 ! (λ l₁₁. alloc0 ! $ params1 ! $
-        pass1 ! (init ! 20 refl (tt, tt)) $ pass1 ! (init ! 18 refl (tt, record { fits = n₁-fits })) $ pass1 ! (init ! 16 refl (shr-slice-lawful 𝓤 H A W (named 1) κ₁ u8 .typed p₁ (vp₁ ∷ []) isp₁ .0)) $ pass1 ! (init ! 14 refl (tt, (tt, (record { fits = room .0 }, tt)))) $ pass0 ! $
+        alloc1 ! (λ l₀. alloc1 ! (λ l₁. alloc1 ! (λ l₂. alloc1 ! (λ l₃. alloc1 ! (λ l₄. alloc1 ! (λ l₅. alloc1 ! (λ l₆. alloc1 ! (λ l₇. alloc1 ! (λ l₈. alloc1 ! (λ l₉. alloc1 ! (λ l₁₀. alloc1 ! (λ l₁₁. alloc1 ! (λ l₁₂. alloc1 ! (λ l₁₃. alloc0 ! $ params1 ! $
+        pass1 ! (init ! 24 refl (tt, tt)) $ pass1 ! (init ! 22 refl (tt, record { fits = n₁-fits })) $ pass1 ! (init ! 20 refl (shr-slice-lawful 𝓤 H A W (named 1) κ₁ u8 .typed p₁ (vp₁ ∷ []) isp₁ .0)) $ pass1 ! (init ! 18 refl (tt, (tt, (record { fits = room .0 }, tt)))) $ pass0 ! $
         -- what the parameters own is taken apart
-        move ! (25 ∷ []) $ fsplit ! $ fsplit3 ! $ drop ! $ move ! (2 ∷ []) $ fsplit ! $ drop ! $ fsplit ! $ move ! (1 ∷ []) $ fsplit ! $ move ! (29 ∷ []) $ split ! $
+        move ! (29 ∷ []) $ fsplit ! $ fsplit3 ! $ drop ! $ move ! (2 ∷ []) $ fsplit ! $ drop ! $ fsplit ! $ move ! (1 ∷ []) $ fsplit ! $ move ! (33 ∷ []) $ split ! $
         -- the session's borrow is opened, and the session taken apart
-        move ! (5 ∷ 6 ∷ 0 ∷ []) $ open-ref ! tt (mem T.the-row) {x = h} {b = b} {o = o} $ use1 W (‵ (Array₀ b o (h .command)) ⊛ (‵ (Array₁ b o (h .found)) ⊛ (given (Fits (h .state)) (‵ (Held b o (h .state)) ⊛ raw (Back 𝓤 H A b o))))) (apart 𝓤 H A W b o h) $ split ! $ move ! (1 ∷ []) $ split ! $ move ! (1 ∷ []) $ learn ! (λ was. split ! $
+        move ! (5 ∷ 6 ∷ 0 ∷ []) $ open-ref ! tt (mem T.the-row) {x = h} {b = b} {o = o} $ use1 W (‵ (Array₀ b o (h .command)) ⊛ (‵ (Array₁ b o (h .found)) ⊛ (‵ (Array₂ b o (h .frames)) ⊛ (‵ (Array₃ b o (h .books)) ⊛ (given (Fits (h .core)) (‵ (Held b o (h .core)) ⊛ raw (Back 𝓤 H A b o))))))) (apart 𝓤 H A W b o h) $ split ! $ move ! (1 ∷ []) $ split ! $ move ! (1 ∷ []) $ split ! $ move ! (1 ∷ []) $ split ! $ move ! (1 ∷ []) $ learn ! (λ was. split ! $
         -- the state is copied out, and the addresses are taken
-        assigns ! (of-opd ! (load ! (from ! (hop ! (look ! 31 refl) (fld ! refl (stop !)))) (look ! 0 refl))) (from ! (stop !)) (init ! 23 refl (LL.lawful N.the-type N′.the-laws 𝓤 H A W .typed (h .state) _ was .0)) $
-        assigns ! (addr ! (from ! (hop ! (look ! 31 refl) (fld ! refl (stop !))))) (from ! (stop !)) (init ! 17 refl (tt, tt)) $
-        assigns ! (addr ! (from ! (hop ! (look ! 31 refl) (fld ! refl (stop !))))) (from ! (stop !)) (init ! 15 refl (tt, tt)) $
-        assigns ! (addr ! (from ! (fld ! refl (hop ! (look-in ! 25 (sub ! 0 refl (whole !))) (stop !))))) (from ! (stop !)) (init ! 13 refl (tt, tt)) $
-        assigns ! (agg ! (and-then ! (load ! (from ! (stop !)) (look ! 13 refl)) (and-then ! (load ! (from ! (fld ! refl (stop !))) (look-in ! 25 (sub ! 1 refl (whole !)))) (no-more !)))) (from ! (stop !)) (init ! 11 refl (tt, (tt, (record { fits = room .0 }, tt)))) $
+        assigns ! (of-opd ! (load ! (from ! (hop ! (look ! 37 refl) (fld ! refl (stop !)))) (look ! 0 refl))) (from ! (stop !)) (init ! 29 refl (LL.lawful N.the-type N′.the-laws 𝓤 H A W .typed (h .core) _ was .0)) $
+        assigns ! (addr ! (from ! (hop ! (look ! 37 refl) (fld ! refl (stop !))))) (from ! (stop !)) (init ! 23 refl (tt, tt)) $
+        assigns ! (addr ! (from ! (hop ! (look ! 37 refl) (fld ! refl (stop !))))) (from ! (stop !)) (init ! 21 refl (tt, tt)) $
+        assigns ! (addr ! (from ! (hop ! (look ! 37 refl) (fld ! refl (stop !))))) (from ! (stop !)) (init ! 19 refl (tt, tt)) $
+        assigns ! (addr ! (from ! (hop ! (look ! 37 refl) (fld ! refl (stop !))))) (from ! (stop !)) (init ! 17 refl (tt, tt)) $
+        assigns ! (addr ! (from ! (fld ! refl (hop ! (look-in ! 31 (sub ! 0 refl (whole !))) (stop !))))) (from ! (stop !)) (init ! 15 refl (tt, tt)) $
+        assigns ! (agg ! (and-then ! (load ! (from ! (stop !)) (look ! 15 refl)) (and-then ! (load ! (from ! (fld ! refl (stop !))) (look-in ! 31 (sub ! 1 refl (whole !)))) (no-more !)))) (from ! (stop !)) (init ! 13 refl (tt, (tt, (record { fits = room .0 }, tt)))) $
         -- each array is lent, for a lifetime of its own
-        lft-new ! tt (λ α₀. move ! (4 ∷ []) $ use1 W (later (some (λ (δ : GName). ‵ (Ref₀ α₀ δ) ⊛ ‵ (Lent₀ α₀ δ)))) (lends-ref 𝓤 H A W (Array u8 512) (named 0) (α₀ ∷ []) (h .command) b (o + 0)) $ await ! tt $ pick ! (λ δ₀. split ! $
-        lft-new ! tt (λ α₁. move ! (6 ∷ []) $ use1 W (later (some (λ (δ : GName). ‵ (Ref₁ α₁ δ) ⊛ ‵ (Lent₁ α₁ δ)))) (lends-ref 𝓤 H A W (Array u8 1024) (named 1) (α₁ ∷ []) (h .found) b (o + 512)) $ await ! tt $ pick ! (λ δ₁. split ! $
+        lft-new ! tt (λ α₀. move ! (6 ∷ []) $ use1 W (later (some (λ (δ : GName). ‵ (Ref₀ α₀ δ) ⊛ ‵ (Lent₀ α₀ δ)))) (lends-ref 𝓤 H A W (Array u8 512) (named 0) (α₀ ∷ []) (h .command) b (o + 0)) $ await ! tt $ pick ! (λ δ₀. split ! $
+        lft-new ! tt (λ α₁. move ! (8 ∷ []) $ use1 W (later (some (λ (δ : GName). ‵ (Ref₁ α₁ δ) ⊛ ‵ (Lent₁ α₁ δ)))) (lends-ref 𝓤 H A W (Array u8 1024) (named 1) (α₁ ∷ []) (h .found) b (o + 512)) $ await ! tt $ pick ! (λ δ₁. split ! $
+        lft-new ! tt (λ α₂. move ! (10 ∷ []) $ use1 W (later (some (λ (δ : GName). ‵ (Ref₂ α₂ δ) ⊛ ‵ (Lent₂ α₂ δ)))) (lends-ref 𝓤 H A W (Array u32 8) (named 2) (α₂ ∷ []) (h .frames) b (o + 1536)) $ await ! tt $ pick ! (λ δ₂. split ! $
+        lft-new ! tt (λ α₃. move ! (12 ∷ []) $ use1 W (later (some (λ (δ : GName). ‵ (Ref₃ α₃ δ) ⊛ ‵ (Lent₃ α₃ δ)))) (lends-ref 𝓤 H A W (Array u8 3) (named 3) (α₃ ∷ []) (h .books) b (o + 1568)) $ await ! tt $ pick ! (λ δ₃. split ! $
         -- the slices' borrows are copied, and what the callee takes is put together
-        move ! (14 ∷ []) $ use1 W (‵ Ownp₁ ⊛ ‵ Ownp₁) (shr-slice-copy 𝓤 H A W (named 1) κ₁ u8 .twice p₁ (vp₁ ∷ [])) $ split ! $
-        move ! (14 ∷ 15 ∷ []) $ fjoin ! $ move ! (2 ∷ 0 ∷ []) $ fjoin ! $ owned ! u8 (Is u8) (uint-makes 𝓤 H A W w8) n₁ _ (refl, n₁-fits) $ fjoin ! $ move ! (2 ∷ 0 ∷ []) $ fjoin ! $ move ! (4 ∷ 0 ∷ []) $ fjoin ! $ owned ! N.the-row (Is N.the-row) (LL.makes N.the-type N′.the-plain 𝓤 H A) (h .state) (mN (h .state) ∷ []) was $ fjoin ! $
-        move ! (3 ∷ 11 ∷ []) $ join ! $ move ! (5 ∷ 0 ∷ []) $ join ! $ use2 W (raw (Step₀ 𝓤 H A at-mem run .pre (to-step α₀ α₁ δ₀ δ₁))) (goes-step α₀ α₁ δ₀ δ₁) $
+        move ! (20 ∷ []) $ use1 W (‵ Ownp₁ ⊛ ‵ Ownp₁) (shr-slice-copy 𝓤 H A W (named 1) κ₁ u8 .twice p₁ (vp₁ ∷ [])) $ split ! $
+        move ! (20 ∷ 21 ∷ []) $ fjoin ! $ move ! (2 ∷ 0 ∷ []) $ fjoin ! $ owned ! u8 (Is u8) (uint-makes 𝓤 H A W w8) n₁ _ (refl, n₁-fits) $ fjoin ! $ move ! (2 ∷ 0 ∷ []) $ fjoin ! $ move ! (4 ∷ 0 ∷ []) $ fjoin ! $ move ! (6 ∷ 0 ∷ []) $ fjoin ! $ move ! (8 ∷ 0 ∷ []) $ fjoin ! $ owned ! N.the-row (Is N.the-row) (LL.makes N.the-type N′.the-plain 𝓤 H A) (h .core) (mN (h .core) ∷ []) was $ fjoin ! $
+        move ! (3 ∷ 15 ∷ []) $ join ! $ move ! (5 ∷ 0 ∷ []) $ join ! $ move ! (6 ∷ 0 ∷ []) $ join ! $ move ! (7 ∷ 0 ∷ []) $ join ! $ use2 W (raw (Step₀ 𝓤 H A at-mem run .pre (to-step α₀ α₁ α₂ α₃ δ₀ δ₁ δ₂ δ₃))) (goes-step α₀ α₁ α₂ α₃ δ₀ δ₁ δ₂ δ₃) $
         -- the call
-        calls-at ! fm (Step₀ 𝓤 H A at-mem run) known (to-step α₀ α₁ δ₀ δ₁) (and-then ! (load ! (from ! (stop !)) (look ! 21 refl)) (and-then ! (load ! (from ! (stop !)) (look ! 15 refl)) (and-then ! (load ! (from ! (stop !)) (look ! 13 refl)) (and-then ! (load ! (from ! (stop !)) (look ! 27 refl)) (and-then ! (load ! (from ! (stop !)) (look ! 25 refl)) (and-then ! (load ! (from ! (stop !)) (look ! 9 refl)) (no-more !))))))) (λ v.
-        use1 W (later (some (λ (r : HostStep). ((‵ (flft (α₀ ∷ []) fullShare) ⊛ ‵ (flft (α₁ ∷ []) fullShare) ⊛ ‵ (flft κ₁ q₁) ⊛ ‵ (flft κ₂ q₂) ⊛ ‵ ftrue) ⊛ ‵ (R.the-row .own r (v ∷ []))) ⊛ raw (ensured 𝓤 H A step.ended (step.clauses 𝓤 H A at-mem run) ((α₀ ∷ []), ((α₁ ∷ []), (κ₁, (κ₂, tt)))) (h .state, ((ref₀ δ₀), ((ref₁ δ₁), (n₁, (p₁, (w, tt)))))) tt r)))) (id⊢ 𝓤 _) $ await ! tt $ pick ! (λ r. split ! $
-        move ! (1 ∷ []) $ use1 W (some (λ (zs : Unit {0} × (List ℕ × (List ℕ × (Unit {0} × (Unit {0} × (List ℕ × Unit {0})))))). ‵ (lasts step.ended ((α₀ ∷ []), ((α₁ ∷ []), (κ₁, (κ₂, tt)))) (h .state, ((ref₀ δ₀), ((ref₁ δ₁), (n₁, (p₁, (w, tt)))))) zs) ⊛ raw (fact 𝓤 (report (joined (zs .1 .0) (zs .1 .1 .0) (r .state)) (r .outcome) (zs .1 .1 .1 .1 .1 .0) ≡ reportFor h (telling n₁ (p₁ .now) ys))))) (id⊢ 𝓤 _) $ pick ! (λ zs. split ! $
-        move ! (1 ∷ []) $ heard ! (report (joined (zs .1 .0) (zs .1 .1 .0) (r .state)) (r .outcome) (zs .1 .1 .1 .1 .1 .0) ≡ reportFor h (telling n₁ (p₁ .now) ys)) (λ e.
-        fsplit ! $ drop ! $ fsplit ! $ move ! (1 ∷ []) $ fsplit ! $ move ! (1 ∷ []) $ fsplit ! $ drop ! $ fsplit ! $ drop ! $ fsplit ! $ fsplit ! $ move ! (1 ∷ []) $ feqL ! (λ l. move ! (4 ∷ []) $ split ! $ move ! (1 ∷ []) $ peeks ! R.the-row (Is R.the-row) (shows 𝓤 H A R.the-row) r (v ∷ []) (λ is. drop ! $
+        calls-at ! fm (Step₀ 𝓤 H A at-mem run) known (to-step α₀ α₁ α₂ α₃ δ₀ δ₁ δ₂ δ₃) (and-then ! (load ! (from ! (stop !)) (look ! 27 refl)) (and-then ! (load ! (from ! (stop !)) (look ! 21 refl)) (and-then ! (load ! (from ! (stop !)) (look ! 19 refl)) (and-then ! (load ! (from ! (stop !)) (look ! 17 refl)) (and-then ! (load ! (from ! (stop !)) (look ! 15 refl)) (and-then ! (load ! (from ! (stop !)) (look ! 33 refl)) (and-then ! (load ! (from ! (stop !)) (look ! 31 refl)) (and-then ! (load ! (from ! (stop !)) (look ! 11 refl)) (no-more !))))))))) (λ v.
+        use1 W (later (some (λ (r : HostStep). ((‵ (flft (α₀ ∷ []) fullShare) ⊛ ‵ (flft (α₁ ∷ []) fullShare) ⊛ ‵ (flft (α₂ ∷ []) fullShare) ⊛ ‵ (flft (α₃ ∷ []) fullShare) ⊛ ‵ (flft κ₁ q₁) ⊛ ‵ (flft κ₂ q₂) ⊛ ‵ ftrue) ⊛ ‵ (R.the-row .own r (v ∷ []))) ⊛ raw (ensured 𝓤 H A step.ended (step.clauses 𝓤 H A at-mem run) ((α₀ ∷ []), ((α₁ ∷ []), ((α₂ ∷ []), ((α₃ ∷ []), (κ₁, (κ₂, tt)))))) (h .core, ((ref₀ δ₀), ((ref₁ δ₁), ((ref₂ δ₂), ((ref₃ δ₃), (n₁, (p₁, (w, tt)))))))) tt r)))) (id⊢ 𝓤 _) $ await ! tt $ pick ! (λ r. split ! $
+        move ! (1 ∷ []) $ use1 W (some (λ (zs : Unit {0} × (List ℕ × (List ℕ × (List ℕ × (List ℕ × (Unit {0} × (Unit {0} × (List ℕ × Unit {0})))))))). ‵ (lasts step.ended ((α₀ ∷ []), ((α₁ ∷ []), ((α₂ ∷ []), ((α₃ ∷ []), (κ₁, (κ₂, tt)))))) (h .core, ((ref₀ δ₀), ((ref₁ δ₁), ((ref₂ δ₂), ((ref₃ δ₃), (n₁, (p₁, (w, tt)))))))) zs) ⊛ raw (fact 𝓤 (report (joined (zs .1 .0) (zs .1 .1 .0) (zs .1 .1 .1 .0) (zs .1 .1 .1 .1 .0) (r .core)) (r .outcome) (zs .1 .1 .1 .1 .1 .1 .1 .0) ≡ reportFor h (telling n₁ (p₁ .now) ys))))) (id⊢ 𝓤 _) $ pick ! (λ zs. split ! $
+        move ! (1 ∷ []) $ heard ! (report (joined (zs .1 .0) (zs .1 .1 .0) (zs .1 .1 .1 .0) (zs .1 .1 .1 .1 .0) (r .core)) (r .outcome) (zs .1 .1 .1 .1 .1 .1 .1 .0) ≡ reportFor h (telling n₁ (p₁ .now) ys)) (λ e.
+        fsplit ! $ drop ! $ fsplit ! $ move ! (1 ∷ []) $ fsplit ! $ move ! (1 ∷ []) $ fsplit ! $ move ! (1 ∷ []) $ fsplit ! $ move ! (1 ∷ []) $ fsplit ! $ drop ! $ fsplit ! $ drop ! $ fsplit ! $ fsplit ! $ move ! (1 ∷ []) $ feqL ! (λ l. move ! (6 ∷ []) $ split ! $ move ! (1 ∷ []) $ peeks ! R.the-row (Is R.the-row) (shows 𝓤 H A R.the-row) r (v ∷ []) (λ is. drop ! $
         -- the lifetimes are ended, and the arrays are back
-        split ! $ move ! (1 ∷ []) $ split ! $
-        move ! (2 ∷ []) $ lft-end ! tt $ move ! (0 ∷ 9 ∷ 6 ∷ []) $ use3 W (later (‵ (Array₀ b o (zs .1 .0)))) (ref-back 𝓤 H A W (Array u8 512) (α₀ ∷ []) δ₀ (zs .1 .0) b (o + 0)) $ await ! tt $
-        move ! (1 ∷ []) $ lft-end ! tt $ move ! (0 ∷ 7 ∷ 5 ∷ []) $ use3 W (later (‵ (Array₁ b o (zs .1 .1 .0)))) (ref-back 𝓤 H A W (Array u8 1024) (α₁ ∷ []) δ₁ (zs .1 .1 .0) b (o + 512)) $ await ! tt $
+        split ! $ move ! (1 ∷ []) $ split ! $ move ! (1 ∷ []) $ split ! $ move ! (1 ∷ []) $ split ! $
+        move ! (4 ∷ []) $ lft-end ! tt $ move ! (0 ∷ 15 ∷ 10 ∷ []) $ use3 W (later (‵ (Array₀ b o (zs .1 .0)))) (ref-back 𝓤 H A W (Array u8 512) (α₀ ∷ []) δ₀ (zs .1 .0) b (o + 0)) $ await ! tt $
+        move ! (4 ∷ []) $ lft-end ! tt $ move ! (0 ∷ 13 ∷ 9 ∷ []) $ use3 W (later (‵ (Array₁ b o (zs .1 .1 .0)))) (ref-back 𝓤 H A W (Array u8 1024) (α₁ ∷ []) δ₁ (zs .1 .1 .0) b (o + 512)) $ await ! tt $
+        move ! (4 ∷ []) $ lft-end ! tt $ move ! (0 ∷ 11 ∷ 8 ∷ []) $ use3 W (later (‵ (Array₂ b o (zs .1 .1 .1 .0)))) (ref-back 𝓤 H A W (Array u32 8) (α₂ ∷ []) δ₂ (zs .1 .1 .1 .0) b (o + 1536)) $ await ! tt $
+        move ! (3 ∷ []) $ lft-end ! tt $ move ! (0 ∷ 9 ∷ 7 ∷ []) $ use3 W (later (‵ (Array₃ b o (zs .1 .1 .1 .1 .0)))) (ref-back 𝓤 H A W (Array u8 3) (α₃ ∷ []) δ₃ (zs .1 .1 .1 .1 .0) b (o + 1568)) $ await ! tt $
         -- the result is stored, the state in its place and the answer in the result
-        land ! (from ! (stop !)) (init ! 21 refl (LL.lawful R.the-type R′.the-laws 𝓤 H A W .typed r _ is .0)) $ rewrite ! 21 (λ (u : Val). ‵ (fat fullShare R′.mir l₆ 0 u)) (ap only (LL.tells R.the-type R′.the-laws r _ is)) refl $
-        assigns ! (of-opd ! (load ! (from ! (fld ! refl (stop !))) (look-in ! 21 (sub ! 0 refl (whole !))))) (from ! (stop !)) (init ! 19 refl (LL.lawful N.the-type N′.the-laws 𝓤 H A W .typed (r .state) _ (part₀ r v is) .0)) $
-        assigns ! (of-opd ! (load ! (from ! (stop !)) (look ! 19 refl))) (from ! (hop ! (look ! 31 refl) (fld ! refl (stop !)))) (store ! 6 refl (LL.lawful N.the-type N′.the-laws 𝓤 H A W .typed (r .state) _ (part₀ r v is) .0)) $
-        assigns ! (of-opd ! (load ! (from ! (fld ! refl (stop !))) (look-in ! 21 (sub ! 1 refl (whole !))))) (from ! (stop !)) (init ! 33 refl (LL.lawful O.the-type O′.the-laws 𝓤 H A W .typed (r .outcome) _ (part₁ r v is) .0)) $
+        land ! (from ! (stop !)) (init ! 27 refl (LL.lawful R.the-type R′.the-laws 𝓤 H A W .typed r _ is .0)) $ rewrite ! 27 (λ (u : Val). ‵ (fat fullShare R′.mir l₆ 0 u)) (ap only (LL.tells R.the-type R′.the-laws r _ is)) refl $
+        assigns ! (of-opd ! (load ! (from ! (fld ! refl (stop !))) (look-in ! 27 (sub ! 0 refl (whole !))))) (from ! (stop !)) (init ! 25 refl (LL.lawful N.the-type N′.the-laws 𝓤 H A W .typed (r .core) _ (part₀ r v is) .0)) $
+        assigns ! (of-opd ! (load ! (from ! (stop !)) (look ! 25 refl))) (from ! (hop ! (look ! 37 refl) (fld ! refl (stop !)))) (store ! 8 refl (LL.lawful N.the-type N′.the-laws 𝓤 H A W .typed (r .core) _ (part₀ r v is) .0)) $
+        assigns ! (of-opd ! (load ! (from ! (fld ! refl (stop !))) (look-in ! 27 (sub ! 1 refl (whole !))))) (from ! (stop !)) (init ! 39 refl (LL.lawful O.the-type O′.the-laws 𝓤 H A W .typed (r .outcome) _ (part₁ r v is) .0)) $
         -- the session is put together, and its borrow is closed at the new record
-        move ! (6 ∷ 7 ∷ []) $ join ! $ move ! (1 ∷ 0 ∷ []) $ join ! $ move ! (1 ∷ 0 ∷ []) $ join ! $ use1 W (‵ (mem T.the-row .lies (record { command = (zs .1 .0); found = (zs .1 .1 .0); state = r .state }) b o)) (together 𝓤 H A W b o (record { command = (zs .1 .0); found = (zs .1 .1 .0); state = r .state }) (part₀ r v is)) $
-        move ! (0 ∷ 5 ∷ 6 ∷ 7 ∷ []) $ close-ref ! tt (mem T.the-row) (record { command = (zs .1 .0); found = (zs .1 .1 .0); state = r .state }) {b = b} {o = o} $ owned ! O.the-row (Is O.the-row) (LL.makes O.the-type O′.the-plain 𝓤 H A) (r .outcome) _ (part₁ r v is) $
-        returns ! (look ! 30 refl) $ forget ! 8 refl $ forget ! 10 refl $ forget ! 12 refl $ forget ! 14 refl $ forget ! 16 refl $ forget ! 18 refl $ forget ! 20 refl $ forget ! 22 refl $ forget ! 24 refl $ forget ! 26 refl $ forget ! 28 refl $ forget ! 30 refl $
-        move ! (30 ∷ 31 ∷ []) $ free1 ! $ move ! (28 ∷ 29 ∷ []) $ free1 ! $ move ! (26 ∷ 27 ∷ []) $ free1 ! $ move ! (24 ∷ 25 ∷ []) $ free1 ! $ move ! (22 ∷ 23 ∷ []) $ free1 ! $ move ! (20 ∷ 21 ∷ []) $ free1 ! $ move ! (18 ∷ 19 ∷ []) $ free1 ! $ move ! (16 ∷ 17 ∷ []) $ free1 ! $ move ! (14 ∷ 15 ∷ []) $ free1 ! $ move ! (12 ∷ 13 ∷ []) $ free1 ! $ move ! (10 ∷ 11 ∷ []) $ free1 ! $ move ! (8 ∷ 9 ∷ []) $ free1 ! $ free0 ! $
-        keep ! (1 ∷ 2 ∷ 3 ∷ 4 ∷ 7 ∷ 5 ∷ 0 ∷ []) $ by ! (exits r (zs .1 .0) (zs .1 .1 .0) (zs .1 .1 .1 .1 .1 .0) e l))))))))))))))))))))))))
+        move ! (8 ∷ 9 ∷ []) $ join ! $ move ! (1 ∷ 0 ∷ []) $ join ! $ move ! (1 ∷ 0 ∷ []) $ join ! $ move ! (1 ∷ 0 ∷ []) $ join ! $ move ! (1 ∷ 0 ∷ []) $ join ! $ use1 W (‵ (mem T.the-row .lies (record { command = (zs .1 .0); found = (zs .1 .1 .0); frames = (zs .1 .1 .1 .0); books = (zs .1 .1 .1 .1 .0); core = r .core }) b o)) (together 𝓤 H A W b o (record { command = (zs .1 .0); found = (zs .1 .1 .0); frames = (zs .1 .1 .1 .0); books = (zs .1 .1 .1 .1 .0); core = r .core }) (part₀ r v is)) $
+        move ! (0 ∷ 5 ∷ 6 ∷ 7 ∷ []) $ close-ref ! tt (mem T.the-row) (record { command = (zs .1 .0); found = (zs .1 .1 .0); frames = (zs .1 .1 .1 .0); books = (zs .1 .1 .1 .1 .0); core = r .core }) {b = b} {o = o} $ owned ! O.the-row (Is O.the-row) (LL.makes O.the-type O′.the-plain 𝓤 H A) (r .outcome) _ (part₁ r v is) $
+        returns ! (look ! 34 refl) $ forget ! 8 refl $ forget ! 10 refl $ forget ! 12 refl $ forget ! 14 refl $ forget ! 16 refl $ forget ! 18 refl $ forget ! 20 refl $ forget ! 22 refl $ forget ! 24 refl $ forget ! 26 refl $ forget ! 28 refl $ forget ! 30 refl $ forget ! 32 refl $ forget ! 34 refl $
+        move ! (34 ∷ 35 ∷ []) $ free1 ! $ move ! (32 ∷ 33 ∷ []) $ free1 ! $ move ! (30 ∷ 31 ∷ []) $ free1 ! $ move ! (28 ∷ 29 ∷ []) $ free1 ! $ move ! (26 ∷ 27 ∷ []) $ free1 ! $ move ! (24 ∷ 25 ∷ []) $ free1 ! $ move ! (22 ∷ 23 ∷ []) $ free1 ! $ move ! (20 ∷ 21 ∷ []) $ free1 ! $ move ! (18 ∷ 19 ∷ []) $ free1 ! $ move ! (16 ∷ 17 ∷ []) $ free1 ! $ move ! (14 ∷ 15 ∷ []) $ free1 ! $ move ! (12 ∷ 13 ∷ []) $ free1 ! $ move ! (10 ∷ 11 ∷ []) $ free1 ! $ move ! (8 ∷ 9 ∷ []) $ free1 ! $ free0 ! $
+        keep ! (1 ∷ 2 ∷ 3 ∷ 4 ∷ 7 ∷ 5 ∷ 0 ∷ []) $ by ! (exits r (zs .1 .0) (zs .1 .1 .0) (zs .1 .1 .1 .0) (zs .1 .1 .1 .1 .0) (zs .1 .1 .1 .1 .1 .1 .1 .0) e l))))))))))))))))))))))))))))))
 
 module _ {M : Type 1} (𝓤 : URA M) (H : Heap 𝓤) (A : Atoms 𝓤) (W : Given 𝓤 H A) (at-mem : Memory → SProp 𝓤) (run : Routine → Fun 𝓤) where
   rcs956-event-walks : (C : Calls 𝓤 H) (Λ : Loops 𝓤 H) → FmC 𝓤 H (W .laws) C → Triple 𝓤 (C #host·step·event) (Step₀ 𝓤 H A at-mem run) → Walks 𝓤 H A f.ended stayed (WpFn 𝓤 H C Λ code.function) (f.clauses 𝓤 H A at-mem run)

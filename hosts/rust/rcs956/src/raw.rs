@@ -63,7 +63,7 @@ pub struct Core {
     pub call: CallState,
 }
 
-/// The reader's books. An opening that is accepted begins them anew: its mode, its caller, and else 0.
+/// The reader's books, but for the counts. An opening that is accepted begins them anew: its mode, its caller, and else 0.
 #[repr(C)]
 #[derive(Clone, Debug, Default, PartialEq, Eq)]
 pub struct Books {
@@ -73,15 +73,6 @@ pub struct Books {
     pub mode: u8,
     /// Of the last call that was accepted; above 7 is out of range.
     pub caller: u8,
-    /// Of each caller the command frames that its calls ordered since the last opening began, its own included.
-    pub frames: [u32; CALLERS],
-}
-
-#[repr(C)]
-#[derive(Clone, Debug, Default, PartialEq, Eq)]
-pub struct State {
-    pub core: Core,
-    pub books: Books,
 }
 
 /// One reader's session.
@@ -90,7 +81,10 @@ pub struct State {
 pub struct RawSession {
     pub command: [u8; 512],
     pub found: [u8; 1024],
-    pub state: State,
+    /// Of each caller the command frames that its calls ordered since the last opening began, its own included.
+    pub frames: [u32; CALLERS],
+    pub books: Books,
+    pub core: Core,
 }
 
 /// What comes out of a call or an event. What does not apply is 0.

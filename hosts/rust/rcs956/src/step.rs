@@ -153,17 +153,17 @@ impl Reader {
 
     /// The last opening has succeeded; false while one runs.
     pub fn is_open(&self) -> bool {
-        self.session.state.books.opened == 1
+        self.session.books.opened == 1
     }
 
     /// The last opening that was accepted has chosen the padded mode.
     pub fn is_padded(&self) -> bool {
-        self.session.state.books.mode == 1
+        self.session.books.mode == 1
     }
 
     /// Of each caller the command frames that its calls ordered since the last opening began, up to 4,294,967,295.
     pub fn frames(&self) -> [u32; CALLERS] {
-        self.session.state.books.frames
+        self.session.frames
     }
 
     fn event(&mut self, number: u8, packet: &[u8]) -> Step<'_> {

@@ -1,4 +1,4 @@
-use crate::raw::{self, Arguments, Books, CALLERS, Core, ExchangeState, Numbers, Outcome, RawSession, State};
+use crate::raw::{self, Arguments, Books, CALLERS, Core, ExchangeState, Numbers, Outcome, RawSession};
 use crate::*;
 use std::mem::{offset_of, size_of};
 
@@ -41,9 +41,9 @@ impl Transport for Scripted<'_> {
 fn layout() {
     assert_eq!(size_of::<RawSession>(), 1608);
     assert_eq!(offset_of!(RawSession, found), 512);
-    assert_eq!(offset_of!(RawSession, state), 1536);
-    assert_eq!(offset_of!(State, core), 0);
-    assert_eq!(offset_of!(State, books), 32);
+    assert_eq!(offset_of!(RawSession, frames), 1536);
+    assert_eq!(offset_of!(RawSession, books), 1568);
+    assert_eq!(offset_of!(RawSession, core), 1576);
     assert_eq!(offset_of!(Core, found), 8);
     assert_eq!(offset_of!(Core, exchange), 16);
     assert_eq!(offset_of!(Core, call), 24);
@@ -51,7 +51,6 @@ fn layout() {
     assert_eq!(offset_of!(Books, opened), 0);
     assert_eq!(offset_of!(Books, mode), 1);
     assert_eq!(offset_of!(Books, caller), 2);
-    assert_eq!(offset_of!(Books, frames), 4);
     assert_eq!(size_of::<Numbers>(), 12);
     assert_eq!(offset_of!(Numbers, caller), 8);
     assert_eq!(size_of::<Outcome>(), 16);
@@ -61,7 +60,7 @@ fn layout() {
 
 #[test]
 fn fresh_is_zeroed() {
-    assert_eq!(raw::fresh(), RawSession { command: [0; 512], found: [0; 1024], state: State::default() });
+    assert_eq!(raw::fresh(), RawSession { command: [0; 512], found: [0; 1024], frames: [0; CALLERS], books: Books::default(), core: Core::default() });
 }
 
 #[test]
@@ -154,7 +153,8 @@ fn lines_of_ends() {
 /// A session in which no call runs, with these books.
 fn session_with(opened: u8, frames: u32) -> RawSession {
     let mut session = raw::fresh();
-    session.state.books = Books { opened, frames: [frames; CALLERS], ..Books::default() };
+    session.frames = [frames; CALLERS];
+    session.books = Books { opened, ..Books::default() };
     session
 }
 
@@ -167,7 +167,7 @@ fn opening_begins_the_books_anew() {
     for opened in [0, 1] {
         let mut session = session_with(opened, 77);
         let outcome = raw::call(&mut session, &Call::Open { padded: false }.arguments(), &mut [0; 1024]);
-        assert_eq!((outcome.kind, session.state.books), (raw::kind::WRITE, Books::default()));
+        assert_eq!((outcome.kind, session.books), (raw::kind::WRITE, Books::default()));
     }
 }
 
@@ -181,7 +181,7 @@ fn opened_out_of_range() {
         // The opening waits for its ACK to be written.
         let mut session = raw::fresh();
         assert_eq!(raw::call(&mut session, &Call::Open { padded: false }.arguments(), &mut [0; 1024]).kind, raw::kind::WRITE);
-        session.state.books.opened = opened;
+        session.books.opened = opened;
         let before = session.clone();
         assert_eq!(raw::event(&mut session, raw::event::OK, &[], &mut [0; 1024]), refused(1));
         assert_eq!(session, before);
@@ -192,10 +192,10 @@ fn opened_out_of_range() {
 fn opening_chooses_the_mode() {
     for padded in [false, true] {
         let mut session = session_with(1, 77);
-        session.state.books.mode = !padded as u8;
+        session.books.mode = !padded as u8;
         let outcome = raw::call(&mut session, &Call::Open { padded }.arguments(), &mut [0; 1024]);
         let books = Books { mode: padded as u8, ..Books::default() };
-        assert_eq!((outcome.kind, session.state.books), (raw::kind::WRITE, books));
+        assert_eq!((outcome.kind, session.books), (raw::kind::WRITE, books));
     }
 }
 
@@ -206,7 +206,7 @@ fn no_such_mode() {
         let opening = Arguments { numbers: Numbers { x: mode, ..Numbers::default() }, ..Call::Open { padded: false }.arguments() };
         assert_eq!(raw::call(&mut session, &opening, &mut [0; 1024]), refused(4));
         assert_eq!(session, session_with(1, 77));
-        session.state.books.mode = mode;
+        session.books.mode = mode;
         let before = session.clone();
         assert_eq!(raw::call(&mut session, &Call::Open { padded: false }.arguments(), &mut [0; 1024]), refused(1));
         assert_eq!(session, before);
@@ -232,7 +232,7 @@ fn no_such_caller() {
         assert_eq!(raw::call(&mut session, &Call::Version.arguments().by(caller), &mut [0; 1024]), refused(4));
         assert_eq!(raw::call(&mut session, &Call::Open { padded: false }.arguments().by(caller), &mut [0; 1024]), refused(4));
         assert_eq!(session, session_with(1, 77));
-        session.state.books.caller = caller;
+        session.books.caller = caller;
         let before = session.clone();
         assert_eq!(raw::call(&mut session, &Call::Version.arguments(), &mut [0; 1024]), refused(1));
         assert_eq!(session, before);
@@ -246,9 +246,9 @@ fn frames_by_caller() {
     for caller in [3, 7, 3] {
         assert_eq!(raw::call(&mut session, &Call::Version.arguments().by(caller), &mut [0; 1024]).kind, raw::kind::WRITE);
         due[usize::from(caller)] += 1;
-        assert_eq!((session.state.books.caller, session.state.books.frames), (caller, due));
-        session.state.core.call = Default::default();
+        assert_eq!((session.books.caller, session.frames), (caller, due));
+        session.core.call = Default::default();
     }
     assert_eq!(raw::call(&mut session, &Call::Open { padded: true }.arguments().by(5), &mut [0; 1024]).kind, raw::kind::WRITE);
-    assert_eq!(session.state.books, Books { mode: 1, caller: 5, ..Books::default() });
+    assert_eq!((&session.books, session.frames), (&Books { mode: 1, caller: 5, ..Books::default() }, [0; CALLERS]));
 }

@@ -184,7 +184,7 @@ fn main() -> io::Result<()> {
         let answer = answered(text, if frames { turn } else { 0 }, &mut session, &mut buffer);
         write!(output, "{answer}")?;
         if frames {
-            let counts = session.state.books.frames.map(|count| count.to_string());
+            let counts = session.frames.map(|count| count.to_string());
             write!(output, " frames {}", counts.join(" "))?;
         }
         writeln!(output)?;

@@ -60,7 +60,7 @@ fn drawn_call(draw: &mut Draw) -> Entry {
 
 impl Entry {
     fn drawn(draw: &mut Draw, session: &RawSession) -> Entry {
-        let core = &session.state.core;
+        let core = &session.core;
         if core.call.kind == 0 && !draw.once(8) || draw.once(16) {
             return drawn_call(draw);
         }
@@ -86,14 +86,14 @@ impl Entry {
 }
 
 fn core_in_range(session: &RawSession) -> bool {
-    let core = &session.state.core;
+    let core = &session.core;
     let call = &core.call;
     let lengths = core.command <= 512 && core.found <= 1024;
     lengths && core.exchange.phase <= 6 && call.kind <= 21 && call.stage <= 9 && call.phase <= 5
 }
 
 fn books_in_range(session: &RawSession) -> bool {
-    let books = &session.state.books;
+    let books = &session.books;
     books.opened <= 1 && books.mode <= 1 && books.caller <= 7
 }
 
@@ -103,10 +103,10 @@ fn in_range(session: &RawSession) -> bool {
 
 /// Whether a step must be refused with 1, where the session's fields say it; of an event during a call they do not.
 fn out_of_turn(entry: &Entry, before: &RawSession) -> Option<bool> {
-    let runs = before.state.core.call.kind != 0;
+    let runs = before.core.call.kind != 0;
     match entry {
         _ if !in_range(before) => Some(true),
-        Entry::Call { .. } => Some(runs || !entry.is_opening() && before.state.books.opened == 0),
+        Entry::Call { .. } => Some(runs || !entry.is_opening() && before.books.opened == 0),
         Entry::Event { .. } => (!runs).then_some(true),
     }
 }
@@ -115,13 +115,13 @@ fn out_of_turn(entry: &Entry, before: &RawSession) -> Option<bool> {
 fn caller_due(entry: &Entry, before: &RawSession, outcome: Outcome) -> u8 {
     match entry {
         Entry::Call { arguments: [.., caller], .. } if outcome.kind == kind::WRITE => *caller as u8,
-        _ => before.state.books.caller,
+        _ => before.books.caller,
     }
 }
 
 /// The frame counts that must be behind a step: a command counts for its caller.
 fn frames_due(entry: &Entry, before: &RawSession, outcome: Outcome) -> [u32; CALLERS] {
-    let mut frames = before.state.books.frames;
+    let mut frames = before.frames;
     match outcome.kind {
         kind::WRITE if entry.is_opening() => frames = [0; CALLERS],
         kind::WRITE if outcome.len > 6 => {
@@ -140,12 +140,12 @@ fn no_caller(entry: &Entry) -> bool {
 
 /// What `opened` must be behind a step that is not refused with 1 to 6: 0 once an opening has begun, and 1 once it is done.
 fn opened_due(entry: &Entry, before: &RawSession, outcome: Outcome) -> u8 {
-    let opening_runs = before.state.core.call.kind == 1;
+    let opening_runs = before.core.call.kind == 1;
     match outcome.kind {
         kind::WRITE if entry.is_opening() => 0,
         kind::DONE if opening_runs => 1,
         kind::DONE_TYPE1 | kind::NONE | kind::REFUSED | kind::LIST_REFUSED if opening_runs => 0,
-        _ => before.state.books.opened,
+        _ => before.books.opened,
     }
 }
 
@@ -153,7 +153,7 @@ fn opened_due(entry: &Entry, before: &RawSession, outcome: Outcome) -> u8 {
 fn mode_due(entry: &Entry, before: &RawSession, outcome: Outcome) -> u8 {
     match entry {
         Entry::Call { arguments: [0, _, _, x, _, _], .. } if outcome.kind == kind::WRITE => *x as u8,
-        _ => before.state.books.mode,
+        _ => before.books.mode,
     }
 }
 
@@ -166,7 +166,7 @@ fn no_mode(entry: &Entry) -> bool {
 fn session_faults(entry: &Entry, before: &RawSession, after: &RawSession, outcome: Outcome) -> Vec<&'static str> {
     let refused = outcome.kind == kind::REFUSED;
     let (early, ends) = (refused && outcome.refusal <= 6, outcome.kind >= kind::DONE);
-    let (running, books) = (after.state.core.call.kind != 0, &after.state.books);
+    let (running, books) = (after.core.call.kind != 0, &after.books);
     let turn = out_of_turn(entry, before);
     let checks = [
         (!in_range(before) && outcome.refusal != 1, "a session out of range is not refused with 1"),
@@ -174,7 +174,7 @@ fn session_faults(entry: &Entry, before: &RawSession, after: &RawSession, outcom
         (early && before != after, "a refusal 1 to 6 has changed the session"),
         (ends && !early && running, "a call has ended and still runs"),
         (!ends && !running, "an order, and no call runs"),
-        (!early && books.frames != frames_due(entry, before, outcome), "the frame counts are wrong"),
+        (!early && after.frames != frames_due(entry, before, outcome), "the frame counts are wrong"),
         (books.caller != caller_due(entry, before, outcome), "the caller is wrong"),
         (no_caller(entry) && !(refused && [1, 2, 4].contains(&outcome.refusal)), "a call of no caller is not refused"),
         (!early && books.opened != opened_due(entry, before, outcome), "`opened` is wrong"),
@@ -259,7 +259,7 @@ fn case(seed: u64, number: u64, tally: &mut Tally) -> bool {
         if !faults.is_empty() {
             println!(
                 "case {number} of seed {seed}, step {step}: {faults:?}\n{outcome:?}\n{:?}\n{:?}",
-                before.state, session.state
+                (&before.core, &before.books), (&session.core, &session.books)
             );
             return false;
         }

@@ -1,8 +1,8 @@
 use borrow.Author.Needs.{needs}
 use Rattle.framing.specs.Rules.{steps}
 use Rattle.engine.specs.Books.{extraIn}
-use Rattle.engine.proofs.books.Books.extra_zeros.Statement.{statement}
-use Rattle.engine.proofs.books.Books.extra_zeros.Tie as tie
+use Rattle.engine.proofs.books.extra_zeros.Statement.{statement}
+use Rattle.engine.proofs.books.extra_zeros.Tie as tie
 
 returns : tie.Need-returns
 unfolding extraIn

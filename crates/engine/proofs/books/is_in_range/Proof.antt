@@ -1,7 +1,7 @@
 use borrow.Author.Needs.{needs}
 use Rattle.framing.specs.Rules.{steps}
-use Rattle.engine.proofs.books.Books.is_in_range.Statement.{statement}
-use Rattle.engine.proofs.books.Books.is_in_range.Tie as tie
+use Rattle.engine.proofs.books.is_in_range.Statement.{statement}
+use Rattle.engine.proofs.books.is_in_range.Tie as tie
 
 returns : tie.Need-returns
 returns c = search (steps, needs) depth 10
