@@ -12,4 +12,5 @@ pub mod Simulation
 pub mod Events
 pub mod Follows
 pub mod PollCodes
+pub mod Chatter
 pub mod Unchanged

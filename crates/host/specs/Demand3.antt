@@ -44,7 +44,7 @@ module _ (E : Type 0) (input : E → Option Input) (buffer : E → List ℕ) whe
   toldFor s (e ∷ es) = withTold (input e) (reportFor s e) (toldFor ((reportFor s e) .session) es)
 
   -- the list does what the engine's does
-  abbrev Same : Session → List E → Type 0
+  abbrev pub Same : Session → List E → Type 0
   Same s es = (sessionAfter s es ≡ stateAfter engine s (inputs es)) × (toldFor s es ≡ givenOut engine s (inputs es))
 
   abbrev SameWith : Session → Option Input → Report → List E → Type 0
@@ -59,7 +59,7 @@ module _ (E : Type 0) (input : E → Option Input) (buffer : E → List ℕ) whe
       let e = f (r .session) in
       (e .0, ap₂ (λ (x : Given ℕ) (xs : List (Given ℕ)). x ∷ xs) (output-is (r .output) (r .buffer)) (e .1))
 
-  same : (es : List E) (s : Session) → Same s es
+  pub same : (es : List E) (s : Session) → Same s es
   same [] s = (refl, refl)
   same (e ∷ es) s = same-with s (input e) (buffer e) es (same es)
 

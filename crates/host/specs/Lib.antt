@@ -1,4 +1,5 @@
 pub mod Demand3
+pub mod Chatter
 pub mod Entries
 pub mod Outcomes
 pub mod Outputs

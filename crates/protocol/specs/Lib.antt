@@ -16,6 +16,7 @@ pub mod Follows
 pub mod PollList
 pub mod PollEqual
 pub mod PollFollows
+pub mod Chatter
 pub mod Sample
 -- proofs
 pub mod Laws
@@ -32,3 +33,8 @@ pub mod Once
 pub mod Count
 pub mod CountSum
 pub mod Reference
+pub mod ChatterLaws
+pub mod ChatterSame
+pub mod ChatterPairs
+pub mod ChatterWider
+pub mod ChatterFollows

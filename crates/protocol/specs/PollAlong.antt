@@ -41,7 +41,7 @@ detect-no-reset code req = search (no-reset-either, no-reset-if, no-answer) dept
 
 -- ---- an exchange orders no command frame of its own
 
-abbrev Bare : ExchangeResult → Type 0
+abbrev pub Bare : ExchangeResult → Type 0
 Bare unfit = Unit {0}
 Bare (pending x step) = isCommand (ordered x) ≡ false
 Bare (ended r) = Unit {0}
@@ -65,7 +65,7 @@ bare-later code clock packet = split Bare (isEmpty packet) _ _ (λ _. tt) (λ _.
 bare-drained : (packet : List ℕ) → Bare (onDrained packet)
 bare-drained packet = split Bare (isEmpty packet) _ _ (λ _. tt) (λ _. refl)
 
-bare : (step : Step) (e : Event) → Bare (advance step e)
+pub bare : (step : Step) (e : Event) → Bare (advance step e)
 bare (sending code clock) = by-write (λ e r. Bare r) unfit (λ _. tt) _ _ refl bare-ack
 bare (reading code clock) = by-read (λ e r. Bare r) unfit (λ _. tt) (onFirstPacket code clock) _ _ _ (bare-first code clock) tt tt tt
 bare (waiting code clock) = by-read (λ e r. Bare r) unfit (λ _. tt) (onLaterPacket code clock) _ _ _ (bare-later code clock) tt tt bare-ack

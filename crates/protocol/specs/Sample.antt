@@ -112,7 +112,7 @@ abbrev run : ℕ → ℕ → List Pair
 run mode z = openingRun mode z ++ versionRun z
 
 -- to unfold this is to unfold the formats
-formats : Unit {0}
+unfoldable pub formats : Unit {0}
 unfolding isPadded zerosUpTo extraZeros unpadded total checksumOf lengthBytes normalFrame extendedFrame headOf frameOf pick starts same isError extends lengthAt normalAt extendedAt normalOf extendedOf dataOf parseOf payloadOf commandFrame isAck hasStart ackLed replyOf
 formats = tt
 

@@ -1,0 +1,63 @@
+-- One place more, and it is untrue: ACK-led packets before a first packet without the start bytes. `unanswered` has that place beside those of
+-- `waits`. docs/requests/N11.md has both runs as lines of `session`.
+use mathlib.Core.Path.{_≡_, refl, ap}
+use mathlib.Core.Bool.{true, false}
+use mathlib.Core.List.{List, [], _∷_, _++_, map}
+use Prim.Native.Nat.{ℕ}
+use native.Mathlib.Omega.{arith}
+use lib.ListN.{length}
+use Rattle.errors.specs.declared.Fault.the-variants.{FalseStart, BrokenFrame}
+use Rattle.framing.specs.Frames.{ack}
+use Rattle.exchange.specs.Packets.{commandFrame}
+use Rattle.exchange.specs.Exchange.{write, read, drain, ok, pkt, time}
+use Rattle.protocol.specs.Scripts.{refused}
+use Rattle.protocol.specs.Calls.{Call, reader, request, version}
+use Rattle.protocol.specs.Session.{noCounts, Session, Output, orders, answers, outputs}
+use Rattle.protocol.specs.Follows.{plain}
+use Rattle.protocol.specs.PollList.{EventAndRoom, idleWith}
+use Rattle.protocol.specs.Chatter.{unanswered, Alike, callEntries, linesFrom, answersIn, SameFor}
+use Rattle.protocol.specs.Sample.{formats}
+
+abbrev openReader : Session
+openReader = idleWith (record { opened = true; padded = false; caller = 0; counts = noCounts })
+
+abbrev asksVersion : Call
+asksVersion = reader (request version)
+
+abbrev falseStart : EventAndRoom
+falseStart = (pkt (0x00 ∷ []), 1024)
+
+-- without ACK before it, and with ACK
+abbrev first : List EventAndRoom
+first = (ok, 1024) ∷ falseStart ∷ []
+
+abbrev second : List EventAndRoom
+second = (ok, 1024) ∷ (pkt ack, 1024) ∷ falseStart ∷ []
+
+abbrev givenFor : List EventAndRoom → List (Output ℕ)
+givenFor es = map plain (outputs openReader (callEntries 0 asksVersion 1024 es))
+
+-- the first writes ACK, drains and ends with 9; the second ends with 10
+first-run : givenFor (first ++ ((ok, 1024) ∷ (time, 1024) ∷ []))
+    ≡ orders (write (commandFrame 0x02 [])) ∷ orders (read 100) ∷ orders (write ack) ∷ orders drain ∷ answers (refused FalseStart) ∷ []
+unfolding formats
+first-run = refl
+
+second-run : givenFor second ≡ orders (write (commandFrame 0x02 [])) ∷ orders (read 100) ∷ orders (read 100) ∷ answers (refused BrokenFrame) ∷ []
+unfolding formats
+second-run = refl
+
+alike-widened : Alike unanswered (linesFrom openReader 0 asksVersion 1024 first) (linesFrom openReader 0 asksVersion 1024 second)
+unfolding formats
+alike-widened = refl
+
+-- the first has no answer yet
+answers-differ : answersIn (outputs openReader (callEntries 0 asksVersion 1024 first)) ≡ answersIn (outputs openReader (callEntries 0 asksVersion 1024 second)) → ⊥
+unfolding formats
+answers-differ e = let z : _≡_ {A = ℕ} 0 1 = ap length e in omega arith
+
+pub widened-refuted : ((s : Session) (caller : ℕ) (c : Call) (room : ℕ) (es ds : List EventAndRoom)
+    → Alike unanswered (linesFrom s caller c room es) (linesFrom s caller c room ds)
+    → SameFor s (callEntries caller c room es) (callEntries caller c room ds))
+    → ⊥
+widened-refuted f = answers-differ ((f openReader 0 asksVersion 1024 first second alike-widened) .result)
