@@ -17,6 +17,7 @@
  *     RCS956_NONE        has none: no card, no command                   the call has ended
  *     RCS956_REFUSED     has `refusal`, and `status` with 15             see below
  *     RCS956_LIST_REFUSED the same of a list, and `finished`             the call has ended
+ *     RCS956_UID_AND_ATS the answer as with DONE, and `uid` and `ats`    the call has ended
  *
  * Deadlines. Behind a command's frame the first read has its own time. The second and later ones share one: the command's clock,
  * which starts at the second. Drains that follow each other share their 50 ms. Where a shared time is over before a read, the
@@ -61,7 +62,7 @@ extern "C" {
 /* Two arguments: a pointer, and the length 0. */
 #define RCS956_NO_BYTES (const uint8_t *)"", 0
 
-/* Kinds of outcomes: four orders, three ends, the refusal, and the refusal that ends a list. */
+/* Kinds of outcomes: four orders, three ends, the refusal, the refusal that ends a list, and the answer with two lengths. */
 #define RCS956_WRITE 0
 #define RCS956_READ 1
 #define RCS956_DRAIN 2
@@ -71,6 +72,7 @@ extern "C" {
 #define RCS956_NONE 6
 #define RCS956_REFUSED 7
 #define RCS956_LIST_REFUSED 8
+#define RCS956_UID_AND_ATS 9
 
 /* Events. */
 #define RCS956_EVENT_OK 0     /* the bytes are written */
@@ -101,6 +103,7 @@ extern "C" {
 #define RCS956_NO_CARD 17        /* Type F only */
 #define RCS956_CRC_A 18          /* Type 2 only */
 #define RCS956_RATE 19           /* target status with a rate that there is not */
+#define RCS956_UID_LAYOUT 22     /* Type A with UID and ATS told apart: list data that is not laid out as the manual has it */
 
 /* Calls. */
 #define RCS956_CALL_OPEN 0
@@ -128,6 +131,7 @@ extern "C" {
 #define RCS956_CALL_DETECT_DEP 22
 #define RCS956_CALL_TRANSCEIVE 23
 #define RCS956_CALL_POLL_TYPE_F 24
+#define RCS956_CALL_DETECT_TYPE_A_SPLIT 25
 
 /* Modes of an opening, for the session until the next one that is accepted. */
 #define RCS956_MODE_OFF 0    /* a packet starts with 00 00 FF */
@@ -171,11 +175,12 @@ typedef struct rcs956_session {
 /* What comes out of a call or an event. What does not apply is 0. */
 typedef struct rcs956_outcome {
     uint8_t kind;
-    uint8_t refusal;  /* of a refusal its number, 1 to 19 */
+    uint8_t refusal;  /* of a refusal its number */
     uint8_t status;   /* of refusal 15 the status byte */
     uint8_t finished; /* of a list's refusal how many of its codes were finished */
     uint32_t time;    /* of a read its ms, of a pause its microseconds */
     size_t len;       /* of a write order and of an answer the bytes at the buffer's start */
+    uint8_t uid, ats; /* of RCS956_UID_AND_ATS the lengths of the UID, from byte 3 of the answer on, and of the ATS behind it */
 } rcs956_outcome;
 
 /* A call's arguments that are numbers. What a call does not use counts for nothing; each has a caller, 0 to 7. */
@@ -196,7 +201,9 @@ typedef char rcs956_core_call_is_at_24[offsetof(rcs956_core, call) == 24 ? 1 : -
 typedef char rcs956_books_mode_is_at_1[offsetof(rcs956_books, mode) == 1 ? 1 : -1];
 typedef char rcs956_books_caller_is_at_2[offsetof(rcs956_books, caller) == 2 ? 1 : -1];
 typedef char rcs956_call_has_4_bytes[sizeof(rcs956_call_state) == 4 ? 1 : -1];
-typedef char rcs956_outcome_has_16_bytes[sizeof(rcs956_outcome) == 16 ? 1 : -1];
+typedef char rcs956_outcome_has_24_bytes[sizeof(rcs956_outcome) == 24 ? 1 : -1];
+typedef char rcs956_outcome_uid_is_at_16[offsetof(rcs956_outcome, uid) == 16 ? 1 : -1];
+typedef char rcs956_outcome_ats_is_at_17[offsetof(rcs956_outcome, ats) == 17 ? 1 : -1];
 typedef char rcs956_outcome_time_is_at_4[offsetof(rcs956_outcome, time) == 4 ? 1 : -1];
 typedef char rcs956_numbers_has_12_bytes[sizeof(rcs956_numbers) == 12 ? 1 : -1];
 
@@ -404,6 +411,19 @@ static inline rcs956_outcome rcs956_detect_type_a(rcs956_session *session, uint8
                                                   size_t buffer_len)
 {
     return rcs956_call(session, RCS956_CALL_DETECT_TYPE_A, rcs956_numbers_of(caller, 0, 0, 0, 0), bitrate, bitrate_len, uid,
+                       uid_len, RCS956_NO_BYTES, RCS956_NO_BYTES, buffer, buffer_len);
+}
+
+/*
+ * Type A in the mode in which UID and ATS are told apart. Answer: the same bytes with RCS956_UID_AND_ATS, and the lengths of the UID (4, 7
+ * or 10) and of the ATS behind it (0 where there is none); of a Type 1 tag as without the mode. List data of at least 4 bytes that is
+ * no such target's gives RCS956_UID_LAYOUT.
+ */
+static inline rcs956_outcome rcs956_detect_type_a_split(rcs956_session *session, uint8_t caller, const uint8_t *bitrate,
+                                                        size_t bitrate_len, const uint8_t *uid, size_t uid_len, uint8_t *buffer,
+                                                        size_t buffer_len)
+{
+    return rcs956_call(session, RCS956_CALL_DETECT_TYPE_A_SPLIT, rcs956_numbers_of(caller, 0, 0, 0, 0), bitrate, bitrate_len, uid,
                        uid_len, RCS956_NO_BYTES, RCS956_NO_BYTES, buffer, buffer_len);
 }
 

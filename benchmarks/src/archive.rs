@@ -115,6 +115,8 @@ pub struct Outcome {
     pub finished: u8,
     pub time: u32,
     pub len: usize,
+    pub uid: u8,
+    pub ats: u8,
 }
 
 /// Kinds of outcomes: four orders, and the answer.

@@ -40,6 +40,7 @@ static void print_bytes(const char *word, const uint8_t *bytes, size_t len, cons
 /* Prints an outcome as its bench line. */
 static void print_line(rcs956_outcome outcome, const uint8_t *buffer)
 {
+    char lengths[24];
     switch (outcome.kind) {
     case RCS956_WRITE: print_bytes("write", buffer, outcome.len, ""); break;
     case RCS956_READ: printf("read %lu\n", (unsigned long)outcome.time); break;
@@ -47,6 +48,10 @@ static void print_line(rcs956_outcome outcome, const uint8_t *buffer)
     case RCS956_PAUSE: printf("pause %lu\n", (unsigned long)outcome.time); break;
     case RCS956_DONE: print_bytes("done", buffer, outcome.len, ""); break;
     case RCS956_DONE_TYPE1: print_bytes("done", buffer, outcome.len, " type1"); break;
+    case RCS956_UID_AND_ATS:
+        snprintf(lengths, sizeof lengths, " uid %d ats %d", outcome.uid, outcome.ats);
+        print_bytes("done", buffer, outcome.len, lengths);
+        break;
     case RCS956_NONE: puts("none"); break;
     default:
         printf("refused %d", outcome.refusal);

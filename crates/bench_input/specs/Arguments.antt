@@ -94,9 +94,9 @@ hexOrNone w f = pick (isNone w) (f []) (hexArg w f)
 unfoldable pub presentArg : List ℕ → (ℕ → Read) → Read
 presentArg w f = pick (isNone w) (f 0) (pick (isHex w) (f 1) none)
 
--- the word `padded`: 1
-unfoldable pub paddedArg : List ℕ → (ℕ → Read) → Read
-paddedArg w f = pick (same (ascii "padded") w) (f 1) none
+-- this word: 1
+unfoldable pub nameArg : List ℕ → List ℕ → (ℕ → Read) → Read
+nameArg name w f = pick (same name w) (f 1) none
 
 -- MS of at most 65535 that may be absent: 1 and the MS, or 0 and 0
 abbrev pub waitLimit : ℕ

@@ -6,7 +6,8 @@ use Prim.Native.Nat.{ℕ}
 use lib.Dec.{eqb, ltb}
 use lib.ListN.{length}
 use Rattle.errors.specs.Choice.{pick}
-use Rattle.bench_input.specs.Arguments.{Arguments, arguments, Read, hexArg, wholeArg, byteArg, flagArg, wordArg, msArg, textArg, hexOrNone, presentArg, waitArg, paddedArg}
+use Rattle.targets.specs.Bitrates.{ascii}
+use Rattle.bench_input.specs.Arguments.{Arguments, arguments, Read, hexArg, wholeArg, byteArg, flagArg, wordArg, msArg, textArg, hexOrNone, presentArg, waitArg, nameArg}
 use Rattle.calls.specs.declared.start.Numbers.{Numbers}
 
 abbrev pub withMs : ℕ → Numbers → Numbers
@@ -37,8 +38,9 @@ numberArg letter w n f =
     (pick (eqb letter 109) (msArg w (λ v. f (withMs v n)))
     -- `t`: MS of at most 65535 to word, and y is 1; or `none`
     (pick (eqb letter 116) (waitArg w (λ given v. f (withY given (withWord v n))))
-    -- `z`: the word `padded`, by which x is 1
-    (pick (eqb letter 122) (paddedArg w (λ v. f (withX v n))) none)))))))
+    -- `z`, `s`: the words `padded` and `split`, by which x is 1
+    (pick (eqb letter 122) (nameArg (ascii "padded") w (λ v. f (withX v n)))
+    (pick (eqb letter 115) (nameArg (ascii "split") w (λ v. f (withX v n))) none))))))))
 
 -- a byte string
 unfoldable pub stringArg : ℕ → List ℕ → (List ℕ → Read) → Read

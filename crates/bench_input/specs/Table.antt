@@ -54,6 +54,7 @@ table =
     ∷ row (ascii "detect_dep") (ascii "BN") 22
     ∷ row (ascii "transceive") (ascii "BNptH") 23
     ∷ row (ascii "poll_type_f") (ascii "B2") 24
+    ∷ row (ascii "detect_type_a") (ascii "BHs") 25
     ∷ row (ascii "ok") (ascii "") 128
     ∷ row (ascii "bad") (ascii "") 129
     ∷ row (ascii "pkt") (ascii "") 130

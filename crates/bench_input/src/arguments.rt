@@ -7,7 +7,7 @@ ghost use mathlib.Core.Path.{_≡_};
 ghost use mathlib.Core.List.{List};
 ghost use Prim.Native.Nat.{ℕ, _+_, _*_, _≤_, _<_};
 ghost use lib.ListN.{length};
-ghost use Rattle.bench_input.specs.Arguments.{Read, word, byteArg, flagArg, wordArg, msArg, hexArg, wholeArg, textArg, isNone, hexOrNone, presentArg, paddedArg, waitArg, digitOf};
+ghost use Rattle.bench_input.specs.Arguments.{Read, word, byteArg, flagArg, wordArg, msArg, hexArg, wholeArg, textArg, isNone, hexOrNone, presentArg, nameArg, waitArg, digitOf};
 ghost use Rattle.bench_input.specs.Readings.{byteIn, wordIn, msIn, waitIn, hexIn, Behind};
 
 // What a word says as BYTE, as WORD and as MS.
@@ -182,11 +182,11 @@ pub(crate) fn read_flag(line: &[u8], k: usize) -> Byte
     Byte::Value(flag)
 }
 
-// The word `padded`: 1.
-pub(crate) fn read_padded(line: &[u8], k: usize) -> Byte
-    ensures { λ r. ⌜ ((f : ℕ → Read) → byteIn r f ≡ paddedArg (word (now (line .entry)) k) f) ⌝ }
+// This word: 1.
+pub(crate) fn read_name(line: &[u8], k: usize, name: &[u8]) -> Byte
+    ensures { λ r. ⌜ ((f : ℕ → Read) → byteIn r f ≡ nameArg (now (name .entry)) (word (now (line .entry)) k) f) ⌝ }
 {
-    if words::is(words::word(line, k), b"padded") {
+    if words::is(words::word(line, k), name) {
         return Byte::Value(1);
     }
     Byte::Unreadable

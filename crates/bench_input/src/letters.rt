@@ -107,7 +107,8 @@ fn number(letter: u8, line: &[u8], k: usize, numbers: Numbers) -> Numbered
         b'w' => with_word(numbers, arguments::read_word(line, k)),
         b'm' => with_ms(numbers, arguments::read_ms(line, k)),
         b't' => with_wait(numbers, arguments::read_wait(line, k)),
-        b'z' => with_x(numbers, arguments::read_padded(line, k)),
+        b'z' => with_x(numbers, arguments::read_name(line, k, b"padded")),
+        b's' => with_x(numbers, arguments::read_name(line, k, b"split")),
         _ => Numbered::Unreadable,
     }
 }

@@ -15,13 +15,13 @@ use Rattle.errors.specs.declared.Fault.{Fault}
 use Rattle.errors.specs.declared.Refusal.{Refusal}
 use Rattle.targets.specs.Bitrates.{ascii}
 use Rattle.engine.specs.declared.core.Output.{Output}
-use Rattle.engine.specs.declared.core.Output.the-variants.{Ack, Command, Read, Drain, Pause, Done, Type1, Nothing, Failed, FailedAfter, Refused}
+use Rattle.engine.specs.declared.core.Output.the-variants.{Ack, Command, Read, Drain, Pause, Done, Type1, UidAndAts, Nothing, Failed, FailedAfter, Refused}
 use Rattle.bench.specs.DecimalLaws.{decimal-short}
 use Rattle.bench.specs.Hex.{hexOf}
 use Rattle.bench.specs.HexLaws.{hex-short}
 use Rattle.bench.specs.TextLaws.{next-place, put-behind}
 use Rattle.bench.specs.Texts.{Placed, placed, placedAt, decimalOf}
-use Rattle.bench_session.specs.Outputs.{outRoom, textLimit, doneText, type1Text, refusedText, listRefusedText, textOf}
+use Rattle.bench_session.specs.Outputs.{outRoom, textLimit, doneText, type1Text, lengthsText, refusedText, listRefusedText, textOf, Named}
 
 -- the first n bytes
 pub first-part : (n : ℕ) (p : List ℕ) → n < length p → n ≡ length (take n p)
@@ -58,6 +58,41 @@ module _ (p b o : List ℕ) (r : ℕ) (before : placed r o ≡ placedAt 0 (ascii
   pub type1-done : (x : Placed) → x ≡ placedAt r (ascii " type1") o → x ≡ placedAt 0 (type1Text p) b
   unfolding type1Text
   type1-done x e = put-behind (ascii "done " ++ hexOf p) b o r before (ascii " type1") x e (omega (arith, done-short))
+
+-- a name and a number behind a text
+pub name-room : (at : ℕ) (name o : List ℕ) → at + (length name + 20) ≤ length o → at + length name ≤ length o
+name-room at name o h = omega arith
+
+pub digits-room : (at r : ℕ) (name o o₁ : List ℕ) → placed r o₁ ≡ placedAt at name o → at + (length name + 20) ≤ length o → length o₁ ≡ length o → r + 20 ≤ length o₁
+digits-room at r name o o₁ e h l = omega (arith, ap (λ p. p .next) e)
+
+pub named-behind : (at k r r′ : ℕ) (name o o₁ o₂ : List ℕ) → placed r o₁ ≡ placedAt at name o → placed r′ o₂ ≡ placedAt r (decimalOf k) o₁ → Named at name k o r′ o₂
+named-behind at k r r′ name o o₁ o₂ word digits = record {
+  behind = λ t b before room.
+      let one : placed r o₁ ≡ placedAt 0 (t ++ name) b = put-behind t b o at before name (placed r o₁) word (omega arith) in
+      put-behind (t ++ name) b o₁ r one (decimalOf k) (placed r′ o₂) digits (rw (length-append t name) (omega (arith, decimal-short k)));
+}
+
+-- two lengths behind an answer's bytes
+module _ (p b o o₁ : List ℕ) (r r₁ uid : ℕ) (before : placed r o ≡ placedAt 0 (ascii "done " ++ hexOf p) b) (room : outRoom ≤ length b) (short : length p ≤ 1024) where
+  lengths-short : length (ascii "done " ++ hexOf p ++ ascii " uid " ++ decimalOf uid) ≤ 2079
+  lengths-short =
+      rw (length-append (ascii "done " ++ hexOf p ++ ascii " uid ") (decimalOf uid), length-append (ascii "done " ++ hexOf p) (ascii " uid "), length-append (ascii "done ") (hexOf p))
+      (omega (arith, hex-short p, decimal-short uid))
+
+  pub uid-room : length o ≡ length b → r + 25 ≤ length o
+  uid-room l = omega (arith, done-short p b o r before room short, next-place (ascii "done " ++ hexOf p) b o r before)
+
+  module _ (uid-put : Named r (ascii " uid ") uid o r₁ o₁) where
+    with-uid : placed r₁ o₁ ≡ placedAt 0 (ascii "done " ++ hexOf p ++ ascii " uid " ++ decimalOf uid) b
+    with-uid = uid-put .behind _ b before (omega (arith, done-short p b o r before room short))
+
+    pub ats-room : length o₁ ≡ length o → length o ≡ length b → r₁ + 25 ≤ length o₁
+    ats-room m l = omega (arith, lengths-short, next-place (ascii "done " ++ hexOf p ++ ascii " uid " ++ decimalOf uid) b o₁ r₁ with-uid)
+
+    pub lengths-done : (ats r₂ : ℕ) (o₂ : List ℕ) → Named r₁ (ascii " ats ") ats o₁ r₂ o₂ → placed r₂ o₂ ≡ placedAt 0 (lengthsText p uid ats) b
+    unfolding lengthsText
+    lengths-done ats r₂ o₂ n = n .behind _ b with-uid (omega (arith, lengths-short))
 
 -- a status behind a refusal's number n
 module _ (n r : ℕ) (b o : List ℕ) (before : placed r o ≡ placedAt 0 (ascii "refused " ++ decimalOf n) b) (room : outRoom ≤ length b) where
@@ -141,6 +176,12 @@ unfolding listRefusedText
 list-refused-fits n k =
     rw (length-append (refusedText n ++ ascii " finished ") (decimalOf k), length-append (refusedText n) (ascii " finished ")) (omega (arith, refused-short n, decimal-short k))
 
+lengths-fit : (p : List ℕ) (uid ats : ℕ) → length p ≤ 1024 → Fits (lengthsText p uid ats)
+unfolding lengthsText
+lengths-fit p uid ats h =
+    rw (length-append (ascii "done " ++ hexOf p ++ ascii " uid " ++ decimalOf uid ++ ascii " ats ") (decimalOf ats), length-append (ascii "done " ++ hexOf p ++ ascii " uid " ++ decimalOf uid) (ascii " ats "), length-append (ascii "done " ++ hexOf p ++ ascii " uid ") (decimalOf uid), length-append (ascii "done " ++ hexOf p) (ascii " uid "), length-append (ascii "done ") (hexOf p))
+    (omega (arith, hex-short p, decimal-short uid, decimal-short ats))
+
 pub text-fits : (o : Output) (b : List ℕ) → length b ≤ 1024 → length (textOf o b) ≤ textLimit
 unfolding textOf doneText type1Text
 text-fits Ack b h = bytes-fit (ascii "write ") (take 6 b) (omega arith) (omega (arith, length-take 6 b))
@@ -151,6 +192,7 @@ text-fits (Pause us) b h = number-fits (ascii "pause ") us (omega arith)
 text-fits (Done n) b h = either-short textLimit (eqb (length (take n b)) 0) _ _ (omega arith) (bytes-fit (ascii "done ") (take n b) (omega arith) (omega (arith, length-take n b)))
 text-fits (Type1 n) b h =
     rw (length-append (ascii "done " ++ hexOf (take n b)) (ascii " type1"), length-append (ascii "done ") (hexOf (take n b))) (omega (arith, hex-short (take n b), length-take n b))
+text-fits (UidAndAts n uid ats) b h = lengths-fit (take n b) uid ats (omega (arith, length-take n b))
 text-fits Nothing b h = omega arith
 text-fits (Failed e) b h = refused-fits (faultNumbered e)
 text-fits (FailedAfter e n) b h = list-refused-fits (faultNumbered e) n
@@ -194,6 +236,10 @@ module _ (f : Output) (b out : List ℕ) (x : Placed) where
   unfolding textOf
   text-type1 n p h q e = rw h (rw q at e)
 
+  pub text-lengths : (n uid ats : ℕ) (p : List ℕ) → f ≡ UidAndAts n uid ats → p ≡ take n b → x ≡ placedAt 0 (lengthsText p uid ats) out → x ≡ placedAt 0 (textOf f b) out
+  unfolding textOf
+  text-lengths n uid ats p h q e = rw h (rw q at e)
+
   pub text-none : f ≡ Nothing → x ≡ placedAt 0 (ascii "none") out → x ≡ placedAt 0 (textOf f b) out
   unfolding textOf
   text-none h e = rw h e
@@ -210,4 +256,4 @@ module _ (f : Output) (b out : List ℕ) (x : Placed) where
   unfolding textOf
   text-listed e k n h q d = rw h (rw q at d)
 
-pub ruleset texts = (text-ack, text-command, text-read, text-drain, text-pause, text-done, text-type1, text-none, text-failed, text-listed, text-refused)
+pub ruleset texts = (text-ack, text-command, text-read, text-drain, text-pause, text-done, text-type1, text-lengths, text-none, text-failed, text-listed, text-refused)

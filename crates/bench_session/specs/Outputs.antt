@@ -1,6 +1,7 @@
 -- The text that is printed for an order or an answer.
 use mathlib.Core.List.{List, [], _∷_, _++_}
-use Prim.Native.Nat.{ℕ}
+use mathlib.Core.Path.{_≡_}
+use Prim.Native.Nat.{ℕ, _+_, _≤_}
 use lib.Dec.{eqb}
 use lib.ListN.{length, take}
 use Rattle.errors.specs.Choice.{pick}
@@ -8,17 +9,17 @@ use Rattle.errors.specs.Refusals.{numbered, faultNumbered}
 use Rattle.errors.specs.declared.Numbered.{Numbered}
 use Rattle.targets.specs.Bitrates.{ascii}
 use Rattle.engine.specs.declared.core.Output.{Output}
-use Rattle.engine.specs.declared.core.Output.the-variants.{Ack, Command, Read, Drain, Pause, Done, Type1, Nothing, Failed, FailedAfter, Refused}
-use Rattle.bench.specs.Texts.{decimalOf}
+use Rattle.engine.specs.declared.core.Output.the-variants.{Ack, Command, Read, Drain, Pause, Done, Type1, UidAndAts, Nothing, Failed, FailedAfter, Refused}
+use Rattle.bench.specs.Texts.{placed, placedAt, decimalOf}
 use Rattle.bench.specs.Hex.{hexOf}
 
--- the longest text: a Type 1 answer of 1,024 bytes
+-- no text is longer: an answer of 1,024 bytes with two numbers of 20 digits each
 abbrev pub textLimit : ℕ
-textLimit = 2061
+textLimit = 2104
 
 -- room for any text and a line feed
 abbrev pub outRoom : ℕ
-outRoom = 2072
+outRoom = 2112
 
 -- an answer's bytes; `done` alone where it has none
 unfoldable pub doneText : List ℕ → List ℕ
@@ -28,6 +29,10 @@ doneText p = pick (eqb (length p) 0) (ascii "done") (ascii "done " ++ hexOf p)
 unfoldable pub type1Text : List ℕ → List ℕ
 type1Text p = ascii "done " ++ hexOf p ++ ascii " type1"
 
+-- the same with the lengths of the UID and the ATS among the bytes
+unfoldable pub lengthsText : List ℕ → ℕ → ℕ → List ℕ
+lengthsText p uid ats = ascii "done " ++ hexOf p ++ ascii " uid " ++ decimalOf uid ++ ascii " ats " ++ decimalOf ats
+
 -- a refusal's number, and of 15 the status
 unfoldable pub refusedText : Numbered → List ℕ
 refusedText n = pick (eqb (n .number) 15) (ascii "refused " ++ decimalOf (n .number) ++ ascii " " ++ hexOf (n .status ∷ [])) (ascii "refused " ++ decimalOf (n .number))
@@ -35,6 +40,10 @@ refusedText n = pick (eqb (n .number) 15) (ascii "refused " ++ decimalOf (n .num
 -- the refusal that ends a list, and the number of its codes that were finished
 unfoldable pub listRefusedText : Numbered → ℕ → List ℕ
 listRefusedText n finished = refusedText n ++ ascii " finished " ++ decimalOf finished
+
+-- where the buffer o has a text up to a place, o′ has it with this name and this number behind it, up to r
+pub record Named (at : ℕ) (name : List ℕ) (number : ℕ) (o : List ℕ) (r : ℕ) (o′ : List ℕ) : Type 0 where
+  pub behind : (t b : List ℕ) → placed at o ≡ placedAt 0 t b → length t + (length name + 20) ≤ length b → placed r o′ ≡ placedAt 0 (t ++ name ++ decimalOf number) b
 
 -- an output whose bytes stand at the start of b
 unfoldable pub textOf : Output → List ℕ → List ℕ
@@ -45,6 +54,7 @@ textOf Drain b = ascii "drain"
 textOf (Pause us) b = ascii "pause " ++ decimalOf us
 textOf (Done n) b = doneText (take n b)
 textOf (Type1 n) b = type1Text (take n b)
+textOf (UidAndAts n uid ats) b = lengthsText (take n b) uid ats
 textOf Nothing b = ascii "none"
 textOf (Failed e) b = refusedText (faultNumbered e)
 textOf (FailedAfter e n) b = listRefusedText (faultNumbered e) n

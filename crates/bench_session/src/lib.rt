@@ -29,7 +29,7 @@ ghost use Rattle.bench_session.specs.Answers.{stepOf, after, answerOf, r
 // Room for the engine's bytes, and for any answer and a line feed.
 pub const BUFFER: usize = 1024;
 
-pub const OUT: usize = 2072;
+pub const OUT: usize = 2112;
 
 // The session after a line, and the length of the text printed for it.
 pub struct Answered {

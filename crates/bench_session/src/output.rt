@@ -6,11 +6,11 @@ use engine::core::Output;
 use errors::Numbered;
 ghost use mathlib.Core.Path.{_≡_};
 ghost use mathlib.Core.List.{_++_};
-ghost use Prim.Native.Nat.{_≤_};
+ghost use Prim.Native.Nat.{_+_, _≤_};
 ghost use lib.ListN.{length, take};
 ghost use Rattle.bench.specs.Texts.{placed, placedAt, decimalOf};
 ghost use Rattle.bench.specs.Hex.{hexOf};
-ghost use Rattle.bench_session.specs.Outputs.{outRoom, textLimit, doneText, type1Text, refusedText, listRefusedText, textOf};
+ghost use Rattle.bench_session.specs.Outputs.{outRoom, textLimit, doneText, type1Text, lengthsText, refusedText, listRefusedText, textOf, Named};
 
 // The first n bytes; all of them where there are fewer.
 fn first(n: usize, bytes: &[u8]) -> &[u8]
@@ -35,6 +35,15 @@ fn put_number(name: &[u8], number: u64, out: &mut [u8]) -> usize
     text::put_decimal(number, out, at)
 }
 
+// A name and a number behind the text that ends at a place.
+fn put_named(name: &[u8], number: u8, out: &mut [u8], at: usize) -> usize
+    requires { ⌜ at + (length (now name) + 20) ≤ length (now out) ⌝ }
+    ensures { λ r. ⌜ Named at (now (name .entry)) number (now (out .entry)) r (now (out .exit)) ⌝ }
+{
+    let behind = text::put(name, out, at);
+    text::put_decimal(number as u64, out, behind)
+}
+
 // An answer's bytes; `done` alone where it has none.
 fn put_done(bytes: &[u8], out: &mut [u8]) -> usize
     requires { ⌜ (length (now bytes) ≤ 1024) × (outRoom ≤ length (now out)) ⌝ }
@@ -53,6 +62,16 @@ fn put_type1(bytes: &[u8], out: &mut [u8]) -> usize
 {
     let at = put_bytes(b"done ", bytes, out);
     text::put(b" type1", out, at)
+}
+
+// An answer's bytes, of which there are always some, and the lengths of the UID and the ATS among them.
+fn put_lengths(bytes: &[u8], uid: u8, ats: u8, out: &mut [u8]) -> usize
+    requires { ⌜ (length (now bytes) ≤ 1024) × (outRoom ≤ length (now out)) ⌝ }
+    ensures { λ r. ⌜ placed r (now (out .exit)) ≡ placedAt 0 (lengthsText (now (bytes .entry)) uid ats) (now (out .entry)) ⌝ }
+{
+    let at = put_bytes(b"done ", bytes, out);
+    let behind = put_named(b" uid ", uid, out, at);
+    put_named(b" ats ", ats, out, behind)
 }
 
 // A refusal's number, and the status of 15.
@@ -91,6 +110,7 @@ fn put_output(output: Output, bytes: &[u8], out: &mut [u8; OUT]) -> usize
         Output::Pause(us) => put_number(b"pause ", us as u64, out),
         Output::Done(n) => put_done(first(n, bytes), out),
         Output::Type1(n) => put_type1(first(n, bytes), out),
+        Output::UidAndAts(n, uid, ats) => put_lengths(first(n, bytes), uid, ats, out),
         Output::Nothing => text::put(b"none", out, 0),
         Output::Failed(fault) => put_refused(fault.numbered(), out),
         Output::FailedAfter(fault, n) => put_list_refused(fault.numbered(), n, out),

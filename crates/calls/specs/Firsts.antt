@@ -3,16 +3,17 @@ use mathlib.Core.List.{List}
 use lib.ListN.{getD}
 use Rattle.errors.specs.declared.Refusal.the-variants.{BadArgument}
 use Rattle.protocol.specs.Discovery.{sensfReq}
-use Rattle.protocol.specs.Calls.{DeviceCall, detectTypeA, detectTypeB, detectTypeF, pollTypeF, detectDep, transceive}
+use Rattle.protocol.specs.Calls.{DeviceCall, detectTypeA, detectTypeASplit, detectTypeB, detectTypeF, pollTypeF, detectDep, transceive}
 use Rattle.protocol.specs.Calls.{ReaderCall, request, device, unknown, Call, opening, reader, typeACode, typeBCode, typeFCode, clockOf}
 use Rattle.stages.specs.Starts.{Start, refuses}
 use Rattle.stages.specs.Bitrates.{codeFor}
 use Rattle.chipset.specs.Commands.{firstOf}
 use Rattle.device.specs.Transceive.{transceiveFirst}
-use Rattle.discovery.specs.Firsts.{typeAFirst, typeBFirst, typeFFirst, pollAsserted, depAsserted}
+use Rattle.discovery.specs.Firsts.{typeAFirst, splitFirst, typeBFirst, typeFFirst, pollAsserted, depAsserted}
 
 unfoldable pub deviceFirst : DeviceCall → Start
 deviceFirst (detectTypeA text uid) = codeFor typeACode text (typeAFirst uid)
+deviceFirst (detectTypeASplit text uid) = codeFor typeACode text (splitFirst uid)
 deviceFirst (detectTypeB text sensbReq) = codeFor typeBCode text (typeBFirst (getD sensbReq 0 0))
 deviceFirst (detectTypeF text systemCode requestCode timeSlots) = codeFor typeFCode text (typeFFirst (sensfReq systemCode requestCode timeSlots))
 deviceFirst (pollTypeF text words) = pollAsserted text words

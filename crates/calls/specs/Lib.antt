@@ -5,6 +5,7 @@ pub mod Tables
 pub mod Refines
 pub mod Single
 pub mod Opening
+pub mod TypeA
 pub mod Discoveries
 pub mod Polls
 pub mod Starts

@@ -9,7 +9,7 @@ use lib.Dec.{eqb}
 use lib.ListN.{getD, List·getD-eq-default}
 use Rattle.protocol.specs.Calls.{ReaderCall, Call, opening, reader, request, device, unknown}
 use Rattle.protocol.specs.Calls.{version, resetMode, setParameters, rfConfiguration, rfFieldOff, readRegister, writeRegister, readSingleRegister, writeSingleRegister, inListPassiveTarget, inDataExchange, inCommunicateThru, inJumpForDep, tgInitTarget, tgSetGeneralBytes, tgGetInitiatorCommand, tgResponseToInitiator, tgGetTargetStatus}
-use Rattle.protocol.specs.Calls.{detectTypeA, detectTypeB, detectTypeF, pollTypeF, detectDep, transceive}
+use Rattle.protocol.specs.Calls.{detectTypeA, detectTypeASplit, detectTypeB, detectTypeF, pollTypeF, detectDep, transceive}
 use Rattle.calls.specs.declared.start.Numbers.{Numbers}
 
 -- a byte as a flag
@@ -47,6 +47,7 @@ readerCalls n first second third fourth =
     ∷ device (detectDep first second)
     ∷ device (transceive first second (flag (n .x)) third (msOf (flag (n .y)) (n .word)))
     ∷ device (pollTypeF first second)
+    ∷ device (detectTypeASplit first second)
     ∷ []
 
 -- 0 is the opening, whose mode is x
@@ -65,7 +66,7 @@ not-among zero h a b c d e f g k = refl
 not-among (suc n) h a b c d e f g k =
     absurd (omega (arith, beyond 8 (suc n) (beyond 7 (suc n) (beyond 6 (suc n) (beyond 5 (suc n) (beyond 4 (suc n) (beyond 3 (suc n) (beyond 2 (suc n) (beyond 1 (suc n) (omega arith) a) b) c) d) e) f) g) k))
 
-pub no-call : (number : ℕ) (n : Numbers) (first second third fourth : List ℕ) → 25 ≤ number → callOf number n first second third fourth ≡ reader unknown
+pub no-call : (number : ℕ) (n : Numbers) (first second third fourth : List ℕ) → 26 ≤ number → callOf number n first second third fourth ≡ reader unknown
 unfolding callOf
 no-call number n first second third fourth h = List·getD-eq-default (opening (n .x) ∷ map reader (readerCalls n first second third fourth)) (reader unknown) h
 

@@ -23,7 +23,7 @@ use Rattle.discovery.specs.FirstLaws.{list-few}
 use Rattle.discovery.specs.PollLaws.{none-yet, all-found}
 use Rattle.calls.specs.Tables.{commandOf, isResetOf, decidedOf, failedOf}
 use Rattle.calls.specs.Refines.{Refines, refines-next, refines-pause, Awaits, ending, go-on}
-use Rattle.calls.specs.Single.{rest-values}
+use Rattle.protocol.specs.Values.{rest-values}
 use Rattle.protocol.specs.Names.{commandClock, inListPassiveTargetClock, inListPassiveTargetCode, readRegisterCode, registersClock, rfConfigurationCode}
 
 -- ---- one code: Type F's stages, and behind its end whatever f has

@@ -1,14 +1,13 @@
 -- Each call of one command: its response leads to what the script has.
 use mathlib.Core.Path.{_≡_, refl, sym, ap, _∙_}
-use mathlib.Core.Bool.{Bool, true, false, cond}
-use mathlib.Core.List.{List, [], _∷_, _++_, map, map-append}
-use Prim.Native.Nat.{ℕ, zero, suc, _+_, _-_, _≤_}
-use native.Mathlib.Decide.{decLe}
+use mathlib.Core.Bool.{Bool, true, false}
+use mathlib.Core.List.{List, [], _∷_, _++_, map-append}
+use Prim.Native.Nat.{ℕ, suc, _-_, _≤_}
 use native.Mathlib.Omega.{arith}
 use borrow.Author.Tests.{ltb-true, ltb-false, ne-eqb}
 use lib.Dec.{eqb, ltb}
-use lib.ListN.{length, take, drop, getD, length-drop, drop-of-length-le}
-use lib.Seq.{drop-cons, take-all}
+use lib.ListN.{length, take, drop, getD}
+use lib.Seq.{drop-cons}
 use Rattle.errors.specs.Choice.{pick}
 use Rattle.errors.specs.declared.Fault.{Fault}
 use Rattle.errors.specs.declared.Fault.the-variants.{ShortResponse, Status, CrcA, Rate}
@@ -18,6 +17,7 @@ use Rattle.protocol.specs.Scripts.{Byte, own, value, Answer, done, nothing, ref
 use Rattle.protocol.specs.Chipset.{anyNonzero, statusByte, withStatus as statusThen, withLength as lengthThen, maskedStatus, moreFlag, sendIndex, receiveIndex, rate, versionBytes}
 use Rattle.protocol.specs.Calls.{finished, answer, rateBytes}
 use Rattle.protocol.specs.Follows.{plainAnswer}
+use Rattle.protocol.specs.Values.{part-values, rest-values}
 use Rattle.chipset.specs.Responses.{withLength, withStatus, versionAnswer, writeAnswer, firstAnswer, listAnswer, exchangeAnswer, jumpAnswer, initiatorAnswer, targetAnswer}
 use Rattle.device.specs.Transceive.{type2Answer, type1Answer}
 use Rattle.stages.specs.Stages.{ends as endsWith}
@@ -53,22 +53,6 @@ by-length bs n h = interprets-if (ltb (length bs) n) (λ _. refusing ShortRespon
 pub by-status : (bs : List ℕ) {s : Script} {a : Answer ℕ} → Interprets s a → Interprets (statusThen bs s) (withStatus bs a)
 unfolding withStatus
 by-status bs h = interprets-if (eqb (statusByte bs) 0) (λ _. h) (λ _. refusing (Status (statusByte bs)))
-
--- ---- bytes of a response
-
-part-values : (k : ℕ) (bs : List ℕ) (p n : ℕ) → p + n ≤ length bs → map value (part k bs p n) ≡ take n (drop p bs)
-unfolding part
-part-values k bs p zero h = refl
-part-values k bs p (suc n) h =
-    ap (λ l. getD bs p 0 ∷ l) (part-values k bs (suc p) n (omega arith)) ∙ sym (ap (take (suc n)) (drop-cons bs p 0 (omega arith)))
-
-pub rest-values : (k : ℕ) (bs : List ℕ) (p : ℕ) → map value (rest k bs p) ≡ drop p bs
-unfolding rest part
-rest-values k bs p = go (decLe p (length bs))
-  where
-    go : Dec (p ≤ length bs) → map value (part k bs p (length bs - p)) ≡ drop p bs
-    go (yes h) = part-values k bs p (length bs - p) (omega arith) ∙ take-all (length bs - p) (drop p bs) (omega (arith, length-drop p bs))
-    go (no h) = let z : length bs - p ≡ 0 = omega arith in rw z (sym (drop-of-length-le bs {i = p} (omega arith)))
 
 pub answers : (p : ℕ) (bs : List ℕ) → Interprets (answer p bs) (done (drop p bs))
 answers p bs = ends (done (rest 0 bs p)) (ap done (rest-values 0 bs p))

@@ -19,10 +19,10 @@ use Rattle.targets.specs.Bitrates.{Choice, chosen, noCode, choiceOf}
 use Rattle.targets.specs.declared.Bitrate.{Bitrate}
 use Rattle.protocol.specs.Scripts.{Answer, Script, command, either, refuse}
 use Rattle.protocol.specs.Chipset.{jumpData, initData}
-use Rattle.protocol.specs.Discovery.{cascaded, sensfReq, detectTypeA as typeAScript, detectDep as depScript, transceiveType1, transceiveType2, transceiveThru}
+use Rattle.protocol.specs.Discovery.{cascaded, sensfReq, detectDep as depScript, transceiveType1, transceiveType2, transceiveThru}
 use Rattle.protocol.specs.Scripts.{ifElse}
 use Rattle.protocol.specs.Calls.{Request, version, resetMode, setParameters, rfConfiguration, rfFieldOff, readRegister, writeRegister, readSingleRegister, writeSingleRegister, inListPassiveTarget, inDataExchange, inCommunicateThru, inJumpForDep, tgInitTarget, tgSetGeneralBytes, tgGetInitiatorCommand, tgResponseToInitiator, tgGetTargetStatus}
-use Rattle.protocol.specs.Calls.{DeviceCall, detectTypeA, detectTypeB, detectTypeF, pollTypeF, detectDep, transceive}
+use Rattle.protocol.specs.Calls.{DeviceCall, detectTypeA, detectTypeASplit, detectTypeB, detectTypeF, pollTypeF, detectDep, transceive}
 use Rattle.protocol.specs.Calls.{ReaderCall, request, device, unknown, Start, starts, requestStart, deviceStart, readerStart, finished, registers, systemCodesFit, initFits, activeByte, typeACode, typeBCode, typeFCode, depCode, is106A, type2SelRes, isSendable, clockOf, transceiveStart}
 use Rattle.protocol.specs.Calls.{refuses as refusesStart, limited as limitedStart, asserted as assertedStart, onCode as codeStart, withBitrate as bitrateStart}
 use Rattle.stages.specs.Stages.{cmd, send, ends, refuse as refuseWith}
@@ -33,13 +33,14 @@ use Rattle.chipset.specs.Commands.{firstOf}
 use Rattle.chipset.specs.Laws.{few-words, few-triples}
 use Rattle.chipset.specs.Responses.{answerOf}
 use Rattle.device.specs.Transceive.{type1First, thruFirst, transceiveFirst}
-use Rattle.discovery.specs.Firsts.{typeAFirst, typeBFirst, typeFFirst, pollFirst, pollAsserted, depFirst, depAsserted}
+use Rattle.discovery.specs.Firsts.{listFirst, typeBFirst, typeFFirst, pollFirst, pollAsserted, depFirst, depAsserted}
 use Rattle.discovery.specs.FirstLaws.{jump-few, list-few}
 use Rattle.calls.specs.Firsts.{deviceFirst, startFor}
 use Rattle.calls.specs.Tables.{commandOf, isResetOf, decidedOf, failedOf}
 use Rattle.calls.specs.Refines.{Refines, refines-reset, Awaits, refusal}
 use Rattle.calls.specs.Single.{Interprets, leads, answers, empty, by-status, interprets-version, interprets-write, interprets-first, interprets-list, interprets-exchange, interprets-thru, interprets-type2, interprets-type1, interprets-jump, interprets-initiator, interprets-target}
-use Rattle.calls.specs.Discoveries.{typeA-leads, typeB-leads, typeF-leads, dep-leads}
+use Rattle.calls.specs.TypeA.{typeA-leads, split-leads}
+use Rattle.calls.specs.Discoveries.{typeB-leads, typeF-leads, dep-leads}
 use Rattle.calls.specs.Polls.{poll-leads}
 use Rattle.protocol.specs.Names.{commandClock, getFirmwareVersionCode, inCommunicateThruCode, inDataExchangeCode, inJumpForDepClock, inJumpForDepCode, inListPassiveTargetClock, inListPassiveTargetCode, readRegisterCode, registersClock, rfConfigurationCode, setParametersCode, tgGetInitiatorCommandCode, tgGetTargetStatusCode, tgInitTargetCode, tgResponseToInitiatorClock, tgResponseToInitiatorCode, tgSetGeneralBytesCode, writeRegisterCode}
 
@@ -47,9 +48,9 @@ use Rattle.protocol.specs.Names.{commandClock, getFirmwareVersionCode, inCommun
 pub record Kind (kind : ℕ) : Type 0 where
   pub running : eqb kind 0 ≡ false
   pub noOpening : eqb kind 1 ≡ false
-  pub within : leb kind 21 ≡ true
+  pub within : leb kind 22 ≡ true
 
-a-kind : {kind : ℕ} → eqb kind 0 ≡ false → eqb kind 1 ≡ false → leb kind 21 ≡ true → Kind kind
+a-kind : {kind : ℕ} → eqb kind 0 ≡ false → eqb kind 1 ≡ false → leb kind 22 ≡ true → Kind kind
 a-kind p q r = record { running = p; noOpening = q; within = r }
 
 -- both refuse; the script's first command is the one sent; or the command of stage 0 leads to the script
@@ -131,14 +132,16 @@ by-code takes text f g h = go (choiceOf text)
     go (chosen b) = on (takes b)
     go (noCode e) = refusedNow BadBitrate
 
-typeA-begins : (uid : List ℕ) (code : ℕ) → Starting (limitedStart (1 ∷ code ∷ cascaded uid) (typeAScript code uid)) (typeAFirst uid code)
-unfolding typeAFirst stagedLimited pick
-typeA-begins uid code = go (ltb 512 (length (1 ∷ code ∷ cascaded uid))) refl
+-- Type A's list, of a kind that has its stages
+list-begins : (kind : ℕ) → Kind kind → (uid : List ℕ) (code : ℕ) (s : Script) → ((found : List ℕ) → Refines kind 0 (1 ∷ code ∷ cascaded uid) found (send 0) s)
+    → Starting (limitedStart (1 ∷ code ∷ cascaded uid) s) (listFirst kind uid code)
+unfolding listFirst stagedLimited pick
+list-begins kind h uid code s k = go (ltb 512 (length (1 ∷ code ∷ cascaded uid))) refl
   where
     go : (t : Bool) → ltb 512 (length (1 ∷ code ∷ cascaded uid)) ≡ t
-        → Starting (cond t (refusesStart OverLong) (starts (typeAScript code uid))) (pick t (refuses OverLong) (staged 17 (1 ∷ code ∷ cascaded uid)))
+        → Starting (cond t (refusesStart OverLong) (starts s)) (pick t (refuses OverLong) (staged kind (1 ∷ code ∷ cascaded uid)))
     go true e = refusedNow OverLong
-    go false e = leading 17 _ _ (a-kind refl refl refl) (ltb-false 512 (length (1 ∷ code ∷ cascaded uid)) e) (typeA-leads code uid)
+    go false e = leading kind _ _ h (ltb-false 512 (length (1 ∷ code ∷ cascaded uid)) e) k
 
 dep-begins : (req : List ℕ) → length req ≤ 64 → (code : ℕ) → Starting (starts (depScript code req)) (depFirst req code)
 unfolding depFirst
@@ -161,7 +164,8 @@ transceive-begins rate selRes false bytes ms = go (is106A rate && type2SelRes se
 -- one line for each call
 device-begins : (d : DeviceCall) → Starting (deviceStart d) (deviceFirst d)
 unfolding deviceFirst typeBFirst typeFFirst pollAsserted pollFirst depAsserted transceiveFirst
-device-begins (detectTypeA text uid) = by-code typeACode text _ _ (typeA-begins uid)
+device-begins (detectTypeA text uid) = by-code typeACode text _ _ (λ code. list-begins 17 (a-kind refl refl refl) uid code _ (typeA-leads code uid))
+device-begins (detectTypeASplit text uid) = by-code typeACode text _ _ (λ code. list-begins 22 (a-kind refl refl refl) uid code _ (split-leads code uid))
 device-begins (detectTypeB text sensbReq) =
     by-code typeBCode text _ _ (λ code. leading 18 _ _ (a-kind refl refl refl) (omega arith) (typeB-leads code (getD sensbReq 0 0)))
 device-begins (detectTypeF text systemCode requestCode timeSlots) =

@@ -1,4 +1,4 @@
--- The calls by the numbers of their kinds: 1 the opening, 2 to 16 a call of one command by the rule for its response, 17 to 21 a discovery.
+-- The calls by the numbers of their kinds: 1 the opening, 2 to 16 a call of one command by the rule for its response, 17 to 22 a discovery.
 use mathlib.Core.Bool.{Bool}
 use mathlib.Core.List.{List}
 use Prim.Native.Nat.{ℕ}
@@ -10,7 +10,7 @@ use Rattle.chipset.specs.Commands.{resetCommand}
 use Rattle.chipset.specs.Responses.{answerOf}
 use Rattle.device.specs.Transceive.{type2Answer, type1Answer}
 use Rattle.device.specs.Opening.{openingCommand, isResetStage, openingDecision}
-use Rattle.discovery.specs.Decisions.{typeACommand, typeADecision, typeAFailure, typeBCommand, typeBDecision, typeBFailure, typeFCommand, typeFDecision, depCommand, depDecision, depFailure, pollCommand, pollDecision, pollFailure}
+use Rattle.discovery.specs.Decisions.{typeACommand, typeADecision, typeAFailure, splitDecision, typeBCommand, typeBDecision, typeBFailure, typeFCommand, typeFDecision, depCommand, depDecision, depFailure, pollCommand, pollDecision, pollFailure}
 
 -- the command of a stage; `cursor` is where the call stands in a list of its own, and `pending` is the pending command
 unfoldable pub commandOf : ℕ → ℕ → ℕ → List ℕ → Command
@@ -20,7 +20,8 @@ commandOf kind stage cursor pending =
     (pick (eqb kind 17) (typeACommand stage pending)
     (pick (eqb kind 18) (typeBCommand stage pending)
     (pick (eqb kind 19) (typeFCommand stage pending)
-    (pick (eqb kind 21) (pollCommand stage cursor pending) (depCommand stage pending))))))
+    (pick (eqb kind 21) (pollCommand stage cursor pending)
+    (pick (eqb kind 22) (typeACommand stage pending) (depCommand stage pending)))))))
 
 -- the command of a stage is a reset's
 unfoldable pub isResetOf : ℕ → ℕ → Bool
@@ -36,7 +37,8 @@ decidedOf kind stage cursor pending found bs =
     (pick (eqb kind 18) (typeBDecision stage pending bs)
     (pick (eqb kind 19) (typeFDecision stage bs)
     (pick (eqb kind 20) (depDecision stage found bs)
-    (pick (eqb kind 21) (pollDecision stage cursor pending found bs) (ends (answerOf kind bs)))))))))
+    (pick (eqb kind 21) (pollDecision stage cursor pending found bs)
+    (pick (eqb kind 22) (splitDecision stage cursor found bs) (ends (answerOf kind bs))))))))))
 
 -- what follows its failure
 unfoldable pub failedOf : ℕ → ℕ → ℕ → List ℕ → List ℕ → Fault → Decision
@@ -44,4 +46,5 @@ failedOf kind stage cursor pending found fault =
     pick (eqb kind 17) (typeAFailure stage fault)
     (pick (eqb kind 18) (typeBFailure stage fault)
     (pick (eqb kind 20) (depFailure stage fault)
-    (pick (eqb kind 21) (pollFailure cursor pending found fault) (refuse fault))))
+    (pick (eqb kind 21) (pollFailure cursor pending found fault)
+    (pick (eqb kind 22) (typeAFailure stage fault) (refuse fault)))))

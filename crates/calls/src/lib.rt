@@ -11,11 +11,13 @@ use device::transceive::TYPE_2;
 use discovery::DEP;
 use discovery::POLL_TYPE_F;
 use discovery::TYPE_A;
+use discovery::TYPE_A_SPLIT;
 use discovery::TYPE_B;
 use discovery::TYPE_F;
 use discovery::dep;
 use discovery::poll_type_f;
 use discovery::type_a;
+use discovery::type_a_split;
 use discovery::type_b;
 use discovery::type_f;
 use errors::Fault;
@@ -38,6 +40,7 @@ pub fn command(kind: u8, stage: u8, cursor: u8, pending: &[u8]) -> Command
         TYPE_B => type_b::command(stage),
         TYPE_F => type_f::command(stage),
         POLL_TYPE_F => poll_type_f::command(stage, cursor, pending),
+        TYPE_A_SPLIT => type_a::command(stage),
         _ => dep::command(stage),
     }
 }
@@ -73,6 +76,7 @@ pub fn decided(
         TYPE_F => type_f::decided(stage, response),
         DEP => dep::decided(stage, found, response),
         POLL_TYPE_F => poll_type_f::decided(stage, cursor, pending, found, response),
+        TYPE_A_SPLIT => type_a_split::decided(stage, cursor, found, response),
         _ => response::decided(kind, response),
     }
 }
@@ -93,6 +97,7 @@ pub fn failed(
         TYPE_B => type_b::failed(stage, fault),
         DEP => dep::failed(stage, fault),
         POLL_TYPE_F => poll_type_f::failed(cursor, pending, found, fault),
+        TYPE_A_SPLIT => type_a::failed(stage, fault),
         _ => Decision::Refused(fault),
     }
 }

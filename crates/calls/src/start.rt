@@ -8,6 +8,7 @@ use device::transceive::transceive;
 use discovery::dep::detect_dep;
 use discovery::poll_type_f::poll_type_f;
 use discovery::type_a::detect_type_a;
+use discovery::type_a_split::detect_type_a_split;
 use discovery::type_b::detect_type_b;
 use discovery::type_f::detect_type_f;
 use errors::Refusal;
@@ -82,6 +83,8 @@ pub const DETECT_DEP: u8 = 22;
 pub const TRANSCEIVE: u8 = 23;
 
 pub const POLL_TYPE_F: u8 = 24;
+
+pub const DETECT_TYPE_A_SPLIT: u8 = 25;
 
 // Calls 1 to 8: the chip's version, mode, parameters and registers.
 fn chip(number: u8, numbers: Numbers, first: &[u8], command: &mut [u8; 512]) -> Start
@@ -161,7 +164,7 @@ fn timeout(given: bool, ms: u16) -> Timeout
     }
 }
 
-// Calls 19 to 24: the discoveries and transceive. A number that has no call is refused with 4.
+// Calls 19 to 25: the discoveries and transceive. A number that has no call is refused with 4.
 fn on_device(
     number: u8,
     numbers: Numbers,
@@ -186,6 +189,7 @@ fn on_device(
             transceive(first, second, is_set(x), third, ms, command)
         }
         POLL_TYPE_F => poll_type_f(first, second, command),
+        DETECT_TYPE_A_SPLIT => detect_type_a_split(first, second, command),
         _ => start::refused(Refusal::BadArgument),
     }
 }

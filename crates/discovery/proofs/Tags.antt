@@ -13,11 +13,11 @@ use lib.ListN.{length, getD}
 use types.Run.{OneOf, miss}
 use Rattle.errors.specs.Refusals.{byStatus}
 use Rattle.errors.specs.declared.Fault.{Fault}
-use Rattle.errors.specs.declared.Fault.the-variants.{Transport, TimeOut, FalseStart, BrokenFrame, Length, FrameKind, Identifier, Code, Status, ShortResponse, NoCard, CrcA, Rate}
+use Rattle.errors.specs.declared.Fault.the-variants.{Transport, TimeOut, FalseStart, BrokenFrame, Length, FrameKind, Identifier, Code, Status, ShortResponse, NoCard, CrcA, Rate, UidLayout}
 use Rattle.stages.specs.Stages as stages
 use Rattle.stages.specs.Decided.{Decides}
 use Rattle.stages.specs.declared.Decision.{Decision}
-use Rattle.stages.specs.declared.Decision.the-variants.{Send, Keep, Next, Put, Pause, Done, Type1, Nothing, Refused, RefusedAfter}
+use Rattle.stages.specs.declared.Decision.the-variants.{Send, Keep, Next, Put, Pause, Done, Type1, UidAndAts, Nothing, Refused, RefusedAfter}
 use Rattle.targets.specs.declared.Bitrate.{Bitrate}
 use Rattle.targets.specs.declared.Bitrate.the-variants.{B106A, B212F, B424F, B106B, B212B, B424B, B848B, Other}
 use Rattle.targets.proofs.Bitrate.{the-type}
@@ -74,7 +74,7 @@ pub partner-told : (x : ℕ) → (OneOf (1 ∷ 10 ∷ []) x → ⊥) → (eqb x 
 partner-told x h = rw (ne-eqb x 1 (λ e. h (inl e)), ne-eqb x 10 (λ e. h (inr e)))
 
 -- no status
-pub not-status : {A : Type 0} (f : ℕ → A) (a : A) (fault : Fault) → OneOf (0 ∷ 1 ∷ 2 ∷ 3 ∷ 4 ∷ 5 ∷ 6 ∷ 7 ∷ 9 ∷ 10 ∷ 11 ∷ 12 ∷ []) (tagOf Rattle.errors.proofs.Fault.the-type fault)
+pub not-status : {A : Type 0} (f : ℕ → A) (a : A) (fault : Fault) → OneOf (0 ∷ 1 ∷ 2 ∷ 3 ∷ 4 ∷ 5 ∷ 6 ∷ 7 ∷ 9 ∷ 10 ∷ 11 ∷ 12 ∷ 13 ∷ []) (tagOf Rattle.errors.proofs.Fault.the-type fault)
     → byStatus f a fault ≡ a
 not-status f a Transport h = refl
 not-status f a TimeOut h = refl
@@ -84,14 +84,15 @@ not-status f a Length h = refl
 not-status f a FrameKind h = refl
 not-status f a Identifier h = refl
 not-status f a Code h = refl
-not-status f a (Status s) h = absurd (miss (0 ∷ 1 ∷ 2 ∷ 3 ∷ 4 ∷ 5 ∷ 6 ∷ 7 ∷ 9 ∷ 10 ∷ 11 ∷ 12 ∷ []) 8 tt h)
+not-status f a (Status s) h = absurd (miss (0 ∷ 1 ∷ 2 ∷ 3 ∷ 4 ∷ 5 ∷ 6 ∷ 7 ∷ 9 ∷ 10 ∷ 11 ∷ 12 ∷ 13 ∷ []) 8 tt h)
 not-status f a ShortResponse h = refl
 not-status f a NoCard h = refl
 not-status f a CrcA h = refl
 not-status f a Rate h = refl
+not-status f a UidLayout h = refl
 
 -- no 17
-pub not-no-card : {A : Type 0} (x a : A) (fault : Fault) → OneOf (0 ∷ 1 ∷ 2 ∷ 3 ∷ 4 ∷ 5 ∷ 6 ∷ 7 ∷ 8 ∷ 9 ∷ 11 ∷ 12 ∷ []) (tagOf Rattle.errors.proofs.Fault.the-type fault)
+pub not-no-card : {A : Type 0} (x a : A) (fault : Fault) → OneOf (0 ∷ 1 ∷ 2 ∷ 3 ∷ 4 ∷ 5 ∷ 6 ∷ 7 ∷ 8 ∷ 9 ∷ 11 ∷ 12 ∷ 13 ∷ []) (tagOf Rattle.errors.proofs.Fault.the-type fault)
     → byNoCard x a fault ≡ a
 not-no-card x a Transport h = refl
 not-no-card x a TimeOut h = refl
@@ -103,20 +104,22 @@ not-no-card x a Identifier h = refl
 not-no-card x a Code h = refl
 not-no-card x a (Status s) h = refl
 not-no-card x a ShortResponse h = refl
-not-no-card x a NoCard h = absurd (miss (0 ∷ 1 ∷ 2 ∷ 3 ∷ 4 ∷ 5 ∷ 6 ∷ 7 ∷ 8 ∷ 9 ∷ 11 ∷ 12 ∷ []) 10 tt h)
+not-no-card x a NoCard h = absurd (miss (0 ∷ 1 ∷ 2 ∷ 3 ∷ 4 ∷ 5 ∷ 6 ∷ 7 ∷ 8 ∷ 9 ∷ 11 ∷ 12 ∷ 13 ∷ []) 10 tt h)
 not-no-card x a CrcA h = refl
 not-no-card x a Rate h = refl
+not-no-card x a UidLayout h = refl
 
 -- no end with bytes or with a fault
 pub not-ended : (f b : List ℕ) (F : List ℕ → stages.Decision) (G : Fault → stages.Decision) (r : Decision) (d : stages.Decision)
-    → OneOf (0 ∷ 1 ∷ 2 ∷ 3 ∷ 4 ∷ 6 ∷ 7 ∷ 9 ∷ []) (tagOf Rattle.stages.proofs.Decision.the-type r) → Decides f b r d → Decides f b r (onEnd F G d)
+    → OneOf (0 ∷ 1 ∷ 2 ∷ 3 ∷ 4 ∷ 6 ∷ 7 ∷ 8 ∷ 10 ∷ []) (tagOf Rattle.stages.proofs.Decision.the-type r) → Decides f b r d → Decides f b r (onEnd F G d)
 not-ended f b F G (Send n) d h k = record { is = ap (onEnd F G) (k .is); fits = k .fits }
 not-ended f b F G (Keep n l) d h k = record { is = ap (onEnd F G) (k .is); fits = k .fits }
 not-ended f b F G (Next n c l) d h k = record { is = ap (onEnd F G) (k .is); fits = k .fits }
 not-ended f b F G (Put n x) d h k = record { is = ap (onEnd F G) (k .is); fits = k .fits }
 not-ended f b F G (Pause us n) d h k = record { is = ap (onEnd F G) (k .is); fits = k .fits }
-not-ended f b F G (Done l) d h k = absurd (miss (0 ∷ 1 ∷ 2 ∷ 3 ∷ 4 ∷ 6 ∷ 7 ∷ 9 ∷ []) 5 tt h)
+not-ended f b F G (Done l) d h k = absurd (miss (0 ∷ 1 ∷ 2 ∷ 3 ∷ 4 ∷ 6 ∷ 7 ∷ 8 ∷ 10 ∷ []) 5 tt h)
 not-ended f b F G (Type1 l) d h k = record { is = ap (onEnd F G) (k .is); fits = k .fits }
+not-ended f b F G (UidAndAts l uid ats) d h k = record { is = ap (onEnd F G) (k .is); fits = k .fits }
 not-ended f b F G Nothing d h k = record { is = ap (onEnd F G) (k .is); fits = k .fits }
-not-ended f b F G (Refused r) d h k = absurd (miss (0 ∷ 1 ∷ 2 ∷ 3 ∷ 4 ∷ 6 ∷ 7 ∷ 9 ∷ []) 8 tt h)
+not-ended f b F G (Refused r) d h k = absurd (miss (0 ∷ 1 ∷ 2 ∷ 3 ∷ 4 ∷ 6 ∷ 7 ∷ 8 ∷ 10 ∷ []) 9 tt h)
 not-ended f b F G (RefusedAfter r n) d h k = record { is = ap (onEnd F G) (k .is); fits = k .fits }

@@ -7,14 +7,15 @@ use lib.ListN.{length, take, drop, getD}
 use Rattle.errors.specs.Choice.{pick}
 use Rattle.errors.specs.Refusals.{byStatus}
 use Rattle.errors.specs.declared.Fault.{Fault}
-use Rattle.errors.specs.declared.Fault.the-variants.{Status, NoCard}
+use Rattle.errors.specs.declared.Fault.the-variants.{Status, NoCard, UidLayout}
+use Rattle.targets.specs.TypeA.{isTargetData}
 use Rattle.framing.specs.Lists.{both}
-use Rattle.protocol.specs.Scripts.{done, type1, nothing, refused, refusedAfter}
-use Rattle.protocol.specs.Chipset.{statusByte, maskedStatus, word}
-use Rattle.protocol.specs.Discovery.{isType2, sensfReq, byNoCard}
+use Rattle.protocol.specs.Scripts.{done, type1, uidAndAts, nothing, refused, refusedAfter}
+use Rattle.protocol.specs.Chipset.{anyNonzero, statusByte, maskedStatus, word}
+use Rattle.protocol.specs.Discovery.{isType2, uidLength, atsLength, sensfReq, byNoCard}
 use Rattle.chipset.specs.Responses.{foundWritten}
 use Rattle.stages.specs.Stages.{Command, cmd, Decision, send, keep, next, put, pause, ends, refuse, withLength}
-use Rattle.protocol.specs.Names.{ciuFifoData, ciuMode, ciuRxMode, ciuTxControl, commandClock, fieldPauseTime, inCommunicateThruCode, inDataExchangeCode, inJumpForDepClock, inJumpForDepCode, inListPassiveTargetClock, inListPassiveTargetCode, readRegisterCode, registersClock, rfConfigurationCode, rfNotActivated, ridClock, timeoutStatus, typeBClock, writeRegisterCode}
+use Rattle.protocol.specs.Names.{ciuFifoData, ciuMode, ciuRxMode, ciuTxControl, commandClock, fieldPauseTime, inCommunicateThruCode, inDataExchangeCode, inJumpForDepClock, inJumpForDepCode, inListPassiveTargetClock, inListPassiveTargetCode, readRegisterCode, registerWriteFailed, registersClock, rfConfigurationCode, rfNotActivated, ridClock, timeoutStatus, typeBClock, writeRegisterCode}
 
 -- ---- Type A: 0 list, 1 FIFO, 2 list of Type 1, 3 RID, 4 RX mode read, 5 RX mode written
 
@@ -69,6 +70,27 @@ ridFailure fault = byStatus (λ status. ends nothing) (refuse fault) fault
 
 unfoldable pub typeAFailure : ℕ → Fault → Decision
 typeAFailure stage fault = pick (eqb stage 1) (send 2) (pick (eqb stage 3) (ridFailure fault) (refuse fault))
+
+-- ---- Type A in the mode in which UID and ATS are told apart: Type A's stages. The cursor is the UID's length while the RX mode is set, where
+-- the found bytes are three bytes, the UID and the ATS.
+
+unfoldable pub splitFound : List ℕ → Decision
+splitFound bs =
+    pick (isTargetData (drop 2 bs))
+    (pick (isType2 (getD bs 4 0)) (next 4 (uidLength bs) (cardBytes bs)) (ends (uidAndAts (cardBytes bs) (uidLength bs) (atsLength bs))))
+    (refuse UidLayout)
+
+unfoldable pub splitListed : List ℕ → Decision
+splitListed bs =
+    pick (eqb (getD bs 0 0) 0) (send 1) (withLength bs 2 (pick (ltb (length bs) 6) (ends nothing) (splitFound bs)))
+
+unfoldable pub splitWritten : ℕ → List ℕ → List ℕ → Decision
+splitWritten cursor found bs =
+    pick (anyNonzero bs) (refuse (Status registerWriteFailed)) (ends (uidAndAts found cursor (getD found (3 + cursor) 0)))
+
+unfoldable pub splitDecision : ℕ → ℕ → List ℕ → List ℕ → Decision
+splitDecision stage cursor found bs =
+    pick (eqb stage 0) (splitListed bs) (pick (eqb stage 5) (splitWritten cursor found bs) (typeADecision stage found bs))
 
 -- ---- Type B: 0 list, 1 deselect, 2 wake-up
 
@@ -146,6 +168,7 @@ onEnd f g (put n l) = put n l
 onEnd f g (pause us n) = pause us n
 onEnd f g (ends (done bytes)) = f bytes
 onEnd f g (ends (type1 bytes)) = ends (type1 bytes)
+onEnd f g (ends (uidAndAts bytes uid ats)) = ends (uidAndAts bytes uid ats)
 onEnd f g (ends nothing) = ends nothing
 onEnd f g (ends (refused fault)) = g fault
 onEnd f g (ends (refusedAfter fault n)) = ends (refusedAfter fault n)

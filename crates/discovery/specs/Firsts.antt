@@ -13,9 +13,16 @@ use Rattle.stages.specs.Bitrates.{codeFor}
 use Rattle.discovery.specs.declared.rates.Supported.{Supported}
 use Rattle.discovery.specs.declared.rates.Supported.the-variants.{Code, Not}
 
--- the list with the UID
-unfoldable pub typeAFirst : List ℕ → ℕ → Start
-typeAFirst uid code = stagedLimited 17 (1 ∷ code ∷ cascaded uid)
+-- the list with the UID, of a kind that has Type A's stages
+unfoldable pub listFirst : ℕ → List ℕ → ℕ → Start
+listFirst kind uid code = stagedLimited kind (1 ∷ code ∷ cascaded uid)
+
+abbrev pub typeAFirst : List ℕ → ℕ → Start
+typeAFirst uid code = listFirst 17 uid code
+
+-- the same in the mode in which UID and ATS are told apart
+abbrev pub splitFirst : List ℕ → ℕ → Start
+splitFirst uid code = listFirst 22 uid code
 
 -- the list with the AFI
 unfoldable pub typeBFirst : ℕ → ℕ → Start

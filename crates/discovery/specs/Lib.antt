@@ -4,3 +4,4 @@ pub mod Firsts
 pub mod Laws
 pub mod FirstLaws
 pub mod PollLaws
+pub mod SplitLaws

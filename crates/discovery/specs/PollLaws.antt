@@ -12,7 +12,7 @@ use Rattle.errors.specs.Choice.{pick}
 use Rattle.errors.specs.declared.Fault.{Fault}
 use Rattle.errors.specs.declared.Fault.the-variants.{NoCard, ShortResponse}
 use Rattle.framing.specs.Valid.{both-left}
-use Rattle.protocol.specs.Scripts.{Answer, done, type1, nothing, refused, refusedAfter}
+use Rattle.protocol.specs.Scripts.{Answer, done, type1, uidAndAts, nothing, refused, refusedAfter}
 use Rattle.stages.specs.Stages.{Decision, send, keep, next, put, pause, ends, refuse, withLength}
 use Rattle.stages.specs.Decided.{layoutBytes, decisionIn, Lays, Decides}
 use Rattle.stages.specs.declared.Decision as code
@@ -67,6 +67,7 @@ hasBytes (put n k) l = ⊥
 hasBytes (pause us n) l = ⊥
 hasBytes (ends (done bytes)) l = bytes ≡ l
 hasBytes (ends (type1 bytes)) l = ⊥
+hasBytes (ends (uidAndAts bytes uid ats)) l = ⊥
 hasBytes (ends nothing) l = ⊥
 hasBytes (ends (refused fault)) l = ⊥
 hasBytes (ends (refusedAfter fault n)) l = ⊥

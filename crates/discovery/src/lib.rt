@@ -3,6 +3,7 @@ pub mod dep;
 pub mod poll_type_f;
 mod rates;
 pub mod type_a;
+pub mod type_a_split;
 pub mod type_b;
 pub mod type_f;
 
@@ -16,3 +17,5 @@ pub const TYPE_F: u8 = 19;
 pub const DEP: u8 = 20;
 
 pub const POLL_TYPE_F: u8 = 21;
+
+pub const TYPE_A_SPLIT: u8 = 22;

@@ -27,20 +27,20 @@ ghost use Rattle.discovery.specs.Decisions.{cardBytes, sensRes, typeACom
 ghost use Rattle.stages.specs.Starts.{Starts};
 ghost use Rattle.protocol.specs.Calls.{typeACode};
 ghost use Rattle.stages.specs.Bitrates.{codeFor};
-ghost use Rattle.discovery.specs.Firsts.{typeAFirst};
+ghost use Rattle.discovery.specs.Firsts.{listFirst, typeAFirst};
 
 // The stages.
-const STAGE_LIST: u8 = 0;
+pub(crate) const STAGE_LIST: u8 = 0;
 
-const STAGE_FIFO: u8 = 1;
+pub(crate) const STAGE_FIFO: u8 = 1;
 
 const STAGE_LIST_TYPE_1: u8 = 2;
 
 const STAGE_RID: u8 = 3;
 
-const STAGE_READ_RX_MODE: u8 = 4;
+pub(crate) const STAGE_READ_RX_MODE: u8 = 4;
 
-const STAGE_WRITE_RX_MODE: u8 = 5;
+pub(crate) const STAGE_WRITE_RX_MODE: u8 = 5;
 
 // Stands in a UID where it goes on at the next cascade level.
 const CASCADE_TAG: u8 = 0x88;
@@ -52,24 +52,25 @@ const SENS_REQ: u8 = 0x26;
 const RID_CLOCK: u32 = 100;
 
 // A UID over 4 bytes gets 0x88 at 0; if then over 8, 0x88 at 4.
-fn list(code: u8, uid: &[u8], command: &mut [u8; 512]) -> Start
-    ensures { λ r. ⌜ Starts r (now (command .entry)) (now (command .exit)) (typeAFirst (now (uid .entry)) code) ⌝ }
+fn list(kind: u8, code: u8, uid: &[u8], command: &mut [u8; 512]) -> Start
+    ensures { λ r. ⌜ Starts r (now (command .entry)) (now (command .exit)) (listFirst kind (now (uid .entry)) code) ⌝ }
 {
     if uid.len() <= 4 {
         let n = put_two(&[1, code], uid, command);
-        return start::staged(TYPE_A, n);
+        return start::staged(kind, n);
     }
     if uid.len() <= 7 {
         let n = put_two(&[1, code, CASCADE_TAG], uid, command);
-        return start::staged(TYPE_A, n);
+        return start::staged(kind, n);
     }
     let head = [1, code, CASCADE_TAG, uid[0], uid[1], uid[2], CASCADE_TAG];
     let n = put_two(&head, &uid[3..], command);
-    start::staged(TYPE_A, n)
+    start::staged(kind, n)
 }
 
-pub fn detect_type_a(bitrate: &[u8], uid: &[u8], command: &mut [u8; 512]) -> Start
-    ensures { λ r. ⌜ Starts r (now (command .entry)) (now (command .exit)) (codeFor typeACode (now (bitrate .entry)) (typeAFirst (now (uid .entry)))) ⌝ }
+// Stage 0 of a kind that has Type A's stages.
+pub(crate) fn detect(kind: u8, bitrate: &[u8], uid: &[u8], command: &mut [u8; 512]) -> Start
+    ensures { λ r. ⌜ Starts r (now (command .entry)) (now (command .exit)) (codeFor typeACode (now (bitrate .entry)) (listFirst kind (now (uid .entry)))) ⌝ }
 {
     let Coded::Code(rate) = targets::code(bitrate) else {
         return start::refused(Refusal::Bitrate);
@@ -77,7 +78,13 @@ pub fn detect_type_a(bitrate: &[u8], uid: &[u8], command: &mut [u8; 512]) -> Sta
     let Supported::Code(code) = type_a_code(rate) else {
         return start::refused(Refusal::Bitrate);
     };
-    list(code, uid, command)
+    list(kind, code, uid, command)
+}
+
+pub fn detect_type_a(bitrate: &[u8], uid: &[u8], command: &mut [u8; 512]) -> Start
+    ensures { λ r. ⌜ Starts r (now (command .entry)) (now (command .exit)) (codeFor typeACode (now (bitrate .entry)) (typeAFirst (now (uid .entry)))) ⌝ }
+{
+    detect(TYPE_A, bitrate, uid, command)
 }
 
 // The list of a Type 1 tag: one target, at the chip's code for Type 1.
@@ -108,7 +115,7 @@ pub fn command(stage: u8) -> Command
 }
 
 // SENS_RES in the other order, SEL_RES and SDD_RES of a list.
-fn card(list: &[u8]) -> Layout
+pub(crate) fn card(list: &[u8]) -> Layout
     requires { ⌜ 6 ≤ length (now list) ⌝ }
     ensures { λ r. ⌜ ((f : List ℕ) → Lays f (now (list .entry)) r (cardBytes (now (list .entry)))) ⌝ }
 {

@@ -9,7 +9,7 @@ use Rattle.framing.specs.Lists.{both}
 use Rattle.framing.specs.Padded.{extraZeros}
 use Rattle.protocol.specs.Calls.{isPaddedMode}
 use Rattle.engine.specs.declared.core.Output.{Output}
-use Rattle.engine.specs.declared.core.Output.the-variants.{Ack, Command, Read, Drain, Pause, Done, Type1, Nothing, Failed, FailedAfter, Refused}
+use Rattle.engine.specs.declared.core.Output.the-variants.{Ack, Command, Read, Drain, Pause, Done, Type1, UidAndAts, Nothing, Failed, FailedAfter, Refused}
 
 pub record Books : Type 0 where
   pub numbers : List ℕ  -- whether the reader is open, the mode, the caller
@@ -71,6 +71,7 @@ booked k isOpening Drain b = byCaller k b
 booked k isOpening (Pause us) b = byCaller k b
 booked k isOpening (Done n) b = ended (byCaller k b) isOpening 1
 booked k isOpening (Type1 n) b = ended (byCaller k b) isOpening 1
+booked k isOpening (UidAndAts n uid ats) b = ended (byCaller k b) isOpening 1
 booked k isOpening Nothing b = ended (byCaller k b) isOpening 0
 booked k isOpening (Failed r) b = ended (byCaller k b) isOpening 0
 booked k isOpening (FailedAfter r n) b = ended (byCaller k b) isOpening 0

@@ -16,7 +16,7 @@ use Rattle.exchange.specs.Exchange.{Order, write, read, drain, pause}
 use Rattle.exchange.specs.Packets.{commandFrame}
 use Rattle.exchange.specs.Steps.{exchangeAt}
 use Rattle.exchange.specs.declared.Exchange.{Exchange}
-use Rattle.protocol.specs.Scripts.{Answer, done, type1, nothing, refused, refusedAfter}
+use Rattle.protocol.specs.Scripts.{Answer, done, type1, uidAndAts, nothing, refused, refusedAfter}
 use Rattle.stages.specs.Put.{put}
 use Rattle.stages.specs.Stages.{Command, Decision, send, keep, next, put as putBy, pause as pauseFor, ends}
 use Rattle.stages.specs.Starts.{Start, staged, sends as sendsFirst, refuses as refusesAtOnce}
@@ -119,6 +119,7 @@ doneOf s f bytes b = endsOf s f (out.Done (length bytes)) (put bytes b)
 abbrev pub answersOf : Core → Held → Answer ℕ → List ℕ → After Core
 answersOf s f (done bytes) b = doneOf s f bytes b
 answersOf s f (type1 bytes) b = endsOf s f (out.Type1 (length bytes)) (put bytes b)
+answersOf s f (uidAndAts bytes uid ats) b = endsOf s f (out.UidAndAts (length bytes) uid ats) (put bytes b)
 answersOf s f nothing b = endsOf s f out.Nothing b
 answersOf s f (refused r) b = endsOf s f (out.Failed r) b
 answersOf s f (refusedAfter r n) b = endsOf s f (out.FailedAfter r n) b

@@ -3,7 +3,7 @@ use mathlib.Core.List.{List}
 use Prim.Native.Nat.{ℕ}
 use lib.ListN.{length, take}
 use Rattle.exchange.specs.Exchange.{write, read, drain, pause, Event}
-use Rattle.protocol.specs.Scripts.{done, type1, nothing, refused, refusedAfter}
+use Rattle.protocol.specs.Scripts.{done, type1, uidAndAts, nothing, refused, refusedAfter}
 use Rattle.protocol.specs.Calls.{ReaderCall, opening, reader}
 use Rattle.protocol.specs.Session.{Entry, call, event}
 use Rattle.protocol.specs.Session.{Output as Given, orders, answers, rejects}
@@ -12,7 +12,7 @@ use Rattle.engine.specs.Core.{Held, After}
 use Rattle.engine.specs.Sessions.{State, heldIn, stateIn, sessionAfter, eventAfter, Stepped}
 use Rattle.engine.specs.Sessions.{openAfter as openedAt, startAfter}
 use Rattle.engine.specs.declared.core.Output.{Output}
-use Rattle.engine.specs.declared.core.Output.the-variants.{Ack, Command, Read, Drain, Pause, Done, Type1, Nothing, Failed, FailedAfter, Refused}
+use Rattle.engine.specs.declared.core.Output.the-variants.{Ack, Command, Read, Drain, Pause, Done, Type1, UidAndAts, Nothing, Failed, FailedAfter, Refused}
 use Rattle.engine.specs.declared.session.Session.{Session}
 
 -- what the host is told: an output with the buffer's bytes
@@ -24,6 +24,7 @@ outputOf Drain b = orders drain
 outputOf (Pause us) b = orders (pause us)
 outputOf (Done n) b = answers (done (take n b))
 outputOf (Type1 n) b = answers (type1 (take n b))
+outputOf (UidAndAts n uid ats) b = answers (uidAndAts (take n b) uid ats)
 outputOf Nothing b = answers nothing
 outputOf (Failed r) b = answers (refused r)
 outputOf (FailedAfter r n) b = answers (refusedAfter r n)

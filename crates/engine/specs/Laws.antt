@@ -30,7 +30,7 @@ use Rattle.exchange.specs.declared.Event.the-variants.{Ok, Bad, Packet, Time, F
 use Rattle.exchange.specs.declared.Exchange.{Exchange}
 use Rattle.stages.specs.Put.{put}
 use Rattle.stages.specs.Stages.{Command}
-use Rattle.protocol.specs.Scripts.{type1}
+use Rattle.protocol.specs.Scripts.{type1, uidAndAts}
 use Rattle.protocol.specs.Calls.{isPaddedMode}
 use Rattle.protocol.specs.Session.{seen}
 use Rattle.engine.specs.Books.{Books, booksOf, callerIn, booked, extraIn}
@@ -41,7 +41,7 @@ use Rattle.engine.specs.Core.{isValid, Held, progressed, After, eventCor
 use Rattle.engine.specs.Transitions.{validCall}
 use Rattle.engine.specs.declared.call.Call.{Call}
 use Rattle.engine.specs.declared.core.Core.{Core}
-use Rattle.engine.specs.declared.core.Output.the-variants.{Command as Sends, Done, Type1}
+use Rattle.engine.specs.declared.core.Output.the-variants.{Command as Sends, Done, Type1, UidAndAts}
 
 -- ---- a command's frame fits a buffer of 1,024 bytes
 
@@ -88,6 +88,11 @@ done-copied s f bytes b b₁ n a p q e = e ∙ (λ i. endsOf s f (Done (p i)) (q
 pub type1-copied : (s : Core) (f : Held) (bytes b b₁ : List ℕ) (n : ℕ) (a : After Core) → n ≡ length bytes → b₁ ≡ put bytes b → a ≡ endsOf s f (Type1 n) b₁
     → a ≡ answersOf s f (type1 bytes) b
 type1-copied s f bytes b b₁ n a p q e = e ∙ (λ i. endsOf s f (Type1 (p i)) (q i))
+
+-- the same with two lengths
+pub lengths-copied : (s : Core) (f : Held) (bytes b b₁ : List ℕ) (n uid ats : ℕ) (a : After Core) → n ≡ length bytes → b₁ ≡ put bytes b
+    → a ≡ endsOf s f (UidAndAts n uid ats) b₁ → a ≡ answersOf s f (uidAndAts bytes uid ats) b
+lengths-copied s f bytes b b₁ n uid ats a p q e = e ∙ (λ i. endsOf s f (UidAndAts (p i) uid ats) (q i))
 
 -- a session in range has its lengths in range
 pub valid-command : (s : Core) → isValid s ≡ true → s .command ≤ 512

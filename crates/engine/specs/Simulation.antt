@@ -17,7 +17,7 @@ use Rattle.exchange.specs.Packets.{commandFrame, Reply, resetCode, resetData}
 use Rattle.exchange.specs.Exchange.{Order, write, read, drain, pause, Event, ok, bad, pkt, time, fail, late, slept, unfit, pending, ended, onWrite, onRead, onPause, ExchangeResult, sending}
 use Rattle.exchange.specs.Steps.{stepOf, exchangeAt}
 use Rattle.exchange.specs.declared.Exchange.{Exchange}
-use Rattle.protocol.specs.Scripts.{Byte, value, Answer, done, type1, nothing, refused, refusedAfter, Script, finish, command, reset, fieldPause}
+use Rattle.protocol.specs.Scripts.{Byte, value, Answer, done, type1, uidAndAts, nothing, refused, refusedAfter, Script, finish, command, reset, fieldPause}
 use Rattle.protocol.specs.Calls.{Call as CallOf, isOpening}
 use Rattle.protocol.specs.Session.{Phase, exchange, Rest, CallResult, enter, afterReply, afterExchange, Running, busy, ceiling, bookAnswer, packetLength, admitted, eventOutcome, Outcome, outcome, bookOutcome, runningAfter}
 use Rattle.protocol.specs.Session.{orders, answers, given, unchanged as unchangedOf, runs as runsOf, ends as endsIn}
@@ -126,6 +126,9 @@ module _ (v : Fields) (c : Call) (q : CallOf) (m : Running) where
       go (type1 bytes) =
           sim-ends (type1 bytes) (out.Type1 (length (map value bytes))) _ (ap (λ l. answers (type1 l)) (take-append-seam (map value bytes) _))
           (end-booked q (type1 bytes))
+      go (uidAndAts bytes uid ats) =
+          sim-ends (uidAndAts bytes uid ats) (out.UidAndAts (length (map value bytes)) uid ats) _ (ap (λ l. answers (uidAndAts l uid ats)) (take-append-seam (map value bytes) _))
+          (end-booked q (uidAndAts bytes uid ats))
       go nothing = sim-ends nothing out.Nothing b refl (end-booked q nothing)
       go (refused r) = sim-ends (refused r) (out.Failed r) b refl (end-booked q (refused r))
       go (refusedAfter r n) = sim-ends (refusedAfter r n) (out.FailedAfter r n) b refl (end-booked q (refusedAfter r n))

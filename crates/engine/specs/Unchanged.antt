@@ -16,7 +16,7 @@ use Rattle.errors.specs.declared.Fault.{Fault}
 use Rattle.exchange.specs.Exchange.{Order, write, read, drain, pause, Event}
 use Rattle.exchange.specs.declared.Exchange.{Exchange}
 use Rattle.framing.specs.Valid.{both-left, both-right}
-use Rattle.protocol.specs.Scripts.{Answer, done, type1, nothing, refused, refusedAfter}
+use Rattle.protocol.specs.Scripts.{Answer, done, type1, uidAndAts, nothing, refused, refusedAfter}
 use Rattle.stages.specs.Starts.{Start, staged, sends as sendsFirst, refuses as refusesAtOnce}
 use Rattle.stages.specs.Stages.{Decision, send, keep, next, put as putBy, pause as pauseFor, ends as endsDecision}
 use Rattle.calls.specs.Firsts.{startFor}
@@ -32,7 +32,7 @@ use Rattle.engine.specs.Sessions.{State, state, stateIn, valid, isValid,
 use Rattle.engine.specs.declared.call.Call.{Call}
 use Rattle.engine.specs.declared.core.Core.{Core}
 use Rattle.engine.specs.declared.core.Output.{Output}
-use Rattle.engine.specs.declared.core.Output.the-variants.{Ack, Command, Read, Drain, Pause, Done, Type1, Nothing, Failed, FailedAfter, Refused}
+use Rattle.engine.specs.declared.core.Output.the-variants.{Ack, Command, Read, Drain, Pause, Done, Type1, UidAndAts, Nothing, Failed, FailedAfter, Refused}
 use Rattle.engine.specs.declared.session.Session.{Session}
 
 -- a fault 1, a refusal at once 2, any other output 0
@@ -44,6 +44,7 @@ class Drain = 0
 class (Pause us) = 0
 class (Done n) = 0
 class (Type1 n) = 0
+class (UidAndAts n uid ats) = 0
 class Nothing = 0
 class (Failed r) = 1
 class (FailedAfter r n) = 1
@@ -86,6 +87,7 @@ module _ (s : Core) (f : Held) (b : List ℕ) where
   answers : (a : Answer ℕ) → Keeps (answersOf s f a b)
   answers (done bytes) = goes-on _ refl
   answers (type1 bytes) = goes-on _ refl
+  answers (uidAndAts bytes uid ats) = goes-on _ refl
   answers nothing = goes-on _ refl
   answers (refused r) = fails (Failed r) refl
   answers (refusedAfter r n) = fails (FailedAfter r n) refl
@@ -141,6 +143,7 @@ fault-booked k t b Drain e = absurd (omega (arith, e))
 fault-booked k t b (Pause us) e = absurd (omega (arith, e))
 fault-booked k t b (Done n) e = absurd (omega (arith, e))
 fault-booked k t b (Type1 n) e = absurd (omega (arith, e))
+fault-booked k t b (UidAndAts n uid ats) e = absurd (omega (arith, e))
 fault-booked k t b Nothing e = absurd (omega (arith, e))
 fault-booked k t b (Failed r) e = refl
 fault-booked k t b (FailedAfter r n) e = refl

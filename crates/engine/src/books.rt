@@ -114,6 +114,10 @@ pub(crate) fn book(
             books[CALLER] = caller;
             end(books, opening, OPEN);
         }
+        Output::UidAndAts(_, _, _) => {
+            books[CALLER] = caller;
+            end(books, opening, OPEN);
+        }
         Output::Nothing => {
             books[CALLER] = caller;
             end(books, opening, CLOSED);

@@ -34,7 +34,7 @@ pub struct Core {
 }
 
 // An order or an answer. The bytes of a write order (ACK has six) and of an answer stand at the buffer's start, so many of them.
-// A list that failed says how many of its codes were finished.
+// With Type A's the lengths of the UID and the ATS among them may be given. A list that failed says how many of its codes were finished.
 pub enum Output {
     Ack,
     Command(usize),
@@ -43,6 +43,7 @@ pub enum Output {
     Pause(u32),
     Done(usize),
     Type1(usize),
+    UidAndAts(usize, u8, u8),
     Nothing,
     Failed(Fault),
     FailedAfter(Fault, u8),

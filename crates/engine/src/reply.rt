@@ -128,6 +128,10 @@ impl Core {
                 let len = answer(layout, &found[..kept], response, buffer);
                 self.ended(Output::Type1(len))
             }
+            Decision::UidAndAts(layout, uid, ats) => {
+                let len = answer(layout, &found[..kept], response, buffer);
+                self.ended(Output::UidAndAts(len, uid, ats))
+            }
             Decision::Nothing => self.ended(Output::Nothing),
             Decision::Refused(fault) => self.ended(Output::Failed(fault)),
             Decision::RefusedAfter(fault, n) => self.ended(Output::FailedAfter(fault, n)),

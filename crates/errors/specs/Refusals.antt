@@ -4,7 +4,7 @@ use Rattle.errors.specs.declared.Numbered.{Numbered}
 use Rattle.errors.specs.declared.Refusal.{Refusal}
 use Rattle.errors.specs.declared.Refusal.the-variants.{OutOfTurn, ShortBuffer, OverLong, BadArgument, Bitrate, NotSendable}
 use Rattle.errors.specs.declared.Fault.{Fault}
-use Rattle.errors.specs.declared.Fault.the-variants.{Transport, TimeOut, FalseStart, BrokenFrame, Length, FrameKind, Identifier, Code, Status, ShortResponse, NoCard, CrcA, Rate}
+use Rattle.errors.specs.declared.Fault.the-variants.{Transport, TimeOut, FalseStart, BrokenFrame, Length, FrameKind, Identifier, Code, Status, ShortResponse, NoCard, CrcA, Rate, UidLayout}
 
 abbrev pub plain : ℕ → Numbered
 plain k = record { number = k; status = 0 }
@@ -33,6 +33,7 @@ faultNumbered ShortResponse = plain 16
 faultNumbered NoCard = plain 17
 faultNumbered CrcA = plain 18
 faultNumbered Rate = plain 19
+faultNumbered UidLayout = plain 22
 
 -- by the status byte of 15; a of any other fault
 abbrev pub byStatus : {A : Type 0} → (ℕ → A) → A → Fault → A
@@ -49,6 +50,7 @@ byStatus f a ShortResponse = a
 byStatus f a NoCard = a
 byStatus f a CrcA = a
 byStatus f a Rate = a
+byStatus f a UidLayout = a
 
 -- What an answer says: a value, or a refusal by its number and values.
 pub data Outcome : Type 0 where

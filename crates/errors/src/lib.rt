@@ -1,4 +1,4 @@
-// Document 01's refusals, by their words there: those that refuse at once, and those that end a running call.
+// The refusals of document 01, and of document 02 from 20 on, by their words there: those that refuse at once, and those that end a running call.
 ghost use mathlib.Core.Path.{_≡_};
 ghost use Rattle.errors.specs.Refusals.{plain as plainOf, numbered as numberedOf, faultNumbered};
 
@@ -27,6 +27,7 @@ pub enum Fault {
     NoCard,
     CrcA,
     Rate,
+    UidLayout,
 }
 
 // A refusal's number in document 01's table, and the status byte that 15 carries (0 beside any other).
@@ -75,6 +76,7 @@ impl Fault {
             Fault::NoCard => plain(17),
             Fault::CrcA => plain(18),
             Fault::Rate => plain(19),
+            Fault::UidLayout => plain(22),
         }
     }
 }

@@ -8,24 +8,28 @@ use Rattle.engine.specs.declared.core.Core.{Core}
 use Rattle.engine.specs.declared.core.Progress.{Progress}
 use Rattle.engine.specs.declared.session.Session.{Session}
 use Rattle.engine.specs.declared.core.Output.{Output}
-use Rattle.engine.specs.declared.core.Output.the-variants.{Ack, Command, Read, Drain, Pause, Done, Type1, Nothing, Failed, FailedAfter, Refused}
+use Rattle.engine.specs.declared.core.Output.the-variants.{Ack, Command, Read, Drain, Pause, Done, Type1, UidAndAts, Nothing, Failed, FailedAfter, Refused}
 use Rattle.host.specs.declared.outcome.Outcome.{Outcome}
 use Rattle.host.specs.declared.outcome.HostStep.{HostStep}
 
 -- a kind with a number of bytes, and one with a time
 abbrev pub withBytes : ℕ → ℕ → Outcome
-withBytes kind n = record { kind = kind; refusal = 0; status = 0; finished = 0; time = 0; len = n }
+withBytes kind n = record { kind = kind; refusal = 0; status = 0; finished = 0; time = 0; len = n; uid = 0; ats = 0 }
 
 abbrev pub withTime : ℕ → ℕ → Outcome
-withTime kind t = record { kind = kind; refusal = 0; status = 0; finished = 0; time = t; len = 0 }
+withTime kind t = record { kind = kind; refusal = 0; status = 0; finished = 0; time = t; len = 0; uid = 0; ats = 0 }
 
 -- a refusal by document 01's number, and the status byte of 15
 abbrev pub refusedAs : Numbered → Outcome
-refusedAs n = record { kind = 7; refusal = n .number; status = n .status; finished = 0; time = 0; len = 0 }
+refusedAs n = record { kind = 7; refusal = n .number; status = n .status; finished = 0; time = 0; len = 0; uid = 0; ats = 0 }
 
 -- the same of a list, with the number of its codes that were finished
 abbrev pub listRefusedAs : Numbered → ℕ → Outcome
-listRefusedAs n finished = record { kind = 8; refusal = n .number; status = n .status; finished = finished; time = 0; len = 0 }
+listRefusedAs n finished = record { kind = 8; refusal = n .number; status = n .status; finished = finished; time = 0; len = 0; uid = 0; ats = 0 }
+
+-- an answer's bytes, with the lengths of the UID and the ATS among them
+abbrev pub withLengths : ℕ → ℕ → ℕ → Outcome
+withLengths n uid ats = record { kind = 9; refusal = 0; status = 0; finished = 0; time = 0; len = n; uid = uid; ats = ats }
 
 abbrev pub outcomeOf : Output → Outcome
 outcomeOf Ack = withBytes 0 6
@@ -35,6 +39,7 @@ outcomeOf Drain = withBytes 2 0
 outcomeOf (Pause us) = withTime 3 us
 outcomeOf (Done n) = withBytes 4 n
 outcomeOf (Type1 n) = withBytes 5 n
+outcomeOf (UidAndAts n uid ats) = withLengths n uid ats
 outcomeOf Nothing = withBytes 6 0
 outcomeOf (Failed e) = refusedAs (faultNumbered e)
 outcomeOf (FailedAfter e finished) = listRefusedAs (faultNumbered e) finished

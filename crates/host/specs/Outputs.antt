@@ -7,17 +7,17 @@ use Rattle.errors.specs.Refusals.{numbered, faultNumbered}
 use Rattle.errors.specs.declared.Refusal.{Refusal}
 use Rattle.errors.specs.declared.Refusal.the-variants.{OutOfTurn, ShortBuffer, OverLong, BadArgument, Bitrate, NotSendable}
 use Rattle.errors.specs.declared.Fault.{Fault}
-use Rattle.errors.specs.declared.Fault.the-variants.{Transport, TimeOut, FalseStart, BrokenFrame, Length, FrameKind, Identifier, Code, Status, ShortResponse, NoCard, CrcA, Rate}
+use Rattle.errors.specs.declared.Fault.the-variants.{Transport, TimeOut, FalseStart, BrokenFrame, Length, FrameKind, Identifier, Code, Status, ShortResponse, NoCard, CrcA, Rate, UidLayout}
 use Rattle.exchange.specs.Exchange.{write, read, drain, pause}
-use Rattle.protocol.specs.Scripts.{Answer, done, type1, nothing, refused, refusedAfter}
+use Rattle.protocol.specs.Scripts.{Answer, done, type1, uidAndAts, nothing, refused, refusedAfter}
 use Rattle.protocol.specs.Session.{Output as Given, orders, answers, rejects}
 use Rattle.engine.specs.Inputs.{outputOf}
 use Rattle.engine.specs.declared.core.Output.{Output}
-use Rattle.engine.specs.declared.core.Output.the-variants.{Ack, Command, Read, Drain, Pause, Done, Type1, Nothing, Failed, FailedAfter, Refused}
+use Rattle.engine.specs.declared.core.Output.the-variants.{Ack, Command, Read, Drain, Pause, Done, Type1, UidAndAts, Nothing, Failed, FailedAfter, Refused}
 use Rattle.host.specs.Outcomes.{outcomeOf}
 use Rattle.host.specs.declared.outcome.Outcome.{Outcome}
 
--- document 01's refusals from 1 on, with the status byte of 15; no refusal has the number 0
+-- document 01's refusals from 1 on, with the status byte of 15, and document 02's behind them; no refusal has the number 0, 20 or 21
 abbrev pub refusals : ℕ → List (Given ℕ)
 refusals status =
     rejects OutOfTurn
@@ -40,6 +40,9 @@ refusals status =
     ∷ answers (refused NoCard)
     ∷ answers (refused CrcA)
     ∷ answers (refused Rate)
+    ∷ rejects OutOfTurn
+    ∷ rejects OutOfTurn
+    ∷ answers (refused UidLayout)
     ∷ []
 
 abbrev pub refusalOf : ℕ → ℕ → Given ℕ
@@ -49,6 +52,7 @@ refusalOf number status = getD (refusals status) number (rejects OutOfTurn)
 abbrev pub answerAfter : ℕ → Answer ℕ → Answer ℕ
 answerAfter finished (done bytes) = done bytes
 answerAfter finished (type1 bytes) = type1 bytes
+answerAfter finished (uidAndAts bytes uid ats) = uidAndAts bytes uid ats
 answerAfter finished nothing = nothing
 answerAfter finished (refused r) = refusedAfter r finished
 answerAfter finished (refusedAfter r n) = refusedAfter r n
@@ -70,9 +74,10 @@ outputIn o b =
     ∷ answers (type1 (take (o .len) b))
     ∷ answers nothing
     ∷ refusalOf (o .refusal) (o .status)
+    ∷ refusalAfter (o .finished) (refusalOf (o .refusal) (o .status))
     ∷ [])
     (o .kind)
-    (refusalAfter (o .finished) (refusalOf (o .refusal) (o .status)))
+    (answers (uidAndAts (take (o .len) b) (o .uid) (o .ats)))
 
 numbered-is : (e : Refusal) → refusalOf (numbered e .number) (numbered e .status) ≡ rejects e
 numbered-is OutOfTurn = refl
@@ -96,6 +101,7 @@ fault-is ShortResponse = refl
 fault-is NoCard = refl
 fault-is CrcA = refl
 fault-is Rate = refl
+fault-is UidLayout = refl
 
 -- nothing of an output is lost in the numbers
 pub output-is : (o : Output) (b : List ℕ) → outputIn (outcomeOf o) b ≡ outputOf o b
@@ -106,6 +112,7 @@ output-is Drain b = refl
 output-is (Pause us) b = refl
 output-is (Done n) b = refl
 output-is (Type1 n) b = refl
+output-is (UidAndAts n uid ats) b = refl
 output-is Nothing b = refl
 output-is (Failed e) b = fault-is e
 output-is (FailedAfter e n) b = ap (refusalAfter n) (fault-is e)

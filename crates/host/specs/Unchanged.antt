@@ -10,7 +10,7 @@ use Rattle.errors.specs.Refusals.{numbered, faultNumbered}
 use Rattle.errors.specs.declared.Refusal.{Refusal}
 use Rattle.errors.specs.declared.Refusal.the-variants.{OutOfTurn, ShortBuffer, OverLong, BadArgument, Bitrate, NotSendable}
 use Rattle.errors.specs.declared.Fault.{Fault}
-use Rattle.errors.specs.declared.Fault.the-variants.{Transport, TimeOut, FalseStart, BrokenFrame, Length, FrameKind, Identifier, Code, Status, ShortResponse, NoCard, CrcA, Rate}
+use Rattle.errors.specs.declared.Fault.the-variants.{Transport, TimeOut, FalseStart, BrokenFrame, Length, FrameKind, Identifier, Code, Status, ShortResponse, NoCard, CrcA, Rate, UidLayout}
 use Rattle.exchange.specs.Exchange.{Event}
 use Rattle.protocol.specs.Calls.{Call, opening, reader}
 use Rattle.engine.specs.Inputs.{Input, opens, asks, tells, bufferOf, stepWith}
@@ -20,7 +20,7 @@ use Rattle.engine.specs.Sessions.{stateIn, isFree}
 use Rattle.engine.specs.Unchanged.{refused-unchanged, refused-ends, list-ends}
 use Rattle.engine.specs.declared.session.Session.{Session}
 use Rattle.engine.specs.declared.core.Output.{Output}
-use Rattle.engine.specs.declared.core.Output.the-variants.{Ack, Command, Read, Drain, Pause, Done, Type1, Nothing, Failed, FailedAfter, Refused}
+use Rattle.engine.specs.declared.core.Output.the-variants.{Ack, Command, Read, Drain, Pause, Done, Type1, UidAndAts, Nothing, Failed, FailedAfter, Refused}
 use Rattle.host.specs.Outcomes.{Report, reportOf, outcomeOf}
 use Rattle.host.specs.Entries.{HostEntry, calling, telling, bufferIn, eventInput, reportWith, reportFor}
 
@@ -45,6 +45,7 @@ fault-late ShortResponse = omega arith
 fault-late NoCard = omega arith
 fault-late CrcA = omega arith
 fault-late Rate = omega arith
+fault-late UidLayout = omega arith
 
 refusal-early : (r : Refusal) → numbered r .number ≤ 6
 refusal-early OutOfTurn = omega arith
@@ -66,6 +67,7 @@ refused-by Drain e = absurd (omega (arith, e))
 refused-by (Pause us) e = absurd (omega (arith, e))
 refused-by (Done n) e = absurd (omega (arith, e))
 refused-by (Type1 n) e = absurd (omega (arith, e))
+refused-by (UidAndAts n uid ats) e = absurd (omega (arith, e))
 refused-by Nothing e = absurd (omega (arith, e))
 refused-by (Failed r) e = later r refl
 refused-by (FailedAfter r n) e = absurd (omega (arith, e))
@@ -84,6 +86,7 @@ listed-by Drain e = absurd (omega (arith, e))
 listed-by (Pause us) e = absurd (omega (arith, e))
 listed-by (Done n) e = absurd (omega (arith, e))
 listed-by (Type1 n) e = absurd (omega (arith, e))
+listed-by (UidAndAts n uid ats) e = absurd (omega (arith, e))
 listed-by Nothing e = absurd (omega (arith, e))
 listed-by (Failed r) e = absurd (omega (arith, e))
 listed-by (FailedAfter r n) e = record { fault = r; finished = n; is = refl }

@@ -4,7 +4,7 @@ use engine::core::Output;
 use engine::core::Progress;
 use errors::Numbered;
 ghost use mathlib.Core.Path.{_≡_};
-ghost use Rattle.host.specs.Outcomes.{withBytes, withTime, refusedAs, listRefusedAs, outcomeOf, hostStepOf};
+ghost use Rattle.host.specs.Outcomes.{withBytes, withTime, refusedAs, listRefusedAs, withLengths, outcomeOf, hostStepOf};
 
 pub const WRITE: u8 = 0;
 
@@ -24,9 +24,11 @@ pub const REFUSED: u8 = 7;
 
 pub const LIST_REFUSED: u8 = 8;
 
+pub const UID_AND_ATS: u8 = 9;
+
 // The kind of an order or an answer. With a refusal its number, and the status byte of 15, and with that of a list how many of its
 // codes were finished; with a read its ms, with a pause its µs; with a write order and an answer the number of bytes at the buffer's
-// start. What does not apply is 0.
+// start, and with an answer whose UID and ATS are told apart the length of each. What does not apply is 0.
 #[repr(C)]
 pub struct Outcome {
     pub kind: u8,
@@ -35,6 +37,8 @@ pub struct Outcome {
     pub finished: u8,
     pub time: u32,
     pub len: usize,
+    pub uid: u8,
+    pub ats: u8,
 }
 
 // The running call's numbers after a call or an event, and what came out.
@@ -54,6 +58,23 @@ impl Outcome {
             finished: 0,
             time: 0,
             len,
+            uid: 0,
+            ats: 0,
+        }
+    }
+
+    fn uid_and_ats(len: usize, uid: u8, ats: u8) -> Outcome
+        ensures { λ r. ⌜ r ≡ withLengths len uid ats ⌝ }
+    {
+        Outcome {
+            kind: UID_AND_ATS,
+            refusal: 0,
+            status: 0,
+            finished: 0,
+            time: 0,
+            len,
+            uid,
+            ats,
         }
     }
 
@@ -67,6 +88,8 @@ impl Outcome {
             finished: 0,
             time,
             len: 0,
+            uid: 0,
+            ats: 0,
         }
     }
 
@@ -80,6 +103,8 @@ impl Outcome {
             finished: 0,
             time: 0,
             len: 0,
+            uid: 0,
+            ats: 0,
         }
     }
 
@@ -93,6 +118,8 @@ impl Outcome {
             finished,
             time: 0,
             len: 0,
+            uid: 0,
+            ats: 0,
         }
     }
 
@@ -107,6 +134,7 @@ impl Outcome {
             Output::Pause(us) => Outcome::timed(PAUSE, us),
             Output::Done(len) => Outcome::bytes(DONE, len),
             Output::Type1(len) => Outcome::bytes(TYPE1, len),
+            Output::UidAndAts(len, uid, ats) => Outcome::uid_and_ats(len, uid, ats),
             Output::Nothing => Outcome::bytes(NONE, 0),
             Output::Failed(fault) => Outcome::refused(fault.numbered()),
             Output::FailedAfter(fault, finished) => Outcome::list_refused(

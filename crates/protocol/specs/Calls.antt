@@ -44,6 +44,7 @@ pub data Request : Type 0 where
 -- No bytes stand for an absent UID, SENSB_REQ, ATR_REQ or SEL_RES, which count as these do.
 pub data DeviceCall : Type 0 where
   detectTypeA : List ℕ → List ℕ → DeviceCall  -- bitrate, UID
+  detectTypeASplit : List ℕ → List ℕ → DeviceCall  -- the same, in the mode in which UID and ATS are told apart
   detectTypeB : List ℕ → List ℕ → DeviceCall  -- bitrate, SENSB_REQ
   detectTypeF : List ℕ → ℕ → ℕ → ℕ → DeviceCall  -- bitrate, system code, request code, time slots
   pollTypeF : List ℕ → List ℕ → DeviceCall  -- bitrate, the bytes of the system codes' words
@@ -226,6 +227,7 @@ requestStart tgGetTargetStatus =
 
 abbrev pub deviceStart : DeviceCall → Start
 deviceStart (detectTypeA text uid) = codeFor typeACode text (λ code. limited (1 ∷ code ∷ cascaded uid) (discovery.detectTypeA code uid))
+deviceStart (detectTypeASplit text uid) = codeFor typeACode text (λ code. limited (1 ∷ code ∷ cascaded uid) (discovery.detectTypeASplit code uid))
 deviceStart (detectTypeB text sensbReq) = codeFor typeBCode text (λ code. starts (discovery.detectTypeB code (getD sensbReq 0 0)))
 deviceStart (detectTypeF text systemCode requestCode timeSlots) =
     codeFor typeFCode text (λ code. starts (discovery.detectTypeF code (sensfReq systemCode requestCode timeSlots)))
@@ -259,6 +261,7 @@ isOpening (reader c) = false
 -- the most command frames that the call orders: three for each system code, of other calls four, ten of an opening
 abbrev pub deviceLimit : DeviceCall → ℕ
 deviceLimit (detectTypeA text uid) = 4
+deviceLimit (detectTypeASplit text uid) = 4
 deviceLimit (detectTypeB text sensbReq) = 4
 deviceLimit (detectTypeF text systemCode requestCode timeSlots) = 4
 deviceLimit (pollTypeF text words) = 3 * (length words / 2)

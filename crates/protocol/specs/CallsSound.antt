@@ -5,10 +5,10 @@ use Prim.Native.Nat.{ℕ, _+_, _*_, _/_}
 use lib.Dec.{leb}
 use Rattle.protocol.specs.Discovery as discovery
 use Rattle.protocol.specs.Calls.{Request, version, resetMode, setParameters, rfConfiguration, rfFieldOff, readRegister, writeRegister, readSingleRegister, writeSingleRegister, inListPassiveTarget, inDataExchange, inCommunicateThru, inJumpForDep, tgInitTarget, tgSetGeneralBytes, tgGetInitiatorCommand, tgResponseToInitiator, tgGetTargetStatus}
-use Rattle.protocol.specs.Calls.{DeviceCall, detectTypeA, detectTypeB, detectTypeF, detectDep, transceive, pollTypeF}
+use Rattle.protocol.specs.Calls.{DeviceCall, detectTypeA, detectTypeASplit, detectTypeB, detectTypeF, detectDep, transceive, pollTypeF}
 use Rattle.protocol.specs.Calls.{Call, opening, reader, request, device, unknown, requestStart, deviceStart, startOf, limit, wordsIn, deviceLimit}
 use Rattle.protocol.specs.Own.{onlyCards, versionAndName, requestForm, deviceForm, formOf, no-codes, polledCodes}
-use Rattle.protocol.specs.Sound.{Within, Correct, Sound, sound-if, version-name, correct-rules, sound-rules, no-bytes}
+use Rattle.protocol.specs.Sound.{Within, Correct, Sound, sound-if, version-name, target-answer, correct-rules, sound-rules, no-bytes}
 use native.Mathlib.Omega.{arith}
 use lib.ListN.{length}
 use Rattle.protocol.specs.PollSound.{words-count, codes-within, codes-correct}
@@ -36,6 +36,9 @@ request-sound tgGetTargetStatus = search sound-rules depth 60
 typeA-sound : (code : ℕ) (uid : List ℕ) → Within (discovery.detectTypeA code uid) 4 × Correct onlyCards (discovery.detectTypeA code uid) []
 typeA-sound code uid = (search sound-rules depth 60, search correct-rules depth 60 fits 4000)
 
+split-sound : (code : ℕ) (uid : List ℕ) → Within (discovery.detectTypeASplit code uid) 4 × Correct onlyCards (discovery.detectTypeASplit code uid) []
+split-sound code uid = (search sound-rules depth 60, search (target-answer, correct-rules) depth 60 fits 4000)
+
 -- a list of system codes
 words-sound : (code : ℕ) (words : List ℕ) → Within (discovery.pollTypeF code (wordsIn words)) (3 * (length words / 2))
     × Correct (polledCodes (length words / 2)) (discovery.pollTypeF code (wordsIn words)) []
@@ -47,6 +50,7 @@ words-sound code words =
 
 device-sound : (d : DeviceCall) → Sound (deviceForm d) (deviceStart d) (deviceLimit d)
 device-sound (detectTypeA text uid) = search (typeA-sound, sound-rules) depth 60
+device-sound (detectTypeASplit text uid) = search (split-sound, sound-rules) depth 60
 device-sound (detectTypeB text sensbReq) = search sound-rules depth 60
 device-sound (detectTypeF text systemCode requestCode timeSlots) = search sound-rules depth 60
 device-sound (pollTypeF text words) = search (words-sound, sound-rules) depth 60

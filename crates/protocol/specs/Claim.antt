@@ -7,7 +7,7 @@ use Prim.Native.Nat.{ℕ, suc, _≤_, _<_, min}
 use lib.ListN.{length, drop, getD, getElem?}
 use Rattle.exchange.specs.Packets.{commandFrame, ackLed, response, replyOf}
 use Rattle.exchange.specs.Exchange.{write, read, drain, pause, ok, bad, pkt, time, fail, late, slept}
-use Rattle.protocol.specs.Scripts.{Byte, card, Answer, done, type1, nothing, refused, refusedAfter}
+use Rattle.protocol.specs.Scripts.{Byte, card, Answer, done, type1, uidAndAts, nothing, refused, refusedAfter}
 use Rattle.protocol.specs.Calls.{Call, limit}
 use Rattle.protocol.specs.Own.{Formed, formOf}
 use Rattle.protocol.specs.Session.{Entry, Output, ceiling, lastCaller}
@@ -54,6 +54,7 @@ pub record CardByte (l : Record) (n k p b : ℕ) : Type 0 where
 abbrev pub bytesOf : Answer Byte → List Byte
 bytesOf (done bytes) = bytes
 bytesOf (type1 bytes) = bytes
+bytesOf (uidAndAts bytes uid ats) = bytes
 bytesOf nothing = []
 bytesOf (refused r) = []
 bytesOf (refusedAfter r n) = []

@@ -1,14 +1,15 @@
 -- discovery.rs, and `transceive` of device.rs, as scripts. Where a list's data is meant, it stands from position 2 of the response on.
 use mathlib.Core.Bool.{Bool, cond, _||_}
 use mathlib.Core.List.{List, [], _∷_, _++_, map}
-use Prim.Native.Nat.{ℕ, suc, _-_, _/_, _%_}
+use Prim.Native.Nat.{ℕ, suc, _+_, _-_, _/_, _%_}
 use lib.Dec.{eqb, ltb}
 use lib.ListN.{length, take, drop, getD}
 use Rattle.errors.specs.Refusals.{byStatus}
 use Rattle.errors.specs.declared.Fault.{Fault}
-use Rattle.errors.specs.declared.Fault.the-variants.{Transport, TimeOut, FalseStart, BrokenFrame, Length, FrameKind, Identifier, Code, Status, ShortResponse, NoCard, CrcA, Rate}
+use Rattle.errors.specs.declared.Fault.the-variants.{Transport, TimeOut, FalseStart, BrokenFrame, Length, FrameKind, Identifier, Code, Status, ShortResponse, NoCard, CrcA, Rate, UidLayout}
+use Rattle.targets.specs.TypeA.{isTargetData}
 use Rattle.crc.specs.Crc.{typeA as crcA, checks}
-use Rattle.protocol.specs.Scripts.{Byte, own, behind, Answer, done, type1, nothing, refused, refusedAfter}
+use Rattle.protocol.specs.Scripts.{Byte, own, behind, Answer, done, type1, uidAndAts, nothing, refused, refusedAfter}
 use Rattle.protocol.specs.Scripts.{Script, finish, command, fieldPause, refuse, either, ifElse, andThen, byteAt, part, rest}
 use Rattle.protocol.specs.Chipset.{word, readSingleRegister, writeSingleRegister, rfConfiguration, inListPassiveTarget, inDataExchange, inDataExchangeElse, inCommunicateThru, inCommunicateThruElse, inJumpForDepElse}
 use Rattle.protocol.specs.Names.{ciuFifoData, ciuMode, ciuRxMode, ciuTxControl, inCommunicateThruCode, readRegisterCode, registersClock, rfNotActivated, timeoutStatus, typeBClock}
@@ -23,18 +24,22 @@ abbrev pub cascaded : List ℕ → List ℕ
 cascaded uid = cond (ltb 8 (length (prefixed uid))) (take 4 (prefixed uid) ++ (0x88 ∷ drop 4 (prefixed uid))) (prefixed uid)
 
 -- SENS_RES in the other order, SEL_RES, SDD_RES
-abbrev pub cardA : List ℕ → Script
-cardA list = finish (done (byteAt 0 list 3 ∷ byteAt 0 list 2 ∷ byteAt 0 list 4 ∷ rest 0 list 6))
+abbrev pub cardA : List ℕ → List Byte
+cardA list = byteAt 0 list 3 ∷ byteAt 0 list 2 ∷ byteAt 0 list 4 ∷ rest 0 list 6
 
--- Type 2: the CRC check is switched off in the RX mode
-abbrev pub withoutCrc : List ℕ → Script
-withoutCrc list = readSingleRegister ciuRxMode (λ bs. writeSingleRegister ciuRxMode (getD bs 0 0 % 128) (cardA list))
+-- Type 2: the CRC check is switched off in the RX mode before the answer
+abbrev pub withoutCrc : Answer Byte → Script
+withoutCrc a = readSingleRegister ciuRxMode (λ bs. writeSingleRegister ciuRxMode (getD bs 0 0 % 128) (finish a))
 
 abbrev pub isType2 : ℕ → Bool
 isType2 selRes = eqb (selRes / 32 % 4) 0
 
+-- the answer, at once or behind the RX mode
+abbrev pub byType2 : List ℕ → Answer Byte → Script
+byType2 list a = ifElse (isType2 (getD list 4 0)) (withoutCrc a) (finish a)
+
 abbrev pub foundA : List ℕ → Script
-foundA list = ifElse (ltb (length list) 6) (finish nothing) (ifElse (isType2 (getD list 4 0)) (withoutCrc list) (cardA list))
+foundA list = ifElse (ltb (length list) 6) (finish nothing) (byType2 list (done (cardA list)))
 
 -- the RID exchange: 15 is none; short list data gives 16 behind it
 abbrev pub noneOnStatus : Fault → Script
@@ -54,6 +59,23 @@ noTarget = command readRegisterCode registersClock (word ciuFifoData) (either (�
 
 abbrev pub detectTypeA : ℕ → List ℕ → Script
 detectTypeA code uid = inListPassiveTarget 1 code (cascaded uid) noTarget foundA
+
+-- ---- detect_type_a in the mode in which UID and ATS are told apart (document 02, N6). The UID's length stands in the data at 3, the
+-- ATS's is its first byte. List data that is no target data of Type A is refused at once.
+
+abbrev pub uidLength : List ℕ → ℕ
+uidLength list = getD list 5 0
+
+abbrev pub atsLength : List ℕ → ℕ
+atsLength list = getD list (6 + uidLength list) 0
+
+abbrev pub foundSplit : List ℕ → Script
+foundSplit list =
+    ifElse (ltb (length list) 6) (finish nothing)
+    (ifElse (isTargetData (drop 2 list)) (byType2 list (uidAndAts (cardA list) (uidLength list) (atsLength list))) (refuse UidLayout))
+
+abbrev pub detectTypeASplit : ℕ → List ℕ → Script
+detectTypeASplit code uid = inListPassiveTarget 1 code (cascaded uid) noTarget foundSplit
 
 -- ---- detect_type_b
 
@@ -106,6 +128,7 @@ byNoCard x a ShortResponse = a
 byNoCard x a NoCard = x
 byNoCard x a CrcA = a
 byNoCard x a Rate = a
+byNoCard x a UidLayout = a
 
 -- what a code adds to the answer: 01, IDm and PMm of an answer that has the optional bytes behind them; 00 where no card was met
 abbrev pub cardMet : List Byte → List Byte
@@ -118,6 +141,7 @@ noCardMet = own 0x00 ∷ []
 abbrev pub codeEnd : (List Byte → Script) → (Fault → Script) → Answer Byte → Script
 codeEnd f g (done bytes) = f (cardMet bytes)
 codeEnd f g (type1 bytes) = f (cardMet bytes)
+codeEnd f g (uidAndAts bytes uid ats) = f (cardMet bytes)
 codeEnd f g nothing = f noCardMet
 codeEnd f g (refused r) = byNoCard (f noCardMet) (g r) r
 codeEnd f g (refusedAfter r n) = g r

@@ -2,7 +2,7 @@
 use mathlib.Core.Path.{_≡_, refl, ap₂}
 use mathlib.Core.List.{List, [], _∷_, map}
 use Prim.Native.Nat.{ℕ}
-use Rattle.protocol.specs.Scripts.{Byte, value, Answer, done, type1, nothing, refused, refusedAfter}
+use Rattle.protocol.specs.Scripts.{Byte, value, Answer, done, type1, uidAndAts, nothing, refused, refusedAfter}
 use Rattle.protocol.specs.Session.{Session, fresh, Entry, Output, orders, answers, rejects, step, outputs, sessionAfter}
 use Rattle.protocol.specs.Claim.{Demand3}
 use Rattle.protocol.specs.Demand3.{demand3}
@@ -11,6 +11,7 @@ use Rattle.protocol.specs.Demand3.{demand3}
 abbrev pub plainAnswer : Answer Byte → Answer ℕ
 plainAnswer (done bytes) = done (map value bytes)
 plainAnswer (type1 bytes) = type1 (map value bytes)
+plainAnswer (uidAndAts bytes uid ats) = uidAndAts (map value bytes) uid ats
 plainAnswer nothing = nothing
 plainAnswer (refused r) = refused r
 plainAnswer (refusedAfter r n) = refusedAfter r n

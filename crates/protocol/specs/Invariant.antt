@@ -14,7 +14,7 @@ use Rattle.framing.specs.Lists.{same}
 use Rattle.exchange.specs.Packets.{commandFrame, resetCode, resetData, Reply, response, failed, replyOf}
 use Rattle.exchange.specs.Exchange.{write, read, drain, pause, pkt}
 use Rattle.exchange.specs.Exchange.{unfit, pending, ended, Step, sending, reading, waiting, cancelling, rejecting, draining}
-use Rattle.protocol.specs.Scripts.{Byte, card, Answer, done, type1, nothing, refused, refusedAfter, Script, finish, command, reset, fieldPause}
+use Rattle.protocol.specs.Scripts.{Byte, card, Answer, done, type1, uidAndAts, nothing, refused, refusedAfter, Script, finish, command, reset, fieldPause}
 use Rattle.protocol.specs.Calls.{Call, limit}
 use Rattle.protocol.specs.Session.{Rest, byReply, ofReset, Phase, exchange, resetAck, resetPause, fieldPausing, openingAck, openingReads}
 use Rattle.protocol.specs.Session.{CallResult, enter}
@@ -93,6 +93,9 @@ module _ (P Q : ℕ → ℕ → ℕ → Type 0) (f : (k p b : ℕ) → P k p b �
   pub form-by : (o : Form) (a : Answer Byte) → Formed P o a → Formed Q o a
   form-by o (done bytes) h = has-form-by o bytes h
   form-by o (type1 bytes) h = has-form-by o bytes h
+  form-by o (uidAndAts bytes uid ats) h =
+      let u = h .1 in
+      (h .0, record { list = u .list; uid = u .uid; ats = u .ats; form = u .form; target = u .target; uidIs = u .uidIs; atsIs = u .atsIs; source = f 0 5 uid (u .source) })
   form-by o nothing h = tt
   form-by o (refused r) h = tt
   form-by o (refusedAfter r m) h = tt
@@ -194,6 +197,7 @@ module _ (n : ℕ) (c : Call) where
   final-cards : (l : Record) (rs : List (List ℕ)) → Sourced l rs → (a : Answer Byte) → Final (formOf c) rs a → (k p b : ℕ) → List·Memᴰ (card k p b) (bytesOf a) → CardByte l n k p b
   final-cards l rs f (done bs) h k p b m = placed-cards l rs f (h .0) k p b m
   final-cards l rs f (type1 bs) h k p b m = placed-cards l rs f (h .0) k p b m
+  final-cards l rs f (uidAndAts bs uid ats) h k p b m = placed-cards l rs f (h .0) k p b m
   final-cards l rs f nothing h k p b m = absurd (List·Memᴰ·not-nil m)
   final-cards l rs f (refused r) h k p b m = absurd (List·Memᴰ·not-nil m)
   final-cards l rs f (refusedAfter r j) h k p b m = absurd (List·Memᴰ·not-nil m)
@@ -201,6 +205,7 @@ module _ (n : ℕ) (c : Call) where
   final-form : (l : Record) (rs : List (List ℕ)) → Sourced l rs → (a : Answer Byte) → Final (formOf c) rs a → Formed (CardByte l n) (formOf c) a
   final-form l rs f (done bs) h = form-by (Stands rs) (CardByte l n) f (formOf c) (done bs) (h .1)
   final-form l rs f (type1 bs) h = form-by (Stands rs) (CardByte l n) f (formOf c) (type1 bs) (h .1)
+  final-form l rs f (uidAndAts bs uid ats) h = form-by (Stands rs) (CardByte l n) f (formOf c) (uidAndAts bs uid ats) (h .1)
   final-form l rs f nothing h = tt
   final-form l rs f (refused r) h = tt
   final-form l rs f (refusedAfter r j) h = tt

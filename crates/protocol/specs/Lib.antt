@@ -17,9 +17,11 @@ pub mod PollList
 pub mod PollEqual
 pub mod PollFollows
 pub mod Chatter
+pub mod UidAndAts
 pub mod Sample
 -- proofs
 pub mod Laws
+pub mod Values
 pub mod Sound
 pub mod PollSound
 pub mod PollAlong

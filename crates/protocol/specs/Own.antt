@@ -1,16 +1,18 @@
 -- Which bytes of an answer are the engine's own, and what they are worked out from. Document 01 names them: DEP's D5 01, the chip's
--- name, the more flag and rates; document 02 the marks of a list of system codes. All other bytes are card bytes. A new call adds its line.
+-- name, the more flag and rates; document 02 the marks of a list of system codes, and two lengths
+-- beside Type A's answer. All other bytes are card bytes. A new call adds its line.
 use mathlib.Core.Path.{_≡_}
 use mathlib.Core.Bool.{Bool, cond}
 use mathlib.Core.List.{List, [], _∷_, _++_}
 use Prim.Native.Nat.{ℕ, suc, _+_, _/_, _%_, _≤_}
 use lib.Dec.{eqb}
-use lib.ListN.{length}
-use Rattle.protocol.specs.Scripts.{Byte, own, card, Answer, done, type1, nothing, refused, refusedAfter, part}
+use lib.ListN.{length, drop}
+use Rattle.targets.specs.TypeA.{TargetData}
+use Rattle.protocol.specs.Scripts.{Byte, own, card, Answer, done, type1, uidAndAts, nothing, refused, refusedAfter, byteAt, part, rest}
 use Rattle.protocol.specs.Chipset.{rate}
 use Rattle.protocol.specs.Device.{chipsetName}
 use Rattle.protocol.specs.Calls.{Request, version, resetMode, setParameters, rfConfiguration, rfFieldOff, readRegister, writeRegister, readSingleRegister, writeSingleRegister, inListPassiveTarget, inDataExchange, inCommunicateThru, inJumpForDep, tgInitTarget, tgSetGeneralBytes, tgGetInitiatorCommand, tgResponseToInitiator, tgGetTargetStatus}
-use Rattle.protocol.specs.Calls.{DeviceCall, detectTypeA, detectTypeB, detectTypeF, pollTypeF, detectDep, transceive}
+use Rattle.protocol.specs.Calls.{DeviceCall, detectTypeA, detectTypeASplit, detectTypeB, detectTypeF, pollTypeF, detectDep, transceive}
 use Rattle.protocol.specs.Calls.{Call, opening, reader, request, device, unknown, rateBytes}
 
 -- ---- the forms of an answer
@@ -75,6 +77,18 @@ module _ (At : ℕ → ℕ → ℕ → Type 0) where
     pub form : bytes ≡ card 0 0 state ∷ (rateBytes (rateIf (eqb state 1) (indices / 16 % 8)) ++ rateBytes (rateIf (eqb state 1) (indices % 8)))
     pub source : At 0 1 indices
 
+  -- Type A's answer with two lengths: SENS_RES, SEL_RES and what follows NFCID1Length of the list, which is the response to command 0.
+  -- Its data is target data, and the lengths are those of its UID and its ATS. NFCID1Length, which the UID's is taken from, is byte 5.
+  pub record OfTarget (bytes : List Byte) (uidLength atsLength : ℕ) : Type 0 where
+    pub list : List ℕ
+    pub uid : List ℕ
+    pub ats : List ℕ
+    pub form : bytes ≡ byteAt 0 list 3 ∷ byteAt 0 list 2 ∷ byteAt 0 list 4 ∷ rest 0 list 6
+    pub target : TargetData (drop 2 list) uid ats
+    pub uidIs : uidLength ≡ length uid
+    pub atsIs : atsLength ≡ length ats
+    pub source : At 0 5 uidLength
+
 pub data Form : Type 0 where
   onlyCards : Form
   versionAndName : Form
@@ -95,6 +109,7 @@ HasForm At (polledCodes n) bytes = PolledCodes n bytes
 abbrev pub Formed : (ℕ → ℕ → ℕ → Type 0) → Form → Answer Byte → Type 0
 Formed At f (done bytes) = HasForm At f bytes
 Formed At f (type1 bytes) = HasForm At f bytes
+Formed At f (uidAndAts bytes uid ats) = Cards bytes × OfTarget At bytes uid ats
 Formed At f nothing = Unit {0}
 Formed At f (refused r) = Unit {0}
 Formed At f (refusedAfter r n) = Unit {0}
@@ -123,6 +138,7 @@ requestForm tgGetTargetStatus = cardAndRates
 
 abbrev pub deviceForm : DeviceCall → Form
 deviceForm (detectTypeA text uid) = onlyCards
+deviceForm (detectTypeASplit text uid) = onlyCards
 deviceForm (detectTypeB text sensbReq) = onlyCards
 deviceForm (detectTypeF text systemCode requestCode timeSlots) = onlyCards
 deviceForm (pollTypeF text words) = polledCodes (length words / 2)

@@ -15,7 +15,7 @@ use Rattle.errors.specs.declared.Fault.the-variants.{NoCard}
 use Rattle.framing.specs.Lists.{both-false-r}
 use Rattle.exchange.specs.Packets.{commandFrame}
 use Rattle.exchange.specs.Exchange.{Order, write, Event, unfit, pending, ended}
-use Rattle.protocol.specs.Scripts.{Byte, behind, Answer, done, type1, nothing, refused, refusedAfter}
+use Rattle.protocol.specs.Scripts.{Byte, behind, Answer, done, type1, uidAndAts, nothing, refused, refusedAfter}
 use Rattle.protocol.specs.Scripts.{Script, finish, command, reset, fieldPause}
 use Rattle.protocol.specs.Chipset.{word}
 use Rattle.protocol.specs.Discovery.{codeEnd, sensfReq, pollCodes}
@@ -249,6 +249,7 @@ module _ (caller : ℕ) (known : leb caller lastCaller ≡ true) (text words : L
     both-end : (a : Answer Byte) → AfterCode a
     both-end (done bytes) = both-go-on (done bytes) (λ o. refl)
     both-end (type1 bytes) = both-go-on (type1 bytes) (λ o. refl)
+    both-end (uidAndAts bytes uid ats) = both-go-on (uidAndAts bytes uid ats) (λ o. refl)
     both-end nothing = both-go-on nothing (λ o. refl)
     both-end (refused r) =
         by-fault (λ r. AfterCode (refused r)) (both-go-on (refused NoCard) (λ o. refl))

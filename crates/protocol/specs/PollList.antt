@@ -8,7 +8,7 @@ use lib.Dec.{eqb}
 use lib.ListN.{length}
 use Rattle.errors.specs.declared.Refusal.{Refusal}
 use Rattle.exchange.specs.Exchange.{Event}
-use Rattle.protocol.specs.Scripts.{Byte, behind, Answer, done, type1, nothing, refused, refusedAfter}
+use Rattle.protocol.specs.Scripts.{Byte, behind, Answer, done, type1, uidAndAts, nothing, refused, refusedAfter}
 use Rattle.protocol.specs.Discovery.{byNoCard, cardMet, noCardMet}
 use Rattle.protocol.specs.Calls.{Call, reader, device, detectTypeF, pollTypeF, wordsIn}
 use Rattle.protocol.specs.Session.{Running, idle, busy, Books, Session, Entry, call, event, Output, orders, answers, rejects, step, outputs, sessionAfter}
@@ -35,6 +35,7 @@ single text code = reader (device (detectTypeF text code 0x01 0x00))
 abbrev pub goesOn : Answer Byte → Bool
 goesOn (done bytes) = true
 goesOn (type1 bytes) = true
+goesOn (uidAndAts bytes uid ats) = true
 goesOn nothing = true
 goesOn (refused r) = byNoCard true false r
 goesOn (refusedAfter r n) = false
@@ -92,6 +93,7 @@ abbrev pub codeBytes : Option (Answer Byte) → List Byte
 codeBytes none = []
 codeBytes (some (done bytes)) = cardMet bytes
 codeBytes (some (type1 bytes)) = cardMet bytes
+codeBytes (some (uidAndAts bytes uid ats)) = cardMet bytes
 codeBytes (some nothing) = noCardMet
 codeBytes (some (refused r)) = noCardMet
 codeBytes (some (refusedAfter r n)) = []
@@ -110,6 +112,7 @@ abbrev pub byNewest : Option (Answer Byte) → ℕ → Option (Answer Byte) → 
 byNewest all finished none = none
 byNewest all finished (some (done bytes)) = all
 byNewest all finished (some (type1 bytes)) = all
+byNewest all finished (some (uidAndAts bytes uid ats)) = all
 byNewest all finished (some nothing) = all
 byNewest all finished (some (refused r)) = byNoCard all (some (refusedAfter r finished)) r
 byNewest all finished (some (refusedAfter r n)) = some (refusedAfter r finished)

@@ -9,7 +9,7 @@ use borrow.Author.Tests.{eq-eqb, ne-eqb, eqb-true}
 use lib.Dec.{eqb}
 use lib.ListN.{length, take, getD, getElem?}
 use Rattle.errors.specs.declared.Fault.{Fault}
-use Rattle.protocol.specs.Scripts.{Byte, own, card, behind, Answer, done, type1, nothing, refused, refusedAfter}
+use Rattle.protocol.specs.Scripts.{Byte, own, card, behind, Answer, done, type1, uidAndAts, nothing, refused, refusedAfter}
 use Rattle.protocol.specs.Scripts.{Script, finish, command, reset, fieldPause, andThen, part, rest}
 use Rattle.protocol.specs.Calls.{wordsIn}
 use Rattle.protocol.specs.Discovery.{sensfReq, poll, detectTypeF, byNoCard, cardMet, noCardMet, codeEnd, pollCodes}
@@ -55,6 +55,7 @@ within-end : (f : List Byte → Script) (g : Fault → Script) (m : ℕ) → ((b
     → (a : Answer Byte) → Within (codeEnd f g a) m
 within-end f g m h k (done bs) = h (cardMet bs)
 within-end f g m h k (type1 bs) = h (cardMet bs)
+within-end f g m h k (uidAndAts bs uid ats) = h (cardMet bs)
 within-end f g m h k nothing = h noCardMet
 within-end f g m h k (refused r) = by-no-card (λ s. Within s m) (f noCardMet) (g r) r (λ _. h noCardMet) (k r)
 within-end f g m h k (refusedAfter r n) = k r
@@ -119,6 +120,7 @@ pub record NotFound (rs rs′ : List (List ℕ)) : Type 0 where
 abbrev pub EndsWith : List (List ℕ) → List (List ℕ) → Answer Byte → Type 0
 EndsWith rs rs′ (done bytes) = Found rs rs′ bytes
 EndsWith rs rs′ (type1 bytes) = ⊥
+EndsWith rs rs′ (uidAndAts bytes uid ats) = ⊥
 EndsWith rs rs′ nothing = ⊥
 EndsWith rs rs′ (refused r) = byNoCard true false r ≡ true → NotFound rs rs′
 EndsWith rs rs′ (refusedAfter r n) = ⊥
@@ -222,6 +224,7 @@ module _ (o : Form) (rs rs′ : List (List ℕ)) (finished : ℕ) (found : List 
   code-ends : (a : Answer Byte) → CodeEnds rs rs′ a → Correct o (codeEnd f g a) rs′
   code-ends (done bytes) (w, e) = h (cardMet bytes) (card-found rs rs′ finished found so w bytes e)
   code-ends (type1 bytes) (w, e) = absurd e
+  code-ends (uidAndAts bytes uid ats) (w, e) = absurd e
   code-ends nothing (w, e) = absurd e
   code-ends (refused r) (w, e) =
       by-no-card (λ s. Correct o s rs′) (f noCardMet) (g r) r (λ q. h noCardMet (no-card-found rs rs′ finished found so w (e q))) (k r)

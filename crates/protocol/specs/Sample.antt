@@ -1,10 +1,11 @@
--- Runs checked by computation: document 01's whole case, an opening and a version as the Rust has them, two system codes, single packets.
+-- Runs checked by computation: document 01's whole case, an opening and a version as the Rust has them, two system codes,
+-- a UID and an ATS told apart, single packets.
 use mathlib.Core.Path.{_≡_, refl}
 use mathlib.Core.List.{List, [], _∷_, _++_, map}
 use Prim.Native.Nat.{ℕ, _+_}
 use lib.ListN.{replicate, take}
 use Rattle.errors.specs.declared.Refusal.the-variants.{OutOfTurn, ShortBuffer, OverLong, BadArgument}
-use Rattle.errors.specs.declared.Fault.the-variants.{Transport, TimeOut, BrokenFrame, Length, FrameKind, Identifier, Code, Status}
+use Rattle.errors.specs.declared.Fault.the-variants.{Transport, TimeOut, BrokenFrame, Length, FrameKind, Identifier, Code, Status, UidLayout}
 use Rattle.framing.specs.Frames.{ack, total, checksumOf, lengthBytes, normalFrame, extendedFrame, headOf, frameOf}
 use Rattle.errors.specs.Choice.{pick, same as sameText}
 use Rattle.targets.specs.Form.{inRange, allDigits}
@@ -14,8 +15,9 @@ use Rattle.framing.specs.Padded.{isPadded, zerosUpTo, extraZeros, unpadded}
 use Rattle.framing.specs.Parse.{isError, extends, lengthAt, normalAt, extendedAt, normalOf, extendedOf, dataOf, parseOf, payloadOf}
 use Rattle.exchange.specs.Packets.{commandFrame, isAck, hasStart, ackLed, Reply, replyOf, response, failed}
 use Rattle.exchange.specs.Exchange.{write, read, drain, pause, Event, ok, bad, pkt, time, late, slept, pending, reading, waiting, cancelling, advance}
-use Rattle.protocol.specs.Scripts.{done, refused, own, refusedAfter, part, rest}
-use Rattle.protocol.specs.Calls.{opening, reader, request, version, device, pollTypeF}
+use Rattle.targets.specs.TypeA.{isTargetData, isUidLength, isAts}
+use Rattle.protocol.specs.Scripts.{done, uidAndAts, refused, own, refusedAfter, part, rest}
+use Rattle.protocol.specs.Calls.{opening, reader, request, version, device, detectTypeASplit, pollTypeF}
 use Rattle.framing.specs.declared.LengthEncoding.the-variants.{NormalOrExtendedBigEndian}
 use Rattle.protocol.specs.Session.{Entry, call, event, Output, orders, answers, rejects, fresh, outputs, sessionAfter}
 use Rattle.protocol.specs.Record.{Item, recordOf, linesOf, frames, events, resets, idleReads, allowed}
@@ -209,6 +211,30 @@ polled-places = refl
 stopped : Runs (openingRun 0 0 ++ (firstCode ++ (on ok (orders (read 100)) ∷ on time (answers (refusedAfter TimeOut 1)) ∷ [])))
 unfolding formats texts
 stopped = refl
+
+-- ---- UID and ATS told apart: a UID of 7 bytes and an ATS of 6, then a UID length of 5; 106A
+
+abbrev uid : List ℕ
+uid = 0x04 ∷ 0x41 ∷ 0x2B ∷ 0x12 ∷ 0x33 ∷ 0x44 ∷ 0x80 ∷ []
+
+abbrev ats : List ℕ
+ats = 0x06 ∷ 0x75 ∷ 0x77 ∷ 0x81 ∷ 0x02 ∷ 0x80 ∷ []
+
+abbrev listedWith : ℕ → List ℕ → List ℕ
+listedWith n bytes = 0x01 ∷ 0x01 ∷ 0x03 ∷ 0x44 ∷ 0x20 ∷ n ∷ bytes
+
+abbrev splitBy : List ℕ → Output ℕ → List Pair
+splitBy list o =
+    ((call 0 (reader (device (detectTypeASplit (0x31 ∷ 0x30 ∷ 0x36 ∷ 0x41 ∷ []) []))) 1024, sends 0x4A (0x01 ∷ 0x00 ∷ [])) ∷ [])
+    ++ answeredBy 0 1000 (responds 0x4A list) o
+
+told-apart : Runs (openingRun 0 0 ++ splitBy (listedWith 7 (uid ++ ats)) (answers (uidAndAts (0x44 ∷ 0x03 ∷ 0x20 ∷ uid ++ ats) 7 6)))
+unfolding formats texts isTargetData isUidLength isAts pick
+told-apart = refl
+
+no-layout : Runs (openingRun 0 0 ++ splitBy (listedWith 5 (take 5 uid)) (answers (refused UidLayout)))
+unfolding formats texts isTargetData isUidLength isAts pick
+no-layout = refl
 
 -- ---- single packets
 

@@ -21,10 +21,12 @@ abbrev pub behind : ℕ → Byte → Byte
 behind n (own b) = own b
 behind n (card k p b) = card (n + k) p b
 
--- how a call ends: `done` with bytes, the same of a Type 1 tag, `none`, or `refused`, of a list with the number of codes finished
+-- how a call ends: `done` with bytes, the same of a Type 1 tag, the same with the lengths of a UID and an ATS among them, `none`, or
+-- `refused`, of a list with the number of codes finished
 pub data Answer (B : Type 0) : Type 0 where
   done : List B → Answer B
   type1 : List B → Answer B
+  uidAndAts : List B → ℕ → ℕ → Answer B
   nothing : Answer B
   refused : Fault → Answer B
   refusedAfter : Fault → ℕ → Answer B

@@ -12,7 +12,7 @@ use Rattle.framing.specs.Padded.{unpadded}
 use Rattle.exchange.specs.Packets.{commandFrame, resetCode, resetData, isAck, Reply}
 use Rattle.exchange.specs.Exchange.{Order, write, read, drain, pause, Event, ok, bad, pkt, time, fail, late, slept}
 use Rattle.exchange.specs.Exchange.{Result, unfit, pending, ended, onWrite, onRead, onPause, Step, sending, advance, ExchangeResult}
-use Rattle.protocol.specs.Scripts.{Byte, Answer, done, type1, nothing, refused, Script, finish, command, reset, fieldPause, refusedAfter}
+use Rattle.protocol.specs.Scripts.{Byte, Answer, done, type1, uidAndAts, nothing, refused, Script, finish, command, reset, fieldPause, refusedAfter}
 use Rattle.protocol.specs.Calls.{Call, opening, reader, Start, refuses, starts, startOf, isOpening, isPaddedMode}
 use Rattle.protocol.specs.Names.{fieldPauseTime, openingReadTime, resetPauseTime}
 
@@ -127,6 +127,7 @@ bookOrder x b = record { opened = b .opened; padded = b .padded; caller = b .cal
 abbrev pub answered : Answer Byte → Bool
 answered (done bytes) = true
 answered (type1 bytes) = true
+answered (uidAndAts bytes uid ats) = true
 answered nothing = false
 answered (refused r) = false
 answered (refusedAfter r n) = false

@@ -1,6 +1,6 @@
 -- Sound scripts: no path has too many commands, and the answer has the call's form, every card byte at its place.
 -- Rules by which `search` proves a script sound.
-use mathlib.Core.Path.{_≡_, refl}
+use mathlib.Core.Path.{_≡_, refl, sym, ap, _∙_}
 use mathlib.Core.Bool.{Bool, true, false, not, cond}
 use mathlib.Core.List.{List, [], _∷_, _++_}
 use mathlib.Core.Option.{Option, none, some}
@@ -9,20 +9,22 @@ use native.Mathlib.Decide.{decLe}
 use native.Mathlib.Nat.{le-of-suc-le-suc, not-suc-le-zero}
 use native.Mathlib.Omega.{arith}
 use lib.Dec.{T, eqb, leb, leb→le, ltb, ltb→lt, nltb→le}
-use lib.ListN.{length, getD, getElem?}
+use lib.ListN.{length, drop, getD, getElem?}
+use lib.Seq.{getD-drop}
 use Rattle.errors.specs.Refusals.{byStatus}
 use Rattle.errors.specs.declared.Fault.{Fault}
-use Rattle.errors.specs.declared.Fault.the-variants.{Transport, TimeOut, FalseStart, BrokenFrame, Length, FrameKind, Identifier, Code, Status, ShortResponse, NoCard, CrcA, Rate}
+use Rattle.errors.specs.declared.Fault.the-variants.{Transport, TimeOut, FalseStart, BrokenFrame, Length, FrameKind, Identifier, Code, Status, ShortResponse, NoCard, CrcA, Rate, UidLayout}
 use Rattle.targets.specs.Bitrates.{Choice, chosen, noCode}
+use Rattle.targets.specs.TypeA.{isTargetData, target-only, uid-length-at, ats-length-at}
 use Rattle.targets.specs.declared.Bitrate.{Bitrate}
 use Rattle.exchange.specs.Packets.{isEmpty, Reply, response, failed}
-use Rattle.protocol.specs.Scripts.{Byte, own, card, Answer, done, type1, nothing, refused, refusedAfter}
+use Rattle.protocol.specs.Scripts.{Byte, own, card, Answer, done, type1, uidAndAts, nothing, refused, refusedAfter}
 use Rattle.protocol.specs.Scripts.{Script, finish, command, reset, fieldPause, either, ifElse, byteAt, part, rest}
 use Rattle.protocol.specs.Calls.{Start, refuses, starts, onCode, withBitrate, rateBytes}
 use Rattle.protocol.specs.Chipset.{versionBytes, rate, sendIndex, receiveIndex}
 use Rattle.protocol.specs.Device.{hexDigit, hex, chipsetName}
-use Rattle.protocol.specs.Discovery.{byNoCard}
-use Rattle.protocol.specs.Own.{Cards, Owns, CardsAndFlag, CardAndRates, DepAndCards, Form, versionAndName, HasForm}
+use Rattle.protocol.specs.Discovery.{byNoCard, cardA, uidLength, atsLength}
+use Rattle.protocol.specs.Own.{Cards, Owns, CardsAndFlag, CardAndRates, DepAndCards, Form, versionAndName, HasForm, Formed}
 
 -- on no path more than n command frames
 abbrev pub Within : Script → ℕ → Type 0
@@ -55,6 +57,7 @@ Stands rs k p b = getElem? (responseTo rs k) p ≡ some b
 abbrev pub Final : Form → List (List ℕ) → Answer Byte → Type 0
 Final o rs (done bs) = Placed rs bs × HasForm (Stands rs) o bs
 Final o rs (type1 bs) = Placed rs bs × HasForm (Stands rs) o bs
+Final o rs (uidAndAts bs uid ats) = Placed rs bs × Formed (Stands rs) o (uidAndAts bs uid ats)
 Final o rs nothing = Unit {0}
 Final o rs (refused r) = Unit {0}
 Final o rs (refusedAfter r n) = Unit {0}
@@ -122,6 +125,7 @@ by-status P f a ShortResponse h k = k
 by-status P f a NoCard h k = k
 by-status P f a CrcA h k = k
 by-status P f a Rate h k = k
+by-status P f a UidLayout h k = k
 
 pub within-status : (f : ℕ → Script) (a : Script) (r : Fault) (n : ℕ) → ((s : ℕ) → Within (f s) n) → Within a n → Within (byStatus f a r) n
 within-status f a r n h k = by-status (λ s. Within s n) f a r h k
@@ -262,6 +266,24 @@ rates-none bs h k =
 
 pub dep-cards : (cards : List Byte) → Cards cards → DepAndCards (own 0xD5 ∷ own 0x01 ∷ cards)
 dep-cards cards h = record { cards = cards; form = refl; allCards = h }
+
+-- Type A's answer with two lengths, whose list is command 0
+module _ (o : Form) (rs : List (List ℕ)) (list : List ℕ) (e : responseTo rs 0 ≡ list) (long : 6 ≤ length list) where
+  cards-placed : Placed rs (cardA list)
+  cards-placed =
+      let at : (p : ℕ) → p < 6 → getElem? (responseTo rs 0) p ≡ some (getD list p 0) = λ p h. rw e (in-range list p (omega arith)) in
+      card-byte (at 3 (omega arith)) (card-byte (at 2 (omega arith)) (card-byte (at 4 (omega arith)) (placed-rest rs 0 list 6 e)))
+
+  pub target-answer : T (isTargetData (drop 2 list)) → Final o rs (uidAndAts (cardA list) (uidLength list) (atsLength list))
+  target-answer t =
+      let s = target-only (drop 2 list) (T→true (isTargetData (drop 2 list)) t) in
+      let u : uidLength list ≡ length (s .uid) = sym (getD-drop 2 list 3 0) ∙ uid-length-at (s .is) in
+      let a : atsLength list ≡ length (s .ats) =
+      ap (λ k. getD list k 0) (omega arith) ∙ (sym (getD-drop 2 list (4 + length (s .uid)) 0) ∙ ats-length-at (s .is)) in
+      let stands : Stands rs 0 5 (uidLength list) = rw e (in-range list 5 (omega arith)) in (
+        cards-placed,
+        (cards-rest 0 list 6, record { list = list; uid = s .uid; ats = s .ats; form = refl; target = s .is; uidIs = u; atsIs = a; source = stands }),
+      )
 
 -- for a script whose answer has card bytes alone; for any
 pub ruleset correct-rules = (holds, ends-either, ends-status, ends-short, ends-if, formed, no-bytes, card-byte, reach, placed-rest, cards-rest)

@@ -60,9 +60,9 @@ pub(crate) fn is_call(seed: u64) -> bool {
 fn running(seed: u64) -> u8 {
     let x = number(seed, 1);
     if is_call(seed) {
-        if x / 4096 % 8 == 0 { small(x, 21) } else { 0 }
+        if x / 4096 % 8 == 0 { small(x, 22) } else { 0 }
     } else {
-        small(x, 21)
+        small(x, 22)
     }
 }
 

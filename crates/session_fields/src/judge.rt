@@ -31,6 +31,7 @@ fn kind(output: Output) -> usize {
         Output::Done(_) => 260,
         Output::Type1(_) => 261,
         Output::Nothing => 262,
+        Output::UidAndAts(_, _, _) => 263,
         Output::Failed(fault) => number(fault.numbered()),
         Output::FailedAfter(fault, _) => number(fault.numbered()),
         Output::Refused(refusal) => number(refusal.numbered()),
@@ -47,6 +48,7 @@ fn told(output: Output) -> usize {
         Output::Pause(_) => 0,
         Output::Done(n) => n,
         Output::Type1(n) => n,
+        Output::UidAndAts(n, _, _) => n,
         Output::Nothing => 0,
         Output::Failed(_) => 0,
         Output::FailedAfter(_, _) => 0,
@@ -66,7 +68,7 @@ fn core_in_range(core: Core) -> bool {
     if exchange.phase > 6 {
         return false;
     }
-    if call.kind > 21 {
+    if call.kind > 22 {
         return false;
     }
     if call.stage > 9 {
@@ -220,9 +222,9 @@ fn refused(counts: [u64; OUTCOMES], k: u8) {
 }
 
 fn refusals(counts: [u64; OUTCOMES]) {
-    let mut left: u8 = 19;
+    let mut left: u8 = 22;
     while left > 0 {
-        refused(counts, 20 - left);
+        refused(counts, 23 - left);
         left -= 1;
     }
 }
@@ -264,6 +266,7 @@ impl Tally {
         line(b"done ", counts[260]);
         line(b"done type1 ", counts[261]);
         line(b"none ", counts[262]);
+        line(b"done uid ats ", counts[263]);
         refusals(counts);
         line(b"out of range and not refused with 1: ", self.unfit);
         line(b"short buffer and not refused with 1 or 2: ", self.short);

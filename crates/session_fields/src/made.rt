@@ -106,12 +106,13 @@ fn device_number(k: u64) -> u8 {
         3 => start::DETECT_DEP,
         5..=6 => start::TRANSCEIVE,
         7 => start::POLL_TYPE_F,
+        8 => start::DETECT_TYPE_A_SPLIT,
         _ => start::DETECT_TYPE_A,
     }
 }
 
 fn device(session: Session, seed: u64, bytes: &[u8], buffer: &mut [u8]) -> Step {
-    let k = draw::number(seed, 21) % 8;
+    let k = draw::number(seed, 21) % 9;
     let number = device_number(k);
     let rest = part(bytes, 0, count(seed, 20));
     let none = part(bytes, 0, 0);
@@ -127,6 +128,7 @@ fn device(session: Session, seed: u64, bytes: &[u8], buffer: &mut [u8]) -> Step 
         4 => session.call(number, zeros, b"848A", rest, none, none, buffer),
         5 => session.call(number, zeros, b"106A", one, rest, none, buffer),
         7 => session.call(number, zeros, b"212F", rest, none, none, buffer),
+        8 => session.call(number, zeros, b"106A", rest, none, none, buffer),
         _ => session.call(number, timed, b"106A", rest, rest, none, buffer),
     }
 }

@@ -4,12 +4,12 @@ use mathlib.Core.List.{List, [], _∷_, _++_}
 use Prim.Native.Nat.{ℕ, _+_, _≤_}
 use lib.ListN.{length, take, drop}
 use Rattle.errors.specs.Choice.{pick}
-use Rattle.protocol.specs.Scripts.{Answer, done, type1, nothing, refused, refusedAfter}
+use Rattle.protocol.specs.Scripts.{Answer, done, type1, uidAndAts, nothing, refused, refusedAfter}
 use Rattle.stages.specs.Stages.{cmd, send, keep, next, put, pause, ends}
 use Rattle.stages.specs.Stages as stages
 use Rattle.stages.specs.declared.Command.{Command}
 use Rattle.stages.specs.declared.Decision.{Decision}
-use Rattle.stages.specs.declared.Decision.the-variants.{Send, Keep, Next, Put, Pause, Done, Type1, Nothing, Refused, RefusedAfter}
+use Rattle.stages.specs.declared.Decision.the-variants.{Send, Keep, Next, Put, Pause, Done, Type1, UidAndAts, Nothing, Refused, RefusedAfter}
 use Rattle.stages.specs.declared.Head.{Head}
 use Rattle.stages.specs.declared.Layout.{Layout}
 use Rattle.stages.specs.declared.Tail.{Tail}
@@ -46,6 +46,7 @@ decisionIn f b (Put n h) = put n (headBytes h)
 decisionIn f b (Pause us n) = pause us n
 decisionIn f b (Done l) = ends (done (layoutBytes f b l))
 decisionIn f b (Type1 l) = ends (type1 (layoutBytes f b l))
+decisionIn f b (UidAndAts l uid ats) = ends (uidAndAts (layoutBytes f b l) uid ats)
 decisionIn f b Nothing = ends nothing
 decisionIn f b (Refused fault) = ends (refused fault)
 decisionIn f b (RefusedAfter fault n) = ends (refusedAfter fault n)
@@ -58,6 +59,7 @@ DecisionFits f b (Put n h) = Unit
 DecisionFits f b (Pause us n) = Unit
 DecisionFits f b (Done l) = Fitting f b l
 DecisionFits f b (Type1 l) = Fitting f b l
+DecisionFits f b (UidAndAts l uid ats) = Fitting f b l
 DecisionFits f b Nothing = Unit
 DecisionFits f b (Refused fault) = Unit
 DecisionFits f b (RefusedAfter fault n) = Unit

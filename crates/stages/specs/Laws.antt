@@ -11,13 +11,13 @@ use lib.Seq.{take-all, take-length}
 use Rattle.errors.specs.Choice.{pick}
 use Rattle.errors.specs.declared.Fault.{Fault}
 use Rattle.errors.specs.declared.Fault.the-variants.{Status}
-use Rattle.protocol.specs.Scripts.{Answer, done, type1, nothing, refused, refusedAfter}
+use Rattle.protocol.specs.Scripts.{Answer, done, type1, uidAndAts, nothing, refused, refusedAfter}
 use Rattle.stages.specs.Stages.{send, keep, next, put, pause, ends, refuse}
 use Rattle.stages.specs.Stages as stages
 use Rattle.stages.specs.Decided.{headBytes, tailBytes, Lays, Decides, Comes, Sends, Commands}
 use Rattle.stages.specs.declared.Command.{Command}
 use Rattle.stages.specs.declared.Decision.{Decision}
-use Rattle.stages.specs.declared.Decision.the-variants.{Send, Keep, Next, Put, Pause, Done, Type1, Nothing, Refused, RefusedAfter}
+use Rattle.stages.specs.declared.Decision.the-variants.{Send, Keep, Next, Put, Pause, Done, Type1, UidAndAts, Nothing, Refused, RefusedAfter}
 use Rattle.stages.specs.declared.Head.{Head}
 use Rattle.stages.specs.declared.Layout.{Layout}
 use Rattle.stages.specs.declared.Tail.{Tail}
@@ -116,6 +116,9 @@ module _ (f b : List ℕ) where
 
   pub decides-type1 : (l : Layout) (bytes : List ℕ) → Lays f b l bytes → Decides f b (Type1 l) (ends (type1 bytes))
   decides-type1 l bytes h = record { is = ap (λ x. ends (type1 x)) (h .is); fits = h .fits }
+
+  pub decides-uid-and-ats : (l : Layout) (bytes : List ℕ) (uid ats : ℕ) → Lays f b l bytes → Decides f b (UidAndAts l uid ats) (ends (uidAndAts bytes uid ats))
+  decides-uid-and-ats l bytes uid ats h = record { is = ap (λ x. ends (uidAndAts x uid ats)) (h .is); fits = h .fits }
 
   pub decides-nothing : Decides f b Nothing (ends nothing)
   decides-nothing = record { is = refl; fits = tt }

@@ -81,7 +81,8 @@ pub struct Layout {
 
 // What follows a reply or a failure: the command of a stage; the same, with bytes that become the found bytes; the same with another
 // cursor, the second number; the command of a stage with three bytes that become the pending command; a pause in µs, and then the
-// command of a stage; or the end of the call. A list's refusal says how many of its codes were finished.
+// command of a stage; or the end of the call. With Type A's bytes the lengths of the UID and the ATS among them may be given, and a
+// list's refusal says how many of its codes were finished.
 pub enum Decision {
     Send(u8),
     Keep(u8, Layout),
@@ -90,6 +91,7 @@ pub enum Decision {
     Pause(u32, u8),
     Done(Layout),
     Type1(Layout),
+    UidAndAts(Layout, u8, u8),
     Nothing,
     Refused(Fault),
     RefusedAfter(Fault, u8),

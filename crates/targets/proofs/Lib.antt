@@ -1,2 +1,3 @@
 mod Exact
 mod Laws
+mod TypeALaws

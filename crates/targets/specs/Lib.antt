@@ -1,2 +1,3 @@
 pub mod Bitrates
 pub mod Form
+pub mod TypeA

@@ -1,4 +1,6 @@
-// The bitrate texts of document 01: their form, their send part, and its code.
+// The bitrate texts of document 01: their form, their send part, and its code. The target data of a list are in type_a.rt.
+pub mod type_a;
+
 use errors::Refusal;
 ghost use mathlib.Core.List.{[], _∷_};
 ghost use mathlib.Core.Path.{_≡_};

@@ -103,7 +103,7 @@ impl Draw {
         core.found = self.used(1024);
         core.exchange.phase = self.small(6);
         core.exchange.code = self.code();
-        core.call.kind = if self.once(3) { 0 } else { self.small(21) };
+        core.call.kind = if self.once(3) { 0 } else { self.small(22) };
         core.call.stage = self.small(9);
         core.call.cursor = self.small(16);
         core.call.phase = if self.once(2) { 0 } else { self.small(5) };
@@ -198,6 +198,9 @@ impl Draw {
 
     /// The frame of a response: a status or a list of targets, and bytes behind it.
     fn response(&mut self, code: u8) -> Vec<u8> {
+        if code == 0x4A && self.once(3) {
+            return self.target();
+        }
         let any = self.byte();
         let mut payload = vec![0xD5, code.wrapping_add(1)];
         match self.below(5) {
@@ -212,6 +215,20 @@ impl Draw {
             1 => payload.extend(std::iter::repeat_n(0, len)),
             2 => payload.extend(with_crc_a(&bytes)),
             _ => payload.extend(bytes),
+        }
+        frame(&payload)
+    }
+
+    /// The frame of a list with one Type A target, mostly laid out as the manual has it.
+    fn target(&mut self) -> Vec<u8> {
+        let (uid, ats) = (self.pick(&[4, 7, 10, 5]), self.pick(&[0, 1, 6]));
+        let (head, rest) = (self.bytes(3), self.bytes(uid + ats));
+        let mut payload = vec![0xD5, 0x4B, 1, 1];
+        payload.extend(head);
+        payload.push(uid as u8);
+        payload.extend(rest);
+        if ats > 0 {
+            payload[8 + uid] = ats as u8;
         }
         frame(&payload)
     }

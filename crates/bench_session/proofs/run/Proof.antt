@@ -9,7 +9,7 @@ use Rattle.bench_session.proofs.run.Statement.{statement}
 use Rattle.bench_session.proofs.run.Tie as tie
 
 abbrev Inv-loop : tie.InvT-loop
-Inv-loop read₀ line₀ buffer₀ out₀ session₀ held₀ turns₀ read line buffer out session held turns = (length read ≡ 65536) × (length line ≡ 8192) × (length out ≡ 2072)
+Inv-loop read₀ line₀ buffer₀ out₀ session₀ held₀ turns₀ read line buffer out session held turns = (length read ≡ 65536) × (length line ≡ 8192) × (length out ≡ 2112)
 
 abbrev μ-loop : tie.MeasureT-loop
 μ-loop read₀ line₀ buffer₀ out₀ session₀ held₀ turns₀ read line buffer out session held turns = turns
@@ -24,7 +24,7 @@ nothing-requires : tie.Need-nothing-requires Inv-loop μ-loop
 nothing-requires c κs = search needs
 
 loop-holds : tie.Need-loop-holds Inv-loop μ-loop
-loop-holds c = (sym (c .before .before .large-buffer .ensures), length-replicate {A = ℕ} 8192 0, length-replicate {A = ℕ} 2072 0)
+loop-holds c = (sym (c .before .before .large-buffer .ensures), length-replicate {A = ℕ} 8192 0, length-replicate {A = ℕ} 2112 0)
 
 slice-aggregate-next : tie.Need-slice-aggregate-next Inv-loop μ-loop
 slice-aggregate-next c = search needs

@@ -32,12 +32,17 @@ returns-6 c = rw (c .before .match .keys6) (c .command5 .ensures)
 
 returns-7 : tie.Need-returns-7
 unfolding commandOf pick
-returns-7 c = let r = c .before .match .rest in rw (ne-eqb _ 1 (r .0 .0 .0 .0 .0 .1), ne-eqb _ 3 (r .0 .0 .0 .0 .1), ne-eqb _ 17 (r .0 .0 .0 .1), ne-eqb _ 18 (r .0 .0 .1), ne-eqb _ 19 (r .0 .1), ne-eqb _ 21 (r .1)) (sends-any _ _ _ (c .command6 .ensures))
+returns-7 c = rw (c .before .match .keys7) (sends-any _ _ _ (c .command6 .ensures))
+
+returns-8 : tie.Need-returns-8
+unfolding commandOf pick
+returns-8 c = let r = c .before .match .rest in rw (ne-eqb _ 1 (r .0 .0 .0 .0 .0 .0 .1), ne-eqb _ 3 (r .0 .0 .0 .0 .0 .1), ne-eqb _ 17 (r .0 .0 .0 .0 .1), ne-eqb _ 18 (r .0 .0 .0 .1), ne-eqb _ 19 (r .0 .0 .1), ne-eqb _ 21 (r .0 .1), ne-eqb _ 22 (r .1)) (sends-any _ _ _ (c .command7 .ensures))
 
 pub command-spec : {M : Type 1} → statement M
 command-spec =
     tie.close
     (tie.spec
+    (λ c κs. search needs)
     (λ c κs. search needs)
     (λ c κs. search needs)
     (λ c κs. search needs)
@@ -51,4 +56,5 @@ command-spec =
     returns-4
     returns-5
     returns-6
-    returns-7)
+    returns-7
+    returns-8)

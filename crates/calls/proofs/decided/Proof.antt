@@ -39,12 +39,17 @@ returns-8 c = rw (c .before .match .keys8) (c .decided6 .ensures)
 
 returns-9 : tie.Need-returns-9
 unfolding decidedOf pick
-returns-9 c = let r = c .before .match .rest in rw (ne-eqb _ 1 (r .0 .0 .0 .0 .0 .0 .0 .1), ne-eqb _ 15 (r .0 .0 .0 .0 .0 .0 .1), ne-eqb _ 16 (r .0 .0 .0 .0 .0 .1), ne-eqb _ 17 (r .0 .0 .0 .0 .1), ne-eqb _ 18 (r .0 .0 .0 .1), ne-eqb _ 19 (r .0 .0 .1), ne-eqb _ 20 (r .0 .1), ne-eqb _ 21 (r .1)) (c .decided7 .ensures .decides _)
+returns-9 c = rw (c .before .match .keys9) (c .decided7 .ensures)
+
+returns-10 : tie.Need-returns-10
+unfolding decidedOf pick
+returns-10 c = let r = c .before .match .rest in rw (ne-eqb _ 1 (r .0 .0 .0 .0 .0 .0 .0 .0 .1), ne-eqb _ 15 (r .0 .0 .0 .0 .0 .0 .0 .1), ne-eqb _ 16 (r .0 .0 .0 .0 .0 .0 .1), ne-eqb _ 17 (r .0 .0 .0 .0 .0 .1), ne-eqb _ 18 (r .0 .0 .0 .0 .1), ne-eqb _ 19 (r .0 .0 .0 .1), ne-eqb _ 20 (r .0 .0 .1), ne-eqb _ 21 (r .0 .1), ne-eqb _ 22 (r .1)) (c .decided8 .ensures .decides _)
 
 pub decided-spec : {M : Type 1} → statement M
 decided-spec =
     tie.close
     (tie.spec
+    (λ c κs. search needs)
     (λ c κs. search needs)
     (λ c κs. search needs)
     (λ c κs. search needs)
@@ -62,4 +67,5 @@ decided-spec =
     returns-6
     returns-7
     returns-8
-    returns-9)
+    returns-9
+    returns-10)

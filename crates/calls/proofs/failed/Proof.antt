@@ -24,7 +24,11 @@ returns-4 c = λ b. rw (c .before .match .keys4) (c .failed4 .ensures b)
 
 returns-5 : tie.Need-returns-5
 unfolding failedOf pick
-returns-5 c = λ b. let r = c .match .rest in rw (ne-eqb _ 17 (r .0 .0 .0 .1), ne-eqb _ 18 (r .0 .0 .1), ne-eqb _ 20 (r .0 .1), ne-eqb _ 21 (r .1)) (decides-refused _ _ _)
+returns-5 c = λ b. rw (c .before .match .keys5) (c .failed5 .ensures _ b)
+
+returns-6 : tie.Need-returns-6
+unfolding failedOf pick
+returns-6 c = λ b. let r = c .match .rest in rw (ne-eqb _ 17 (r .0 .0 .0 .0 .1), ne-eqb _ 18 (r .0 .0 .0 .1), ne-eqb _ 20 (r .0 .0 .1), ne-eqb _ 21 (r .0 .1), ne-eqb _ 22 (r .1)) (decides-refused _ _ _)
 
 pub failed-spec : {M : Type 1} → statement M
 failed-spec =
@@ -34,8 +38,10 @@ failed-spec =
     (λ c κs. search needs)
     (λ c κs. search needs)
     (λ c κs. search needs)
+    (λ c κs. search needs)
     returns
     returns-2
     returns-3
     returns-4
-    returns-5)
+    returns-5
+    returns-6)

@@ -3,7 +3,8 @@
 use crate::raw::{Arguments, Numbers};
 
 /// A call and its arguments. Bitrates are texts such as `b"106A"`; an argument of no bytes is absent where it may be. An opening that is
-/// `padded` is for a board that puts up to 16 more zeros before the start of a packet.
+/// `padded` is for a board that puts up to 16 more zeros before the start of a packet; with `split` the answer's UID and ATS are told
+/// apart.
 #[derive(Clone, Copy, Debug, PartialEq, Eq)]
 pub enum Call<'a> {
     Open { padded: bool },
@@ -25,7 +26,7 @@ pub enum Call<'a> {
     TgResponseToInitiator { data: &'a [u8] },
     TgGetTargetStatus,
     RfFieldOff,
-    DetectTypeA { bitrate: &'a [u8], uid: &'a [u8] },
+    DetectTypeA { bitrate: &'a [u8], uid: &'a [u8], split: bool },
     DetectTypeB { bitrate: &'a [u8], sensb_req: &'a [u8] },
     DetectTypeF { bitrate: &'a [u8], system_code: u16, request_code: u8, time_slots: u8 },
     DetectDep { bitrate: &'a [u8], atr_req: &'a [u8] },
@@ -93,7 +94,9 @@ impl<'a> Call<'a> {
             Call::TgResponseToInitiator { data } => Arguments::with(16, data),
             Call::TgGetTargetStatus => Arguments::of(17),
             Call::RfFieldOff => Arguments::of(18),
-            Call::DetectTypeA { bitrate, uid } => Arguments { second: uid, ..Arguments::with(19, bitrate) },
+            Call::DetectTypeA { bitrate, uid, split } => {
+                Arguments { second: uid, ..Arguments::with(if split { 25 } else { 19 }, bitrate) }
+            }
             Call::DetectTypeB { bitrate, sensb_req } => Arguments { second: sensb_req, ..Arguments::with(20, bitrate) },
             Call::DetectTypeF { bitrate, system_code, request_code, time_slots } => {
                 Arguments::with(21, bitrate).word(system_code).x(request_code).y(time_slots)

@@ -47,7 +47,7 @@ mod step;
 
 pub use calls::Call;
 pub use driver::{Received, Transport, run};
-pub use step::{Answer, Drain, Pause, Read, Reader, Refusal, Step, Write};
+pub use step::{Answer, Drain, Lengths, Pause, Read, Reader, Refusal, Step, Write};
 
 /// The bytes of the engine's buffer, and the most that a packet has.
 pub const BUFFER_SIZE: usize = 1024;

@@ -20,6 +20,7 @@ pub mod kind {
     pub const NONE: u8 = 6;
     pub const REFUSED: u8 = 7;
     pub const LIST_REFUSED: u8 = 8;
+    pub const UID_AND_ATS: u8 = 9;
 }
 
 /// Events.
@@ -102,6 +103,9 @@ pub struct Outcome {
     pub time: u32,
     /// Of a write order and of an answer the bytes at the buffer's start.
     pub len: usize,
+    /// Of an answer whose UID and ATS are told apart the length of each.
+    pub uid: u8,
+    pub ats: u8,
 }
 
 /// A call's arguments that are numbers. What a call does not use counts for nothing; each has a caller.
@@ -154,6 +158,9 @@ impl fmt::Display for Line<'_> {
             kind::PAUSE => write!(f, "pause {}", outcome.time),
             kind::DONE => hex(f, "done", bytes),
             kind::DONE_TYPE1 => hex(f, "done", bytes).and_then(|()| f.write_str(" type1")),
+            kind::UID_AND_ATS => {
+                hex(f, "done", bytes).and_then(|()| write!(f, " uid {} ats {}", outcome.uid, outcome.ats))
+            }
             kind::NONE => f.write_str("none"),
             kind::LIST_REFUSED => refused(f, outcome).and_then(|()| write!(f, " finished {}", outcome.finished)),
             _ => refused(f, outcome),

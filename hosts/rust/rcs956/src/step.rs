@@ -35,6 +35,15 @@ pub struct Answer<'r> {
     pub bytes: &'r [u8],
     /// They are a Type 1 tag's.
     pub type1: bool,
+    /// Where UID and ATS are told apart, the length of each.
+    pub lengths: Option<Lengths>,
+}
+
+/// The lengths of a UID and of an ATS, 0 where there is none. In the answer the UID stands behind three bytes, and the ATS behind it.
+#[derive(Clone, Copy, Debug, PartialEq, Eq)]
+pub struct Lengths {
+    pub uid: u8,
+    pub ats: u8,
 }
 
 /// To write bytes.
@@ -77,9 +86,10 @@ pub enum Refusal {
     NoCard,
     CrcA,
     Rate,
+    UidLayout,
 }
 
-/// The refusals in the order of their numbers, from 1 on.
+/// Document 01's refusals in the order of their numbers, from 1 on.
 const REFUSALS: [Refusal; 19] = [
     Refusal::OutOfTurn,
     Refusal::ShortBuffer,
@@ -103,21 +113,23 @@ const REFUSALS: [Refusal; 19] = [
 ];
 
 impl Refusal {
-    /// Of a number from 1 to 19, with the status byte of 15.
+    /// Of a number from 1 to 19 or 22, with the status byte of 15.
     pub fn numbered(number: u8, status: u8) -> Option<Refusal> {
         match number {
             15 => Some(Refusal::Status(status)),
+            22 => Some(Refusal::UidLayout),
             _ => REFUSALS.get(usize::from(number).checked_sub(1)?).copied(),
         }
     }
 
     fn of(outcome: Outcome) -> Refusal {
-        Refusal::numbered(outcome.refusal, outcome.status).expect("a refusal has 1 to 19")
+        Refusal::numbered(outcome.refusal, outcome.status).expect("a refusal has 1 to 19 or 22")
     }
 
     pub fn number(self) -> u8 {
         match self {
             Refusal::Status(_) => 15,
+            Refusal::UidLayout => 22,
             _ => REFUSALS.iter().position(|refusal| *refusal == self).map_or(0, |k| k as u8 + 1),
         }
     }
@@ -182,8 +194,14 @@ impl Reader {
             kind::READ => Step::Read(Read(Order { reader: self, outcome })),
             kind::DRAIN => Step::Drain(Drain(Order { reader: self, outcome })),
             kind::PAUSE => Step::Pause(Pause(Order { reader: self, outcome })),
-            kind::DONE => Step::Done(Answer { bytes: &self.buffer[..outcome.len], type1: false }),
-            kind::DONE_TYPE1 => Step::Done(Answer { bytes: &self.buffer[..outcome.len], type1: true }),
+            kind::DONE | kind::DONE_TYPE1 | kind::UID_AND_ATS => {
+                let lengths = Lengths { uid: outcome.uid, ats: outcome.ats };
+                Step::Done(Answer {
+                    bytes: &self.buffer[..outcome.len],
+                    type1: outcome.kind == kind::DONE_TYPE1,
+                    lengths: (outcome.kind == kind::UID_AND_ATS).then_some(lengths),
+                })
+            }
             kind::NONE => Step::None,
             kind::LIST_REFUSED => Step::ListRefused { refusal: Refusal::of(outcome), finished: outcome.finished },
             _ => Step::Refused(Refusal::of(outcome)),
@@ -272,13 +290,16 @@ impl<'r> Pause<'r> {
 impl Step<'_> {
     /// The outcome and its bytes.
     fn outcome(&self) -> (Outcome, &[u8]) {
-        let end = |kind| Outcome { kind, refusal: 0, status: 0, finished: 0, time: 0, len: 0 };
+        let end = |kind| Outcome { kind, refusal: 0, status: 0, finished: 0, time: 0, len: 0, uid: 0, ats: 0 };
         let refused = |why: &Refusal, kind| Outcome { refusal: why.number(), status: why.status(), ..end(kind) };
         match self {
             Step::Write(order) => (order.0.outcome, order.bytes()),
             Step::Read(order) => (order.0.outcome, &[]),
             Step::Drain(order) => (order.0.outcome, &[]),
             Step::Pause(order) => (order.0.outcome, &[]),
+            Step::Done(Answer { bytes, lengths: Some(Lengths { uid, ats }), .. }) => {
+                (Outcome { uid: *uid, ats: *ats, ..end(kind::UID_AND_ATS) }, bytes)
+            }
             Step::Done(answer) => (end(if answer.type1 { kind::DONE_TYPE1 } else { kind::DONE }), answer.bytes),
             Step::None => (end(kind::NONE), &[]),
             Step::Refused(why) => (refused(why, kind::REFUSED), &[]),

@@ -130,7 +130,7 @@ fn drains_share_their_time() {
 
 #[test]
 fn refusals_by_number() {
-    for number in 1..=19 {
+    for number in (1..=19).chain([22]) {
         let refusal = Refusal::numbered(number, 7).unwrap();
         assert_eq!((refusal.number(), refusal.status()), (number, if number == 15 { 7 } else { 0 }));
     }
@@ -143,10 +143,12 @@ fn refusals_by_number() {
 
 #[test]
 fn lines_of_ends() {
-    let line = |bytes, type1| Step::Done(Answer { bytes, type1 }).to_string();
+    let line = |bytes, type1| Step::Done(Answer { bytes, type1, lengths: None }).to_string();
     assert_eq!(line(&[], false), "done");
     assert_eq!(line(&[0x0A, 0xFF], false), "done 0AFF");
     assert_eq!(line(&[0x0A, 0xFF], true), "done 0AFF type1");
+    let lengths = Some(Lengths { uid: 4, ats: 0 });
+    assert_eq!(Step::Done(Answer { bytes: &[1, 2], type1: false, lengths }).to_string(), "done 0102 uid 4 ats 0");
     assert_eq!(Step::None.to_string(), "none");
 }
 
@@ -159,7 +161,7 @@ fn session_with(opened: u8, frames: u32) -> RawSession {
 }
 
 fn refused(number: u8) -> Outcome {
-    Outcome { kind: raw::kind::REFUSED, refusal: number, status: 0, finished: 0, time: 0, len: 0 }
+    Outcome { kind: raw::kind::REFUSED, refusal: number, status: 0, finished: 0, time: 0, len: 0, uid: 0, ats: 0 }
 }
 
 #[test]
@@ -217,7 +219,7 @@ fn no_such_mode() {
 fn no_such_call_and_short_buffer() {
     let mut session = session_with(1, 0);
     let before = session.clone();
-    let unknown = Arguments { number: 25, ..Arguments::default() };
+    let unknown = Arguments { number: 26, ..Arguments::default() };
     assert_eq!(raw::call(&mut session, &unknown, &mut [0; 1024]), refused(4));
     assert_eq!(raw::call(&mut session, &unknown, &mut [0; 1023]), refused(2));
     assert_eq!(raw::call(&mut session, &Call::Version.arguments(), &mut []), refused(2));

@@ -90,7 +90,10 @@ impl<'a> Words<'a> {
             (b"read_single_register", 2) => Call::ReadSingleRegister { address: self.word(1)? },
             (b"write_single_register", 3) => Call::WriteSingleRegister { address: self.word(1)?, value: self.byte(2)? },
             (b"rf_field_off", 1) => Call::RfFieldOff,
-            (b"detect_type_a", 3) => Call::DetectTypeA { bitrate: self.text(1), uid: self.hex(2)? },
+            (b"detect_type_a", 3) => Call::DetectTypeA { bitrate: self.text(1), uid: self.hex(2)?, split: false },
+            (b"detect_type_a", 4) if self.words[3] == b"split" => {
+                Call::DetectTypeA { bitrate: self.text(1), uid: self.hex(2)?, split: true }
+            }
             (b"detect_type_b", 3) => Call::DetectTypeB { bitrate: self.text(1), sensb_req: self.hex(2)? },
             (b"detect_type_f", 5) => Call::DetectTypeF {
                 bitrate: self.text(1),

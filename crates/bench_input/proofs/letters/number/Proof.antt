@@ -38,11 +38,17 @@ returns-7 c = λ f. rw (c .before .before .match .keys7) (c .with-wait .ensures 
 
 returns-8 : tie.Need-returns-8
 unfolding numberArg pick
-returns-8 c = λ f. rw (c .before .before .match .keys8) (c .with-x4 .ensures f ∙ c .before .read-padded .ensures _)
+returns-8 c = λ f. rw (c .before .before .before .match .keys8) (c .with-x4 .ensures f ∙ c .before .read-name .ensures _)
 
 returns-9 : tie.Need-returns-9
+unfolding numberArg pick
+returns-9 c = λ f. rw (c .before .before .before .match .keys9) (c .with-x5 .ensures f ∙ c .before .read-name2 .ensures _)
+
+returns-10 : tie.Need-returns-10
 unfolding numberArg
-returns-9 c = λ f. let r = c .match .rest in at-false _ _ _ _ (ne-eqb _ _ (r .0 .0 .0 .0 .0 .0 .0 .1)) (at-false _ _ _ _ (ne-eqb _ _ (r .0 .0 .0 .0 .0 .0 .1)) (at-false _ _ _ _ (ne-eqb _ _ (r .0 .0 .0 .0 .0 .1)) (at-false _ _ _ _ (ne-eqb _ _ (r .0 .0 .0 .0 .1)) (at-false _ _ _ _ (ne-eqb _ _ (r .0 .0 .0 .1)) (at-false _ _ _ _ (ne-eqb _ _ (r .0 .0 .1)) (at-false _ _ _ _ (ne-eqb _ _ (r .0 .1)) (at-false _ _ _ _ (ne-eqb _ _ (r .1)) refl)))))))
+returns-10 c =
+    λ f. let r = c .match .rest in
+    at-false _ _ _ _ (ne-eqb _ _ (r .0 .0 .0 .0 .0 .0 .0 .0 .1)) (at-false _ _ _ _ (ne-eqb _ _ (r .0 .0 .0 .0 .0 .0 .0 .1)) (at-false _ _ _ _ (ne-eqb _ _ (r .0 .0 .0 .0 .0 .0 .1)) (at-false _ _ _ _ (ne-eqb _ _ (r .0 .0 .0 .0 .0 .1)) (at-false _ _ _ _ (ne-eqb _ _ (r .0 .0 .0 .0 .1)) (at-false _ _ _ _ (ne-eqb _ _ (r .0 .0 .0 .1)) (at-false _ _ _ _ (ne-eqb _ _ (r .0 .0 .1)) (at-false _ _ _ _ (ne-eqb _ _ (r .0 .1)) (at-false _ _ _ _ (ne-eqb _ _ (r .1)) refl))))))))
 
 pub number-spec : {M : Type 1} → statement M
 number-spec =
@@ -62,6 +68,10 @@ number-spec =
     (λ c κs. search needs)
     (λ c κs. search needs)
     (λ c κs. search needs)
+    (λ c. search needs)
+    (λ c κs. search needs)
+    (λ c κs. search needs)
+    (λ c. search needs)
     (λ c κs. search needs)
     (λ c κs. search needs)
     returns
@@ -72,4 +82,5 @@ number-spec =
     returns-6
     returns-7
     returns-8
-    returns-9)
+    returns-9
+    returns-10)

@@ -16,6 +16,9 @@ put-done-requires c κs = (search (first-short, needs), search needs)
 put-type1-requires : tie.Need-put-type1-requires
 put-type1-requires c κs = (search (first-short, needs), search needs)
 
+put-lengths-requires : tie.Need-put-lengths-requires
+put-lengths-requires c κs = (search (first-short, needs), search needs)
+
 returns : tie.Need-returns
 returns c = text-bound _ _ _ _ _ (search needs) (search needs) (search (texts, needs))
 
@@ -49,6 +52,9 @@ returns-10 c = text-bound _ _ _ _ _ (search needs) (search needs) (search (texts
 returns-11 : tie.Need-returns-11
 returns-11 c = text-bound _ _ _ _ _ (search needs) (search needs) (search (texts, needs))
 
+returns-12 : tie.Need-returns-12
+returns-12 c = text-bound _ _ _ _ _ (search needs) (search needs) (search (texts, needs))
+
 pub put-output-spec : {M : Type 1} → statement M
 put-output-spec =
     tie.close
@@ -79,6 +85,9 @@ put-output-spec =
     (λ c κs. search needs)
     put-type1-requires
     (λ c. search needs)
+    (λ c κs. search needs)
+    put-lengths-requires
+    (λ c. search needs)
     (λ c. search needs)
     (λ c κs. search needs)
     (λ c. search needs)
@@ -100,4 +109,5 @@ put-output-spec =
     returns-8
     returns-9
     returns-10
-    returns-11)
+    returns-11
+    returns-12)

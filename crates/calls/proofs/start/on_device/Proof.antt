@@ -29,13 +29,18 @@ unfolding callOf startFor deviceFirst
 returns-6 c = λ fourth. rw (c .before .before .match .keys6) (c .poll-type-f .ensures)
 
 returns-7 : tie.Need-returns-7
+unfolding callOf startFor deviceFirst
+returns-7 c = λ fourth. rw (c .before .before .match .keys7) (c .detect-type-a-split .ensures)
+
+returns-8 : tie.Need-returns-8
 unfolding startFor
-returns-7 c = λ fourth. let r = c .before .match .rest in let e = no-call (c .before .before .before .before .before .args .number) (c .before .before .before .before .before .args .numbers) (c .before .before .before .before .before .args .first .now) (c .before .before .before .before .before .args .second .now) (c .before .before .before .before .before .args .third .now) fourth (beyond 24 _ (beyond 23 _ (beyond 22 _ (beyond 21 _ (beyond 20 _ (beyond 19 _ (c .before .before .before .before .before .pre) (r .0 .0 .0 .0 .0 .1)) (r .0 .0 .0 .0 .1)) (r .0 .0 .0 .1)) (r .0 .0 .1)) (r .0 .1)) (r .1)) in rw e (c .refused .ensures _)
+returns-8 c = λ fourth. let r = c .before .match .rest in let e = no-call (c .before .before .before .before .before .args .number) (c .before .before .before .before .before .args .numbers) (c .before .before .before .before .before .args .first .now) (c .before .before .before .before .before .args .second .now) (c .before .before .before .before .before .args .third .now) fourth (beyond 25 _ (beyond 24 _ (beyond 23 _ (beyond 22 _ (beyond 21 _ (beyond 20 _ (beyond 19 _ (c .before .before .before .before .before .pre) (r .0 .0 .0 .0 .0 .0 .1)) (r .0 .0 .0 .0 .0 .1)) (r .0 .0 .0 .0 .1)) (r .0 .0 .0 .1)) (r .0 .0 .1)) (r .0 .1)) (r .1)) in rw e (c .refused .ensures _)
 
 pub on-device-spec : {M : Type 1} → statement M
 on-device-spec =
     tie.close
     (tie.spec
+    (λ c κs. search needs)
     (λ c κs. search needs)
     (λ c κs. search needs)
     (λ c κs. search needs)
@@ -52,4 +57,5 @@ on-device-spec =
     returns-4
     returns-5
     returns-6
-    returns-7)
+    returns-7
+    returns-8)

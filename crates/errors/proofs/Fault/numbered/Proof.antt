@@ -41,6 +41,9 @@ returns-12 c = rw (c .before .enum-told11 .given .1) (c .plain11 .ensures)
 returns-13 : tie.Need-returns-13
 returns-13 c = rw (c .before .enum-told12 .given .1) (c .plain12 .ensures)
 
+returns-14 : tie.Need-returns-14
+returns-14 c = rw (c .before .enum-told13 .given .1) (c .plain13 .ensures)
+
 pub numbered-spec : {M : Type 1} → statement M
 numbered-spec =
     tie.close
@@ -70,6 +73,8 @@ numbered-spec =
     (λ c κs. search needs)
     (λ c. search needs)
     (λ c κs. search needs)
+    (λ c. search needs)
+    (λ c κs. search needs)
     returns
     returns-2
     returns-3
@@ -82,4 +87,5 @@ numbered-spec =
     returns-10
     returns-11
     returns-12
-    returns-13)
+    returns-13
+    returns-14)

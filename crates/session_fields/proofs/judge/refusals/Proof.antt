@@ -1,4 +1,4 @@
--- `refusals` ends: the lines left are at most 19, and one fewer at each turn.
+-- `refusals` ends: the lines left are at most 22, and one fewer at each turn.
 use Prim.Native.Nat.{_≤_}
 use borrow.Author.Needs.{needs}
 use native.Mathlib.Omega.{arith}
@@ -6,7 +6,7 @@ use Rattle.session_fields.proofs.judge.refusals.Statement.{statement}
 use Rattle.session_fields.proofs.judge.refusals.Tie as tie
 
 abbrev Inv-loop : tie.InvT-loop
-Inv-loop counts left₀ left = left ≤ 19
+Inv-loop counts left₀ left = left ≤ 22
 
 abbrev μ-loop : tie.MeasureT-loop
 μ-loop counts left₀ left = left

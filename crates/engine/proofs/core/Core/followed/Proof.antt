@@ -6,7 +6,7 @@ use lib.Seq.{length-take-le}
 use Rattle.exchange.specs.Exchange.{pause}
 use Rattle.stages.specs.Decided.{layoutBytes, DecisionFits}
 use Rattle.engine.specs.Core.{held, stageOf, ordersOf, keepsOf, followsOf}
-use Rattle.engine.specs.Laws.{done-copied, type1-copied}
+use Rattle.engine.specs.Laws.{done-copied, type1-copied, lengths-copied}
 use Rattle.engine.specs.Transitions.{at}
 use borrow.Author.Needs.{needs}
 use Rattle.engine.proofs.core.Core.followed.Statement.{statement}
@@ -55,6 +55,19 @@ answer-requires-2 c κs =
     let a = c .before .before .before .before .before .before .before .before .before .before .before .args in
     let n : length (take (a .self .found) (a .found .now)) ≤ 1024 = omega (arith, length-take (a .self .found) (a .found .now), c .before .before .before .before .before .before .before .before .before .before .before .pre .4) in
     let f = subst (λ x. DecisionFits (take (a .self .found) (a .found .now)) (a .response .now) x) (c .before .before .before .decision7 .given .1) (c .before .before .before .before .before .before .before .before .before .before .before .pre .6) in
+    (f, omega (arith, f .room n (c .before .before .before .before .before .before .before .before .before .before .before .pre .0), c .before .before .before .before .before .before .before .before .before .before .before .pre .5))
+
+slice-reshare-prefix-answer-3 : tie.Need-slice-reshare-prefix-answer-3
+slice-reshare-prefix-answer-3 c = omega (arith, c .before .before .before .before .before .before .before .before .before .pre .1, c .before .before .before .before .before .before .before .before .before .pre .4)
+
+slice-aggregate-answer-3 : tie.Need-slice-aggregate-answer-3
+slice-aggregate-answer-3 c = sym (length-take-le (c .before .before .before .before .before .before .before .before .before .before .args .self .found) (c .before .before .before .before .before .before .before .before .before .before .args .found .now) (omega (arith, c .before .before .before .before .before .before .before .before .before .before .pre .1, c .before .before .before .before .before .before .before .before .before .before .pre .4)))
+
+answer-requires-3 : tie.Need-answer-requires-3
+answer-requires-3 c κs =
+    let a = c .before .before .before .before .before .before .before .before .before .before .before .args in
+    let n : length (take (a .self .found) (a .found .now)) ≤ 1024 = omega (arith, length-take (a .self .found) (a .found .now), c .before .before .before .before .before .before .before .before .before .before .before .pre .4) in
+    let f = subst (λ x. DecisionFits (take (a .self .found) (a .found .now)) (a .response .now) x) (c .before .before .before .decision8 .given .1) (c .before .before .before .before .before .before .before .before .before .before .before .pre .6) in
     (f, omega (arith, f .room n (c .before .before .before .before .before .before .before .before .before .before .before .pre .0), c .before .before .before .before .before .before .before .before .before .before .before .pre .5))
 
 returns : tie.Need-returns
@@ -106,15 +119,22 @@ returns-7 c =
 
 returns-8 : tie.Need-returns-8
 unfolding followsOf
-returns-8 c = rw (c .before .enum-told .given .1) (c .ended3 .ensures _ _)
+returns-8 c =
+    let a = c .before .before .before .before .before .before .before .before .before .before .before .before .before .before .before .args in
+    rw (c .before .before .before .before .before .before .before .decision8 .given .1)
+    (lengths-copied (a .self) _ (layoutBytes (take (a .self .found) (a .found .now)) (a .response .now) (c .before .before .before .before .before .before .before .decision8 .given .0 .0)) (a .buffer .now) _ _ _ _ _ (c .before .before .before .answer3 .ensures .0) (c .before .before .before .answer3 .ensures .1) (c .ended3 .ensures _ _))
 
 returns-9 : tie.Need-returns-9
 unfolding followsOf
-returns-9 c = rw (c .before .before .decision8 .given .1) (c .ended4 .ensures _ _)
+returns-9 c = rw (c .before .enum-told .given .1) (c .ended4 .ensures _ _)
 
 returns-10 : tie.Need-returns-10
 unfolding followsOf
 returns-10 c = rw (c .before .before .decision9 .given .1) (c .ended5 .ensures _ _)
+
+returns-11 : tie.Need-returns-11
+unfolding followsOf
+returns-11 c = rw (c .before .before .decision10 .given .1) (c .ended6 .ensures _ _)
 
 pub followed-spec : {M : Type 1} → statement M
 followed-spec =
@@ -146,6 +166,11 @@ followed-spec =
     answer-requires-2
     (λ c κs. search needs)
     (λ c. search needs)
+    slice-reshare-prefix-answer-3
+    slice-aggregate-answer-3
+    answer-requires-3
+    (λ c κs. search needs)
+    (λ c. search needs)
     (λ c κs. search needs)
     (λ c. search needs)
     (λ c κs. search needs)
@@ -173,6 +198,9 @@ followed-spec =
     (λ c. search needs)
     (λ c. search needs)
     returns-7
+    (λ c. search needs)
+    (λ c. search needs)
     returns-8
     returns-9
-    returns-10)
+    returns-10
+    returns-11)

@@ -24,21 +24,26 @@ returns-7 : tie.Need-returns-7
 returns-7 c = rw (c .before .before .output5 .given .1) (c .bytes5 .ensures)
 
 returns-8 : tie.Need-returns-8
-returns-8 c = rw (c .before .enum-told3 .given .1) (c .bytes6 .ensures)
+returns-8 c = rw (c .before .before .output6 .given .1) (c .uid-and-ats .ensures)
 
 returns-9 : tie.Need-returns-9
-returns-9 c = rw (c .before .before .before .output6 .given .1, ← c .before .numbered .ensures) (c .refused .ensures)
+returns-9 c = rw (c .before .enum-told3 .given .1) (c .bytes6 .ensures)
 
 returns-10 : tie.Need-returns-10
-returns-10 c = rw (c .before .before .before .output7 .given .1, ← c .before .numbered2 .ensures) (c .list-refused .ensures)
+returns-10 c = rw (c .before .before .before .output7 .given .1, ← c .before .numbered .ensures) (c .refused .ensures)
 
 returns-11 : tie.Need-returns-11
-returns-11 c = rw (c .before .before .before .output8 .given .1, ← c .before .numbered3 .ensures) (c .refused2 .ensures)
+returns-11 c = rw (c .before .before .before .output8 .given .1, ← c .before .numbered2 .ensures) (c .list-refused .ensures)
+
+returns-12 : tie.Need-returns-12
+returns-12 c = rw (c .before .before .before .output9 .given .1, ← c .before .numbered3 .ensures) (c .refused2 .ensures)
 
 pub of-spec : {M : Type 1} → statement M
 of-spec =
     tie.close
     (tie.spec
+    (λ c. search needs)
+    (λ c κs. search needs)
     (λ c. search needs)
     (λ c κs. search needs)
     (λ c. search needs)
@@ -74,4 +79,5 @@ of-spec =
     returns-8
     returns-9
     returns-10
-    returns-11)
+    returns-11
+    returns-12)

@@ -1,8 +1,8 @@
 use Rattle.stages.specs.Bitrates.{codeFor, rate-refused, rate-chosen}
 use Rattle.discovery.specs.FirstLaws.{not-supported, supported}
 use borrow.Author.Needs.{needs}
-use Rattle.discovery.proofs.type_a.detect_type_a.Statement.{statement}
-use Rattle.discovery.proofs.type_a.detect_type_a.Tie as tie
+use Rattle.discovery.proofs.type_a.detect.Statement.{statement}
+use Rattle.discovery.proofs.type_a.detect.Tie as tie
 
 returns : tie.Need-returns
 unfolding codeFor
@@ -16,8 +16,8 @@ returns-3 : tie.Need-returns-3
 unfolding codeFor
 returns-3 c = rate-chosen _ _ _ _ _ _ (c .before .before .before .before .before .before .before .before .before .code .ensures) _ (c .before .before .before .before .before .before .before .rate .given .1) (supported _ _ _ _ _ _ (c .before .before .before .before .before .type-a-code .ensures) _ (c .before .before .before .code2 .given .1) (c .list .ensures))
 
-pub detect-type-a-spec : {M : Type 1} → statement M
-detect-type-a-spec =
+pub detect-spec : {M : Type 1} → statement M
+detect-spec =
     tie.close
     (tie.spec
     (λ c κs. search needs)

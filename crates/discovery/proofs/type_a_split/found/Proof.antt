@@ -1,0 +1,45 @@
+-- `type_a_split::found` meets its contract.
+use native.Mathlib.Omega.{arith}
+use borrow.Author.Needs.{needs}
+use Rattle.stages.specs.Laws.{decided, decides-true, decides-false, decides-next}
+use Rattle.discovery.specs.Decisions.{splitFound}
+use Rattle.discovery.specs.SplitLaws.{data-told, decides-lengths}
+use Rattle.discovery.proofs.type_a_split.found.Statement.{statement}
+use Rattle.discovery.proofs.type_a_split.found.Tie as tie
+
+cast-byte-or : tie.Need-cast-byte-or
+cast-byte-or c = omega (arith, c .before .before .shared-slice-known2 .given 5)
+
+add-byte-or : tie.Need-add-byte-or
+add-byte-or c = omega (arith, c .before .before .shared-slice-known2 .given 5)
+
+returns : tie.Need-returns
+unfolding splitFound
+returns c = λ f. decides-true _ _ _ _ _ _ (search (data-told, needs)) (decides-true _ _ _ _ _ _ (search (decided, needs)) (decides-next _ _ _ _ _ _ (c .card .ensures f)))
+
+returns-2 : tie.Need-returns-2
+unfolding splitFound
+returns-2 c = λ f. decides-true _ _ _ _ _ _ (search (data-told, needs)) (decides-false _ _ _ _ _ _ (search (decided, needs)) (decides-lengths _ _ _ _ _ _ _ (c .card2 .ensures f) (search needs)))
+
+returns-3 : tie.Need-returns-3
+unfolding splitFound
+returns-3 c = λ f. decides-false _ _ _ _ _ _ (search (data-told, needs)) (search (decided, needs))
+
+pub found-spec : {M : Type 1} → statement M
+found-spec =
+    tie.close
+    (tie.spec
+    (λ c. search needs)
+    (λ c. search needs)
+    (λ c. search needs)
+    (λ c κs. search needs)
+    (λ c. search needs)
+    (λ c. search needs)
+    (λ c κs. search needs)
+    cast-byte-or
+    add-byte-or
+    (λ c κs. search needs)
+    (λ c κs. search needs)
+    returns
+    returns-2
+    returns-3)

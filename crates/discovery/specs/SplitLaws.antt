@@ -1,0 +1,26 @@
+-- Laws of the mode in which UID and ATS are told apart.
+use mathlib.Core.Path.{_≡_, sym, ap, _∙_}
+use mathlib.Core.Bool.{Bool}
+use mathlib.Core.List.{List}
+use Prim.Native.Nat.{ℕ, _-_}
+use native.Mathlib.Omega.{arith}
+use lib.ListN.{length, take, drop, length-drop}
+use lib.Seq.{take-all}
+use Rattle.protocol.specs.Scripts.{uidAndAts}
+use Rattle.targets.specs.TypeA.{isTargetData}
+use Rattle.stages.specs.Stages.{ends}
+use Rattle.stages.specs.Decided.{Lays, Decides}
+use Rattle.stages.specs.Laws.{decides-uid-and-ats}
+use Rattle.stages.specs.declared.Decision.the-variants.{UidAndAts}
+use Rattle.stages.specs.declared.Layout.{Layout}
+
+-- what a call answered of the list's data, its part from byte 2 on
+pub data-told : (l p : List ℕ) (r t : Bool) → p ≡ take (length l - 2) (drop 2 l) → r ≡ isTargetData p → r ≡ t → isTargetData (drop 2 l) ≡ t
+data-told l p r t q e h =
+    let d : take (length l - 2) (drop 2 l) ≡ drop 2 l = take-all (length l - 2) (drop 2 l) (omega (arith, length-drop 2 l)) in
+    sym (ap isTargetData (q ∙ d)) ∙ (sym e ∙ h)
+
+-- the ATS's length as a call answered it
+pub decides-lengths : (f b : List ℕ) (l : Layout) (bytes : List ℕ) (uid ats x : ℕ) → Lays f b l bytes → ats ≡ x
+    → Decides f b (UidAndAts l uid ats) (ends (uidAndAts bytes uid x))
+decides-lengths f b l bytes uid ats x h e = rw (← e) (decides-uid-and-ats f b l bytes uid ats h)
