@@ -1,0 +1,9 @@
+pub mod Order
+pub mod Steps
+pub mod Claim
+pub mod OrderLaws
+pub mod LineLaws
+pub mod FillLaws
+pub mod OneToOne
+pub mod Runs
+pub mod Theorem
