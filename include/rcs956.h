@@ -15,7 +15,7 @@
  *     RCS956_DONE        has the answer, the buffer's first `len` bytes  the call has ended
  *     RCS956_DONE_TYPE1  the same, of a Type 1 tag                       the call has ended
  *     RCS956_NONE        has none: no card, no command                   the call has ended
- *     RCS956_REFUSED     has `refusal`, and `status` with 15             see below
+ *     RCS956_REFUSED     has `refusal`, `status` with 15 and 20          see below
  *     RCS956_LIST_REFUSED the same of a list, and `finished`             the call has ended
  *     RCS956_UID_AND_ATS the answer as with DONE, and `uid` and `ats`    the call has ended
  *
@@ -103,6 +103,8 @@ extern "C" {
 #define RCS956_NO_CARD 17        /* Type F only */
 #define RCS956_CRC_A 18          /* Type 2 only */
 #define RCS956_RATE 19           /* target status with a rate that there is not */
+#define RCS956_CARD_STATUS 20    /* FeliCa blocks: the card's status flags, `status` and `status2` */
+#define RCS956_OTHER_CARD 21     /* FeliCa blocks: a reply of another code or from another card */
 #define RCS956_UID_LAYOUT 22     /* Type A with UID and ATS told apart: list data that is not laid out as the manual has it */
 
 /* Calls. */
@@ -132,6 +134,8 @@ extern "C" {
 #define RCS956_CALL_TRANSCEIVE 23
 #define RCS956_CALL_POLL_TYPE_F 24
 #define RCS956_CALL_DETECT_TYPE_A_SPLIT 25
+#define RCS956_CALL_READ_WITHOUT_ENCRYPTION 26
+#define RCS956_CALL_WRITE_WITHOUT_ENCRYPTION 27
 
 /* Modes of an opening, for the session until the next one that is accepted. */
 #define RCS956_MODE_OFF 0    /* a packet starts with 00 00 FF */
@@ -175,12 +179,13 @@ typedef struct rcs956_session {
 /* What comes out of a call or an event. What does not apply is 0. */
 typedef struct rcs956_outcome {
     uint8_t kind;
-    uint8_t refusal;  /* of a refusal its number */
-    uint8_t status;   /* of refusal 15 the status byte */
+    uint8_t refusal;  /* of a refusal its number, 1 to 22 */
+    uint8_t status;   /* of refusal 15 the status byte, of 20 the first status flag */
+    uint8_t status2;  /* of refusal 20 the second status flag */
     uint8_t finished; /* of a list's refusal how many of its codes were finished */
+    uint8_t uid, ats; /* of RCS956_UID_AND_ATS the lengths of the UID, from byte 3 of the answer on, and of the ATS behind it */
     uint32_t time;    /* of a read its ms, of a pause its microseconds */
     size_t len;       /* of a write order and of an answer the bytes at the buffer's start */
-    uint8_t uid, ats; /* of RCS956_UID_AND_ATS the lengths of the UID, from byte 3 of the answer on, and of the ATS behind it */
 } rcs956_outcome;
 
 /* A call's arguments that are numbers. What a call does not use counts for nothing; each has a caller, 0 to 7. */
@@ -202,9 +207,9 @@ typedef char rcs956_books_mode_is_at_1[offsetof(rcs956_books, mode) == 1 ? 1 : -
 typedef char rcs956_books_caller_is_at_2[offsetof(rcs956_books, caller) == 2 ? 1 : -1];
 typedef char rcs956_call_has_4_bytes[sizeof(rcs956_call_state) == 4 ? 1 : -1];
 typedef char rcs956_outcome_has_24_bytes[sizeof(rcs956_outcome) == 24 ? 1 : -1];
-typedef char rcs956_outcome_uid_is_at_16[offsetof(rcs956_outcome, uid) == 16 ? 1 : -1];
-typedef char rcs956_outcome_ats_is_at_17[offsetof(rcs956_outcome, ats) == 17 ? 1 : -1];
-typedef char rcs956_outcome_time_is_at_4[offsetof(rcs956_outcome, time) == 4 ? 1 : -1];
+typedef char rcs956_outcome_uid_is_at_5[offsetof(rcs956_outcome, uid) == 5 ? 1 : -1];
+typedef char rcs956_outcome_ats_is_at_6[offsetof(rcs956_outcome, ats) == 6 ? 1 : -1];
+typedef char rcs956_outcome_time_is_at_8[offsetof(rcs956_outcome, time) == 8 ? 1 : -1];
 typedef char rcs956_numbers_has_12_bytes[sizeof(rcs956_numbers) == 12 ? 1 : -1];
 
 /* A session in which no call runs, of a reader that is not open. */
@@ -454,6 +459,28 @@ static inline rcs956_outcome rcs956_poll_type_f(rcs956_session *session, uint8_t
 {
     return rcs956_call(session, RCS956_CALL_POLL_TYPE_F, rcs956_numbers_of(caller, 0, 0, 0, 0), bitrate, bitrate_len, codes,
                        codes_len, RCS956_NO_BYTES, RCS956_NO_BYTES, buffer, buffer_len);
+}
+
+/*
+ * Read Without Encryption of JIS X 6319-4: 1 to 4 blocks of one service, a number for each, from the card of this IDm (8 bytes). Without
+ * `ms_given` the card has 1,000 ms. Answer: 16 bytes a block, in the order of the numbers. 20 where the card's first status flag is not 0.
+ */
+static inline rcs956_outcome rcs956_read_without_encryption(rcs956_session *session, uint8_t caller, const uint8_t *idm, size_t idm_len,
+                                                            uint16_t service, const uint8_t *blocks, size_t blocks_len, bool ms_given,
+                                                            uint16_t ms, uint8_t *buffer, size_t buffer_len)
+{
+    return rcs956_call(session, RCS956_CALL_READ_WITHOUT_ENCRYPTION, rcs956_numbers_of(caller, ms, service, 0, ms_given), idm, idm_len,
+                       blocks, blocks_len, RCS956_NO_BYTES, RCS956_NO_BYTES, buffer, buffer_len);
+}
+
+/* Write Without Encryption: the same with 16 bytes of data for each block. */
+static inline rcs956_outcome rcs956_write_without_encryption(rcs956_session *session, uint8_t caller, const uint8_t *idm, size_t idm_len,
+                                                             uint16_t service, const uint8_t *blocks, size_t blocks_len,
+                                                             const uint8_t *data, size_t data_len, bool ms_given, uint16_t ms,
+                                                             uint8_t *buffer, size_t buffer_len)
+{
+    return rcs956_call(session, RCS956_CALL_WRITE_WITHOUT_ENCRYPTION, rcs956_numbers_of(caller, ms, service, 0, ms_given), idm, idm_len,
+                       blocks, blocks_len, data, data_len, RCS956_NO_BYTES, buffer, buffer_len);
 }
 
 /* A DEP partner; ATR_REQ has 16 to 64 bytes. Answer: ATR_RES, or none. */

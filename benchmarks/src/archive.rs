@@ -112,11 +112,12 @@ pub struct Outcome {
     pub kind: u8,
     pub refusal: u8,
     pub status: u8,
+    pub status2: u8,
     pub finished: u8,
-    pub time: u32,
-    pub len: usize,
     pub uid: u8,
     pub ats: u8,
+    pub time: u32,
+    pub len: usize,
 }
 
 /// Kinds of outcomes: four orders, and the answer.

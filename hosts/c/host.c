@@ -57,6 +57,8 @@ static void print_line(rcs956_outcome outcome, const uint8_t *buffer)
         printf("refused %d", outcome.refusal);
         if (outcome.refusal == RCS956_STATUS)
             printf(" %02X", outcome.status);
+        if (outcome.refusal == RCS956_CARD_STATUS)
+            printf(" %02X%02X", outcome.status, outcome.status2);
         if (outcome.kind == RCS956_LIST_REFUSED)
             printf(" finished %d", outcome.finished);
         putchar('\n');
@@ -218,5 +220,14 @@ int main(int count, char **words)
         run_call(&reader, rcs956_detect_type_f(session, CALLER, (const uint8_t *)"212F", 4, 0xFFFF, 0, 0, buffer, size),
                  &transport);
     }
+
+    /* Its balance: block 00 of service 000B, the first two bytes, low byte first. The IDm stands at the start of what was found. */
+    uint8_t idm[8];
+    memcpy(idm, buffer, sizeof idm);
+    script_take(&script, "read_without_encryption 1011121314151617 000B none 00");
+    rcs956_outcome end = run_call(&reader, rcs956_read_without_encryption(session, CALLER, idm, sizeof idm, 0x000B,
+                                                                          (const uint8_t *)"\x00", 1, false, 0, buffer, size), &transport);
+    if (end.kind == RCS956_DONE)
+        fprintf(stderr, "balance %d\n", buffer[0] + 256 * buffer[1]);
     return fclose(script.file) == 0 ? 0 : 1;
 }

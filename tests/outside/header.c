@@ -25,7 +25,7 @@ rcs956_outcome rcs956_call(rcs956_session *s, uint8_t number, rcs956_numbers n, 
 {
     struct got now = {number, n.ms, n.word, n.x, n.y, n.caller, {first_len, second_len, third_len, fourth_len},
                       {first, second, third, fourth}};
-    rcs956_outcome none = {RCS956_NONE, 0, 0, 0, 0, 0, 0, 0};
+    rcs956_outcome none = {RCS956_NONE, 0, 0, 0, 0, 0, 0, 0, 0};
     got = now;
     if (s != &session || buf != buffer || buf_len != sizeof buffer)
         printf("wrong: session or buffer of call %d\n", number), wrong = 1;
@@ -81,6 +81,8 @@ int main(void)
     expect(rcs956_transceive(s, CALLER, a, 1, b, 2, true, c, 3, true, 60000, END), 0, 60000, 1, 1, 3);
     expect(rcs956_poll_type_f(s, CALLER, a, 1, b, 2, END), 0, 0, 0, 0, 2);
     expect(rcs956_detect_type_a_split(s, CALLER, a, 1, b, 2, END), 0, 0, 0, 0, 2);
+    expect(rcs956_read_without_encryption(s, CALLER, a, 1, 60000, b, 2, true, 65535, END), 65535, 60000, 0, 1, 2);
+    expect(rcs956_write_without_encryption(s, CALLER, a, 1, 60000, b, 2, c, 3, true, 65535, END), 65535, 60000, 0, 1, 3);
     printf("header: %d calls, %s\n", calls, wrong ? "some wrong" : "all right");
     return wrong;
 }

@@ -2,12 +2,12 @@
 use mathlib.Core.Path.{_≡_, refl, sym, ap, ap₂, _∙_}
 use mathlib.Core.Bool.{Bool, true, false}
 use mathlib.Core.List.{List, [], _∷_, _++_, append-assoc}
-use Prim.Native.Nat.{ℕ, suc, _+_, _≤_, _<_}
+use Prim.Native.Nat.{ℕ, suc, _+_, _*_, _/_, _%_, _≤_, _<_}
 use native.Mathlib.Nat.{zero-add}
 use native.Mathlib.Omega.{arith}
 use borrow.Author.Tests.{ltb-false}
 use lib.Dec.{ltb, eqb}
-use lib.ListN.{length, take, drop, getD, set, length-append, length-take}
+use lib.ListN.{length, take, drop, getD, set, length-append, length-take, length-drop}
 use lib.Seq.{set-at, drop-cons, length-take-le}
 use Rattle.errors.specs.Refusals.{Outcome, answered, refused}
 use Rattle.framing.specs.Build.{limitOf}
@@ -24,12 +24,16 @@ use Rattle.framing.specs.declared.settings.Setting.the-variants.{Format, Nothin
 use Rattle.crc.specs.Crc.{Kind, typeA, typeB, checks, crcBytes}
 use Rattle.crc.specs.Laws.{crc-length}
 use Rattle.targets.specs.Bitrates.{ascii, parseOf as bitrateOf}
-use Rattle.bench.specs.Codec.{lineLimit, bytesRoom, answerRoom, unreadable, settingNamed, buildText, foundText, parseText, isFrame, withZeros, paddedText, checksumText, yesOrNo, appendText, sendText, bitrateText, bitrateWord, onBytes, onFormat, twoWords, onSetting, onWords, answerOf, replyOf}
+use Rattle.bench.specs.Codec.{lineLimit, bytesRoom, answerRoom, unreadable, settingNamed, buildText, foundText, parseText, isFrame, withZeros, paddedText, checksumText, yesOrNo, appendText, sendText, bitrateText, bitrateWord, onBytes, onFormat, twoWords, onSetting, onWords, threeWords, fourWords, fiveWords, wordText, askedText, fieldsText, requestText, blockFits, blockPacket, blockText, withBytes, withBlocks, withService, blockLine, answerOf, replyOf}
 use Rattle.bench.specs.Hex.{dash, isHex, pairsOf, hexOf}
 use Rattle.bench.specs.Texts.{over, Placed, placed, placedAt, decimalOf}
 use Rattle.bench.specs.Words.{wordsOf}
 use Rattle.bench.specs.declared.lines.Line.{Line}
 use Rattle.bench.specs.declared.lines.Line.the-variants.{Text, OverLong, End}
+use Rattle.felica.specs.Fields.{idmIn, serviceIn, countIn, listIn, bytesIn, numbersIn, isRequest, reads, writes, noRequest, requestOf}
+use Rattle.felica.specs.Packets.{readCode, writeCode}
+use Rattle.felica.specs.Taken.{request-few}
+use Rattle.bench.proofs.BlockLaws.{packet-short, word-short as block-word-short}
 use Rattle.bench.proofs.CodecLaws.{length-frame, longest-65535, found-short}
 use Rattle.bench.specs.DecimalLaws.{decimal-short}
 use Rattle.bench.specs.HexLaws.{hex-short, length-pairs}
@@ -70,6 +74,51 @@ append-fits : (k : Kind) (p : List ℕ) → length p ≤ bytesRoom → Fits (app
 unfolding appendText
 append-fits k p h = omega (arith, hex-short (p ++ crcBytes k p), length-append p (crcBytes k p), crc-length k p)
 
+numbers-short : (l : List ℕ) → 2 * length (numbersIn l) ≤ length l
+unfolding numbersIn
+numbers-short [] = omega arith
+numbers-short (x ∷ []) = omega arith
+numbers-short (x ∷ y ∷ l) = omega (arith, numbers-short l)
+
+few-numbered : (code s : ℕ) (p : List ℕ) → isRequest code s p ≡ true → length (numbersIn (listIn p)) ≤ 4
+few-numbered code s p h = omega (arith, request-few code s p true (sym h) refl, numbers-short (listIn p), length-take (2 * countIn p) (drop 14 p))
+
+request-fits : (p : List ℕ) → length p ≤ bytesRoom → Fits (requestText p)
+unfolding requestText fieldsText requestOf pick askedText
+request-fits p h = go (isRequest readCode 0 p) (isRequest writeCode 16 p) refl refl
+  where
+    s : List ℕ
+    s = serviceIn p / 256 ∷ serviceIn p % 256 ∷ []
+
+    asked : (name : List ℕ) → length name ≤ 5 → length (numbersIn (listIn p)) ≤ 4 → length (name ++ wordText (idmIn p) ++ wordText s ++ wordText (numbersIn (listIn p))) ≤ 39
+    asked name n k =
+        omega (arith, length-append (name ++ wordText (idmIn p) ++ wordText s) (wordText (numbersIn (listIn p))), length-append (name ++ wordText (idmIn p)) (wordText s), length-append name (wordText (idmIn p)), block-word-short (idmIn p), block-word-short s, block-word-short (numbersIn (listIn p)), length-take 8 (drop 2 p))
+
+    go : (t u : Bool) → isRequest readCode 0 p ≡ t → isRequest writeCode 16 p ≡ u → Fits (fieldsText (pick t (reads (idmIn p) (serviceIn p) (numbersIn (listIn p)))
+        (pick u (writes (idmIn p) (serviceIn p) (numbersIn (listIn p)) (bytesIn (countIn p) p)) noRequest)))
+    go true u e f = omega (arith, asked (ascii "read") (omega arith) (few-numbered readCode 0 p e))
+    go false true e f =
+        let w : List ℕ = ascii "write" ++ wordText (idmIn p) ++ wordText s ++ wordText (numbersIn (listIn p)) in
+        omega (arith, length-append w (wordText (bytesIn (countIn p) p)), asked (ascii "write") (omega arith) (few-numbered writeCode 16 p f), block-word-short (bytesIn (countIn p) p), length-drop (14 + 2 * countIn p) p)
+    go false false e f = omega arith
+
+block-fits : (kind x y : ℕ) (idm blocks bytes : List ℕ) → Fits (blockText kind idm x y blocks bytes)
+unfolding blockText pick
+block-fits kind x y idm blocks bytes = go (blockFits kind idm x blocks bytes) refl
+  where
+    go : (t : Bool) → blockFits kind idm x blocks bytes ≡ t → Fits (pick t (hexOf (blockPacket kind idm x y blocks bytes)) unreadable)
+    go true h = omega (arith, packet-short kind x y idm blocks bytes h, hex-short (blockPacket kind idm x y blocks bytes))
+    go false h = unreadable-fits
+
+line-fits : (kind : ℕ) (i s b d : List ℕ) → Fits (blockLine kind i s b d)
+unfolding blockLine withService withBlocks withBytes
+line-fits kind i s b d =
+    pick-fits (isHex i) _ unreadable
+    (pick-fits (eqb (length s) 4) _ unreadable
+    (pick-fits (isHex s) _ unreadable
+    (pick-fits (isHex b) _ unreadable
+    (pick-fits (isHex d) _ unreadable (block-fits kind (getD (pairsOf s) 0 0) (getD (pairsOf s) 1 0) (pairsOf i) (pairsOf b) (pairsOf d)) unreadable-fits) unreadable-fits) unreadable-fits) unreadable-fits) unreadable-fits
+
 bytes-fit : (name p : List ℕ) → length p ≤ bytesRoom → Fits (onBytes name p)
 unfolding onBytes checksumText
 bytes-fit name p h =
@@ -77,7 +126,8 @@ bytes-fit name p h =
     (pick-fits (same (ascii "crc_a_check") name) _ _ (yes-fits (checks typeA p))
     (pick-fits (same (ascii "crc_b_check") name) _ _ (yes-fits (checks typeB p))
     (pick-fits (same (ascii "crc_a_append") name) _ _ (append-fits typeA p h)
-    (pick-fits (same (ascii "crc_b_append") name) _ unreadable (append-fits typeB p h) unreadable-fits))))
+    (pick-fits (same (ascii "crc_b_append") name) _ _ (append-fits typeB p h)
+    (pick-fits (same (ascii "request") name) _ unreadable (request-fits p h) unreadable-fits)))))
 
 build-fits : (f : FrameFormat) (p : List ℕ) → Fits (buildText f p)
 unfolding buildText limitOf pick
@@ -120,12 +170,15 @@ setting-fits (Format f) name w h = pick-fits (isHex w) _ unreadable (format-fits
 setting-fits NoSetting name w h = unreadable-fits
 
 words-fit : (ws : List (List ℕ)) → ((k : ℕ) → length (getD ws k []) ≤ lineLimit) → Fits (onWords ws)
-unfolding onWords
+unfolding onWords threeWords fourWords fiveWords
 words-fit [] h = unreadable-fits
 words-fit (a ∷ []) h = unreadable-fits
 words-fit (a ∷ b ∷ []) h = two-fit a b (h 1)
-words-fit (a ∷ b ∷ c ∷ []) h = setting-fits (settingNamed b) a c (h 2)
-words-fit (a ∷ b ∷ c ∷ d ∷ ws) h = unreadable-fits
+words-fit (a ∷ b ∷ c ∷ []) h = pick-fits (same (ascii "write_reply") a) _ _ (line-fits 3 b c dash dash) (setting-fits (settingNamed b) a c (h 2))
+words-fit (a ∷ b ∷ c ∷ d ∷ []) h =
+    pick-fits (same (ascii "read_request") a) _ _ (line-fits 0 b c d dash) (pick-fits (same (ascii "read_reply") a) _ unreadable (line-fits 2 b c d dash) unreadable-fits)
+words-fit (a ∷ b ∷ c ∷ d ∷ e ∷ []) h = pick-fits (same (ascii "write_request") a) _ unreadable (line-fits 1 b c d e) unreadable-fits
+words-fit (a ∷ b ∷ c ∷ d ∷ e ∷ f ∷ ws) h = unreadable-fits
 
 pub answer-fits : (l : List ℕ) → length (answerOf l) ≤ 262192
 unfolding answerOf pick

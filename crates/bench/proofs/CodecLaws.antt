@@ -32,7 +32,7 @@ use Rattle.crc.specs.declared.Added.the-variants.{Bytes as AddedBytes, Refused 
 use Rattle.targets.specs.Bitrates.{ascii, parsed, parseOf as bitrateOf, sendLength, isBitrate}
 use Rattle.targets.specs.declared.Parsed.{Parsed}
 use Rattle.targets.specs.declared.Parsed.the-variants.{Send, Refused as NotSent}
-use Rattle.bench.specs.Codec.{lineLimit, bytesRoom, frameRoom, answerRoom, unreadable, buildText, dataText, foundText, parseText, checksumText, yesOrNo, appendText, sendText, bitrateText, onBytes, onFormat, twoWords, onSetting, onWords, settingNamed}
+use Rattle.bench.specs.Codec.{lineLimit, bytesRoom, frameRoom, answerRoom, unreadable, buildText, dataText, foundText, parseText, checksumText, yesOrNo, appendText, sendText, bitrateText, onBytes, onFormat, twoWords, onSetting, onWords, settingNamed, threeWords, fourWords, fiveWords}
 use Rattle.bench.specs.Hex.{isHex, pairsOf, readOf, hexOf}
 use Rattle.bench.specs.Texts.{outcome, over, left, Placed, placed, placedAt, decimalOf}
 use Rattle.bench.specs.Words.{wordsOf}
@@ -343,10 +343,13 @@ module _ (ws : List (List ℕ)) (n : ℕ) (counted : n ≡ length ws) (x : Place
       go [] k i j = absurd (omega arith)
       go (a ∷ []) k i j = absurd (omega arith)
       go (a ∷ c ∷ []) k i j = rw (i, j) at e
-      go (a ∷ c ∷ d ∷ l) k i j = absurd (omega arith)
+      go (a ∷ c ∷ d ∷ []) k i j = absurd (omega arith)
+      go (a ∷ c ∷ d ∷ f ∷ []) k i j = absurd (omega arith)
+      go (a ∷ c ∷ d ∷ f ∷ g ∷ []) k i j = absurd (omega arith)
+      go (a ∷ c ∷ d ∷ f ∷ g ∷ o ∷ l) k i j = absurd (omega arith)
 
   pub three-are : n ≡ 3 → (u v w : List ℕ) → u ≡ getD ws 0 [] → v ≡ getD ws 1 [] → w ≡ getD ws 2 []
-      → x ≡ placedAt 0 (onSetting (settingNamed v) u w) b → x ≡ placedAt 0 (onWords ws) b
+      → x ≡ placedAt 0 (threeWords u v w) b → x ≡ placedAt 0 (onWords ws) b
   unfolding onWords
   three-are h u v w p q s e = go ws (sym counted ∙ h) p q s
     where
@@ -355,18 +358,50 @@ module _ (ws : List (List ℕ)) (n : ℕ) (counted : n ≡ length ws) (x : Place
       go (a ∷ []) k i j m = absurd (omega arith)
       go (a ∷ c ∷ []) k i j m = absurd (omega arith)
       go (a ∷ c ∷ d ∷ []) k i j m = rw (i, j, m) at e
-      go (a ∷ c ∷ d ∷ f ∷ l) k i j m = absurd (omega arith)
+      go (a ∷ c ∷ d ∷ f ∷ []) k i j m = absurd (omega arith)
+      go (a ∷ c ∷ d ∷ f ∷ g ∷ []) k i j m = absurd (omega arith)
+      go (a ∷ c ∷ d ∷ f ∷ g ∷ o ∷ l) k i j m = absurd (omega arith)
 
-  pub others-are : (n ≡ 2 → ⊥) → (n ≡ 3 → ⊥) → x ≡ placedAt 0 unreadable b → x ≡ placedAt 0 (onWords ws) b
+  pub four-are : n ≡ 4 → (u v w y : List ℕ) → u ≡ getD ws 0 [] → v ≡ getD ws 1 [] → w ≡ getD ws 2 [] → y ≡ getD ws 3 []
+      → x ≡ placedAt 0 (fourWords u v w y) b → x ≡ placedAt 0 (onWords ws) b
   unfolding onWords
-  others-are h g e = go ws (λ k. h (counted ∙ k)) (λ k. g (counted ∙ k))
+  four-are h u v w y p q s t e = go ws (sym counted ∙ h) p q s t
     where
-      go : (l : List (List ℕ)) → (length l ≡ 2 → ⊥) → (length l ≡ 3 → ⊥) → x ≡ placedAt 0 (onWords l) b
-      go [] i j = e
-      go (a ∷ []) i j = e
-      go (a ∷ c ∷ []) i j = absurd (i refl)
-      go (a ∷ c ∷ d ∷ []) i j = absurd (j refl)
-      go (a ∷ c ∷ d ∷ f ∷ l) i j = e
+      go : (l : List (List ℕ)) → length l ≡ 4 → u ≡ getD l 0 [] → v ≡ getD l 1 [] → w ≡ getD l 2 [] → y ≡ getD l 3 [] → x ≡ placedAt 0 (onWords l) b
+      go [] k i j m o = absurd (omega arith)
+      go (a ∷ []) k i j m o = absurd (omega arith)
+      go (a ∷ c ∷ []) k i j m o = absurd (omega arith)
+      go (a ∷ c ∷ d ∷ []) k i j m o = absurd (omega arith)
+      go (a ∷ c ∷ d ∷ f ∷ []) k i j m o = rw (i, j, m, o) at e
+      go (a ∷ c ∷ d ∷ f ∷ g ∷ []) k i j m o = absurd (omega arith)
+      go (a ∷ c ∷ d ∷ f ∷ g ∷ z ∷ l) k i j m o = absurd (omega arith)
+
+  pub five-are : n ≡ 5 → (u v w y z : List ℕ) → u ≡ getD ws 0 [] → v ≡ getD ws 1 [] → w ≡ getD ws 2 [] → y ≡ getD ws 3 [] → z ≡ getD ws 4 []
+      → x ≡ placedAt 0 (fiveWords u v w y z) b → x ≡ placedAt 0 (onWords ws) b
+  unfolding onWords
+  five-are h u v w y z p q s t r e = go ws (sym counted ∙ h) p q s t r
+    where
+      go : (l : List (List ℕ)) → length l ≡ 5 → u ≡ getD l 0 [] → v ≡ getD l 1 [] → w ≡ getD l 2 [] → y ≡ getD l 3 [] → z ≡ getD l 4 [] → x ≡ placedAt 0 (onWords l) b
+      go [] k i j m o r = absurd (omega arith)
+      go (a ∷ []) k i j m o r = absurd (omega arith)
+      go (a ∷ c ∷ []) k i j m o r = absurd (omega arith)
+      go (a ∷ c ∷ d ∷ []) k i j m o r = absurd (omega arith)
+      go (a ∷ c ∷ d ∷ f ∷ []) k i j m o r = absurd (omega arith)
+      go (a ∷ c ∷ d ∷ f ∷ g ∷ []) k i j m o r = rw (i, j, m, o, r) at e
+      go (a ∷ c ∷ d ∷ f ∷ g ∷ q ∷ l) k i j m o r = absurd (omega arith)
+
+  pub others-are : (n ≡ 2 → ⊥) → (n ≡ 3 → ⊥) → (n ≡ 4 → ⊥) → (n ≡ 5 → ⊥) → x ≡ placedAt 0 unreadable b → x ≡ placedAt 0 (onWords ws) b
+  unfolding onWords
+  others-are h g f d e = go ws (λ k. h (counted ∙ k)) (λ k. g (counted ∙ k)) (λ k. f (counted ∙ k)) (λ k. d (counted ∙ k))
+    where
+      go : (l : List (List ℕ)) → (length l ≡ 2 → ⊥) → (length l ≡ 3 → ⊥) → (length l ≡ 4 → ⊥) → (length l ≡ 5 → ⊥) → x ≡ placedAt 0 (onWords l) b
+      go [] i j k m = e
+      go (a ∷ []) i j k m = e
+      go (a ∷ c ∷ []) i j k m = absurd (i refl)
+      go (a ∷ c ∷ d ∷ []) i j k m = absurd (j refl)
+      go (a ∷ c ∷ d ∷ f ∷ []) i j k m = absurd (k refl)
+      go (a ∷ c ∷ d ∷ f ∷ g ∷ []) i j k m = absurd (m refl)
+      go (a ∷ c ∷ d ∷ f ∷ g ∷ o ∷ l) i j k m = e
 
 pub word-fits : (l w : List ℕ) (k : ℕ) → w ≡ getD (wordsOf l) k [] → length l ≤ lineLimit → length w ≤ lineLimit
 word-fits l w k e h = omega (arith, ap length e, word-short l k)

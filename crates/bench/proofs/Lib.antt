@@ -1,4 +1,5 @@
 mod AnswerLaws
+mod BlockLaws
 mod CodecLaws
 mod NextLaws
 mod PaddedLaws

@@ -1,7 +1,7 @@
 -- The lines of the program `codec`, and the text that is printed for each. A line that cannot be read gives `refused 4`.
 use mathlib.Core.Bool.{Bool, true, false}
 use mathlib.Core.List.{List, [], _∷_, _++_}
-use Prim.Native.Nat.{ℕ, _+_, _-_}
+use Prim.Native.Nat.{ℕ, _+_, _*_, _-_, _/_, _%_}
 use lib.Dec.{eqb, ltb}
 use lib.ListN.{length, take, getD}
 use Rattle.errors.specs.Refusals.{Outcome, answered, refused}
@@ -18,6 +18,8 @@ use Rattle.framing.specs.declared.FrameType.the-variants.{Ack, Error, Data, Not
 use Rattle.framing.specs.declared.padded.Padded.{Padded}
 use Rattle.framing.specs.declared.settings.Setting.{Setting}
 use Rattle.framing.specs.declared.settings.Setting.the-variants.{Format, Nothing as NoSetting}
+use Rattle.felica.specs.Fields.{RequestFields, reads, writes, noRequest, requestOf}
+use Rattle.felica.specs.Packets.{readRequest, writeRequest, readReply, writeReply, requestFits, writeFits, readReplyFits, idmFits}
 use Rattle.crc.specs.Crc.{Kind, typeA, typeB, checks, crcBytes}
 use Rattle.targets.specs.Bitrates.{ascii, parseOf as bitrateOf}
 use Rattle.bench.specs.Texts.{decimalOf}
@@ -100,6 +102,55 @@ bitrateText t = sendText (bitrateOf t) t
 unfoldable pub bitrateWord : List ℕ → List ℕ
 bitrateWord w = pick (eqb (length w) 0) unreadable (pick (same dash w) (bitrateText []) (bitrateText w))
 
+-- ---- FeliCa blocks
+
+-- the packet of a kind (0 `read_request`, 1 `write_request`, 2 `read_reply`, 3 `write_reply`), and whether there is one: IDm, two bytes that
+-- are the service code, high byte first, or both flags, block numbers or a reply's block data, block data
+unfoldable pub blockFits : ℕ → List ℕ → ℕ → List ℕ → List ℕ → Bool
+blockFits kind idm x blocks bytes =
+    pick (eqb kind 0) (requestFits idm blocks)
+    (pick (eqb kind 1) (writeFits idm blocks bytes)
+    (pick (eqb kind 2) (readReplyFits idm x blocks) (idmFits idm)))
+
+unfoldable pub blockPacket : ℕ → List ℕ → ℕ → ℕ → List ℕ → List ℕ → List ℕ
+blockPacket kind idm x y blocks bytes =
+    pick (eqb kind 0) (readRequest idm (256 * x + y) blocks)
+    (pick (eqb kind 1) (writeRequest idm (256 * x + y) blocks bytes)
+    (pick (eqb kind 2) (readReply idm x y blocks) (writeReply idm x y)))
+
+-- its text, or refusal 4
+unfoldable pub blockText : ℕ → List ℕ → ℕ → ℕ → List ℕ → List ℕ → List ℕ
+blockText kind idm x y blocks bytes = pick (blockFits kind idm x blocks bytes) (hexOf (blockPacket kind idm x y blocks bytes)) unreadable
+
+-- the words of its line, from the last on
+unfoldable pub withBytes : ℕ → List ℕ → ℕ → ℕ → List ℕ → List ℕ → List ℕ
+withBytes kind idm x y blocks d = pick (isHex d) (blockText kind idm x y blocks (pairsOf d)) unreadable
+
+unfoldable pub withBlocks : ℕ → List ℕ → ℕ → ℕ → List ℕ → List ℕ → List ℕ
+withBlocks kind idm x y b d = pick (isHex b) (withBytes kind idm x y (pairsOf b) d) unreadable
+
+unfoldable pub withService : ℕ → List ℕ → List ℕ → List ℕ → List ℕ → List ℕ
+withService kind idm s b d =
+    pick (eqb (length s) 4) (pick (isHex s) (withBlocks kind idm (getD (pairsOf s) 0 0) (getD (pairsOf s) 1 0) b d) unreadable) unreadable
+
+unfoldable pub blockLine : ℕ → List ℕ → List ℕ → List ℕ → List ℕ → List ℕ
+blockLine kind i s b d = pick (isHex i) (withService kind (pairsOf i) s b d) unreadable
+
+-- `request`: a request's fields, each behind a space, or `none`
+unfoldable pub wordText : List ℕ → List ℕ
+wordText p = ascii " " ++ hexOf p
+
+unfoldable pub askedText : List ℕ → List ℕ → ℕ → List ℕ → List ℕ
+askedText name idm service blocks = name ++ wordText idm ++ wordText (service / 256 ∷ service % 256 ∷ []) ++ wordText blocks
+
+unfoldable pub fieldsText : RequestFields → List ℕ
+fieldsText (reads idm service blocks) = askedText (ascii "read") idm service blocks
+fieldsText (writes idm service blocks bytes) = askedText (ascii "write") idm service blocks ++ wordText bytes
+fieldsText noRequest = ascii "none"
+
+unfoldable pub requestText : List ℕ → List ℕ
+requestText p = fieldsText (requestOf p)
+
 -- a name and bytes
 unfoldable pub onBytes : List ℕ → List ℕ → List ℕ
 onBytes name p =
@@ -107,7 +158,8 @@ onBytes name p =
     (pick (same (ascii "crc_a_check") name) (yesOrNo (checks typeA p))
     (pick (same (ascii "crc_b_check") name) (yesOrNo (checks typeB p))
     (pick (same (ascii "crc_a_append") name) (appendText typeA p)
-    (pick (same (ascii "crc_b_append") name) (appendText typeB p) unreadable))))
+    (pick (same (ascii "crc_b_append") name) (appendText typeB p)
+    (pick (same (ascii "request") name) (requestText p) unreadable)))))
 
 -- a name, a format and bytes
 unfoldable pub onFormat : List ℕ → FrameFormat → List ℕ → List ℕ
@@ -125,12 +177,25 @@ unfoldable pub onSetting : Setting → List ℕ → List ℕ → List ℕ
 onSetting (Format f) name w = pick (isHex w) (onFormat name f (pairsOf w)) unreadable
 onSetting NoSetting name w = unreadable
 
+unfoldable pub threeWords : List ℕ → List ℕ → List ℕ → List ℕ
+threeWords name number w = pick (same (ascii "write_reply") name) (blockLine 3 number w dash dash) (onSetting (settingNamed number) name w)
+
+unfoldable pub fourWords : List ℕ → List ℕ → List ℕ → List ℕ → List ℕ
+fourWords name i s b =
+    pick (same (ascii "read_request") name) (blockLine 0 i s b dash)
+    (pick (same (ascii "read_reply") name) (blockLine 2 i s b dash) unreadable)
+
+unfoldable pub fiveWords : List ℕ → List ℕ → List ℕ → List ℕ → List ℕ → List ℕ
+fiveWords name i s b d = pick (same (ascii "write_request") name) (blockLine 1 i s b d) unreadable
+
 unfoldable pub onWords : List (List ℕ) → List ℕ
 onWords [] = unreadable
 onWords (name ∷ []) = unreadable
 onWords (name ∷ word ∷ []) = twoWords name word
-onWords (name ∷ number ∷ word ∷ []) = onSetting (settingNamed number) name word
-onWords (name ∷ number ∷ word ∷ more ∷ words) = unreadable
+onWords (name ∷ number ∷ word ∷ []) = threeWords name number word
+onWords (name ∷ i ∷ s ∷ b ∷ []) = fourWords name i s b
+onWords (name ∷ i ∷ s ∷ b ∷ d ∷ []) = fiveWords name i s b d
+onWords (name ∷ i ∷ s ∷ b ∷ d ∷ more ∷ words) = unreadable
 
 unfoldable pub answerOf : List ℕ → List ℕ
 answerOf l = pick (ltb lineLimit (length l)) unreadable (onWords (wordsOf l))

@@ -1,5 +1,11 @@
 // The lines of the program `codec`: one line in, one line out.
 use super::Put;
+use super::blocks;
+use super::blocks::READ_REPLY;
+use super::blocks::READ_REQUEST;
+use super::blocks::WRITE_REPLY;
+use super::blocks::WRITE_REQUEST;
+use super::blocks::block_line;
 use super::hex;
 use super::lines;
 use super::lines::Held;
@@ -19,7 +25,7 @@ ghost use Prim.Native.Nat.{_+_, _≤_, _<_};
 ghost use lib.ListN.{length, set};
 ghost use Rattle.crc.specs.Crc.{typeA, typeB};
 ghost use Rattle.bench.specs.Texts.{placed, placedAt, decimalOf};
-ghost use Rattle.bench.specs.Codec.{lineLimit, bytesRoom, frameRoom, answerRoom, settingNamed, buildText, dataText, foundText, parseText, isFrame, paddedText, checksumText, yesOrNo, appendText, bitrateText, bitrateWord, onBytes as onBytesOf, onFormat as onFormatOf, twoWords, onSetting, onWords, answerOf, replyOf};
+ghost use Rattle.bench.specs.Codec.{lineLimit, bytesRoom, frameRoom, answerRoom, settingNamed, buildText, dataText, foundText, parseText, isFrame, paddedText, checksumText, yesOrNo, appendText, bitrateText, bitrateWord, onBytes as onBytesOf, onFormat as onFormatOf, twoWords, threeWords, fourWords, fiveWords, onWords, answerOf, replyOf};
 ghost use Rattle.bench.specs.Codec.{unreadable as unreadableText};
 ghost use Rattle.bench.specs.Lines.{lengthOf};
 ghost use Rattle.bench.specs.Words.{wordsOf};
@@ -34,7 +40,7 @@ const BYTES: usize = 131072;
 
 const FRAME: usize = 131088;
 
-fn unreadable(out: &mut [u8]) -> usize
+pub(crate) fn unreadable(out: &mut [u8]) -> usize
     requires { ⌜ answerRoom ≤ length (now out) ⌝ }
     ensures { λ r. ⌜ placed r (now (out .exit)) ≡ placedAt 0 unreadableText (now (out .entry)) ⌝ }
 {
@@ -223,6 +229,9 @@ fn on_bytes(name: &[u8], bytes: &[u8], frame: &mut [u8], out: &mut [u8]) -> usiz
     if words::is(name, b"crc_b_append") {
         return crc_b_append(bytes, frame, out);
     }
+    if words::is(name, b"request") {
+        return blocks::request(bytes, out);
+    }
     unreadable(out)
 }
 
@@ -268,11 +277,26 @@ fn three_words(
     word: &[u8],
     bytes: &mut [u8],
     frame: &mut [u8],
+    second: &mut [u8],
+    third: &mut [u8],
     out: &mut [u8],
 ) -> usize
-    requires { ⌜ (length (now word) ≤ lineLimit) × (length (now bytes) ≡ bytesRoom) × (frameRoom ≤ length (now frame)) × (answerRoom ≤ length (now out)) ⌝ }
-    ensures { λ r. ⌜ placed r (now (out .exit)) ≡ placedAt 0 (onSetting (settingNamed (now (number .entry))) (now (name .entry)) (now (word .entry))) (now (out .entry)) ⌝ }
+    requires { ⌜ (length (now second) ≡ bytesRoom) × (length (now third) ≡ bytesRoom) × (length (now number) ≤ lineLimit) × (length (now word) ≤ lineLimit) × (length (now bytes) ≡ bytesRoom) × (frameRoom ≤ length (now frame)) × (answerRoom ≤ length (now out)) ⌝ }
+    ensures { λ r. ⌜ placed r (now (out .exit)) ≡ placedAt 0 (threeWords (now (name .entry)) (now (number .entry)) (now (word .entry))) (now (out .entry)) ⌝ }
 {
+    if words::is(name, b"write_reply") {
+        return block_line(
+            WRITE_REPLY,
+            number,
+            word,
+            b"-",
+            b"-",
+            bytes,
+            second,
+            third,
+            out,
+        );
+    }
     let Setting::Format(format) = setting(number) else {
         return unreadable(out);
     };
@@ -282,8 +306,77 @@ fn three_words(
     on_format(name, format, &bytes[..n], frame, out)
 }
 
-fn by_words(line: &[u8], bytes: &mut [u8], frame: &mut [u8], out: &mut [u8]) -> usize
-    requires { ⌜ (length (now line) ≤ lineLimit) × (length (now bytes) ≡ bytesRoom) × (frameRoom ≤ length (now frame)) × (answerRoom ≤ length (now out)) ⌝ }
+fn four_words(
+    name: &[u8],
+    idm: &[u8],
+    pair: &[u8],
+    word: &[u8],
+    first: &mut [u8],
+    second: &mut [u8],
+    third: &mut [u8],
+    out: &mut [u8],
+) -> usize
+    requires { ⌜ (length (now first) ≡ bytesRoom) × (length (now second) ≡ bytesRoom) × (length (now third) ≡ bytesRoom) × (length (now idm) ≤ lineLimit) × (length (now word) ≤ lineLimit) × (answerRoom ≤ length (now out)) ⌝ }
+    ensures { λ r. ⌜ placed r (now (out .exit)) ≡ placedAt 0 (fourWords (now (name .entry)) (now (idm .entry)) (now (pair .entry)) (now (word .entry))) (now (out .entry)) ⌝ }
+{
+    if words::is(name, b"read_request") {
+        return block_line(
+            READ_REQUEST,
+            idm,
+            pair,
+            word,
+            b"-",
+            first,
+            second,
+            third,
+            out,
+        );
+    }
+    if words::is(name, b"read_reply") {
+        return block_line(READ_REPLY, idm, pair, word, b"-", first, second, third, out);
+    }
+    unreadable(out)
+}
+
+fn five_words(
+    name: &[u8],
+    idm: &[u8],
+    pair: &[u8],
+    word: &[u8],
+    last: &[u8],
+    first: &mut [u8],
+    second: &mut [u8],
+    third: &mut [u8],
+    out: &mut [u8],
+) -> usize
+    requires { ⌜ (length (now first) ≡ bytesRoom) × (length (now second) ≡ bytesRoom) × (length (now third) ≡ bytesRoom) × (length (now idm) ≤ lineLimit) × (length (now word) ≤ lineLimit) × (length (now last) ≤ lineLimit) × (answerRoom ≤ length (now out)) ⌝ }
+    ensures { λ r. ⌜ placed r (now (out .exit)) ≡ placedAt 0 (fiveWords (now (name .entry)) (now (idm .entry)) (now (pair .entry)) (now (word .entry)) (now (last .entry))) (now (out .entry)) ⌝ }
+{
+    if words::is(name, b"write_request") {
+        return block_line(
+            WRITE_REQUEST,
+            idm,
+            pair,
+            word,
+            last,
+            first,
+            second,
+            third,
+            out,
+        );
+    }
+    unreadable(out)
+}
+
+fn by_words(
+    line: &[u8],
+    bytes: &mut [u8],
+    frame: &mut [u8],
+    more: &mut [u8],
+    last: &mut [u8],
+    out: &mut [u8],
+) -> usize
+    requires { ⌜ (length (now more) ≡ bytesRoom) × (length (now last) ≡ bytesRoom) × (length (now line) ≤ lineLimit) × (length (now bytes) ≡ bytesRoom) × (frameRoom ≤ length (now frame)) × (answerRoom ≤ length (now out)) ⌝ }
     ensures { λ r. ⌜ placed r (now (out .exit)) ≡ placedAt 0 (onWords (wordsOf (now (line .entry)))) (now (out .entry)) ⌝ }
 {
     let n = words::count(line);
@@ -293,7 +386,42 @@ fn by_words(line: &[u8], bytes: &mut [u8], frame: &mut [u8], out: &mut [u8]) -> 
         return two_words(name, second, bytes, frame, out);
     }
     if n == 3 {
-        return three_words(name, second, words::word(line, 2), bytes, frame, out);
+        return three_words(
+            name,
+            second,
+            words::word(line, 2),
+            bytes,
+            frame,
+            more,
+            last,
+            out,
+        );
+    }
+    if n == 4 {
+        return four_words(
+            name,
+            second,
+            words::word(line, 2),
+            words::word(line, 3),
+            bytes,
+            more,
+            last,
+            out,
+        );
+    }
+    if n == 5 {
+        let fifth = words::word(line, 4);
+        return five_words(
+            name,
+            second,
+            words::word(line, 2),
+            words::word(line, 3),
+            fifth,
+            bytes,
+            more,
+            last,
+            out,
+        );
     }
     unreadable(out)
 }
@@ -307,7 +435,9 @@ pub fn answer(line: &[u8], out: &mut [u8; OUT]) -> usize
     if LINE < line.len() {
         return unreadable(out);
     }
-    by_words(line, &mut bytes, &mut frame, out)
+    let mut more = [0u8; BYTES];
+    let mut last = [0u8; BYTES];
+    by_words(line, &mut bytes, &mut frame, &mut more, &mut last, out)
 }
 
 // A line feed behind the text.

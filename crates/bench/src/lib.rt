@@ -1,4 +1,5 @@
 // The lines of the bench programs: read, taken apart and printed, as functions on slices.
+mod blocks;
 pub mod codec;
 pub mod hex;
 pub mod lines;

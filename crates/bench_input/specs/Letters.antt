@@ -40,7 +40,9 @@ numberArg letter w n f =
     (pick (eqb letter 116) (waitArg w (λ given v. f (withY given (withWord v n))))
     -- `z`, `s`: the words `padded` and `split`, by which x is 1
     (pick (eqb letter 122) (nameArg (ascii "padded") w (λ v. f (withX v n)))
-    (pick (eqb letter 115) (nameArg (ascii "split") w (λ v. f (withX v n))) none))))))))
+    (pick (eqb letter 115) (nameArg (ascii "split") w (λ v. f (withX v n)))
+    -- `u`: MS of at most 65535 to ms, and y is 1; or `none`
+    (pick (eqb letter 117) (waitArg w (λ given v. f (withY given (withMs v n)))) none)))))))))
 
 -- a byte string
 unfoldable pub stringArg : ℕ → List ℕ → (List ℕ → Read) → Read

@@ -55,6 +55,8 @@ table =
     ∷ row (ascii "transceive") (ascii "BNptH") 23
     ∷ row (ascii "poll_type_f") (ascii "B2") 24
     ∷ row (ascii "detect_type_a") (ascii "BHs") 25
+    ∷ row (ascii "read_without_encryption") (ascii "HwuH") 26
+    ∷ row (ascii "write_without_encryption") (ascii "HwuHH") 27
     ∷ row (ascii "ok") (ascii "") 128
     ∷ row (ascii "bad") (ascii "") 129
     ∷ row (ascii "pkt") (ascii "") 130

@@ -84,6 +84,18 @@ fn with_wait(numbers: Numbers, value: Wait) -> Numbered
     Numbered::Value(with)
 }
 
+fn with_limit(numbers: Numbers, value: Wait) -> Numbered
+    ensures { λ r. ⌜ ((f : Numbers → Read) → numberIn r f ≡ waitIn value (λ given v. f (withY given (withMs v numbers)))) ⌝ }
+{
+    let Wait::Value(given, ms) = value else {
+        return Numbered::Unreadable;
+    };
+    let mut with = numbers;
+    with.ms = ms as u32;
+    with.y = given;
+    Numbered::Value(with)
+}
+
 fn with_ms(numbers: Numbers, value: Ms) -> Numbered
     ensures { λ r. ⌜ ((f : Numbers → Read) → numberIn r f ≡ msIn value (λ v. f (withMs v numbers))) ⌝ }
 {
@@ -109,6 +121,7 @@ fn number(letter: u8, line: &[u8], k: usize, numbers: Numbers) -> Numbered
         b't' => with_wait(numbers, arguments::read_wait(line, k)),
         b'z' => with_x(numbers, arguments::read_name(line, k, b"padded")),
         b's' => with_x(numbers, arguments::read_name(line, k, b"split")),
+        b'u' => with_limit(numbers, arguments::read_wait(line, k)),
         _ => Numbered::Unreadable,
     }
 }

@@ -8,7 +8,7 @@ ghost use Rattle.bench_input.specs.Arguments.{word};
 ghost use Rattle.bench_input.specs.Table.{table as tableOf, rowAt, isFor, rowFor};
 ghost use Rattle.bench_input.specs.Readings.{texts, foundIn, Within};
 
-pub(crate) const TABLE: [u8; 645] = *b"\
+pub(crate) const TABLE: [u8; 711] = *b"\
     open  00 \
     open z 00 \
     version  01 \
@@ -36,6 +36,8 @@ pub(crate) const TABLE: [u8; 645] = *b"\
     transceive BNptH 17 \
     poll_type_f B2 18 \
     detect_type_a BHs 19 \
+    read_without_encryption HwuH 1A \
+    write_without_encryption HwuHH 1B \
     ok  80 \
     bad  81 \
     pkt  82 \

@@ -116,28 +116,44 @@ module _ (n r : ℕ) (b o : List ℕ) (before : placed r o ≡ placedAt 0 (ascii
     status-done s x e =
         put-behind (ascii "refused " ++ decimalOf n ++ ascii " ") b o′ r′ spaced (hexOf (s ∷ [])) x e (omega (arith, spaced-short, hex-short (s ∷ [])))
 
+    pub flags-room : (s t : ℕ) → length o ≡ length b → length o′ ≡ length o → r′ + length (hexOf (s ∷ t ∷ [])) ≤ length o′
+    flags-room s t l m = omega (arith, spaced-short, hex-short (s ∷ t ∷ []), next-place (ascii "refused " ++ decimalOf n ++ ascii " ") b o′ r′ spaced)
+
+    pub flags-done : (s t : ℕ) (x : Placed) → x ≡ placedAt r′ (hexOf (s ∷ t ∷ [])) o′ → x ≡ placedAt 0 (ascii "refused " ++ decimalOf n ++ ascii " " ++ hexOf (s ∷ t ∷ [])) b
+    flags-done s t x e =
+        put-behind (ascii "refused " ++ decimalOf n ++ ascii " ") b o′ r′ spaced (hexOf (s ∷ t ∷ [])) x e (omega (arith, spaced-short, hex-short (s ∷ t ∷ [])))
+
 -- a refusal whole
 module _ (n : Numbered) (b : List ℕ) (x : Placed) where
   pub refused-15 : n .number ≡ 15 → x ≡ placedAt 0 (ascii "refused " ++ decimalOf (n .number) ++ ascii " " ++ hexOf (n .status ∷ [])) b → x ≡ placedAt 0 (refusedText n) b
   unfolding refusedText pick
   refused-15 h e = rw (eq-eqb (n .number) 15 h) e
 
-  pub refused-other : (n .number ≡ 15 → ⊥) → x ≡ placedAt 0 (ascii "refused " ++ decimalOf (n .number)) b → x ≡ placedAt 0 (refusedText n) b
+  pub refused-20 : (n .number ≡ 15 → ⊥) → n .number ≡ 20 → x ≡ placedAt 0 (ascii "refused " ++ decimalOf (n .number) ++ ascii " " ++ hexOf (n .status ∷ n .status2 ∷ [])) b
+      → x ≡ placedAt 0 (refusedText n) b
   unfolding refusedText pick
-  refused-other h e = rw (ne-eqb (n .number) 15 h) e
+  refused-20 h k e = rw (ne-eqb (n .number) 15 h, eq-eqb (n .number) 20 k) e
+
+  pub refused-other : (n .number ≡ 15 → ⊥) → (n .number ≡ 20 → ⊥) → x ≡ placedAt 0 (ascii "refused " ++ decimalOf (n .number)) b → x ≡ placedAt 0 (refusedText n) b
+  unfolding refusedText pick
+  refused-other h k e = rw (ne-eqb (n .number) 15 h, ne-eqb (n .number) 20 k) e
 
 either-short : (k : ℕ) (t : Bool) (a c : List ℕ) → length a ≤ k → length c ≤ k → length (pick t a c) ≤ k
 unfolding pick
 either-short k true a c h l = h
 either-short k false a c h l = l
 
-refused-short : (n : Numbered) → length (refusedText n) ≤ 32
+with-bytes-short : (n : ℕ) (p : List ℕ) → length p ≤ 2 → length (ascii "refused " ++ decimalOf n ++ ascii " " ++ hexOf p) ≤ 34
+with-bytes-short n p h =
+    rw (length-append (ascii "refused " ++ decimalOf n ++ ascii " ") (hexOf p), length-append (ascii "refused " ++ decimalOf n) (ascii " "), length-append (ascii "refused ") (decimalOf n))
+    (omega (arith, decimal-short n, hex-short p))
+
+refused-short : (n : Numbered) → length (refusedText n) ≤ 34
 unfolding refusedText
 refused-short n =
-    either-short 32 (eqb (n .number) 15) _ _
-    (rw (length-append (ascii "refused " ++ decimalOf (n .number) ++ ascii " ") (hexOf (n .status ∷ [])), length-append (ascii "refused " ++ decimalOf (n .number)) (ascii " "), length-append (ascii "refused ") (decimalOf (n .number)))
-    (omega (arith, decimal-short (n .number), hex-short (n .status ∷ []))))
-    (rw (length-append (ascii "refused ") (decimalOf (n .number))) (omega (arith, decimal-short (n .number))))
+    either-short 34 (eqb (n .number) 15) _ _ (with-bytes-short (n .number) (n .status ∷ []) (omega arith))
+    (either-short 34 (eqb (n .number) 20) _ _ (with-bytes-short (n .number) (n .status ∷ n .status2 ∷ []) (omega arith))
+    (rw (length-append (ascii "refused ") (decimalOf (n .number))) (omega (arith, decimal-short (n .number)))))
 
 -- the number of codes finished behind a list's refusal
 module _ (n : Numbered) (r : ℕ) (b o : List ℕ) (before : placed r o ≡ placedAt 0 (refusedText n) b) (room : outRoom ≤ length b) where
@@ -148,7 +164,7 @@ module _ (n : Numbered) (r : ℕ) (b o : List ℕ) (before : placed r o ≡ plac
     named : placed r′ o′ ≡ placedAt 0 (refusedText n ++ ascii " finished ") b
     named = put-behind (refusedText n) b o r before (ascii " finished ") (placed r′ o′) word (omega (arith, refused-short n))
 
-    named-short : length (refusedText n ++ ascii " finished ") ≤ 42
+    named-short : length (refusedText n ++ ascii " finished ") ≤ 44
     named-short = rw (length-append (refusedText n) (ascii " finished ")) (omega (arith, refused-short n))
 
     pub count-room : length o ≡ length b → length o′ ≡ length o → r′ + 20 ≤ length o′

@@ -33,9 +33,11 @@ type1Text p = ascii "done " ++ hexOf p ++ ascii " type1"
 unfoldable pub lengthsText : List ℕ → ℕ → ℕ → List ℕ
 lengthsText p uid ats = ascii "done " ++ hexOf p ++ ascii " uid " ++ decimalOf uid ++ ascii " ats " ++ decimalOf ats
 
--- a refusal's number, and of 15 the status
+-- a refusal's number, of 15 the status, of 20 both status flags
 unfoldable pub refusedText : Numbered → List ℕ
-refusedText n = pick (eqb (n .number) 15) (ascii "refused " ++ decimalOf (n .number) ++ ascii " " ++ hexOf (n .status ∷ [])) (ascii "refused " ++ decimalOf (n .number))
+refusedText n =
+    pick (eqb (n .number) 15) (ascii "refused " ++ decimalOf (n .number) ++ ascii " " ++ hexOf (n .status ∷ []))
+    (pick (eqb (n .number) 20) (ascii "refused " ++ decimalOf (n .number) ++ ascii " " ++ hexOf (n .status ∷ n .status2 ∷ [])) (ascii "refused " ++ decimalOf (n .number)))
 
 -- the refusal that ends a list, and the number of its codes that were finished
 unfoldable pub listRefusedText : Numbered → ℕ → List ℕ

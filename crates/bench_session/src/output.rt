@@ -74,7 +74,7 @@ fn put_lengths(bytes: &[u8], uid: u8, ats: u8, out: &mut [u8]) -> usize
     put_named(b" ats ", ats, out, behind)
 }
 
-// A refusal's number, and the status of 15.
+// A refusal's number, and the status of 15 or both status flags of 20.
 fn put_refused(numbered: Numbered, out: &mut [u8]) -> usize
     requires { ⌜ outRoom ≤ length (now out) ⌝ }
     ensures { λ r. ⌜ placed r (now (out .exit)) ≡ placedAt 0 (refusedText numbered) (now (out .entry)) ⌝ }
@@ -84,6 +84,11 @@ fn put_refused(numbered: Numbered, out: &mut [u8]) -> usize
         let status = [numbered.status];
         let next = text::put(b" ", out, at);
         return text::put_hex(&status, out, next);
+    }
+    if numbered.number == 20 {
+        let flags = [numbered.status, numbered.status2];
+        let next = text::put(b" ", out, at);
+        return text::put_hex(&flags, out, next);
     }
     at
 }

@@ -1,15 +1,16 @@
 -- The calls by their numbers.
-use mathlib.Core.Bool.{Bool, not, cond}
+use mathlib.Core.Bool.{Bool, true, false, not, cond}
 use mathlib.Core.List.{List, [], _∷_, map}
 use mathlib.Core.Option.{Option, none, some}
-use mathlib.Core.Path.{_≡_, refl}
-use Prim.Native.Nat.{ℕ, zero, suc, _+_, _≤_, _<_}
+use mathlib.Core.Path.{_≡_, refl, ap}
+use Prim.Native.Nat.{ℕ, zero, suc, _+_, _%_, _≤_, _<_}
 use native.Mathlib.Omega.{arith}
-use lib.Dec.{eqb}
+use borrow.Author.Tests.{ltb-false}
+use lib.Dec.{eqb, ltb}
 use lib.ListN.{getD, List·getD-eq-default}
 use Rattle.protocol.specs.Calls.{ReaderCall, Call, opening, reader, request, device, unknown}
 use Rattle.protocol.specs.Calls.{version, resetMode, setParameters, rfConfiguration, rfFieldOff, readRegister, writeRegister, readSingleRegister, writeSingleRegister, inListPassiveTarget, inDataExchange, inCommunicateThru, inJumpForDep, tgInitTarget, tgSetGeneralBytes, tgGetInitiatorCommand, tgResponseToInitiator, tgGetTargetStatus}
-use Rattle.protocol.specs.Calls.{detectTypeA, detectTypeASplit, detectTypeB, detectTypeF, pollTypeF, detectDep, transceive}
+use Rattle.protocol.specs.Calls.{detectTypeA, detectTypeASplit, detectTypeB, detectTypeF, pollTypeF, detectDep, transceive, readWithoutEncryption, writeWithoutEncryption}
 use Rattle.calls.specs.declared.start.Numbers.{Numbers}
 
 -- a byte as a flag
@@ -19,6 +20,13 @@ flag x = not (eqb x 0)
 -- the ms of transceive, where they are given
 abbrev pub msOf : Bool → ℕ → Option ℕ
 msOf given ms = cond given (some ms) none
+
+-- ms that are given are at most 65,535; with more there is no such call
+abbrev pub isLong : Bool → ℕ → Bool
+isLong given ms = cond given (ltb 65535 ms) false
+
+abbrev pub timed : Bool → ℕ → ReaderCall → ReaderCall
+timed given ms c = cond (isLong given ms) unknown c
 
 -- the calls of an open reader in the order of their numbers, from 1 on; their arguments are a struct of numbers and four lists of bytes
 abbrev pub readerCalls : (n : Numbers) (first second third fourth : List ℕ) → List ReaderCall
@@ -48,6 +56,8 @@ readerCalls n first second third fourth =
     ∷ device (transceive first second (flag (n .x)) third (msOf (flag (n .y)) (n .word)))
     ∷ device (pollTypeF first second)
     ∷ device (detectTypeASplit first second)
+    ∷ timed (flag (n .y)) (n .ms) (device (readWithoutEncryption first (n .word) second (msOf (flag (n .y)) (n .ms))))
+    ∷ timed (flag (n .y)) (n .ms) (device (writeWithoutEncryption first (n .word) second third (msOf (flag (n .y)) (n .ms))))
     ∷ []
 
 -- 0 is the opening, whose mode is x
@@ -66,7 +76,12 @@ not-among zero h a b c d e f g k = refl
 not-among (suc n) h a b c d e f g k =
     absurd (omega (arith, beyond 8 (suc n) (beyond 7 (suc n) (beyond 6 (suc n) (beyond 5 (suc n) (beyond 4 (suc n) (beyond 3 (suc n) (beyond 2 (suc n) (beyond 1 (suc n) (omega arith) a) b) c) d) e) f) g) k))
 
-pub no-call : (number : ℕ) (n : Numbers) (first second third fourth : List ℕ) → 26 ≤ number → callOf number n first second third fourth ≡ reader unknown
+-- ms of 16 bits
+pub short-ms : (given : Bool) (ms : ℕ) → isLong given ms ≡ false → msOf given (ms % 65536) ≡ msOf given ms
+short-ms true ms h = let few : ms ≤ 65535 = ltb-false 65535 ms h in let e : ms % 65536 ≡ ms = omega arith in ap some e
+short-ms false ms h = refl
+
+pub no-call : (number : ℕ) (n : Numbers) (first second third fourth : List ℕ) → 28 ≤ number → callOf number n first second third fourth ≡ reader unknown
 unfolding callOf
 no-call number n first second third fourth h = List·getD-eq-default (opening (n .x) ∷ map reader (readerCalls n first second third fourth)) (reader unknown) h
 

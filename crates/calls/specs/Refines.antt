@@ -9,7 +9,7 @@ use lib.ListN.{length}
 use Rattle.errors.specs.Choice.{pick}
 use Rattle.errors.specs.Refusals.{byStatus}
 use Rattle.errors.specs.declared.Fault.{Fault}
-use Rattle.errors.specs.declared.Fault.the-variants.{Transport, TimeOut, FalseStart, BrokenFrame, Length, FrameKind, Identifier, Code, Status, ShortResponse, NoCard, CrcA, Rate, UidLayout}
+use Rattle.errors.specs.declared.Fault.the-variants.{Transport, TimeOut, FalseStart, BrokenFrame, Length, FrameKind, Identifier, Code, Status, ShortResponse, NoCard, CrcA, Rate, CardStatus, OtherCard, UidLayout}
 use Rattle.exchange.specs.Packets.{Reply, response, failed, resetCode, resetData}
 use Rattle.protocol.specs.Scripts.{Byte, Answer, nothing, refused, Script, finish, command, reset, fieldPause, refuse, ifElse}
 use Rattle.protocol.specs.Follows.{plainAnswer}
@@ -68,6 +68,8 @@ module _ {kind cursor : ℕ} {pending found : List ℕ} where
   refines-status NoCard h k = k
   refines-status CrcA h k = k
   refines-status Rate h k = k
+  refines-status (CardStatus s t) h k = k
+  refines-status OtherCard h k = k
   refines-status UidLayout h k = k
 
   pub ending : (a : Answer Byte) {b : Answer ℕ} → plainAnswer a ≡ b → Refines kind cursor pending found (ends b) (finish a)

@@ -35,7 +35,7 @@ pub record Interprets (s : Script) (a : Answer ℕ) : Type 0 where
 pub leads : {kind cursor : ℕ} {pending found : List ℕ} {s : Script} {a : Answer ℕ} → Interprets s a → Refines kind cursor pending found (endsWith a) s
 leads j = rw (j .is) (refines-end (j .answer) _ (j .plain))
 
-ends : (a : Answer Byte) {b : Answer ℕ} → plainAnswer a ≡ b → Interprets (finish a) b
+pub ends : (a : Answer Byte) {b : Answer ℕ} → plainAnswer a ≡ b → Interprets (finish a) b
 ends a h = record { answer = a; is = refl; plain = h }
 
 interprets-if : (t : Bool) {x y : Script} {a b : Answer ℕ} → (t ≡ true → Interprets x a) → (t ≡ false → Interprets y b) → Interprets (ifElse t x y) (pick t a b)
@@ -43,7 +43,7 @@ unfolding pick
 interprets-if true h k = h refl
 interprets-if false h k = k refl
 
-refusing : (r : Fault) → Interprets (refuse r) (refused r)
+pub refusing : (r : Fault) → Interprets (refuse r) (refused r)
 refusing r = ends (refused r) refl
 
 by-length : (bs : List ℕ) (n : ℕ) {s : Script} {a : Answer ℕ} → (n ≤ length bs → Interprets s a) → Interprets (lengthThen bs n s) (withLength bs n a)

@@ -21,8 +21,9 @@ use Rattle.protocol.specs.Scripts.{Answer, Script, command, either, refuse}
 use Rattle.protocol.specs.Chipset.{jumpData, initData}
 use Rattle.protocol.specs.Discovery.{cascaded, sensfReq, detectDep as depScript, transceiveType1, transceiveType2, transceiveThru}
 use Rattle.protocol.specs.Scripts.{ifElse}
+use Rattle.protocol.specs.Blocks.{readBlocks, writeBlocks}
 use Rattle.protocol.specs.Calls.{Request, version, resetMode, setParameters, rfConfiguration, rfFieldOff, readRegister, writeRegister, readSingleRegister, writeSingleRegister, inListPassiveTarget, inDataExchange, inCommunicateThru, inJumpForDep, tgInitTarget, tgSetGeneralBytes, tgGetInitiatorCommand, tgResponseToInitiator, tgGetTargetStatus}
-use Rattle.protocol.specs.Calls.{DeviceCall, detectTypeA, detectTypeASplit, detectTypeB, detectTypeF, pollTypeF, detectDep, transceive}
+use Rattle.protocol.specs.Calls.{DeviceCall, detectTypeA, detectTypeASplit, detectTypeB, detectTypeF, pollTypeF, detectDep, transceive, readWithoutEncryption, writeWithoutEncryption}
 use Rattle.protocol.specs.Calls.{ReaderCall, request, device, unknown, Start, starts, requestStart, deviceStart, readerStart, finished, registers, systemCodesFit, initFits, activeByte, typeACode, typeBCode, typeFCode, depCode, is106A, type2SelRes, isSendable, clockOf, transceiveStart}
 use Rattle.protocol.specs.Calls.{refuses as refusesStart, limited as limitedStart, asserted as assertedStart, onCode as codeStart, withBitrate as bitrateStart}
 use Rattle.stages.specs.Stages.{cmd, send, ends, refuse as refuseWith}
@@ -33,6 +34,8 @@ use Rattle.chipset.specs.Commands.{firstOf}
 use Rattle.chipset.specs.Laws.{few-words, few-triples}
 use Rattle.chipset.specs.Responses.{answerOf}
 use Rattle.device.specs.Transceive.{type1First, thruFirst, transceiveFirst}
+use Rattle.device.specs.Blocks.{readFirst, writeFirst, readAnswer, writeAnswer}
+use Rattle.felica.specs.Packets.{readRequest, writeRequest, requestFits, writeFits}
 use Rattle.discovery.specs.Firsts.{listFirst, typeBFirst, typeFFirst, pollFirst, pollAsserted, depFirst, depAsserted}
 use Rattle.discovery.specs.FirstLaws.{jump-few, list-few}
 use Rattle.calls.specs.Firsts.{deviceFirst, startFor}
@@ -41,6 +44,7 @@ use Rattle.calls.specs.Refines.{Refines, refines-reset, Awaits, refusal}
 use Rattle.calls.specs.Single.{Interprets, leads, answers, empty, by-status, interprets-version, interprets-write, interprets-first, interprets-list, interprets-exchange, interprets-thru, interprets-type2, interprets-type1, interprets-jump, interprets-initiator, interprets-target}
 use Rattle.calls.specs.TypeA.{typeA-leads, split-leads}
 use Rattle.calls.specs.Discoveries.{typeB-leads, typeF-leads, dep-leads}
+use Rattle.calls.specs.Blocks.{read-length, write-length, interprets-read, interprets-written}
 use Rattle.calls.specs.Polls.{poll-leads}
 use Rattle.protocol.specs.Names.{commandClock, getFirmwareVersionCode, inCommunicateThruCode, inDataExchangeCode, inJumpForDepClock, inJumpForDepCode, inListPassiveTargetClock, inListPassiveTargetCode, readRegisterCode, registersClock, rfConfigurationCode, setParametersCode, tgGetInitiatorCommandCode, tgGetTargetStatusCode, tgInitTargetCode, tgResponseToInitiatorClock, tgResponseToInitiatorCode, tgSetGeneralBytesCode, writeRegisterCode}
 
@@ -48,9 +52,9 @@ use Rattle.protocol.specs.Names.{commandClock, getFirmwareVersionCode, inCommun
 pub record Kind (kind : ℕ) : Type 0 where
   pub running : eqb kind 0 ≡ false
   pub noOpening : eqb kind 1 ≡ false
-  pub within : leb kind 22 ≡ true
+  pub within : leb kind 24 ≡ true
 
-a-kind : {kind : ℕ} → eqb kind 0 ≡ false → eqb kind 1 ≡ false → leb kind 22 ≡ true → Kind kind
+a-kind : {kind : ℕ} → eqb kind 0 ≡ false → eqb kind 1 ≡ false → leb kind 24 ≡ true → Kind kind
 a-kind p q r = record { running = p; noOpening = q; within = r }
 
 -- both refuse; the script's first command is the one sent; or the command of stage 0 leads to the script
@@ -161,6 +165,23 @@ transceive-begins rate selRes false bytes ms = go (is106A rate && type2SelRes se
     go true = single-limited 15 inCommunicateThruCode ms bytes _ _ (a-kind refl refl refl) refl (reads (λ _ _. refl) (λ _ _. refl) interprets-type2)
     go false = single-limited 10 inCommunicateThruCode ms bytes _ _ (a-kind refl refl refl) refl (reads (λ _ _. refl) (λ _ _. refl) interprets-thru)
 
+-- a read and a write of FeliCa blocks
+read-begins : (idm : List ℕ) (service : ℕ) (blocks : List ℕ) (ms : ℕ)
+    → Starting (assertedStart (requestFits idm blocks) (starts (readBlocks idm service blocks ms))) (readFirst idm service blocks ms)
+unfolding readFirst decidedOf failedOf isResetOf pick
+read-begins idm service blocks ms =
+    begins-asserted (requestFits idm blocks)
+    (λ h. single 23 inCommunicateThruCode ms (readRequest idm service blocks) _ (readAnswer (readRequest idm service blocks)) (a-kind refl refl refl) refl (read-length idm service blocks h)
+    (reads (λ _ _. refl) (λ _ _. refl) (interprets-read idm service blocks h)))
+
+write-begins : (idm : List ℕ) (service : ℕ) (blocks bytes : List ℕ) (ms : ℕ)
+    → Starting (assertedStart (writeFits idm blocks bytes) (starts (writeBlocks idm service blocks bytes ms))) (writeFirst idm service blocks bytes ms)
+unfolding writeFirst decidedOf failedOf isResetOf pick
+write-begins idm service blocks bytes ms =
+    begins-asserted (writeFits idm blocks bytes)
+    (λ h. single 24 inCommunicateThruCode ms (writeRequest idm service blocks bytes) _ (writeAnswer (writeRequest idm service blocks bytes)) (a-kind refl refl refl) refl (write-length idm service blocks bytes h)
+    (reads (λ _ _. refl) (λ _ _. refl) (interprets-written idm service blocks bytes h)))
+
 -- one line for each call
 device-begins : (d : DeviceCall) → Starting (deviceStart d) (deviceFirst d)
 unfolding deviceFirst typeBFirst typeFFirst pollAsserted pollFirst depAsserted transceiveFirst
@@ -184,6 +205,8 @@ device-begins (transceive text selRes ridRes bytes ms) = go (choiceOf text)
         (withBitrate c (λ rate. pick ridRes (type1First bytes (clockOf ms)) (thruFirst rate selRes bytes (clockOf ms))))
     go (chosen rate) = transceive-begins rate selRes ridRes bytes (clockOf ms)
     go (noCode e) = refusedNow BadBitrate
+device-begins (readWithoutEncryption idm service blocks ms) = read-begins idm service blocks (clockOf ms)
+device-begins (writeWithoutEncryption idm service blocks bytes ms) = write-begins idm service blocks bytes (clockOf ms)
 
 pub reader-begins : (q : ReaderCall) → Starting (readerStart q) (startFor q)
 unfolding startFor

@@ -1,4 +1,5 @@
--- The calls by the numbers of their kinds: 1 the opening, 2 to 16 a call of one command by the rule for its response, 17 to 22 a discovery.
+-- The calls by the numbers of their kinds: 1 the opening, 2 to 16 a call of one command by the rule for its response, 17 to 22 a discovery,
+-- 23 and 24 a read and a write of FeliCa blocks.
 use mathlib.Core.Bool.{Bool}
 use mathlib.Core.List.{List}
 use Prim.Native.Nat.{ℕ}
@@ -9,6 +10,7 @@ use Rattle.stages.specs.Stages.{Command, Decision, ends, refuse}
 use Rattle.chipset.specs.Commands.{resetCommand}
 use Rattle.chipset.specs.Responses.{answerOf}
 use Rattle.device.specs.Transceive.{type2Answer, type1Answer}
+use Rattle.device.specs.Blocks.{readAnswer, writeAnswer}
 use Rattle.device.specs.Opening.{openingCommand, isResetStage, openingDecision}
 use Rattle.discovery.specs.Decisions.{typeACommand, typeADecision, typeAFailure, splitDecision, typeBCommand, typeBDecision, typeBFailure, typeFCommand, typeFDecision, depCommand, depDecision, depFailure, pollCommand, pollDecision, pollFailure}
 
@@ -38,7 +40,9 @@ decidedOf kind stage cursor pending found bs =
     (pick (eqb kind 19) (typeFDecision stage bs)
     (pick (eqb kind 20) (depDecision stage found bs)
     (pick (eqb kind 21) (pollDecision stage cursor pending found bs)
-    (pick (eqb kind 22) (splitDecision stage cursor found bs) (ends (answerOf kind bs))))))))))
+    (pick (eqb kind 22) (splitDecision stage cursor found bs)
+    (pick (eqb kind 23) (ends (readAnswer pending bs))
+    (pick (eqb kind 24) (ends (writeAnswer pending bs)) (ends (answerOf kind bs))))))))))))
 
 -- what follows its failure
 unfoldable pub failedOf : ℕ → ℕ → ℕ → List ℕ → List ℕ → Fault → Decision

@@ -5,6 +5,9 @@ use chipset::RESET_MODE;
 use chipset::general;
 use chipset::response;
 use device::OPENING;
+use device::blocks;
+use device::blocks::READ_BLOCKS;
+use device::blocks::WRITE_BLOCKS;
 use device::transceive;
 use device::transceive::TYPE_1;
 use device::transceive::TYPE_2;
@@ -77,6 +80,8 @@ pub fn decided(
         DEP => dep::decided(stage, found, response),
         POLL_TYPE_F => poll_type_f::decided(stage, cursor, pending, found, response),
         TYPE_A_SPLIT => type_a_split::decided(stage, cursor, found, response),
+        READ_BLOCKS => blocks::read_response(pending, response),
+        WRITE_BLOCKS => blocks::write_response(pending, response),
         _ => response::decided(kind, response),
     }
 }

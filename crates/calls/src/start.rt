@@ -3,6 +3,8 @@ use chipset::general;
 use chipset::initiator;
 use chipset::registers;
 use chipset::target;
+use device::blocks::read_without_encryption;
+use device::blocks::write_without_encryption;
 use device::transceive::Timeout;
 use device::transceive::transceive;
 use discovery::dep::detect_dep;
@@ -14,13 +16,15 @@ use discovery::type_f::detect_type_f;
 use errors::Refusal;
 use stages::start;
 use stages::start::Start;
+ghost use mathlib.Core.Bool.{Bool};
 ghost use mathlib.Core.List.{List};
 ghost use mathlib.Core.Path.{_≡_};
 ghost use Prim.Native.Nat.{ℕ, _≤_, _<_};
 ghost use Rattle.stages.specs.Starts.{Starts};
 ghost use Rattle.device.specs.Transceive.{timeoutOf};
-ghost use Rattle.calls.specs.Numbers.{flag, msOf, callOf};
-ghost use Rattle.calls.specs.Firsts.{startBy};
+ghost use Rattle.protocol.specs.Calls.{device, readWithoutEncryption, writeWithoutEncryption};
+ghost use Rattle.calls.specs.Numbers.{flag, msOf, isLong, timed, callOf};
+ghost use Rattle.calls.specs.Firsts.{startFor, startBy};
 
 // A call's arguments that are numbers: milliseconds, a word of 16 bits, two bytes, and its caller. What a call does not use counts for
 // nothing; each has a caller.
@@ -85,6 +89,13 @@ pub const TRANSCEIVE: u8 = 23;
 pub const POLL_TYPE_F: u8 = 24;
 
 pub const DETECT_TYPE_A_SPLIT: u8 = 25;
+
+pub const READ_WITHOUT_ENCRYPTION: u8 = 26;
+
+pub const WRITE_WITHOUT_ENCRYPTION: u8 = 27;
+
+// The most ms that are given to a read or a write of FeliCa blocks.
+const MOST_MS: u32 = 65535;
 
 // Calls 1 to 8: the chip's version, mode, parameters and registers.
 fn chip(number: u8, numbers: Numbers, first: &[u8], command: &mut [u8; 512]) -> Start
@@ -164,7 +175,72 @@ fn timeout(given: bool, ms: u16) -> Timeout
     }
 }
 
-// Calls 19 to 25: the discoveries and transceive. A number that has no call is refused with 4.
+// More ms are given than there may be.
+fn is_long(given: bool, ms: u32) -> bool
+    ensures { λ r. ⌜ r ≡ isLong given ms ⌝ }
+{
+    if given { MOST_MS < ms } else { false }
+}
+
+// The ms of a read or a write of FeliCa blocks.
+fn block_timeout(given: bool, ms: u32) -> Timeout
+    ensures { λ r. ⌜ (isLong given ms ≡ Bool.false → timeoutOf r ≡ msOf given ms) ⌝ }
+{
+    timeout(given, (ms % 65536) as u16)
+}
+
+fn read_blocks(numbers: Numbers, idm: &[u8], blocks: &[u8], command: &mut [u8; 512]) -> Start
+    ensures { λ r. ⌜ Starts r (now (command .entry)) (now (command .exit)) (startFor (timed (flag (numbers .y)) (numbers .ms) (device (readWithoutEncryption (now (idm .entry)) (numbers .word) (now (blocks .entry)) (msOf (flag (numbers .y)) (numbers .ms)))))) ⌝ }
+{
+    let service = numbers.word;
+    let ms = numbers.ms;
+    let given = is_set(numbers.y);
+    if is_long(given, ms) {
+        return start::refused(Refusal::BadArgument);
+    }
+    let timeout = block_timeout(given, ms);
+    read_without_encryption(idm, service, blocks, timeout, command)
+}
+
+fn write_blocks(
+    numbers: Numbers,
+    idm: &[u8],
+    blocks: &[u8],
+    bytes: &[u8],
+    command: &mut [u8; 512],
+) -> Start
+    ensures { λ r. ⌜ Starts r (now (command .entry)) (now (command .exit)) (startFor (timed (flag (numbers .y)) (numbers .ms) (device (writeWithoutEncryption (now (idm .entry)) (numbers .word) (now (blocks .entry)) (now (bytes .entry)) (msOf (flag (numbers .y)) (numbers .ms)))))) ⌝ }
+{
+    let service = numbers.word;
+    let ms = numbers.ms;
+    let given = is_set(numbers.y);
+    if is_long(given, ms) {
+        return start::refused(Refusal::BadArgument);
+    }
+    let timeout = block_timeout(given, ms);
+    write_without_encryption(idm, service, blocks, bytes, timeout, command)
+}
+
+// Calls 26 and 27: FeliCa blocks. A number that has no call is refused with 4.
+fn on_blocks(
+    number: u8,
+    numbers: Numbers,
+    first: &[u8],
+    second: &[u8],
+    third: &[u8],
+    command: &mut [u8; 512],
+) -> Start
+    requires { ⌜ 26 ≤ number ⌝ }
+    ensures { λ r. ⌜ ((fourth : List ℕ) → Starts r (now (command .entry)) (now (command .exit)) (startBy (callOf number numbers (now (first .entry)) (now (second .entry)) (now (third .entry)) fourth))) ⌝ }
+{
+    match number {
+        READ_WITHOUT_ENCRYPTION => read_blocks(numbers, first, second, command),
+        WRITE_WITHOUT_ENCRYPTION => write_blocks(numbers, first, second, third, command),
+        _ => start::refused(Refusal::BadArgument),
+    }
+}
+
+// Calls 19 to 25, the discoveries and transceive, and those behind them.
 fn on_device(
     number: u8,
     numbers: Numbers,
@@ -190,7 +266,7 @@ fn on_device(
         }
         POLL_TYPE_F => poll_type_f(first, second, command),
         DETECT_TYPE_A_SPLIT => detect_type_a_split(first, second, command),
-        _ => start::refused(Refusal::BadArgument),
+        _ => on_blocks(number, numbers, first, second, third, command),
     }
 }
 

@@ -1,4 +1,5 @@
-// The opening (`Device::new` of device.rs): the command of each stage, and what follows each reply. transceive has a file of its own.
+// The opening (`Device::new` of device.rs): the command of each stage, and what follows each reply. transceive and the FeliCa blocks have files of their own.
+pub mod blocks;
 pub mod transceive;
 
 use chipset::ciu;

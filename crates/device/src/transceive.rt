@@ -32,7 +32,7 @@ pub enum Timeout {
 }
 
 // The ms of the command's clock.
-fn clock(timeout: Timeout) -> u32
+pub(crate) fn clock(timeout: Timeout) -> u32
     ensures { λ r. ⌜ r ≡ clockOf (timeoutOf timeout) ⌝ }
 {
     match timeout {

@@ -13,7 +13,7 @@ use lib.ListN.{length, getD}
 use types.Run.{OneOf, miss}
 use Rattle.errors.specs.Refusals.{byStatus}
 use Rattle.errors.specs.declared.Fault.{Fault}
-use Rattle.errors.specs.declared.Fault.the-variants.{Transport, TimeOut, FalseStart, BrokenFrame, Length, FrameKind, Identifier, Code, Status, ShortResponse, NoCard, CrcA, Rate, UidLayout}
+use Rattle.errors.specs.declared.Fault.the-variants.{Transport, TimeOut, FalseStart, BrokenFrame, Length, FrameKind, Identifier, Code, Status, ShortResponse, NoCard, CrcA, Rate, CardStatus, OtherCard, UidLayout}
 use Rattle.stages.specs.Stages as stages
 use Rattle.stages.specs.Decided.{Decides}
 use Rattle.stages.specs.declared.Decision.{Decision}
@@ -74,7 +74,7 @@ pub partner-told : (x : ℕ) → (OneOf (1 ∷ 10 ∷ []) x → ⊥) → (eqb x 
 partner-told x h = rw (ne-eqb x 1 (λ e. h (inl e)), ne-eqb x 10 (λ e. h (inr e)))
 
 -- no status
-pub not-status : {A : Type 0} (f : ℕ → A) (a : A) (fault : Fault) → OneOf (0 ∷ 1 ∷ 2 ∷ 3 ∷ 4 ∷ 5 ∷ 6 ∷ 7 ∷ 9 ∷ 10 ∷ 11 ∷ 12 ∷ 13 ∷ []) (tagOf Rattle.errors.proofs.Fault.the-type fault)
+pub not-status : {A : Type 0} (f : ℕ → A) (a : A) (fault : Fault) → OneOf (0 ∷ 1 ∷ 2 ∷ 3 ∷ 4 ∷ 5 ∷ 6 ∷ 7 ∷ 9 ∷ 10 ∷ 11 ∷ 12 ∷ 13 ∷ 14 ∷ 15 ∷ []) (tagOf Rattle.errors.proofs.Fault.the-type fault)
     → byStatus f a fault ≡ a
 not-status f a Transport h = refl
 not-status f a TimeOut h = refl
@@ -84,15 +84,17 @@ not-status f a Length h = refl
 not-status f a FrameKind h = refl
 not-status f a Identifier h = refl
 not-status f a Code h = refl
-not-status f a (Status s) h = absurd (miss (0 ∷ 1 ∷ 2 ∷ 3 ∷ 4 ∷ 5 ∷ 6 ∷ 7 ∷ 9 ∷ 10 ∷ 11 ∷ 12 ∷ 13 ∷ []) 8 tt h)
+not-status f a (Status s) h = absurd (miss (0 ∷ 1 ∷ 2 ∷ 3 ∷ 4 ∷ 5 ∷ 6 ∷ 7 ∷ 9 ∷ 10 ∷ 11 ∷ 12 ∷ 13 ∷ 14 ∷ 15 ∷ []) 8 tt h)
 not-status f a ShortResponse h = refl
 not-status f a NoCard h = refl
 not-status f a CrcA h = refl
 not-status f a Rate h = refl
+not-status f a (CardStatus s t) h = refl
+not-status f a OtherCard h = refl
 not-status f a UidLayout h = refl
 
 -- no 17
-pub not-no-card : {A : Type 0} (x a : A) (fault : Fault) → OneOf (0 ∷ 1 ∷ 2 ∷ 3 ∷ 4 ∷ 5 ∷ 6 ∷ 7 ∷ 8 ∷ 9 ∷ 11 ∷ 12 ∷ 13 ∷ []) (tagOf Rattle.errors.proofs.Fault.the-type fault)
+pub not-no-card : {A : Type 0} (x a : A) (fault : Fault) → OneOf (0 ∷ 1 ∷ 2 ∷ 3 ∷ 4 ∷ 5 ∷ 6 ∷ 7 ∷ 8 ∷ 9 ∷ 11 ∷ 12 ∷ 13 ∷ 14 ∷ 15 ∷ []) (tagOf Rattle.errors.proofs.Fault.the-type fault)
     → byNoCard x a fault ≡ a
 not-no-card x a Transport h = refl
 not-no-card x a TimeOut h = refl
@@ -104,9 +106,11 @@ not-no-card x a Identifier h = refl
 not-no-card x a Code h = refl
 not-no-card x a (Status s) h = refl
 not-no-card x a ShortResponse h = refl
-not-no-card x a NoCard h = absurd (miss (0 ∷ 1 ∷ 2 ∷ 3 ∷ 4 ∷ 5 ∷ 6 ∷ 7 ∷ 8 ∷ 9 ∷ 11 ∷ 12 ∷ 13 ∷ []) 10 tt h)
+not-no-card x a NoCard h = absurd (miss (0 ∷ 1 ∷ 2 ∷ 3 ∷ 4 ∷ 5 ∷ 6 ∷ 7 ∷ 8 ∷ 9 ∷ 11 ∷ 12 ∷ 13 ∷ 14 ∷ 15 ∷ []) 10 tt h)
 not-no-card x a CrcA h = refl
 not-no-card x a Rate h = refl
+not-no-card x a (CardStatus s t) h = refl
+not-no-card x a OtherCard h = refl
 not-no-card x a UidLayout h = refl
 
 -- no end with bytes or with a fault

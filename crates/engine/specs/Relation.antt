@@ -33,7 +33,7 @@ pub record Place : Type 0 where
   pub found : List ℕ
   pub running : eqb kind 0 ≡ false
   pub opens : eqb kind 1 ≡ isOpening call
-  pub kindFits : leb kind 22 ≡ true
+  pub kindFits : leb kind 24 ≡ true
   pub stageFits : leb stage 9 ≡ true
 
 -- what it waits for, and the script that is left: a command's reply, a reset's exchange, ACK or pause, or what comes before the command of

@@ -8,7 +8,7 @@ use lib.Dec.{eqb, leb}
 use lib.ListN.{length}
 use Rattle.errors.specs.Choice.{pick}
 use Rattle.errors.specs.declared.Fault.{Fault}
-use Rattle.errors.specs.declared.Fault.the-variants.{Transport, TimeOut, FalseStart, BrokenFrame, Length, FrameKind, Identifier, Code, Status, ShortResponse, NoCard, CrcA, Rate, UidLayout}
+use Rattle.errors.specs.declared.Fault.the-variants.{Transport, TimeOut, FalseStart, BrokenFrame, Length, FrameKind, Identifier, Code, Status, ShortResponse, NoCard, CrcA, Rate, CardStatus, OtherCard, UidLayout}
 use Rattle.framing.specs.Frames.{ack}
 use Rattle.framing.specs.Lists.{both}
 use Rattle.framing.specs.Rules.{at-true, at-false}
@@ -61,6 +61,8 @@ cancelPhase ShortResponse = 4
 cancelPhase NoCard = 4
 cancelPhase CrcA = 4
 cancelPhase Rate = 4
+cancelPhase (CardStatus s t) = 4
+cancelPhase OtherCard = 4
 cancelPhase UidLayout = 4
 
 -- the number of an exchange's step
@@ -168,7 +170,7 @@ replyLength (refuses r) = 0
 
 -- every field of a call is in its range; a cursor has none
 unfoldable pub validCall : Call → Bool
-validCall c = both (leb (c .kind) 22) (both (leb (c .stage) 9) (leb (c .phase) 5))
+validCall c = both (leb (c .kind) 24) (both (leb (c .stage) 9) (leb (c .phase) 5))
 
 -- ---- laws
 

@@ -17,7 +17,7 @@ pub const NO_CALL: u8 = 0;
 
 pub const OPEN: u8 = 1;
 
-pub const LAST: u8 = 22;
+pub const LAST: u8 = 24;
 
 // What a call waits for: its command's exchange, a reset's ACK or pause, the opening's ACK or reads, a pause.
 pub const EXCHANGE: u8 = 0;

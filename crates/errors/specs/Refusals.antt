@@ -1,13 +1,13 @@
--- Document 01's table of refusals: the number of each, and the status byte of 15.
+-- The table of refusals, document 01's and document 02's: the number of each, the status byte of 15 and the status flags of 20.
 use Prim.Native.Nat.{ℕ}
 use Rattle.errors.specs.declared.Numbered.{Numbered}
 use Rattle.errors.specs.declared.Refusal.{Refusal}
 use Rattle.errors.specs.declared.Refusal.the-variants.{OutOfTurn, ShortBuffer, OverLong, BadArgument, Bitrate, NotSendable}
 use Rattle.errors.specs.declared.Fault.{Fault}
-use Rattle.errors.specs.declared.Fault.the-variants.{Transport, TimeOut, FalseStart, BrokenFrame, Length, FrameKind, Identifier, Code, Status, ShortResponse, NoCard, CrcA, Rate, UidLayout}
+use Rattle.errors.specs.declared.Fault.the-variants.{Transport, TimeOut, FalseStart, BrokenFrame, Length, FrameKind, Identifier, Code, Status, ShortResponse, NoCard, CrcA, Rate, CardStatus, OtherCard, UidLayout}
 
 abbrev pub plain : ℕ → Numbered
-plain k = record { number = k; status = 0 }
+plain k = record { number = k; status = 0; status2 = 0 }
 
 -- refused at once
 abbrev pub numbered : Refusal → Numbered
@@ -28,11 +28,13 @@ faultNumbered Length = plain 11
 faultNumbered FrameKind = plain 12
 faultNumbered Identifier = plain 13
 faultNumbered Code = plain 14
-faultNumbered (Status s) = record { number = 15; status = s }
+faultNumbered (Status s) = record { number = 15; status = s; status2 = 0 }
 faultNumbered ShortResponse = plain 16
 faultNumbered NoCard = plain 17
 faultNumbered CrcA = plain 18
 faultNumbered Rate = plain 19
+faultNumbered (CardStatus s t) = record { number = 20; status = s; status2 = t }
+faultNumbered OtherCard = plain 21
 faultNumbered UidLayout = plain 22
 
 -- by the status byte of 15; a of any other fault
@@ -50,6 +52,8 @@ byStatus f a ShortResponse = a
 byStatus f a NoCard = a
 byStatus f a CrcA = a
 byStatus f a Rate = a
+byStatus f a (CardStatus s t) = a
+byStatus f a OtherCard = a
 byStatus f a UidLayout = a
 
 -- What an answer says: a value, or a refusal by its number and values.

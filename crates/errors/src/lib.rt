@@ -27,20 +27,27 @@ pub enum Fault {
     NoCard,
     CrcA,
     Rate,
+    CardStatus(u8, u8),
+    OtherCard,
     UidLayout,
 }
 
-// A refusal's number in document 01's table, and the status byte that 15 carries (0 beside any other).
+// A refusal's number in document 01's table, and what it carries: 15 a status byte, 20 the two status flags (0 where there is none).
 pub struct Numbered {
     pub number: u8,
     pub status: u8,
+    pub status2: u8,
 }
 
 // A refusal that carries no value.
 fn plain(number: u8) -> Numbered
     ensures { λ r. ⌜ r ≡ plainOf number ⌝ }
 {
-    Numbered { number, status: 0 }
+    Numbered {
+        number,
+        status: 0,
+        status2: 0,
+    }
 }
 
 impl Refusal {
@@ -71,11 +78,21 @@ impl Fault {
             Fault::FrameKind => plain(12),
             Fault::Identifier => plain(13),
             Fault::Code => plain(14),
-            Fault::Status(status) => Numbered { number: 15, status },
+            Fault::Status(status) => Numbered {
+                number: 15,
+                status,
+                status2: 0,
+            },
             Fault::ShortResponse => plain(16),
             Fault::NoCard => plain(17),
             Fault::CrcA => plain(18),
             Fault::Rate => plain(19),
+            Fault::CardStatus(status, status2) => Numbered {
+                number: 20,
+                status,
+                status2,
+            },
+            Fault::OtherCard => plain(21),
             Fault::UidLayout => plain(22),
         }
     }

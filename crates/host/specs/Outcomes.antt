@@ -14,22 +14,22 @@ use Rattle.host.specs.declared.outcome.HostStep.{HostStep}
 
 -- a kind with a number of bytes, and one with a time
 abbrev pub withBytes : ℕ → ℕ → Outcome
-withBytes kind n = record { kind = kind; refusal = 0; status = 0; finished = 0; time = 0; len = n; uid = 0; ats = 0 }
+withBytes kind n = record { kind = kind; refusal = 0; status = 0; status2 = 0; finished = 0; uid = 0; ats = 0; time = 0; len = n }
 
 abbrev pub withTime : ℕ → ℕ → Outcome
-withTime kind t = record { kind = kind; refusal = 0; status = 0; finished = 0; time = t; len = 0; uid = 0; ats = 0 }
+withTime kind t = record { kind = kind; refusal = 0; status = 0; status2 = 0; finished = 0; uid = 0; ats = 0; time = t; len = 0 }
 
--- a refusal by document 01's number, and the status byte of 15
+-- a refusal by its number, the status byte of 15 and the status flags of 20
 abbrev pub refusedAs : Numbered → Outcome
-refusedAs n = record { kind = 7; refusal = n .number; status = n .status; finished = 0; time = 0; len = 0; uid = 0; ats = 0 }
+refusedAs n = record { kind = 7; refusal = n .number; status = n .status; status2 = n .status2; finished = 0; uid = 0; ats = 0; time = 0; len = 0 }
 
 -- the same of a list, with the number of its codes that were finished
 abbrev pub listRefusedAs : Numbered → ℕ → Outcome
-listRefusedAs n finished = record { kind = 8; refusal = n .number; status = n .status; finished = finished; time = 0; len = 0; uid = 0; ats = 0 }
+listRefusedAs n finished = record { kind = 8; refusal = n .number; status = n .status; status2 = n .status2; finished = finished; uid = 0; ats = 0; time = 0; len = 0 }
 
 -- an answer's bytes, with the lengths of the UID and the ATS among them
 abbrev pub withLengths : ℕ → ℕ → ℕ → Outcome
-withLengths n uid ats = record { kind = 9; refusal = 0; status = 0; finished = 0; time = 0; len = n; uid = uid; ats = ats }
+withLengths n uid ats = record { kind = 9; refusal = 0; status = 0; status2 = 0; finished = 0; uid = uid; ats = ats; time = 0; len = n }
 
 abbrev pub outcomeOf : Output → Outcome
 outcomeOf Ack = withBytes 0 6

@@ -7,7 +7,7 @@ use Rattle.errors.specs.Refusals.{numbered, faultNumbered}
 use Rattle.errors.specs.declared.Refusal.{Refusal}
 use Rattle.errors.specs.declared.Refusal.the-variants.{OutOfTurn, ShortBuffer, OverLong, BadArgument, Bitrate, NotSendable}
 use Rattle.errors.specs.declared.Fault.{Fault}
-use Rattle.errors.specs.declared.Fault.the-variants.{Transport, TimeOut, FalseStart, BrokenFrame, Length, FrameKind, Identifier, Code, Status, ShortResponse, NoCard, CrcA, Rate, UidLayout}
+use Rattle.errors.specs.declared.Fault.the-variants.{Transport, TimeOut, FalseStart, BrokenFrame, Length, FrameKind, Identifier, Code, Status, ShortResponse, NoCard, CrcA, Rate, CardStatus, OtherCard, UidLayout}
 use Rattle.exchange.specs.Exchange.{write, read, drain, pause}
 use Rattle.protocol.specs.Scripts.{Answer, done, type1, uidAndAts, nothing, refused, refusedAfter}
 use Rattle.protocol.specs.Session.{Output as Given, orders, answers, rejects}
@@ -17,9 +17,9 @@ use Rattle.engine.specs.declared.core.Output.the-variants.{Ack, Command, Read, 
 use Rattle.host.specs.Outcomes.{outcomeOf}
 use Rattle.host.specs.declared.outcome.Outcome.{Outcome}
 
--- document 01's refusals from 1 on, with the status byte of 15, and document 02's behind them; no refusal has the number 0, 20 or 21
-abbrev pub refusals : ℕ → List (Given ℕ)
-refusals status =
+-- the refusals from 1 on, with the status byte of 15 and the status flags of 20; no refusal has the number 0
+abbrev pub refusals : ℕ → ℕ → List (Given ℕ)
+refusals status status2 =
     rejects OutOfTurn
     ∷ rejects OutOfTurn
     ∷ rejects ShortBuffer
@@ -40,13 +40,13 @@ refusals status =
     ∷ answers (refused NoCard)
     ∷ answers (refused CrcA)
     ∷ answers (refused Rate)
-    ∷ rejects OutOfTurn
-    ∷ rejects OutOfTurn
+    ∷ answers (refused (CardStatus status status2))
+    ∷ answers (refused OtherCard)
     ∷ answers (refused UidLayout)
     ∷ []
 
-abbrev pub refusalOf : ℕ → ℕ → Given ℕ
-refusalOf number status = getD (refusals status) number (rejects OutOfTurn)
+abbrev pub refusalOf : ℕ → ℕ → ℕ → Given ℕ
+refusalOf number status status2 = getD (refusals status status2) number (rejects OutOfTurn)
 
 -- the same of a list, with the number of its codes that were finished
 abbrev pub answerAfter : ℕ → Answer ℕ → Answer ℕ
@@ -73,13 +73,13 @@ outputIn o b =
     ∷ answers (done (take (o .len) b))
     ∷ answers (type1 (take (o .len) b))
     ∷ answers nothing
-    ∷ refusalOf (o .refusal) (o .status)
-    ∷ refusalAfter (o .finished) (refusalOf (o .refusal) (o .status))
+    ∷ refusalOf (o .refusal) (o .status) (o .status2)
+    ∷ refusalAfter (o .finished) (refusalOf (o .refusal) (o .status) (o .status2))
     ∷ [])
     (o .kind)
     (answers (uidAndAts (take (o .len) b) (o .uid) (o .ats)))
 
-numbered-is : (e : Refusal) → refusalOf (numbered e .number) (numbered e .status) ≡ rejects e
+numbered-is : (e : Refusal) → refusalOf (numbered e .number) (numbered e .status) (numbered e .status2) ≡ rejects e
 numbered-is OutOfTurn = refl
 numbered-is ShortBuffer = refl
 numbered-is OverLong = refl
@@ -87,7 +87,7 @@ numbered-is BadArgument = refl
 numbered-is Bitrate = refl
 numbered-is NotSendable = refl
 
-fault-is : (e : Fault) → refusalOf (faultNumbered e .number) (faultNumbered e .status) ≡ answers (refused e)
+fault-is : (e : Fault) → refusalOf (faultNumbered e .number) (faultNumbered e .status) (faultNumbered e .status2) ≡ answers (refused e)
 fault-is Transport = refl
 fault-is TimeOut = refl
 fault-is FalseStart = refl
@@ -101,6 +101,8 @@ fault-is ShortResponse = refl
 fault-is NoCard = refl
 fault-is CrcA = refl
 fault-is Rate = refl
+fault-is (CardStatus s t) = refl
+fault-is OtherCard = refl
 fault-is UidLayout = refl
 
 -- nothing of an output is lost in the numbers

@@ -10,7 +10,7 @@ use Rattle.errors.specs.Refusals.{numbered, faultNumbered}
 use Rattle.errors.specs.declared.Refusal.{Refusal}
 use Rattle.errors.specs.declared.Refusal.the-variants.{OutOfTurn, ShortBuffer, OverLong, BadArgument, Bitrate, NotSendable}
 use Rattle.errors.specs.declared.Fault.{Fault}
-use Rattle.errors.specs.declared.Fault.the-variants.{Transport, TimeOut, FalseStart, BrokenFrame, Length, FrameKind, Identifier, Code, Status, ShortResponse, NoCard, CrcA, Rate, UidLayout}
+use Rattle.errors.specs.declared.Fault.the-variants.{Transport, TimeOut, FalseStart, BrokenFrame, Length, FrameKind, Identifier, Code, Status, ShortResponse, NoCard, CrcA, Rate, CardStatus, OtherCard, UidLayout}
 use Rattle.exchange.specs.Exchange.{Event}
 use Rattle.protocol.specs.Calls.{Call, opening, reader}
 use Rattle.engine.specs.Inputs.{Input, opens, asks, tells, bufferOf, stepWith}
@@ -45,6 +45,8 @@ fault-late ShortResponse = omega arith
 fault-late NoCard = omega arith
 fault-late CrcA = omega arith
 fault-late Rate = omega arith
+fault-late (CardStatus s t) = omega arith
+fault-late OtherCard = omega arith
 fault-late UidLayout = omega arith
 
 refusal-early : (r : Refusal) → numbered r .number ≤ 6

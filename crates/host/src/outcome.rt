@@ -26,19 +26,20 @@ pub const LIST_REFUSED: u8 = 8;
 
 pub const UID_AND_ATS: u8 = 9;
 
-// The kind of an order or an answer. With a refusal its number, and the status byte of 15, and with that of a list how many of its
-// codes were finished; with a read its ms, with a pause its µs; with a write order and an answer the number of bytes at the buffer's
-// start, and with an answer whose UID and ATS are told apart the length of each. What does not apply is 0.
+// The kind of an order or an answer. With a refusal its number, the status byte of 15 or the two status flags of 20, and with that
+// of a list how many of its codes were finished; with a read its ms, with a pause its µs; with a write order and an answer the number
+// of bytes at the buffer's start, and with an answer whose UID and ATS are told apart the length of each. What does not apply is 0.
 #[repr(C)]
 pub struct Outcome {
     pub kind: u8,
     pub refusal: u8,
     pub status: u8,
+    pub status2: u8,
     pub finished: u8,
-    pub time: u32,
-    pub len: usize,
     pub uid: u8,
     pub ats: u8,
+    pub time: u32,
+    pub len: usize,
 }
 
 // The running call's numbers after a call or an event, and what came out.
@@ -55,11 +56,12 @@ impl Outcome {
             kind,
             refusal: 0,
             status: 0,
+            status2: 0,
             finished: 0,
-            time: 0,
-            len,
             uid: 0,
             ats: 0,
+            time: 0,
+            len,
         }
     }
 
@@ -70,11 +72,12 @@ impl Outcome {
             kind: UID_AND_ATS,
             refusal: 0,
             status: 0,
+            status2: 0,
             finished: 0,
-            time: 0,
-            len,
             uid,
             ats,
+            time: 0,
+            len,
         }
     }
 
@@ -85,11 +88,12 @@ impl Outcome {
             kind,
             refusal: 0,
             status: 0,
+            status2: 0,
             finished: 0,
-            time,
-            len: 0,
             uid: 0,
             ats: 0,
+            time,
+            len: 0,
         }
     }
 
@@ -100,11 +104,12 @@ impl Outcome {
             kind: REFUSED,
             refusal: numbered.number,
             status: numbered.status,
+            status2: numbered.status2,
             finished: 0,
-            time: 0,
-            len: 0,
             uid: 0,
             ats: 0,
+            time: 0,
+            len: 0,
         }
     }
 
@@ -115,11 +120,12 @@ impl Outcome {
             kind: LIST_REFUSED,
             refusal: numbered.number,
             status: numbered.status,
+            status2: numbered.status2,
             finished,
-            time: 0,
-            len: 0,
             uid: 0,
             ats: 0,
+            time: 0,
+            len: 0,
         }
     }
 

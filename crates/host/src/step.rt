@@ -1,8 +1,8 @@
 // An event and a call, on the running call's numbers and on a session's arrays where they lie.
 use super::outcome::HostStep;
 use calls::start::Numbers;
-use engine::numbered;
 use engine::core::Core;
+use engine::numbered;
 use engine::state;
 ghost use mathlib.Core.List.{List};
 ghost use mathlib.Core.Path.{_≡_};
@@ -22,16 +22,7 @@ pub fn event(
 ) -> HostStep
     ensures { λ r. ⌜ report (joined (now (command .exit)) (now (found .exit)) (now (frames .exit)) (now (books .exit)) (r .core)) (r .outcome) (now (buffer .exit)) ≡ reportFor (joined (now (command .entry)) (now (found .entry)) (now (frames .entry)) (now (books .entry)) core) (telling number (now (packet .entry)) (now (buffer .entry))) ⌝ }
 {
-    HostStep::of(numbered::event(
-        core,
-        command,
-        found,
-        frames,
-        books,
-        number,
-        packet,
-        buffer,
-    ))
+    HostStep::of(numbered::event(core, command, found, frames, books, number, packet, buffer))
 }
 
 // A call leaves the found bytes alone.

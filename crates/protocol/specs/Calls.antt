@@ -9,6 +9,7 @@ use lib.ListN.{length, getD}
 use Rattle.errors.specs.declared.Refusal.{Refusal}
 use Rattle.errors.specs.declared.Refusal.the-variants.{OverLong, BadArgument, NotSendable, Bitrate as BadBitrate}
 use Rattle.framing.specs.Lists.{both}
+use Rattle.felica.specs.Packets.{requestFits, writeFits}
 use Rattle.targets.specs.Bitrates.{Choice, chosen, noCode, choiceOf}
 use Rattle.targets.specs.declared.Bitrate.{Bitrate}
 use Rattle.targets.specs.declared.Bitrate.the-variants.{B106A, B212F, B424F, B106B, B212B, B424B, B848B, Other}
@@ -17,6 +18,7 @@ use Rattle.protocol.specs.Chipset.{versionBytes, moreFlag, jumpData, ini
 use Rattle.protocol.specs.Chipset as chipset
 use Rattle.protocol.specs.Device.{deviceNew}
 use Rattle.protocol.specs.Discovery.{cascaded, isType2, sensfReq}
+use Rattle.protocol.specs.Blocks.{readBlocks, writeBlocks}
 use Rattle.protocol.specs.Discovery as discovery
 
 -- A command of chipset.rs with its arguments, in the order of the Rust's. Registers are the bytes of their words, as they are sent.
@@ -40,7 +42,7 @@ pub data Request : Type 0 where
   tgResponseToInitiator : List ℕ → Request
   tgGetTargetStatus : Request
 
--- A call of discovery.rs, or `transceive`, with its arguments. A target is its bitrate's text, its SEL_RES and whether it has a RID_RES.
+-- A call of discovery.rs, `transceive`, or a read or write of FeliCa blocks (document 02, N5), with its arguments. A target is its bitrate's text, its SEL_RES and whether it has a RID_RES.
 -- No bytes stand for an absent UID, SENSB_REQ, ATR_REQ or SEL_RES, which count as these do.
 pub data DeviceCall : Type 0 where
   detectTypeA : List ℕ → List ℕ → DeviceCall  -- bitrate, UID
@@ -50,6 +52,8 @@ pub data DeviceCall : Type 0 where
   pollTypeF : List ℕ → List ℕ → DeviceCall  -- bitrate, the bytes of the system codes' words
   detectDep : List ℕ → List ℕ → DeviceCall  -- bitrate, ATR_REQ
   transceive : List ℕ → List ℕ → Bool → List ℕ → Option ℕ → DeviceCall  -- bitrate, SEL_RES, RID_RES, bytes, ms
+  readWithoutEncryption : List ℕ → ℕ → List ℕ → Option ℕ → DeviceCall  -- IDm, service code, block numbers, ms
+  writeWithoutEncryption : List ℕ → ℕ → List ℕ → List ℕ → Option ℕ → DeviceCall  -- IDm, service code, block numbers, block data, ms
 
 -- a call of an open reader; `unknown` is a number that has no call
 pub data ReaderCall : Type 0 where
@@ -74,7 +78,7 @@ dataLimit = 512
 abbrev pub limited : List ℕ → Script → Start
 limited bytes s = cond (ltb dataLimit (length bytes)) (refuses OverLong) (starts s)
 
--- what the Rust asserts, and a mode that there is, else 4
+-- what the Rust asserts, a mode that there is, and blocks that there is a request of, else 4
 abbrev pub asserted : Bool → Start → Start
 asserted holds s = cond holds s (refuses BadArgument)
 
@@ -236,6 +240,9 @@ deviceStart (pollTypeF text words) =
 deviceStart (detectDep text atrReq) =
     asserted (both (leb 16 (length atrReq)) (leb (length atrReq) 64)) (codeFor depCode text (λ code. starts (discovery.detectDep code atrReq)))
 deviceStart (transceive text selRes ridRes bytes ms) = withBitrate (choiceOf text) (λ rate. transceiveStart rate selRes ridRes bytes (clockOf ms))
+deviceStart (readWithoutEncryption idm service blocks ms) = asserted (requestFits idm blocks) (starts (readBlocks idm service blocks (clockOf ms)))
+deviceStart (writeWithoutEncryption idm service blocks bytes ms) =
+    asserted (writeFits idm blocks bytes) (starts (writeBlocks idm service blocks bytes (clockOf ms)))
 
 abbrev pub readerStart : ReaderCall → Start
 readerStart (request r) = requestStart r
@@ -267,6 +274,8 @@ deviceLimit (detectTypeF text systemCode requestCode timeSlots) = 4
 deviceLimit (pollTypeF text words) = 3 * (length words / 2)
 deviceLimit (detectDep text atrReq) = 4
 deviceLimit (transceive text selRes ridRes bytes ms) = 4
+deviceLimit (readWithoutEncryption idm service blocks ms) = 4
+deviceLimit (writeWithoutEncryption idm service blocks bytes ms) = 4
 
 abbrev pub limit : Call → ℕ
 limit (opening mode) = 10

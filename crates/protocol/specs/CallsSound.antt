@@ -5,12 +5,13 @@ use Prim.Native.Nat.{ℕ, _+_, _*_, _/_}
 use lib.Dec.{leb}
 use Rattle.protocol.specs.Discovery as discovery
 use Rattle.protocol.specs.Calls.{Request, version, resetMode, setParameters, rfConfiguration, rfFieldOff, readRegister, writeRegister, readSingleRegister, writeSingleRegister, inListPassiveTarget, inDataExchange, inCommunicateThru, inJumpForDep, tgInitTarget, tgSetGeneralBytes, tgGetInitiatorCommand, tgResponseToInitiator, tgGetTargetStatus}
-use Rattle.protocol.specs.Calls.{DeviceCall, detectTypeA, detectTypeASplit, detectTypeB, detectTypeF, detectDep, transceive, pollTypeF}
+use Rattle.protocol.specs.Calls.{DeviceCall, detectTypeA, detectTypeASplit, detectTypeB, detectTypeF, detectDep, transceive, pollTypeF, readWithoutEncryption, writeWithoutEncryption}
 use Rattle.protocol.specs.Calls.{Call, opening, reader, request, device, unknown, requestStart, deviceStart, startOf, limit, wordsIn, deviceLimit}
 use Rattle.protocol.specs.Own.{onlyCards, versionAndName, requestForm, deviceForm, formOf, no-codes, polledCodes}
 use Rattle.protocol.specs.Sound.{Within, Correct, Sound, sound-if, version-name, target-answer, correct-rules, sound-rules, no-bytes}
 use native.Mathlib.Omega.{arith}
 use lib.ListN.{length}
+use Rattle.protocol.specs.BlocksSound.{block-rules}
 use Rattle.protocol.specs.PollSound.{words-count, codes-within, codes-correct}
 
 request-sound : (r : Request) → Sound (requestForm r) (requestStart r) 4
@@ -56,6 +57,8 @@ device-sound (detectTypeF text systemCode requestCode timeSlots) = search sound-
 device-sound (pollTypeF text words) = search (words-sound, sound-rules) depth 60
 device-sound (detectDep text atrReq) = search sound-rules depth 60
 device-sound (transceive text selRes ridRes bytes ms) = search sound-rules depth 60
+device-sound (readWithoutEncryption idm service blocks ms) = search (block-rules, sound-rules) depth 60
+device-sound (writeWithoutEncryption idm service blocks bytes ms) = search (block-rules, sound-rules) depth 60
 
 pub sound : (c : Call) → Sound (formOf c) (startOf c) (limit c)
 sound (opening mode) =

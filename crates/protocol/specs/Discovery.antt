@@ -6,7 +6,7 @@ use lib.Dec.{eqb, ltb}
 use lib.ListN.{length, take, drop, getD}
 use Rattle.errors.specs.Refusals.{byStatus}
 use Rattle.errors.specs.declared.Fault.{Fault}
-use Rattle.errors.specs.declared.Fault.the-variants.{Transport, TimeOut, FalseStart, BrokenFrame, Length, FrameKind, Identifier, Code, Status, ShortResponse, NoCard, CrcA, Rate, UidLayout}
+use Rattle.errors.specs.declared.Fault.the-variants.{Transport, TimeOut, FalseStart, BrokenFrame, Length, FrameKind, Identifier, Code, Status, ShortResponse, NoCard, CrcA, Rate, CardStatus, OtherCard, UidLayout}
 use Rattle.targets.specs.TypeA.{isTargetData}
 use Rattle.crc.specs.Crc.{typeA as crcA, checks}
 use Rattle.protocol.specs.Scripts.{Byte, own, behind, Answer, done, type1, uidAndAts, nothing, refused, refusedAfter}
@@ -128,6 +128,8 @@ byNoCard x a ShortResponse = a
 byNoCard x a NoCard = x
 byNoCard x a CrcA = a
 byNoCard x a Rate = a
+byNoCard x a (CardStatus s t) = a
+byNoCard x a OtherCard = a
 byNoCard x a UidLayout = a
 
 -- what a code adds to the answer: 01, IDm and PMm of an answer that has the optional bytes behind them; 00 where no card was met

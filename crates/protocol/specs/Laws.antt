@@ -17,7 +17,7 @@ use Rattle.framing.specs.declared.FrameType.{FrameType}
 use Rattle.framing.specs.declared.FrameType.the-variants.{Ack, Error, Data, Nothing}
 use Rattle.framing.specs.declared.LengthEncoding.the-variants.{NormalOrExtendedBigEndian}
 use Rattle.errors.specs.declared.Fault.{Fault}
-use Rattle.errors.specs.declared.Fault.the-variants.{Transport, TimeOut, FalseStart, BrokenFrame, Length, FrameKind, Identifier, Code, Status, ShortResponse, NoCard, CrcA, Rate, UidLayout}
+use Rattle.errors.specs.declared.Fault.the-variants.{Transport, TimeOut, FalseStart, BrokenFrame, Length, FrameKind, Identifier, Code, Status, ShortResponse, NoCard, CrcA, Rate, CardStatus, OtherCard, UidLayout}
 use Rattle.exchange.specs.Packets.{commandFrame, isAck, Reply, response, failed, codeReply, payloadReply, filling, frameReply, replyOf}
 use Rattle.exchange.specs.Exchange.{Event, ok, bad, pkt, time, fail, late, slept, onWrite, onRead, onPause}
 use Rattle.protocol.specs.Scripts.{Byte, Answer, Script, either, ifElse, andThen}
@@ -45,6 +45,8 @@ by-fault P h k ShortResponse = k ShortResponse (λ A x y. refl)
 by-fault P h k NoCard = h
 by-fault P h k CrcA = k CrcA (λ A x y. refl)
 by-fault P h k Rate = k Rate (λ A x y. refl)
+by-fault P h k (CardStatus s t) = k (CardStatus s t) (λ A x y. refl)
+by-fault P h k OtherCard = k OtherCard (λ A x y. refl)
 by-fault P h k UidLayout = k UidLayout (λ A x y. refl)
 
 -- an exchange never fails with 17

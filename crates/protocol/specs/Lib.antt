@@ -4,6 +4,7 @@ pub mod Scripts
 pub mod Chipset
 pub mod Device
 pub mod Discovery
+pub mod Blocks
 pub mod Calls
 pub mod Session
 -- definitions: the record, its counts, which bytes of an answer are no card bytes, and demand 3
@@ -26,6 +27,7 @@ pub mod Sound
 pub mod PollSound
 pub mod PollAlong
 pub mod PollRuns
+pub mod BlocksSound
 pub mod CallsSound
 pub mod Invariant
 pub mod Kept

@@ -12,7 +12,7 @@ use Rattle.protocol.specs.Scripts.{Byte, own, card, Answer, done, type1,
 use Rattle.protocol.specs.Chipset.{rate}
 use Rattle.protocol.specs.Device.{chipsetName}
 use Rattle.protocol.specs.Calls.{Request, version, resetMode, setParameters, rfConfiguration, rfFieldOff, readRegister, writeRegister, readSingleRegister, writeSingleRegister, inListPassiveTarget, inDataExchange, inCommunicateThru, inJumpForDep, tgInitTarget, tgSetGeneralBytes, tgGetInitiatorCommand, tgResponseToInitiator, tgGetTargetStatus}
-use Rattle.protocol.specs.Calls.{DeviceCall, detectTypeA, detectTypeASplit, detectTypeB, detectTypeF, pollTypeF, detectDep, transceive}
+use Rattle.protocol.specs.Calls.{DeviceCall, detectTypeA, detectTypeASplit, detectTypeB, detectTypeF, pollTypeF, detectDep, transceive, readWithoutEncryption, writeWithoutEncryption}
 use Rattle.protocol.specs.Calls.{Call, opening, reader, request, device, unknown, rateBytes}
 
 -- ---- the forms of an answer
@@ -144,6 +144,8 @@ deviceForm (detectTypeF text systemCode requestCode timeSlots) = onlyCards
 deviceForm (pollTypeF text words) = polledCodes (length words / 2)
 deviceForm (detectDep text atrReq) = depAndCards
 deviceForm (transceive text selRes ridRes sent ms) = onlyCards
+deviceForm (readWithoutEncryption idm service blocks ms) = onlyCards
+deviceForm (writeWithoutEncryption idm service blocks sent ms) = onlyCards
 
 abbrev pub formOf : Call → Form
 formOf (opening mode) = versionAndName

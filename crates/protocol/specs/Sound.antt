@@ -13,7 +13,7 @@ use lib.ListN.{length, drop, getD, getElem?}
 use lib.Seq.{getD-drop}
 use Rattle.errors.specs.Refusals.{byStatus}
 use Rattle.errors.specs.declared.Fault.{Fault}
-use Rattle.errors.specs.declared.Fault.the-variants.{Transport, TimeOut, FalseStart, BrokenFrame, Length, FrameKind, Identifier, Code, Status, ShortResponse, NoCard, CrcA, Rate, UidLayout}
+use Rattle.errors.specs.declared.Fault.the-variants.{Transport, TimeOut, FalseStart, BrokenFrame, Length, FrameKind, Identifier, Code, Status, ShortResponse, NoCard, CrcA, Rate, CardStatus, OtherCard, UidLayout}
 use Rattle.targets.specs.Bitrates.{Choice, chosen, noCode}
 use Rattle.targets.specs.TypeA.{isTargetData, target-only, uid-length-at, ats-length-at}
 use Rattle.targets.specs.declared.Bitrate.{Bitrate}
@@ -125,6 +125,8 @@ by-status P f a ShortResponse h k = k
 by-status P f a NoCard h k = k
 by-status P f a CrcA h k = k
 by-status P f a Rate h k = k
+by-status P f a (CardStatus s t) h k = k
+by-status P f a OtherCard h k = k
 by-status P f a UidLayout h k = k
 
 pub within-status : (f : ℕ → Script) (a : Script) (r : Fault) (n : ℕ) → ((s : ℕ) → Within (f s) n) → Within a n → Within (byStatus f a r) n
@@ -158,7 +160,7 @@ in-range (b ∷ bs) (suc p) h = in-range bs p (le-of-suc-le-suc h)
 pub reach : (bs : List ℕ) (p m : ℕ) → m ≤ length bs → T (ltb p m) → getElem? bs p ≡ some (getD bs p 0)
 reach bs p m h t = in-range bs p (omega (arith, ltb→lt p m t))
 
-part-placed : (rs : List (List ℕ)) (k : ℕ) (bs : List ℕ) (p n : ℕ) → responseTo rs k ≡ bs → p + n ≤ length bs → Placed rs (part k bs p n)
+pub part-placed : (rs : List (List ℕ)) (k : ℕ) (bs : List ℕ) (p n : ℕ) → responseTo rs k ≡ bs → p + n ≤ length bs → Placed rs (part k bs p n)
 unfolding part
 part-placed rs k bs p zero e h = no-bytes
 part-placed rs k bs p (suc n) e h = card-byte {k = k} {p = p} {b = getD bs p 0} (rw e (in-range bs p (omega arith))) (part-placed rs k bs (suc p) n e (omega arith))

@@ -60,9 +60,9 @@ pub(crate) fn is_call(seed: u64) -> bool {
 fn running(seed: u64) -> u8 {
     let x = number(seed, 1);
     if is_call(seed) {
-        if x / 4096 % 8 == 0 { small(x, 22) } else { 0 }
+        if x / 4096 % 8 == 0 { small(x, 24) } else { 0 }
     } else {
-        small(x, 22)
+        small(x, 24)
     }
 }
 
@@ -129,7 +129,11 @@ pub(crate) fn caller(x: u64) -> u8 {
 }
 
 fn books(seed: u64) -> [u8; 3] {
-    [opened(number(seed, 9)), mode(number(seed, 14)), caller(number(seed, 15))]
+    [
+        opened(number(seed, 9)),
+        mode(number(seed, 14)),
+        caller(number(seed, 15)),
+    ]
 }
 
 // A session with any fields, most of them in their ranges.

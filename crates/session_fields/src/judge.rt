@@ -68,7 +68,7 @@ fn core_in_range(core: Core) -> bool {
     if exchange.phase > 6 {
         return false;
     }
-    if call.kind > 22 {
+    if call.kind > 24 {
         return false;
     }
     if call.stage > 9 {
@@ -241,7 +241,13 @@ impl Tally {
     }
 
     // Counts an outcome, and what is wrong with it.
-    pub(crate) fn judged(self, before: Session, after: Session, output: Output, size: usize) -> Tally {
+    pub(crate) fn judged(
+        self,
+        before: Session,
+        after: Session,
+        output: Output,
+        size: usize,
+    ) -> Tally {
         let kind = kind(output);
         let mut counts = self.counts;
         if kind < OUTCOMES {

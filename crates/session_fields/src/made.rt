@@ -107,12 +107,14 @@ fn device_number(k: u64) -> u8 {
         5..=6 => start::TRANSCEIVE,
         7 => start::POLL_TYPE_F,
         8 => start::DETECT_TYPE_A_SPLIT,
+        9 => start::READ_WITHOUT_ENCRYPTION,
+        10 => start::WRITE_WITHOUT_ENCRYPTION,
         _ => start::DETECT_TYPE_A,
     }
 }
 
 fn device(session: Session, seed: u64, bytes: &[u8], buffer: &mut [u8]) -> Step {
-    let k = draw::number(seed, 21) % 9;
+    let k = draw::number(seed, 21) % 11;
     let number = device_number(k);
     let rest = part(bytes, 0, count(seed, 20));
     let none = part(bytes, 0, 0);
@@ -129,6 +131,24 @@ fn device(session: Session, seed: u64, bytes: &[u8], buffer: &mut [u8]) -> Step 
         5 => session.call(number, zeros, b"106A", one, rest, none, buffer),
         7 => session.call(number, zeros, b"212F", rest, none, none, buffer),
         8 => session.call(number, zeros, b"106A", rest, none, none, buffer),
+        9 => session.call(
+            number,
+            code,
+            b"\x01\x02\x03\x04\x05\x06\x07\x08",
+            one,
+            none,
+            none,
+            buffer,
+        ),
+        10 => session.call(
+            number,
+            timed,
+            b"\x01\x02\x03\x04\x05\x06\x07\x08",
+            one,
+            part(bytes, 0, 16),
+            none,
+            buffer,
+        ),
         _ => session.call(number, timed, b"106A", rest, rest, none, buffer),
     }
 }

@@ -103,7 +103,7 @@ impl Draw {
         core.found = self.used(1024);
         core.exchange.phase = self.small(6);
         core.exchange.code = self.code();
-        core.call.kind = if self.once(3) { 0 } else { self.small(22) };
+        core.call.kind = if self.once(3) { 0 } else { self.small(24) };
         core.call.stage = self.small(9);
         core.call.cursor = self.small(16);
         core.call.phase = if self.once(2) { 0 } else { self.small(5) };
@@ -203,6 +203,11 @@ impl Draw {
         }
         let any = self.byte();
         let mut payload = vec![0xD5, code.wrapping_add(1)];
+        if code == IN_COMMUNICATE_THRU && self.once(2) {
+            payload.push(0);
+            payload.extend(self.felica_reply());
+            return frame(&payload);
+        }
         match self.below(5) {
             0 => payload.extend([1, 1]),
             1 => payload.push(self.pick(&[0x26, 1, 0x40, 0x80, any])),
@@ -231,6 +236,27 @@ impl Draw {
             payload[8 + uid] = ats as u8;
         }
         frame(&payload)
+    }
+}
+
+/// The command that FeliCa blocks are read and written through, and the IDm of a card.
+const IN_COMMUNICATE_THRU: u8 = 0x42;
+pub const IDM: [u8; 8] = [1, 2, 3, 4, 5, 6, 7, 8];
+
+impl Draw {
+    /// A card's reply to a read or a write of blocks.
+    fn felica_reply(&mut self) -> Vec<u8> {
+        let blocks = 1 + self.below(4) as u8;
+        let (code, flag1) = (self.pick(&[0x07, 0x09]), self.pick(&[0, 0, 1, 0xFF]));
+        let data = if code == 0x07 && flag1 == 0 { 16 * blocks as usize } else { 0 };
+        let mut reply = vec![12 + if data > 0 { 1 + data as u8 } else { 0 }, code];
+        reply.extend(IDM);
+        reply.extend([flag1, self.byte()]);
+        if data > 0 {
+            reply.push(blocks);
+            reply.extend(self.bytes(data));
+        }
+        reply
     }
 }
 

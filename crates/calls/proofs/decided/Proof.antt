@@ -43,12 +43,22 @@ returns-9 c = rw (c .before .match .keys9) (c .decided7 .ensures)
 
 returns-10 : tie.Need-returns-10
 unfolding decidedOf pick
-returns-10 c = let r = c .before .match .rest in rw (ne-eqb _ 1 (r .0 .0 .0 .0 .0 .0 .0 .0 .1), ne-eqb _ 15 (r .0 .0 .0 .0 .0 .0 .0 .1), ne-eqb _ 16 (r .0 .0 .0 .0 .0 .0 .1), ne-eqb _ 17 (r .0 .0 .0 .0 .0 .1), ne-eqb _ 18 (r .0 .0 .0 .0 .1), ne-eqb _ 19 (r .0 .0 .0 .1), ne-eqb _ 20 (r .0 .0 .1), ne-eqb _ 21 (r .0 .1), ne-eqb _ 22 (r .1)) (c .decided8 .ensures .decides _)
+returns-10 c = rw (c .before .match .keys10) (c .read-response .ensures .decides _)
+
+returns-11 : tie.Need-returns-11
+unfolding decidedOf pick
+returns-11 c = rw (c .before .match .keys11) (c .write-response .ensures .decides _)
+
+returns-12 : tie.Need-returns-12
+unfolding decidedOf pick
+returns-12 c = let r = c .before .match .rest in rw (ne-eqb _ 1 (r .0 .0 .0 .0 .0 .0 .0 .0 .0 .0 .1), ne-eqb _ 15 (r .0 .0 .0 .0 .0 .0 .0 .0 .0 .1), ne-eqb _ 16 (r .0 .0 .0 .0 .0 .0 .0 .0 .1), ne-eqb _ 17 (r .0 .0 .0 .0 .0 .0 .0 .1), ne-eqb _ 18 (r .0 .0 .0 .0 .0 .0 .1), ne-eqb _ 19 (r .0 .0 .0 .0 .0 .1), ne-eqb _ 20 (r .0 .0 .0 .0 .1), ne-eqb _ 21 (r .0 .0 .0 .1), ne-eqb _ 22 (r .0 .0 .1), ne-eqb _ 23 (r .0 .1), ne-eqb _ 24 (r .1)) (c .decided8 .ensures .decides _)
 
 pub decided-spec : {M : Type 1} → statement M
 decided-spec =
     tie.close
     (tie.spec
+    (λ c κs. search needs)
+    (λ c κs. search needs)
     (λ c κs. search needs)
     (λ c κs. search needs)
     (λ c κs. search needs)
@@ -68,4 +78,6 @@ decided-spec =
     returns-7
     returns-8
     returns-9
-    returns-10)
+    returns-10
+    returns-11
+    returns-12)

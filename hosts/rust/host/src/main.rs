@@ -93,6 +93,7 @@ fn main() {
     };
     let mut script = Script { lines: text.lines() };
     let mut reader = Reader::new();
+    let mut idm = [0; 8];
     let search = Call::DetectTypeF { bitrate: b"212F", system_code: 0xFFFF, request_code: 0, time_slots: 0 };
     // A write that fails leaves the reader unopened; then a whole opening, and a search that finds a card at the second try. `None` is
     // an opening: its line names the mode.
@@ -105,6 +106,14 @@ fn main() {
                 call
             }
         };
-        let _end = run(reader.call(0, call), &mut script);
+        if let Step::Done(found) = run(reader.call(0, call), &mut script) {
+            idm = found.bytes.first_chunk().copied().unwrap_or(idm);
+        }
+    }
+    // The card's balance: block 00 of service 000B, the first two bytes, low byte first.
+    script.take("read_without_encryption 1011121314151617 000B none 00");
+    let balance = Call::ReadWithoutEncryption { idm: &idm, service: 0x000B, blocks: &[0], ms: None };
+    if let Step::Done(block) = run(reader.call(0, balance), &mut script) {
+        eprintln!("balance {}", u16::from_le_bytes([block.bytes[0], block.bytes[1]]));
     }
 }

@@ -32,6 +32,8 @@ pub enum Call<'a> {
     DetectDep { bitrate: &'a [u8], atr_req: &'a [u8] },
     Transceive { bitrate: &'a [u8], sel_res: &'a [u8], rid_res: bool, data: &'a [u8], ms: Option<u16> },
     PollTypeF { bitrate: &'a [u8], codes: &'a [u8] },
+    ReadWithoutEncryption { idm: &'a [u8], service: u16, blocks: &'a [u8], ms: Option<u16> },
+    WriteWithoutEncryption { idm: &'a [u8], service: u16, blocks: &'a [u8], data: &'a [u8], ms: Option<u16> },
 }
 
 impl<'a> Arguments<'a> {
@@ -107,6 +109,14 @@ impl<'a> Call<'a> {
                 ms.map_or(given, |ms| given.word(ms).y(1))
             }
             Call::PollTypeF { bitrate, codes } => Arguments { second: codes, ..Arguments::with(24, bitrate) },
+            Call::ReadWithoutEncryption { idm, service, blocks, ms } => {
+                let asked = Arguments { second: blocks, ..Arguments::with(26, idm) }.word(service);
+                ms.map_or(asked, |ms| asked.ms(ms.into()).y(1))
+            }
+            Call::WriteWithoutEncryption { idm, service, blocks, data, ms } => {
+                let asked = Arguments { second: blocks, third: data, ..Arguments::with(27, idm) }.word(service);
+                ms.map_or(asked, |ms| asked.ms(ms.into()).y(1))
+            }
         }
     }
 }

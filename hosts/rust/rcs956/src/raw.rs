@@ -95,17 +95,19 @@ pub struct Outcome {
     pub kind: u8,
     /// Of a refusal its number.
     pub refusal: u8,
-    /// Of refusal 15 the status byte.
+    /// Of refusal 15 the status byte, of 20 the first status flag.
     pub status: u8,
+    /// Of refusal 20 the second status flag.
+    pub status2: u8,
     /// Of a list's refusal how many of its codes were finished.
     pub finished: u8,
+    /// Of an answer whose UID and ATS are told apart the length of each.
+    pub uid: u8,
+    pub ats: u8,
     /// Of a read its ms, of a pause its µs.
     pub time: u32,
     /// Of a write order and of an answer the bytes at the buffer's start.
     pub len: usize,
-    /// Of an answer whose UID and ATS are told apart the length of each.
-    pub uid: u8,
-    pub ats: u8,
 }
 
 /// A call's arguments that are numbers. What a call does not use counts for nothing; each has a caller.
@@ -171,6 +173,7 @@ impl fmt::Display for Line<'_> {
 fn refused(f: &mut fmt::Formatter<'_>, outcome: &Outcome) -> fmt::Result {
     match outcome.refusal {
         15 => write!(f, "refused 15 {:02X}", outcome.status),
+        20 => write!(f, "refused 20 {:02X}{:02X}", outcome.status, outcome.status2),
         number => write!(f, "refused {number}"),
     }
 }

@@ -86,11 +86,14 @@ pub enum Refusal {
     NoCard,
     CrcA,
     Rate,
+    /// Both status flags of the card.
+    CardStatus(u8, u8),
+    OtherCard,
     UidLayout,
 }
 
-/// Document 01's refusals in the order of their numbers, from 1 on.
-const REFUSALS: [Refusal; 19] = [
+/// The refusals in the order of their numbers, from 1 on.
+const REFUSALS: [Refusal; 22] = [
     Refusal::OutOfTurn,
     Refusal::ShortBuffer,
     Refusal::OverLong,
@@ -110,33 +113,44 @@ const REFUSALS: [Refusal; 19] = [
     Refusal::NoCard,
     Refusal::CrcA,
     Refusal::Rate,
+    Refusal::CardStatus(0, 0),
+    Refusal::OtherCard,
+    Refusal::UidLayout,
 ];
 
 impl Refusal {
-    /// Of a number from 1 to 19 or 22, with the status byte of 15.
-    pub fn numbered(number: u8, status: u8) -> Option<Refusal> {
+    /// Of a number from 1 to 22, with the status byte of 15 or both status flags of 20.
+    pub fn numbered(number: u8, status: u8, status2: u8) -> Option<Refusal> {
         match number {
             15 => Some(Refusal::Status(status)),
-            22 => Some(Refusal::UidLayout),
+            20 => Some(Refusal::CardStatus(status, status2)),
             _ => REFUSALS.get(usize::from(number).checked_sub(1)?).copied(),
         }
     }
 
     fn of(outcome: Outcome) -> Refusal {
-        Refusal::numbered(outcome.refusal, outcome.status).expect("a refusal has 1 to 19 or 22")
+        Refusal::numbered(outcome.refusal, outcome.status, outcome.status2).expect("a refusal has 1 to 22")
     }
 
     pub fn number(self) -> u8 {
         match self {
             Refusal::Status(_) => 15,
-            Refusal::UidLayout => 22,
+            Refusal::CardStatus(_, _) => 20,
             _ => REFUSALS.iter().position(|refusal| *refusal == self).map_or(0, |k| k as u8 + 1),
         }
     }
 
-    /// The status byte of 15, else 0.
+    /// The status byte of 15 or the first status flag of 20, else 0.
     pub fn status(self) -> u8 {
-        if let Refusal::Status(status) = self { status } else { 0 }
+        match self {
+            Refusal::Status(status) | Refusal::CardStatus(status, _) => status,
+            _ => 0,
+        }
+    }
+
+    /// The second status flag of 20, else 0.
+    pub fn status2(self) -> u8 {
+        if let Refusal::CardStatus(_, status2) = self { status2 } else { 0 }
     }
 }
 
@@ -290,8 +304,8 @@ impl<'r> Pause<'r> {
 impl Step<'_> {
     /// The outcome and its bytes.
     fn outcome(&self) -> (Outcome, &[u8]) {
-        let end = |kind| Outcome { kind, refusal: 0, status: 0, finished: 0, time: 0, len: 0, uid: 0, ats: 0 };
-        let refused = |why: &Refusal, kind| Outcome { refusal: why.number(), status: why.status(), ..end(kind) };
+        let end = |kind| Outcome { kind, refusal: 0, status: 0, status2: 0, finished: 0, uid: 0, ats: 0, time: 0, len: 0 };
+        let refused = |why: &Refusal, kind| Outcome { refusal: why.number(), status: why.status(), status2: why.status2(), ..end(kind) };
         match self {
             Step::Write(order) => (order.0.outcome, order.bytes()),
             Step::Read(order) => (order.0.outcome, &[]),

@@ -53,9 +53,13 @@ fn layout() {
     assert_eq!(offset_of!(Books, caller), 2);
     assert_eq!(size_of::<Numbers>(), 12);
     assert_eq!(offset_of!(Numbers, caller), 8);
-    assert_eq!(size_of::<Outcome>(), 16);
-    assert_eq!(offset_of!(Outcome, time), 4);
-    assert_eq!(offset_of!(Outcome, len), 8);
+    assert_eq!(size_of::<Outcome>(), 24);
+    assert_eq!(offset_of!(Outcome, status2), 3);
+    assert_eq!(offset_of!(Outcome, finished), 4);
+    assert_eq!(offset_of!(Outcome, uid), 5);
+    assert_eq!(offset_of!(Outcome, ats), 6);
+    assert_eq!(offset_of!(Outcome, time), 8);
+    assert_eq!(offset_of!(Outcome, len), 16);
 }
 
 #[test]
@@ -130,12 +134,14 @@ fn drains_share_their_time() {
 
 #[test]
 fn refusals_by_number() {
-    for number in (1..=19).chain([22]) {
-        let refusal = Refusal::numbered(number, 7).unwrap();
-        assert_eq!((refusal.number(), refusal.status()), (number, if number == 15 { 7 } else { 0 }));
+    for number in 1..=22 {
+        let refusal = Refusal::numbered(number, 7, 9).unwrap();
+        assert_eq!((refusal.number(), refusal.status()), (number, if number == 15 || number == 20 { 7 } else { 0 }));
+        assert_eq!(refusal.status2(), if number == 20 { 9 } else { 0 });
     }
-    assert_eq!(Refusal::numbered(0, 0), None);
-    assert_eq!(Refusal::numbered(20, 0), None);
+    assert_eq!(Refusal::numbered(0, 0, 0), None);
+    assert_eq!(Refusal::numbered(23, 0, 0), None);
+    assert_eq!(Step::Refused(Refusal::CardStatus(0xFF, 0xA1)).to_string(), "refused 20 FFA1");
     assert_eq!(Step::Refused(Refusal::Status(0xFE)).to_string(), "refused 15 FE");
     assert_eq!(Step::ListRefused { refusal: Refusal::TimeOut, finished: 0 }.to_string(), "refused 8 finished 0");
     assert_eq!(Step::ListRefused { refusal: Refusal::Status(0xFE), finished: 16 }.to_string(), "refused 15 FE finished 16");
@@ -161,7 +167,7 @@ fn session_with(opened: u8, frames: u32) -> RawSession {
 }
 
 fn refused(number: u8) -> Outcome {
-    Outcome { kind: raw::kind::REFUSED, refusal: number, status: 0, finished: 0, time: 0, len: 0, uid: 0, ats: 0 }
+    Outcome { kind: raw::kind::REFUSED, refusal: number, status: 0, status2: 0, finished: 0, uid: 0, ats: 0, time: 0, len: 0 }
 }
 
 #[test]
@@ -219,7 +225,7 @@ fn no_such_mode() {
 fn no_such_call_and_short_buffer() {
     let mut session = session_with(1, 0);
     let before = session.clone();
-    let unknown = Arguments { number: 26, ..Arguments::default() };
+    let unknown = Arguments { number: 28, ..Arguments::default() };
     assert_eq!(raw::call(&mut session, &unknown, &mut [0; 1024]), refused(4));
     assert_eq!(raw::call(&mut session, &unknown, &mut [0; 1023]), refused(2));
     assert_eq!(raw::call(&mut session, &Call::Version.arguments(), &mut []), refused(2));

@@ -101,6 +101,19 @@ impl<'a> Words<'a> {
                 request_code: self.byte(3)?,
                 time_slots: self.byte(4)?,
             },
+            (b"read_without_encryption", 5) => Call::ReadWithoutEncryption {
+                idm: self.hex(1)?,
+                service: self.word(2)?,
+                ms: self.short_ms(3)?,
+                blocks: self.hex(4)?,
+            },
+            (b"write_without_encryption", 6) => Call::WriteWithoutEncryption {
+                idm: self.hex(1)?,
+                service: self.word(2)?,
+                ms: self.short_ms(3)?,
+                blocks: self.hex(4)?,
+                data: self.hex(5)?,
+            },
             (b"poll_type_f", 3) => Call::PollTypeF { bitrate: self.text(1), codes: self.groups(2, 2)? },
             (b"detect_dep", 3) => Call::DetectDep { bitrate: self.text(1), atr_req: self.perhaps(2)? },
             (b"transceive", 6) => Call::Transceive {

@@ -24,7 +24,7 @@ const BITRATES: [&[u8]; 9] = [b"106A", b"106B", b"212F", b"424F", b"212F/424F", 
 
 /// A call with any number and any arguments, most of them such as the call takes.
 fn drawn_call(draw: &mut Draw) -> Entry {
-    let number = if draw.once(24) { draw.byte() as u64 } else { draw.below(27) };
+    let number = if draw.once(24) { draw.byte() as u64 } else { draw.below(29) };
     let bitrate = draw.pick(&BITRATES);
     let mut bytes = [(); 4].map(|()| {
         let len = draw.length();
@@ -52,6 +52,12 @@ fn drawn_call(draw: &mut Draw) -> Entry {
     if number == 24 && !draw.once(4) {
         let len = 2 * draw.below(18) as usize;
         bytes[1] = draw.bytes(len);
+    }
+    if number == 26 || number == 27 {
+        bytes[0] = if draw.once(4) { draw.bytes(8) } else { draw::IDM.into() };
+        let blocks = 1 + draw.below(4) as usize;
+        bytes[1] = draw.bytes(blocks);
+        bytes[2] = draw.bytes(16 * blocks);
     }
     let ms = draw.pick(&[0, 1, 100, 65535, u32::MAX as u64]);
     let caller = if draw.once(24) { draw.byte() as u64 } else { draw.below(8) };
@@ -89,7 +95,7 @@ fn core_in_range(session: &RawSession) -> bool {
     let core = &session.core;
     let call = &core.call;
     let lengths = core.command <= 512 && core.found <= 1024;
-    lengths && core.exchange.phase <= 6 && call.kind <= 22 && call.stage <= 9 && call.phase <= 5
+    lengths && core.exchange.phase <= 6 && call.kind <= 24 && call.stage <= 9 && call.phase <= 5
 }
 
 fn books_in_range(session: &RawSession) -> bool {
@@ -186,7 +192,7 @@ fn session_faults(entry: &Entry, before: &RawSession, after: &RawSession, outcom
 
 /// What the outcome and the buffer must be.
 fn outcome_faults(outcome: Outcome, before: &[u8], after: &[u8]) -> Vec<&'static str> {
-    let Outcome { kind, refusal, status, finished, time, len, uid, ats } = outcome;
+    let Outcome { kind, refusal, status, status2, finished, uid, ats, time, len } = outcome;
     let size = before.len() - 2 * GUARD;
     let parted = kind == kind::UID_AND_ATS;
     let has_bytes = parted || matches!(kind, kind::WRITE | kind::DONE | kind::DONE_TYPE1);
@@ -194,17 +200,19 @@ fn outcome_faults(outcome: Outcome, before: &[u8], after: &[u8]) -> Vec<&'static
     let start = &after[GUARD..GUARD + written];
     let (refused, listed) = (kind == kind::REFUSED, kind == kind::LIST_REFUSED);
     let numbers = match kind {
-        kind::REFUSED => (1..=19).contains(&refusal) || refusal == 22,
-        kind::LIST_REFUSED => (7..=19).contains(&refusal),
-        _ => refusal == 0,
+        kind::REFUSED => 1..=22,
+        kind::LIST_REFUSED => 7..=22,
+        _ => 0..=0,
     };
     let checks = [
         (kind > 9, "a kind above 9"),
         (!parted && (uid, ats) != (0, 0), "lengths of a UID and an ATS, and no such answer"),
         (!listed && finished != 0, "codes finished, and no list"),
         (len > size.min(1024), "more bytes than the buffer has"),
-        (!numbers, "a refusal's number"),
-        (refusal != 15 && status != 0, "a status without 15"),
+        (!numbers.contains(&refusal), "a refusal's number"),
+        (refusal != 15 && refusal != 20 && status != 0, "a status without 15 or 20"),
+        (refusal == 20 && status == 0, "20 with the first flag 0"),
+        (refusal != 20 && status2 != 0, "a second flag without 20"),
         (!matches!(kind, kind::READ | kind::PAUSE) && time != 0, "a time with no read and no pause"),
         (!has_bytes && len != 0, "a length with no bytes"),
         (kind == kind::WRITE && !start.starts_with(&[0, 0, 0xFF]), "a write order of no frame"),
@@ -216,24 +224,23 @@ fn outcome_faults(outcome: Outcome, before: &[u8], after: &[u8]) -> Vec<&'static
     checks.iter().filter(|(fault, _)| *fault).map(|(_, text)| *text).collect()
 }
 
-/// The outcomes met: kinds 0 to 6, refusals 1 to 19 and 22, and answers with two lengths. Last, the steps in which the books alone were
-/// out of range.
+/// The outcomes met: kinds 0 to 6, refusals 1 to 22, and answers with two lengths. Last, the steps in which the books alone were out of
+/// range.
 #[derive(Default)]
 struct Tally {
     steps: u64,
-    counts: [u64; 29],
+    counts: [u64; 31],
 }
 
 impl Tally {
     fn add(&mut self, before: &RawSession, outcome: Outcome) {
         self.steps += 1;
-        let k = match (outcome.kind, outcome.refusal) {
-            (kind::UID_AND_ATS, _) => 27,
-            (_, 22) => 26,
-            (kind, refusal) => kind.min(7) + refusal.saturating_sub(1),
+        let k = match outcome.kind {
+            kind::UID_AND_ATS => 29,
+            kind => kind.min(7) + outcome.refusal.saturating_sub(1),
         };
         self.counts[k as usize] += 1;
-        self.counts[28] += (core_in_range(before) && !books_in_range(before)) as u64;
+        self.counts[30] += (core_in_range(before) && !books_in_range(before)) as u64;
     }
 
     fn print(&self) {
@@ -241,9 +248,8 @@ impl Tally {
         for (k, count) in self.counts.iter().enumerate() {
             match (words.get(k), k) {
                 (Some(word), _) => println!("  {word}: {count}"),
-                (None, 26) => println!("  refused 22: {count}"),
-                (None, 27) => println!("  done with two lengths: {count}"),
-                (None, 28) => println!("  refused 1 for the books alone: {count}"),
+                (None, 29) => println!("  done with two lengths: {count}"),
+                (None, 30) => println!("  refused 1 for the books alone: {count}"),
                 (None, _) => println!("  refused {}: {count}", k - 6),
             }
         }

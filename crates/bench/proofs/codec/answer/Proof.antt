@@ -1,4 +1,4 @@
--- `codec::answer` meets its contract.
+-- `bench::codec::answer` meets its contract.
 use Rattle.framing.specs.Rules.{cases}
 use Rattle.bench.specs.Codec.{answerOf}
 use Rattle.bench.specs.TextLaws.{placed-true, placed-false}
@@ -9,6 +9,9 @@ use Rattle.bench.proofs.codec.answer.Tie as tie
 returns : tie.Need-returns
 unfolding answerOf
 returns c = search (placed-true, cases, needs)
+
+by-words-requires : tie.Need-by-words-requires
+by-words-requires c κs = (search needs, search needs, search needs, search needs, search needs, search needs)
 
 returns-2 : tie.Need-returns-2
 unfolding answerOf
@@ -22,5 +25,7 @@ answer-spec =
     returns
     (λ c. search needs)
     (λ c. search needs)
-    (λ c κs. search needs)
+    (λ c. search needs)
+    (λ c. search needs)
+    by-words-requires
     returns-2)

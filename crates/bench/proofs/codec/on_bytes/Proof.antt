@@ -1,4 +1,4 @@
--- `codec::on_bytes` meets its contract.
+-- `bench::codec::on_bytes` meets its contract.
 use Rattle.framing.specs.Rules.{told}
 use Rattle.bench.specs.Codec.{onBytes}
 use Rattle.bench.specs.TextLaws.{placed-true, placed-false}
@@ -30,6 +30,10 @@ returns-5 c = search (placed-true, placed-false, placed-yes, told, needs) depth 
 returns-6 : tie.Need-returns-6
 unfolding onBytes
 returns-6 c = search (placed-true, placed-false, placed-yes, told, needs) depth 14
+
+returns-7 : tie.Need-returns-7
+unfolding onBytes
+returns-7 c = search (placed-true, placed-false, placed-yes, told, needs) depth 14
 
 pub on-bytes-spec : {M : Type 1} → statement M
 on-bytes-spec =
@@ -64,6 +68,11 @@ on-bytes-spec =
     (λ c. search needs)
     (λ c. search needs)
     returns-5
+    (λ c. search needs)
+    (λ c κs. search needs)
     (λ c κs. search needs)
     (λ c. search needs)
-    returns-6)
+    returns-6
+    (λ c κs. search needs)
+    (λ c. search needs)
+    returns-7)

@@ -45,10 +45,14 @@ unfolding numberArg pick
 returns-9 c = λ f. rw (c .before .before .before .match .keys9) (c .with-x5 .ensures f ∙ c .before .read-name2 .ensures _)
 
 returns-10 : tie.Need-returns-10
+unfolding numberArg pick
+returns-10 c = λ f. rw (c .before .before .match .keys10) (c .with-limit .ensures f ∙ c .before .read-wait2 .ensures _)
+
+returns-11 : tie.Need-returns-11
 unfolding numberArg
-returns-10 c =
+returns-11 c =
     λ f. let r = c .match .rest in
-    at-false _ _ _ _ (ne-eqb _ _ (r .0 .0 .0 .0 .0 .0 .0 .0 .1)) (at-false _ _ _ _ (ne-eqb _ _ (r .0 .0 .0 .0 .0 .0 .0 .1)) (at-false _ _ _ _ (ne-eqb _ _ (r .0 .0 .0 .0 .0 .0 .1)) (at-false _ _ _ _ (ne-eqb _ _ (r .0 .0 .0 .0 .0 .1)) (at-false _ _ _ _ (ne-eqb _ _ (r .0 .0 .0 .0 .1)) (at-false _ _ _ _ (ne-eqb _ _ (r .0 .0 .0 .1)) (at-false _ _ _ _ (ne-eqb _ _ (r .0 .0 .1)) (at-false _ _ _ _ (ne-eqb _ _ (r .0 .1)) (at-false _ _ _ _ (ne-eqb _ _ (r .1)) refl))))))))
+    at-false _ _ _ _ (ne-eqb _ _ (r .0 .0 .0 .0 .0 .0 .0 .0 .0 .1)) (at-false _ _ _ _ (ne-eqb _ _ (r .0 .0 .0 .0 .0 .0 .0 .0 .1)) (at-false _ _ _ _ (ne-eqb _ _ (r .0 .0 .0 .0 .0 .0 .0 .1)) (at-false _ _ _ _ (ne-eqb _ _ (r .0 .0 .0 .0 .0 .0 .1)) (at-false _ _ _ _ (ne-eqb _ _ (r .0 .0 .0 .0 .0 .1)) (at-false _ _ _ _ (ne-eqb _ _ (r .0 .0 .0 .0 .1)) (at-false _ _ _ _ (ne-eqb _ _ (r .0 .0 .0 .1)) (at-false _ _ _ _ (ne-eqb _ _ (r .0 .0 .1)) (at-false _ _ _ _ (ne-eqb _ _ (r .0 .1)) (at-false _ _ _ _ (ne-eqb _ _ (r .1)) refl)))))))))
 
 pub number-spec : {M : Type 1} → statement M
 number-spec =
@@ -74,6 +78,8 @@ number-spec =
     (λ c. search needs)
     (λ c κs. search needs)
     (λ c κs. search needs)
+    (λ c κs. search needs)
+    (λ c κs. search needs)
     returns
     returns-2
     returns-3
@@ -83,4 +89,5 @@ number-spec =
     returns-7
     returns-8
     returns-9
-    returns-10)
+    returns-10
+    returns-11)

@@ -42,7 +42,13 @@ returns-13 : tie.Need-returns-13
 returns-13 c = rw (c .before .enum-told12 .given .1) (c .plain12 .ensures)
 
 returns-14 : tie.Need-returns-14
-returns-14 c = rw (c .before .enum-told13 .given .1) (c .plain13 .ensures)
+returns-14 c = rw (c .before .self2 .given .1)
+
+returns-15 : tie.Need-returns-15
+returns-15 c = rw (c .before .enum-told13 .given .1) (c .plain13 .ensures)
+
+returns-16 : tie.Need-returns-16
+returns-16 c = rw (c .before .enum-told14 .given .1) (c .plain14 .ensures)
 
 pub numbered-spec : {M : Type 1} → statement M
 numbered-spec =
@@ -74,6 +80,9 @@ numbered-spec =
     (λ c. search needs)
     (λ c κs. search needs)
     (λ c. search needs)
+    (λ c. search needs)
+    (λ c κs. search needs)
+    (λ c. search needs)
     (λ c κs. search needs)
     returns
     returns-2
@@ -88,4 +97,6 @@ numbered-spec =
     returns-11
     returns-12
     returns-13
-    returns-14)
+    returns-14
+    returns-15
+    returns-16)

@@ -1,0 +1,115 @@
+// Read and Write Without Encryption of FeliCa blocks (document 02, N5): how each starts, and its response, which is held against
+// the request.
+use super::transceive::Timeout;
+use super::transceive::clock;
+use chipset::cmd;
+use chipset::err;
+use chipset::response::from;
+use errors::Fault;
+use felica::check::Checked;
+use felica::check::check_read;
+use felica::check::check_write;
+use felica::request::build_read_request;
+use felica::request::build_write_request;
+use framing::Built;
+use stages::Decision;
+use stages::byte_or;
+use stages::start;
+use stages::start::Start;
+ghost use mathlib.Core.Bool.{Bool};
+ghost use mathlib.Core.List.{List};
+ghost use mathlib.Core.Path.{_≡_};
+ghost use Prim.Native.Nat.{ℕ, _≤_};
+ghost use lib.ListN.{length};
+ghost use Rattle.framing.specs.Build.{outcome, left};
+ghost use Rattle.felica.specs.Packets.{builtOf};
+ghost use Rattle.protocol.specs.Calls.{clockOf};
+ghost use Rattle.stages.specs.Decided.{Comes};
+ghost use Rattle.stages.specs.Starts.{Starts};
+ghost use Rattle.device.specs.Transceive.{timeoutOf};
+ghost use Rattle.device.specs.Blocks.{thruIf, readFirst, writeFirst, ifGood, readAnswer, writeAnswer};
+
+// The kinds of a read and of a write.
+pub const READ_BLOCKS: u8 = 23;
+
+pub const WRITE_BLOCKS: u8 = 24;
+
+// Where block data starts in a response: behind the status byte and 13 bytes of the card's reply.
+const BLOCKS_AT: usize = 14;
+
+// A request that was built in the pending command is sent through InCommunicateThru.
+fn sent(kind: u8, built: Built, ms: u32) -> Start
+    ensures { λ r. ⌜ ((fits : Bool) (p c₀ c₁ : List ℕ) → (fits ≡ Bool.true → (length p ≤ 512) × (length p ≤ length c₀)) → left (outcome built) c₁ ≡ builtOf fits p c₀ → Starts r c₀ c₁ (thruIf fits kind ms p)) ⌝ }
+{
+    match built {
+        Built::Frame(n) => start::command(kind, cmd::IN_COMMUNICATE_THRU, ms, n),
+        Built::Refused(refusal) => start::refused(refusal),
+    }
+}
+
+pub fn read_without_encryption(
+    idm: &[u8],
+    service: u16,
+    blocks: &[u8],
+    timeout: Timeout,
+    command: &mut [u8; 512],
+) -> Start
+    ensures { λ r. ⌜ Starts r (now (command .entry)) (now (command .exit)) (readFirst (now (idm .entry)) service (now (blocks .entry)) (clockOf (timeoutOf timeout))) ⌝ }
+{
+    let ms = clock(timeout);
+    let built = build_read_request(idm, service, blocks, command);
+    sent(READ_BLOCKS, built, ms)
+}
+
+pub fn write_without_encryption(
+    idm: &[u8],
+    service: u16,
+    blocks: &[u8],
+    bytes: &[u8],
+    timeout: Timeout,
+    command: &mut [u8; 512],
+) -> Start
+    ensures { λ r. ⌜ Starts r (now (command .entry)) (now (command .exit)) (writeFirst (now (idm .entry)) service (now (blocks .entry)) (now (bytes .entry)) (clockOf (timeoutOf timeout))) ⌝ }
+{
+    let ms = clock(timeout);
+    let built = build_write_request(idm, service, blocks, bytes, command);
+    sent(WRITE_BLOCKS, built, ms)
+}
+
+// The response from a place on where the reply is good; else its fault.
+fn if_good(checked: Checked, response: &[u8], start: usize) -> Decision
+    ensures { λ r. ⌜ Comes (now (response .entry)) r (ifGood start (now (response .entry)) checked) ⌝ }
+{
+    match checked {
+        Checked::Good => from(response, start),
+        Checked::Faulty(fault) => Decision::Refused(fault),
+    }
+}
+
+// The blocks, in the order of the request; `pending` is the request.
+pub fn read_response(pending: &[u8], response: &[u8]) -> Decision
+    ensures { λ r. ⌜ Comes (now (response .entry)) r (readAnswer (now (pending .entry)) (now (response .entry))) ⌝ }
+{
+    let status = byte_or(response, 0, err::NO_DATA);
+    if status == 0 {
+        if_good(check_read(pending, &response[1..]), response, BLOCKS_AT)
+    } else {
+        Decision::Refused(Fault::Status(status))
+    }
+}
+
+// No bytes.
+pub fn write_response(pending: &[u8], response: &[u8]) -> Decision
+    ensures { λ r. ⌜ Comes (now (response .entry)) r (writeAnswer (now (pending .entry)) (now (response .entry))) ⌝ }
+{
+    let status = byte_or(response, 0, err::NO_DATA);
+    if status == 0 {
+        if_good(
+            check_write(pending, &response[1..]),
+            response,
+            response.len(),
+        )
+    } else {
+        Decision::Refused(Fault::Status(status))
+    }
+}

@@ -1,0 +1,29 @@
+-- `felica::request::put_list` meets its contract.
+use Rattle.felica.specs.Lists.{taken-eight, list-room, list-put}
+use borrow.Author.Needs.{needs}
+use Rattle.felica.proofs.request.put_list.Statement.{statement}
+use Rattle.felica.proofs.request.put_list.Tie as tie
+
+slice-aggregate-put : tie.Need-slice-aggregate-put
+slice-aggregate-put c = search (taken-eight, needs)
+
+put-requires : tie.Need-put-requires
+put-requires c κs = search (list-room, needs)
+
+returns : tie.Need-returns
+returns c = search (list-put, needs)
+
+pub put-list-spec : {M : Type 1} → statement M
+put-list-spec =
+    tie.close
+    (tie.spec
+    (λ c κs. search needs)
+    (λ c κs. search needs)
+    (λ c κs. search needs)
+    (λ c κs. search needs)
+    (λ c. search needs)
+    (λ c. search needs)
+    slice-aggregate-put
+    put-requires
+    (λ c. search needs)
+    returns)

@@ -1,0 +1,150 @@
+-- Laws of packets taken apart, as the code makes its tests.
+use mathlib.Core.Path.{_≡_, refl, sym, ap, ap₂, _∙_, subst}
+use mathlib.Core.Bool.{Bool, true, false}
+use mathlib.Core.List.{List, [], _∷_}
+use Prim.Native.Nat.{ℕ, zero, suc, _+_, _*_, _-_, _/_, _≤_, _<_}
+use native.Mathlib.Omega.{arith}
+use borrow.Author.Tests.{eq-eqb, ne-eqb, le-leb, lt-leb, leb-true, eqb-true}
+use mir.Syntax.{w64}
+use mir.Val.{Fits}
+use lib.Dec.{eqb, leb}
+use lib.ListN.{length, take, drop, getD, length-take, length-drop}
+use Rattle.errors.specs.Choice.{pick}
+use Rattle.framing.specs.Lists.{both, same}
+use Rattle.framing.specs.Valid.{both-left, both-right}
+use Rattle.felica.specs.Packets.{readCode, writeCode, readReplyCode, writeReplyCode}
+use Rattle.felica.specs.Fields.{idmIn, serviceIn, countIn, listIn, bytesIn, flag1In, flag2In, numberIn, blocksIn, numbersIn, isBlockList, asksBlocks, isRequest, requestOf, reads, writes, noRequest, four, numbersOf, AskedOf, hasBlocks, isReadReply, isWriteReply, replyOf, readReplied, writeReplied, noReply}
+use Rattle.felica.specs.Checks.{isFrom, byStatus, checkOf, readCheck, writeCheck}
+use Rattle.felica.specs.declared.BlockNumbers.{BlockNumbers}
+use Rattle.felica.specs.declared.check.Checked.{Checked}
+use Rattle.felica.specs.declared.request.Asked.{Asked}
+
+-- ---- requests
+
+small : (s n : ℕ) → s ≤ 16 → n ≤ 4 → (2 + s) * n ≤ 72
+small s zero h k = omega arith
+small s (suc zero) h k = omega arith
+small s (suc (suc zero)) h k = omega arith
+small s (suc (suc (suc zero))) h k = omega arith
+small s (suc (suc (suc (suc zero)))) h k = omega arith
+small s (suc (suc (suc (suc (suc n))))) h k = absurd (omega arith)
+
+pub product-fits : (s n : ℕ) → s ≤ 16 → n ≤ 4 → Fits w64 ((2 + s) * n)
+product-fits s n h k = record { fits = omega (arith, small s n h k) }
+
+pub sum-fits : (s n : ℕ) → s ≤ 16 → n ≤ 4 → Fits w64 (14 + (2 + s) * n)
+sum-fits s n h k = record { fits = omega (arith, small s n h k) }
+
+pub list-within : (p : List ℕ) (s n : ℕ) → length p ≡ 14 + (2 + s) * n → n ≤ 4 → 14 + 2 * n ≤ length p
+list-within p s zero e h = omega (arith, e)
+list-within p s (suc zero) e h = omega (arith, e)
+list-within p s (suc (suc zero)) e h = omega (arith, e)
+list-within p s (suc (suc (suc zero))) e h = omega (arith, e)
+list-within p s (suc (suc (suc (suc zero)))) e h = omega (arith, e)
+list-within p s (suc (suc (suc (suc (suc n))))) e h = absurd (omega arith)
+
+-- n is the number of blocks
+module _ (p : List ℕ) (s n : ℕ) (told : n ≡ countIn p) where
+  pub asks-none : n < 1 → false ≡ asksBlocks s p
+  unfolding asksBlocks
+  asks-none h = rw (← told, lt-leb 1 n h)
+
+  pub asks-many : 1 ≤ n → 4 < n → false ≡ asksBlocks s p
+  unfolding asksBlocks
+  asks-many h k = rw (← told, le-leb 1 n h, lt-leb n 4 k)
+
+  pub asks-other : 1 ≤ n → n ≤ 4 → (length p ≡ 14 + (2 + s) * n → ⊥) → false ≡ asksBlocks s p
+  unfolding asksBlocks
+  asks-other h k ne = rw (← told, le-leb 1 n h, le-leb n 4 k, ne-eqb (length p) (14 + (2 + s) * n) ne)
+
+  pub asks-list : (r : Bool) → 1 ≤ n → n ≤ 4 → length p ≡ 14 + (2 + s) * n → r ≡ isBlockList (take (14 + 2 * n - 14) (drop 14 p)) → r ≡ asksBlocks s p
+  unfolding asksBlocks
+  asks-list r h k e t =
+      let m : 14 + 2 * n - 14 ≡ 2 * n = omega arith in
+      rw (← told, le-leb 1 n h, le-leb n 4 k, eq-eqb (length p) (14 + (2 + s) * n) e) (t ∙ ap (λ j. isBlockList (take j (drop 14 p))) m)
+
+module _ (code s : ℕ) (p : List ℕ) (r : Bool) (told : r ≡ isRequest code s p) (good : r ≡ true) where
+  asks : asksBlocks s p ≡ true
+  unfolding isRequest
+  asks = both-right (eqb (getD p 10 0) 1) _ (both-right (eqb (getD p 1 0) code) _ (both-right (eqb (getD p 0 0) (length p)) _ (sym told ∙ good)))
+
+  pub request-few : countIn p ≤ 4
+  unfolding asksBlocks
+  request-few = leb-true (countIn p) 4 (both-left (leb (countIn p) 4) _ (both-right (leb 1 (countIn p)) _ asks))
+
+  pub request-room : 14 + 2 * countIn p ≤ length p
+  unfolding asksBlocks
+  request-room =
+      let e = both-left (eqb (length p) (14 + (2 + s) * countIn p)) _ (both-right (leb (countIn p) 4) _ (both-right (leb 1 (countIn p)) _ asks)) in
+      list-within p s (countIn p) (eqb-true (length p) (14 + (2 + s) * countIn p) e) request-few
+
+pub asked-of : (p : List ℕ) (s k w lo hi : ℕ) (ns : BlockNumbers) → s ≡ lo + 256 * hi → lo ≡ getD p 11 0 → hi ≡ getD p 12 0 → k ≡ countIn p → w ≡ k
+    → 14 + 2 * countIn p ≤ length p → countIn p ≤ 4
+    → (length (take (14 + 2 * w - 14) (drop 14 p)) ≤ 8 → take (length (take (14 + 2 * w - 14) (drop 14 p)) / 2) (four ns) ≡ numbersIn (take (14 + 2 * w - 14) (drop 14 p)))
+    → AskedOf (record { service = s; count = k; numbers = ns }) p
+asked-of p s k w lo hi ns e f g h m room few n =
+    let j : 14 + 2 * w - 14 ≡ 2 * countIn p = omega arith in
+    let l : length (take (14 + 2 * w - 14) (drop 14 p)) ≡ 2 * countIn p
+    = ap (λ i. length (take i (drop 14 p))) j ∙ length-take (2 * countIn p) (drop 14 p) ∙ omega (arith, length-drop 14 p) in
+    let half : length (take (14 + 2 * w - 14) (drop 14 p)) / 2 ≡ k = omega (arith, l) in
+    record {
+      service = e ∙ ap₂ (λ x y. x + 256 * y) f g;
+      count = h;
+      numbers = ap (λ i. take i (four ns)) (sym half) ∙ n (omega (arith, l)) ∙ ap (λ i. numbersIn (take i (drop 14 p))) j;
+    }
+
+module _ (p : List ℕ) (a : Asked) (asked : AskedOf a p) where
+  pub as-read : (r : Bool) → r ≡ isRequest readCode 0 p → r ≡ true → reads (idmIn p) (a .service) (numbersOf a) ≡ requestOf p
+  unfolding requestOf pick
+  as-read r t h = rw (sym t ∙ h) (ap₂ (reads (idmIn p)) (asked .service) (asked .numbers))
+
+  pub as-write : (r q : Bool) → r ≡ isRequest readCode 0 p → r ≡ false → q ≡ isRequest writeCode 16 p → q ≡ true
+      → writes (idmIn p) (a .service) (numbersOf a) (bytesIn (a .count) p) ≡ requestOf p
+  unfolding requestOf pick
+  as-write r q t h u k =
+      rw (sym t ∙ h, sym u ∙ k)
+      (ap₂ (λ x y. writes (idmIn p) x y (bytesIn (a .count) p)) (asked .service) (asked .numbers)
+      ∙ ap (λ j. writes (idmIn p) (serviceIn p) (numbersIn (listIn p)) (bytesIn j p)) (asked .count))
+
+pub as-none : (p : List ℕ) (r q : Bool) → r ≡ isRequest readCode 0 p → r ≡ false → q ≡ isRequest writeCode 16 p → q ≡ false → noRequest ≡ requestOf p
+unfolding requestOf pick
+as-none p r q t h u k = rw (sym t ∙ h, sym u ∙ k)
+
+-- ---- replies
+
+-- the first byte is not the number of bytes
+pub not-length : (p : List ℕ) (n : ℕ) (rest : Bool) → 12 ≤ length p → n ≡ getD p 0 0 → (n ≡ length p → ⊥)
+    → false ≡ both (leb 12 (length p)) (both (eqb (getD p 0 0) (length p)) rest)
+not-length p n rest h e ne = rw (le-leb 12 (length p) h, ne-eqb (getD p 0 0) (length p) (λ k. ne (e ∙ k)))
+
+pub told-blocks : (p : List ℕ) (n m : ℕ) (r : Bool) → n ≡ m → r ≡ hasBlocks n p → r ≡ hasBlocks m p
+told-blocks p n m r e h = h ∙ ap (λ k. hasBlocks k p) e
+
+module _ (p : List ℕ) (f g : ℕ) (r : Bool) (first : f ≡ flag1In p) (second : g ≡ flag2In p) (told : r ≡ isReadReply p) where
+  pub as-read-reply : r ≡ true → readReplied (idmIn p) f g (blocksIn p) ≡ replyOf p
+  unfolding replyOf pick
+  as-read-reply h = rw (sym told ∙ h) (ap₂ (λ x y. readReplied (idmIn p) x y (blocksIn p)) first second)
+
+  pub as-write-reply : (q : Bool) → r ≡ false → q ≡ isWriteReply p → q ≡ true → writeReplied (idmIn p) f g ≡ replyOf p
+  unfolding replyOf pick
+  as-write-reply q h u k = rw (sym told ∙ h, sym u ∙ k) (ap₂ (writeReplied (idmIn p)) first second)
+
+pub as-no-reply : (p : List ℕ) (r q : Bool) → r ≡ isReadReply p → r ≡ false → q ≡ isWriteReply p → q ≡ false → noReply ≡ replyOf p
+unfolding replyOf pick
+as-no-reply p r q t h u k = rw (sym t ∙ h, sym u ∙ k)
+
+-- ---- the check of a reply
+
+pub told-from : (code b : ℕ) (idm i p : List ℕ) (r : Bool) → b ≡ getD p 1 0 → b ≡ code → i ≡ idmIn p → r ≡ same idm i → r ≡ isFrom code idm p
+unfolding isFrom
+told-from code b idm i p r e f g h = rw (eq-eqb (getD p 1 0) code (sym e ∙ f)) (h ∙ ap (same idm) g)
+
+pub told-status : (r : Checked) (f g x y : ℕ) → f ≡ x → g ≡ y → r ≡ byStatus f g → r ≡ byStatus x y
+told-status r f g x y p q h = h ∙ ap₂ byStatus p q
+
+pub read-checked : (r : Checked) (request p i : List ℕ) (w : Bool) (n : ℕ) → i ≡ idmIn request → n ≡ countIn request → w ≡ hasBlocks n p
+    → r ≡ checkOf readReplyCode i w p → r ≡ readCheck (idmIn request) (countIn request) p
+read-checked r request p i w n e f g h = h ∙ ap₂ (λ x y. checkOf readReplyCode x y p) e (g ∙ ap (λ k. hasBlocks k p) f)
+
+pub write-checked : (r : Checked) (request p i : List ℕ) → i ≡ idmIn request → r ≡ checkOf writeReplyCode i (eqb (length p) 12) p → r ≡ writeCheck (idmIn request) p
+write-checked r request p i e h = h ∙ ap (λ x. checkOf writeReplyCode x (eqb (length p) 12) p) e
