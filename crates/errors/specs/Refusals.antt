@@ -5,6 +5,8 @@ use Rattle.errors.specs.declared.Refusal.{Refusal}
 use Rattle.errors.specs.declared.Refusal.the-variants.{OutOfTurn, ShortBuffer, OverLong, BadArgument, Bitrate, NotSendable}
 use Rattle.errors.specs.declared.Fault.{Fault}
 use Rattle.errors.specs.declared.Fault.the-variants.{Transport, TimeOut, FalseStart, BrokenFrame, Length, FrameKind, Identifier, Code, Status, ShortResponse, NoCard, CrcA, Rate, CardStatus, OtherCard, UidLayout}
+use Rattle.errors.specs.declared.RoundRefusal.{RoundRefusal}
+use Rattle.errors.specs.declared.RoundRefusal.the-variants.{AtOnce, StaleRound, ListFull}
 
 abbrev pub plain : ℕ → Numbered
 plain k = record { number = k; status = 0; status2 = 0 }
@@ -36,6 +38,12 @@ faultNumbered Rate = plain 19
 faultNumbered (CardStatus s t) = record { number = 20; status = s; status2 = t }
 faultNumbered OtherCard = plain 21
 faultNumbered UidLayout = plain 22
+
+-- a refused round
+abbrev pub roundNumbered : RoundRefusal → Numbered
+roundNumbered (AtOnce r) = numbered r
+roundNumbered StaleRound = plain 27
+roundNumbered ListFull = plain 28
 
 -- by the status byte of 15; a of any other fault
 abbrev pub byStatus : {A : Type 0} → (ℕ → A) → A → Fault → A

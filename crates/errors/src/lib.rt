@@ -1,6 +1,6 @@
 // The refusals of document 01, and of document 02 from 20 on, by their words there: those that refuse at once, and those that end a running call.
 ghost use mathlib.Core.Path.{_≡_};
-ghost use Rattle.errors.specs.Refusals.{plain as plainOf, numbered as numberedOf, faultNumbered};
+ghost use Rattle.errors.specs.Refusals.{plain as plainOf, numbered as numberedOf, faultNumbered, roundNumbered};
 
 // 1 to 6: refused at once, and nothing changes.
 pub enum Refusal {
@@ -30,6 +30,13 @@ pub enum Fault {
     CardStatus(u8, u8),
     OtherCard,
     UidLayout,
+}
+
+// Document 02, N9: a round of discovery is refused, and the list stays as it is.
+pub enum RoundRefusal {
+    AtOnce(Refusal),
+    StaleRound,
+    ListFull,
 }
 
 // A refusal's number in document 01's table, and what it carries: 15 a status byte, 20 the two status flags (0 where there is none).
@@ -94,6 +101,18 @@ impl Fault {
             },
             Fault::OtherCard => plain(21),
             Fault::UidLayout => plain(22),
+        }
+    }
+}
+
+impl RoundRefusal {
+    pub fn numbered(self) -> Numbered
+        ensures { λ r. ⌜ r ≡ roundNumbered self ⌝ }
+    {
+        match self {
+            RoundRefusal::AtOnce(refusal) => refusal.numbered(),
+            RoundRefusal::StaleRound => plain(27),
+            RoundRefusal::ListFull => plain(28),
         }
     }
 }

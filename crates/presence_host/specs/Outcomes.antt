@@ -1,0 +1,38 @@
+-- What the host is told of a round.
+use mathlib.Core.Path.{_≡_, ap, _∙_}
+use mathlib.Core.List.{List as Seq}
+use Prim.Native.Nat.{ℕ}
+use Rattle.errors.specs.Refusals.{roundNumbered}
+use Rattle.presence_list.specs.declared.list.State.{State}
+use Rattle.presence_list.specs.declared.list.Presence.{Presence}
+use Rattle.presence_list.specs.declared.list.Round.{Round}
+use Rattle.presence_list.specs.declared.list.Answer.{Answer}
+use Rattle.presence_list.specs.declared.list.Answer.the-variants.{Accepted, Refused}
+use Rattle.presence_list.specs.Steps.{After, after, listed, roundOf}
+use Rattle.presence_host.specs.declared.step.Outcome.{Outcome}
+
+-- the list after a round, and what came out
+pub record Reported : Type 0 where
+  pub list : Presence
+  pub outcome : Outcome
+
+abbrev pub report : Presence → Outcome → Reported
+report l o = record { list = l; outcome = o }
+
+abbrev pub joined : Seq ℕ → Seq ℕ → Seq ℕ → State → Presence
+joined c a d s = record { cards = c; arrived = a; departed = d; state = s }
+
+abbrev pub outcomeOf : Answer → Outcome
+outcomeOf (Accepted x y) = record { refusal = 0; arrived = x; departed = y }
+outcomeOf (Refused e) = record { refusal = roundNumbered e .number; arrived = 0; departed = 0 }
+
+-- as the round by value has it
+abbrev pub told : Round → Reported
+told r = report (r .list) (outcomeOf (r .answer))
+
+unfoldable pub reportFor : Presence → ℕ → Seq ℕ → Reported
+reportFor l n b = told (roundOf l n b)
+
+-- a round on a list's parts is the round by value
+pub told-as : (s : State) (c a d : Seq ℕ) (g : Answer) (o : Outcome) (x : After) → o ≡ outcomeOf g → after s c a d g ≡ x → report (joined c a d s) o ≡ told (listed x)
+told-as s c a d g o x p q = ap (report (joined c a d s)) p ∙ ap (λ (y : After). told (listed y)) q

@@ -1,0 +1,74 @@
+-- Records in memory: 20 bytes each, kind, identifier (16 bytes), the identifier's length, bitrate, and whether the card was missed in the last
+-- round. One behind the other they are a list's cards; lent as a round's records, their last byte is not looked at.
+use mathlib.Core.Bool.{Bool, true, false}
+use mathlib.Core.List.{List, [], _∷_, _++_}
+use mathlib.Core.Path.{_≡_}
+use Prim.Native.Nat.{ℕ, zero, suc, _+_, _*_}
+use lib.Dec.{leb, ltb, eqb}
+use lib.ListN.{length, take, drop, getD, set, replicate}
+use Rattle.errors.specs.Choice.{pick}
+use Rattle.presence_list.specs.Keyed.{All}
+use Rattle.presence_list.specs.Order.{before}
+use Rattle.presence_list.specs.Presence.{Found, card}
+
+-- the first n pieces of 20 bytes
+unfoldable pub pieces : ℕ → List ℕ → List (List ℕ)
+pieces zero b = []
+pieces (suc n) b = take 20 b ∷ pieces n (drop 20 b)
+
+unfoldable pub joined : List (List ℕ) → List ℕ
+joined [] = []
+joined (e ∷ es) = e ++ joined es
+
+-- the pieces at the start of a memory, whose other bytes stay
+unfoldable pub laid : List (List ℕ) → List ℕ → List ℕ
+laid es b = joined es ++ drop (20 * length es) b
+
+-- pieces put behind the first n
+unfoldable pub added : ℕ → List (List ℕ) → List ℕ → List ℕ
+added n es b = take (20 * n) b ++ (joined es ++ drop (20 * (n + length es)) b)
+
+abbrev pub Whole : List (List ℕ) → Type 0
+Whole es = All (λ e. length e ≡ 20) es
+
+abbrev pub lengthIn : List ℕ → ℕ
+lengthIn e = getD e 17 0
+
+abbrev pub missedIn : List ℕ → ℕ
+missedIn e = getD e 19 0
+
+-- the record of a piece, and its card
+abbrev pub foundIn : List ℕ → Found
+foundIn e = record { kind = getD e 0 0; identifier = take (lengthIn e) (drop 1 e); bitrate = getD e 18 0 }
+
+unfoldable pub cardIn : List ℕ → List ℕ
+cardIn e = card (foundIn e)
+
+abbrev pub longIn : List ℕ → Bool
+longIn e = ltb 16 (lengthIn e)
+
+abbrev pub knownIn : List ℕ → Bool
+knownIn e = pick (leb (getD e 0 0) 4) (leb (getD e 18 0) 6) false
+
+-- a lent record as it is kept: zeros behind its identifier, and not missed
+unfoldable pub entryOf : List ℕ → List ℕ
+entryOf r = set (set (cardIn r ++ drop (length (cardIn r)) (replicate 20 0)) 17 (lengthIn r)) 18 (getD r 18 0)
+
+unfoldable pub entries : List (List ℕ) → List (List ℕ)
+entries [] = []
+entries (r ∷ rs) = entryOf r ∷ entries rs
+
+-- the list before the records of a round: who was missed already has left, and all others are missed until they are seen
+unfoldable pub aged : List (List ℕ) → List (List ℕ)
+aged [] = []
+aged (e ∷ es) = pick (eqb (missedIn e) 0) (set e 19 1 ∷ aged es) (aged es)
+
+-- a record of a list in its range
+abbrev pub inRangeIn : List ℕ → Bool
+inRangeIn e = pick (leb (lengthIn e) 16) (pick (leb (missedIn e) 1) (knownIn e) false) false
+
+-- each card before the next
+unfoldable pub ascending : List (List ℕ) → Bool
+ascending [] = true
+ascending (e ∷ []) = true
+ascending (e ∷ f ∷ es) = pick (before (cardIn e) (cardIn f)) (ascending (f ∷ es)) false

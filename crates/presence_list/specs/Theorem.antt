@@ -1,0 +1,265 @@
+-- Document 02, N9, of any list of rounds from empty, the refused ones among them: the list that the code keeps is the one worked out afresh from
+-- the accepted rounds, and each answer, with its arrivals and departures, is the one defined there.
+use mathlib.Core.Path.{_≡_, refl, sym, ap, ap₂, _∙_}
+use mathlib.Core.Bool.{Bool, true, false}
+use mathlib.Core.List.{List as Seq, [], _∷_, map}
+use Prim.Native.Nat.{ℕ, _/_, _%_, _≤_}
+use native.Mathlib.Omega.{arith}
+use lib.Dec.{ltb, leb, eqb}
+use lib.ListN.{length, replicate, length-map, length-replicate}
+use borrow.Author.Tests.{le-leb, ltb-false}
+use Rattle.errors.specs.Choice.{pick}
+use Rattle.errors.specs.Refusals.{roundNumbered}
+use Rattle.errors.specs.declared.Refusal.the-variants.{OverLong, BadArgument}
+use Rattle.errors.specs.declared.RoundRefusal.{RoundRefusal}
+use Rattle.errors.specs.declared.RoundRefusal.the-variants.{AtOnce, StaleRound, ListFull}
+use Rattle.presence_list.specs.declared.list.State.{State}
+use Rattle.presence_list.specs.declared.list.Presence.{Presence}
+use Rattle.presence_list.specs.declared.list.Round.{Round as Result}
+use Rattle.presence_list.specs.declared.list.Admission.{Admission}
+use Rattle.presence_list.specs.declared.list.Admission.the-variants.{Admitted, Refused as NotAdmitted}
+use Rattle.presence_list.specs.Keyed.{supersedeAll, without, only}
+use Rattle.presence_list.specs.KeyedLaws.{map-all, map-without, all-all, all-sorted}
+use Rattle.presence_list.specs.Kept.{Kept, Fit}
+use Rattle.presence_list.specs.Memory.{pieces, laid, Whole, cardIn, longIn, knownIn, inRangeIn, ascending, foundIn, aged, entries}
+use Rattle.presence_list.specs.MemoryLaws.{pieces-whole, pieces-laid, length-laid}
+use Rattle.presence_list.specs.EntryLaws.{entries-whole}
+use Rattle.presence_list.specs.Growth.{aged-whole, without-whole}
+use Rattle.presence_list.specs.AgedLaws.{aged-sorted}
+use Rattle.presence_list.specs.Fills.{not-long}
+use Rattle.presence_list.specs.Lookups.{sorted-ascending}
+use Rattle.presence_list.specs.Admissions.{range-kept}
+use Rattle.presence_list.specs.Afresh.{seen, lastOf, last-present, entries-found, aged-found, aged-unseen, entries-seen, only-all, any-long, every-known, aged-range, entries-range, every-all, all-every}
+use Rattle.presence_list.specs.Presence.{Round, Answer, accepted, refused, card, any, every, readable, stale, full, listed, presentOf, reportOf, answerTo, keptBy, acceptedOf, answersOf}
+use Rattle.presence_list.specs.Steps.{inRange, staleAt, readableIn, recordsOf, admissionOf, listAfter, changed, unchanged, byAdmission, acceptOf, stepOf, listed as asList, roundOf, emptyList}
+use Rattle.presence_list.specs.Runs.{Input, roundIn, presentIn, answerIn, keptAfter, answersIn}
+
+-- the numbers of a list whose accepted rounds these are
+abbrev pub Numbered : Seq Round → State → Type 0
+Numbered [] s = (s .begun ≡ 0) × (s .count ≡ 0)
+Numbered (p ∷ ps) s = (s .begun ≡ 1) × (s .number ≡ p .number)
+
+-- a list is the one of these accepted rounds
+pub record Represents (past : Seq Round) (l : Presence) : Type 0 where
+  pub room : length (l .cards) ≡ 1280
+  pub numbered : Numbered past (l .state)
+  pub range : inRange (l .state) (l .cards) ≡ true
+  pub records : every inRangeIn (pieces (l .state .count) (l .cards)) ≡ true
+  pub present : presentIn l ≡ presentOf past
+  pub last : map foundIn (only seen (pieces (l .state .count) (l .cards))) ≡ lastOf past
+
+pub empty-represents : Represents [] emptyList
+unfolding presentOf lastOf pieces only every inRange pick
+empty-represents = record { room = length-replicate {A = ℕ} 1280 0; numbered = (refl, refl); range = refl; records = refl; present = refl; last = refl }
+
+stale-same : (past : Seq Round) (s : State) (n : ℕ) → Numbered past s → staleAt s n ≡ stale past n
+unfolding staleAt stale pick
+stale-same [] s n h = rw (h .0)
+stale-same (p ∷ ps) s n h = rw (h .0, h .1)
+
+-- a round of which nothing but the room of the list is open
+module _ (past : Seq Round) (l : Presence) (i : Input) (rep : Represents past l) (short : any longIn (recordsOf (i .records)) ≡ false) (all-known : every knownIn (recordsOf (i .records)) ≡ true) where
+  abbrev es : Seq (Seq ℕ)
+  es = pieces (l .state .count) (l .cards)
+
+  abbrev fs : Seq (Seq ℕ)
+  fs = recordsOf (i .records)
+
+  abbrev next : Seq (Seq ℕ)
+  next = listAfter es fs
+
+  kept : Kept (l .state .count) (l .cards)
+  kept = range-kept (l .state) (l .cards) (rep .room) (rep .range) .0
+
+  whole-es : Whole es
+  whole-es = pieces-whole (l .state .count) (l .cards) (kept .room)
+
+  whole-fs : Whole fs
+  whole-fs = pieces-whole (length (i .records) / 20) (i .records) (omega arith)
+
+  fit-fs : Fit fs
+  fit-fs = not-long fs short
+
+  whole-next : Whole next
+  whole-next = all-all cardIn (λ e. length e ≡ 20) (aged es) (entries fs) (aged-whole es whole-es) (entries-whole fs whole-fs fit-fs)
+
+  cards-next : map foundIn next ≡ presentOf (roundIn i ∷ past)
+  unfolding cardIn
+  cards-next =
+      map-all cardIn card foundIn (λ e. refl) (aged es) (entries fs)
+      ∙ ap₂ (supersedeAll card) (aged-found es (kept .fit) ∙ rep .last) (entries-found fs whole-fs fit-fs)
+      ∙ last-present past (roundIn i)
+
+  pub size-next : length next ≡ length (presentOf (roundIn i ∷ past))
+  size-next = sym (length-map next foundIn) ∙ ap length cards-next
+
+  seen-next : map foundIn (only seen next) ≡ listed (roundIn i .found)
+  unfolding cardIn listed
+  seen-next =
+      ap (map foundIn)
+      (only-all seen (aged es) (entries fs) (aged-sorted es (kept .fit) (kept .sorted)) (entries-seen fs whole-fs fit-fs)
+      ∙ ap (λ (m : Seq (Seq ℕ)). supersedeAll cardIn m (entries fs)) (aged-unseen es whole-es))
+      ∙ map-all cardIn card foundIn (λ e. refl) [] (entries fs)
+      ∙ ap (supersedeAll card []) (entries-found fs whole-fs fit-fs)
+
+  range-next : every inRangeIn next ≡ true
+  range-next =
+      all-every inRangeIn next
+      (all-all cardIn (λ e. inRangeIn e ≡ true) (aged es) (entries fs) (aged-range es whole-es (every-all inRangeIn es (rep .records))) (entries-range fs whole-fs fit-fs all-known))
+
+  abbrev result : Result
+  result = asList (changed es next (i .number) (l .arrived) (l .departed))
+
+  lies : pieces (length next) (laid next (replicate 1280 0)) ≡ next
+  lies = pieces-laid next (replicate 1280 0) (length next) whole-next refl
+
+  said-present : presentIn (result .list) ≡ presentOf (roundIn i ∷ past)
+  said-present = ap (map foundIn) lies ∙ cards-next
+
+  -- its report
+  pub says : answerIn result ≡ accepted (reportOf past (roundIn i))
+  unfolding cardIn reportOf
+  says =
+      let came : Seq (Seq ℕ) = without cardIn es next in
+      let left : Seq (Seq ℕ) = without cardIn next es in
+      let a : map foundIn (pieces (length came) (laid came (l .arrived))) ≡ without card (presentOf past) (presentOf (roundIn i ∷ past)) =
+      ap (map foundIn) (pieces-laid came (l .arrived) (length came) (without-whole es next whole-next) refl)
+      ∙ map-without cardIn card foundIn (λ e. refl) es next
+      ∙ ap₂ (without card) (rep .present) cards-next in
+      let d : map foundIn (pieces (length left) (laid left (l .departed))) ≡ without card (presentOf (roundIn i ∷ past)) (presentOf past) =
+      ap (map foundIn) (pieces-laid left (l .departed) (length left) (without-whole next es whole-es) refl)
+      ∙ map-without cardIn card foundIn (λ e. refl) next es
+      ∙ ap₂ (without card) cards-next (rep .present) in
+      ap₂ (λ x y. accepted (record { arrived = x; departed = y; present = presentIn (result .list) })) a d
+      ∙ ap (λ z. accepted (record { arrived = without card (presentOf past) (presentOf (roundIn i ∷ past)); departed = without card (presentOf (roundIn i ∷ past)) (presentOf past); present = z }))
+      said-present
+
+  -- and the list that it leaves
+  pub represents : length next ≤ 64 → Represents (roundIn i ∷ past) (result .list)
+  unfolding lastOf inRange pick
+  represents h =
+      record {
+        room = length-laid next (replicate 1280 0) whole-next (let z = length-replicate {A = ℕ} 1280 0 in omega arith) ∙ length-replicate {A = ℕ} 1280 0;
+        numbered = (refl, refl);
+        range = ranges (pieces (length next) (laid next (replicate 1280 0))) lies h;
+        records = rw lies range-next;
+        present = said-present;
+        last = ap (λ (m : Seq (Seq ℕ)). map foundIn (only seen m)) lies ∙ seen-next;
+      }
+    where
+      ranges : (ps : Seq (Seq ℕ)) → ps ≡ next → length next ≤ 64
+          → pick (eqb 1 0) (eqb (length next) 0) (pick (eqb 1 1) (pick (leb (length next) 64) (pick (every inRangeIn ps) (ascending ps) false) false) false) ≡ true
+      ranges ps e h =
+          rw (e, le-leb (length next) 64 h, range-next) (sorted-ascending next (all-sorted cardIn (aged es) (entries fs) (aged-sorted es (kept .fit) (kept .sorted))))
+
+-- one round: its answer, and the list after it
+pub record Agrees (past : Seq Round) (i : Input) (r : Result) : Type 0 where
+  pub answered : answerIn r ≡ answerTo past (roundIn i)
+  pub leaves : Represents (keptBy (answerTo past (roundIn i)) (roundIn i) past) (r .list)
+
+readable-same : (i : Input) → readable (roundIn i) ≡ readableIn (i .records)
+unfolding readableIn
+readable-same i = ap (λ (t : Bool). pick (eqb (length (i .records) % 20) 0) t false) (every-known (recordsOf (i .records)))
+
+readable-known : (b : Seq ℕ) → readableIn b ≡ true → every knownIn (recordsOf b) ≡ true
+unfolding readableIn pick
+readable-known b h = go (eqb (length b % 20) 0) h
+  where
+    go : (t : Bool) → pick t (every knownIn (recordsOf b)) false ≡ true → every knownIn (recordsOf b) ≡ true
+    go true h = h
+    go false h = cc
+
+module _ (past : Seq Round) (l : Presence) (i : Input) (rep : Represents past l) where
+  abbrev admission : Admission
+  admission = admissionOf (l .state) (l .cards) (i .number) (i .records)
+
+  whole-records : Whole (recordsOf (i .records))
+  whole-records = pieces-whole (length (i .records) / 20) (i .records) (omega arith)
+
+  -- a round that is refused leaves the list alone
+  refused-agrees : (e : RoundRefusal) (r : Result) → r ≡ asList (unchanged (l .state) (l .cards) (l .arrived) (l .departed) e)
+      → answerTo past (roundIn i) ≡ refused (roundNumbered e .number) → Agrees past i r
+  refused-agrees e r p q =
+      record {
+        answered = ap answerIn p ∙ sym q;
+        leaves = rw (q, p) rep;
+      }
+
+  not-admitted : (e : RoundRefusal) → admission ≡ NotAdmitted e → roundOf l (i .number) (i .records) ≡ asList (unchanged (l .state) (l .cards) (l .arrived) (l .departed) e)
+  unfolding roundOf stepOf
+  not-admitted e h = ap (λ (a : Admission). asList (byAdmission a (l .state) (l .cards) (l .arrived) (l .departed) (i .number) (i .records))) h
+
+  is-admitted : admission ≡ Admitted → roundOf l (i .number) (i .records) ≡ asList (acceptOf (l .state) (l .cards) (l .arrived) (l .departed) (i .number) (i .records))
+  unfolding roundOf stepOf
+  is-admitted h = ap (λ (a : Admission). asList (byAdmission a (l .state) (l .cards) (l .arrived) (l .departed) (i .number) (i .records))) h
+
+  module _ (short : any longIn (recordsOf (i .records)) ≡ false) (open-to : readableIn (i .records) ≡ true) (fresh : staleAt (l .state) (i .number) ≡ false) where
+    abbrev after : Seq (Seq ℕ)
+    after = listAfter (pieces (l .state .count) (l .cards)) (recordsOf (i .records))
+
+    all-known : every knownIn (recordsOf (i .records)) ≡ true
+    all-known = readable-known (i .records) open-to
+
+    admits : admission ≡ Admitted
+    unfolding admissionOf pick
+    admits = rw (short, rep .range, open-to, fresh)
+
+    to-room : answerTo past (roundIn i) ≡ pick (full past (roundIn i)) (refused 28) (accepted (reportOf past (roundIn i)))
+    unfolding answerTo pick
+    to-room = rw (any-long (recordsOf (i .records)) whole-records, short, readable-same i, open-to, ← stale-same past (l .state) (i .number) (rep .numbered), fresh)
+
+    same-room : full past (roundIn i) ≡ ltb 64 (length after)
+    same-room = ap (λ (k : ℕ). ltb 64 k) (sym (size-next past l i rep short all-known))
+
+    by-room : (t : Bool) → ltb 64 (length after) ≡ t → Agrees past i (roundOf l (i .number) (i .records))
+    unfolding acceptOf pick
+    by-room true h =
+        refused-agrees ListFull (roundOf l (i .number) (i .records)) (is-admitted admits ∙ (rw h)) (to-room ∙ (rw (same-room, h)))
+    by-room false h =
+        let taken : answerTo past (roundIn i) ≡ accepted (reportOf past (roundIn i)) = to-room ∙ (rw (same-room, h)) in
+        let r : roundOf l (i .number) (i .records) ≡ asList (changed (pieces (l .state .count) (l .cards)) after (i .number) (l .arrived) (l .departed)) =
+        is-admitted admits ∙ (rw h) in
+        record {
+          answered = ap answerIn r ∙ says past l i rep short all-known ∙ sym taken;
+          leaves = rw (taken, r) (represents past l i rep short all-known (ltb-false 64 (length after) h));
+        }
+
+  pub agrees : Agrees past i (roundOf l (i .number) (i .records))
+  unfolding admissionOf answerTo pick
+  agrees = by-length (any longIn (recordsOf (i .records))) refl
+    where
+      by-number : any longIn (recordsOf (i .records)) ≡ false → readableIn (i .records) ≡ true → (t : Bool) → staleAt (l .state) (i .number) ≡ t → Agrees past i (roundOf l (i .number) (i .records))
+      by-number s o true h =
+          refused-agrees StaleRound (roundOf l (i .number) (i .records)) (not-admitted StaleRound (rw (s, rep .range, o, h)))
+          (rw (any-long (recordsOf (i .records)) whole-records, s, readable-same i, o, ← stale-same past (l .state) (i .number) (rep .numbered), h))
+      by-number s o false h = by-room s o h (ltb 64 (length (listAfter (pieces (l .state .count) (l .cards)) (recordsOf (i .records))))) refl
+
+      by-records : any longIn (recordsOf (i .records)) ≡ false → (t : Bool) → readableIn (i .records) ≡ t → Agrees past i (roundOf l (i .number) (i .records))
+      by-records s true h = by-number s h (staleAt (l .state) (i .number)) refl
+      by-records s false h =
+          refused-agrees (AtOnce BadArgument) (roundOf l (i .number) (i .records)) (not-admitted (AtOnce BadArgument) (rw (s, rep .range, h)))
+          (rw (any-long (recordsOf (i .records)) whole-records, s, readable-same i, h))
+
+      by-length : (t : Bool) → any longIn (recordsOf (i .records)) ≡ t → Agrees past i (roundOf l (i .number) (i .records))
+      by-length true h =
+          refused-agrees (AtOnce OverLong) (roundOf l (i .number) (i .records)) (not-admitted (AtOnce OverLong) (rw h))
+          (rw (any-long (recordsOf (i .records)) whole-records, h))
+      by-length false h = by-records h (readableIn (i .records)) refl
+
+-- any list of rounds, behind accepted ones
+pub all-agree : (past : Seq Round) (l : Presence) (is : Seq Input) → Represents past l
+    → (answersIn l is ≡ answersOf past (map roundIn is)) × Represents (acceptedOf past (map roundIn is)) (keptAfter l is)
+unfolding answersIn answersOf acceptedOf keptAfter
+all-agree past l [] rep = (refl, rep)
+all-agree past l (i ∷ is) rep =
+    let a = agrees past l i rep in
+    let r = all-agree (keptBy (answerTo past (roundIn i)) (roundIn i) past) (roundOf l (i .number) (i .records) .list) is (a .leaves) in
+    (ap₂ (λ (x : Answer) (xs : Seq Answer). x ∷ xs) (a .answered) (r .0), r .1)
+
+-- From empty: each answer is the one that the accepted rounds before it call for.
+pub presence-answers : (is : Seq Input) → answersIn emptyList is ≡ answersOf [] (map roundIn is)
+presence-answers is = all-agree [] emptyList is empty-represents .0
+
+-- And the list kept is the one worked out afresh from all accepted rounds.
+pub presence-list : (is : Seq Input) → presentIn (keptAfter emptyList is) ≡ presentOf (acceptedOf [] (map roundIn is))
+presence-list is = all-agree [] emptyList is empty-represents .1 .present

@@ -1,0 +1,79 @@
+// Records put into a list, each in its place and instead of the older record of its card.
+use super::lists::is_at;
+use super::lists::place;
+use super::records::RECORD;
+use super::records::card_at;
+use super::records::entry_of;
+use super::records::put_at;
+ghost use mathlib.Core.Path.{_≡_};
+ghost use mathlib.Core.Bool.{Bool};
+ghost use mathlib.Core.List.{_++_, _∷_};
+ghost use Prim.Native.Nat.{_+_, _*_, _-_, _/_, _≤_, _<_};
+ghost use lib.ListN.{length, take, drop};
+ghost use Rattle.presence_list.specs.Keyed.{supersede, supersedeAll};
+ghost use Rattle.presence_list.specs.Memory.{pieces, laid, cardIn, lengthIn, longIn, entryOf, entries};
+ghost use Rattle.presence_list.specs.Presence.{any};
+ghost use Rattle.presence_list.specs.Kept.{Kept, PutAll};
+
+// How many cards a list takes.
+pub const ROOM: usize = 64;
+
+// Moves the bytes from `at` to `end` up by a record.
+fn shift(cards: &mut [u8], at: usize, end: usize)
+    requires { ⌜ (at ≤ end) × (end + 20 ≤ length (now cards)) ⌝ }
+    ensures { λ _. ⌜ (take at (now (cards .exit)) ≡ take at (now (cards .entry))) × (drop (at + 20) (now (cards .exit)) ≡ take (end - at) (drop at (now (cards .entry))) ++ drop (end + 20) (now (cards .entry))) ⌝ }
+{
+    let mut i = end;
+    while at < i {
+        i -= 1;
+        cards[i + RECORD] = cards[i];
+    }
+}
+
+// Puts a record between those of a list of so many.
+fn insert(entry: &[u8; RECORD], cards: &mut [u8], count: usize, place: usize)
+    requires { ⌜ (place ≤ count) × (20 * count + 20 ≤ length (now cards)) ⌝ }
+    ensures { λ _. ⌜ now (cards .exit) ≡ laid (take place (pieces count (now (cards .entry))) ++ now (entry .entry) ∷ drop place (pieces count (now (cards .entry)))) (now (cards .entry)) ⌝ }
+{
+    let at = RECORD * place;
+    shift(cards, at, RECORD * count);
+    put_at(entry, cards, at);
+}
+
+// Puts a record into the list. The answer is how many cards the list has then; where they are more than it takes, nothing is put.
+fn put(found: &[u8], cards: &mut [u8], count: usize) -> usize
+    requires { ⌜ (length (now found) ≡ 20) × (lengthIn (now found) ≤ 16) × Kept count (now cards) × (count ≤ 64) × (1280 ≤ length (now cards)) ⌝ }
+    ensures { λ r. ⌜ (r ≡ length (supersede cardIn (entryOf (now (found .entry))) (pieces count (now (cards .entry))))) × (r ≤ 64 → now (cards .exit) ≡ laid (supersede cardIn (entryOf (now (found .entry))) (pieces count (now (cards .entry)))) (now (cards .entry))) ⌝ }
+{
+    let card = card_at(found, 0);
+    let entry = entry_of(found);
+    let p = place(cards, count, card);
+    if is_at(cards, count, p, card) {
+        put_at(&entry, cards, RECORD * p);
+        return count;
+    }
+    if count < ROOM {
+        insert(&entry, cards, count, p);
+        return count + 1;
+    }
+    count + 1
+}
+
+// Puts the records into the list, one after the other. The answer is how many cards the list has then, or more than it takes.
+pub(crate) fn put_all(records: &[u8], cards: &mut [u8], count: usize) -> usize
+    requires { ⌜ (any longIn (pieces (length (now records) / 20) (now records)) ≡ Bool.false) × Kept count (now cards) × (count ≤ 64) × (1280 ≤ length (now cards)) ⌝ }
+    ensures { λ r. ⌜ PutAll r (supersedeAll cardIn (pieces count (now (cards .entry))) (entries (pieces (length (now (records .entry)) / 20) (now (records .entry))))) (now (cards .entry)) (now (cards .exit)) ⌝ }
+{
+    let size = records.len() / RECORD;
+    let mut n = count;
+    let mut i = 0;
+    while i < size {
+        let at = RECORD * i;
+        n = put(&records[at..at + RECORD], cards, n);
+        if ROOM < n {
+            return n;
+        }
+        i += 1;
+    }
+    n
+}
