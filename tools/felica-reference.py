@@ -125,6 +125,10 @@ def edges():
                 yield ask(b"\0" + r[:1] + b"\0" + r[2:])  # code and flags: 21 comes first
         for status in (b"", b"\x01", b"\x7F", b"\xFF", b"\x40"):
             yield ask(status + whole if status else b"")
+    yield from edges_of_arguments()
+
+def edges_of_arguments():
+    """Calls of another number of blocks, of other data and of another IDm."""
     for nums in (b"", bytes(1), bytes(4), bytes(5), bytes(64)):
         yield 6, IDM, 0x000B, None, nums, b"", b"\0" + read_reply(IDM, b"\0\0", block(1, len(nums) % 8))
         for extra in (-16, -1, 0, 1, 16):

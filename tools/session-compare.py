@@ -27,11 +27,11 @@ def imports(folder, calls):
     import fuzz
     import diff
     if calls == "opening":
-        names = ("open", "version")
-    else:
-        names = [name for name in fuzz.CALLS if calls == "all" or not name.startswith(("detect", "transceive"))]
-    fuzz.CALLS = {name: fuzz.CALLS[name] for name in names}
-    fuzz.WEIGHTS = {name: fuzz.WEIGHTS[name] for name in names}
+        fuzz.CALLS = {name: fuzz.CALLS[name] for name in ("open", "version")}
+        fuzz.WEIGHTS = {name: fuzz.WEIGHTS[name] for name in fuzz.CALLS}
+    if calls == "commands":
+        others = [name for name in fuzz.WEIGHTS if name.startswith(("detect", "transceive"))]
+        fuzz.WEIGHTS = {**fuzz.WEIGHTS, **dict.fromkeys(others, 0)}
     return fuzz, diff
 
 
@@ -55,6 +55,33 @@ def chip_of(fuzz, rng):
     return Chip(rng)
 
 
+def next_line(fuzz, rng, chip, stray, requests, order, opened, padded):
+    """Out of turn now and then, else what happens to the order, or a call."""
+    if rng.chance(stray):
+        return fuzz.out_of_turn(rng)
+    if order:
+        text = chip.event(order)
+        return with_zeros(rng, text, padded) if "N2" in requests else text
+    open_line = rng.choice((b"open", b"open padded") if "N2" in requests else (b"open",))
+    return rng.choice((b"version", b"version", open_line)) if opened else rng.choice((open_line, open_line, open_line, b"version"))
+
+
+def begin(rng, chip, call, noise, clean):
+    """How much goes wrong in a call."""
+    good = rng.chance(clean)
+    chip.good = call == "open"
+    chip.odd = 0 if good else rng.choice((0, 0.05, 0.2))
+    chip.noise = noise if call != "open" else 0 if good else noise / rng.choice((1, 3, 10))
+
+
+def ordered(fuzz, chip, answer, reads):
+    """The reads since the last frame, and whether the order is a frame."""
+    if not answer.startswith(b"write"):
+        return reads + 1, False
+    chip.written(bytes.fromhex(answer[6:].decode()))
+    return (-1000, False) if answer == fuzz.WRITE_ACK else (0, True)
+
+
 def script_of(fuzz, seed, index, count, requests=()):
     """One script and the oracle's output: as fuzz.session_case, with more openings and more that goes wrong in them."""
     rng = fuzz.case_rng(seed, index, "session of two calls")
@@ -64,18 +91,9 @@ def script_of(fuzz, seed, index, count, requests=()):
     clean = rng.choice((1, 0.9, 0.6, 0.3))                  # how many openings go well
     calls = rng.randint(1, 8)
     talk = fuzz.Talk([os.environ["ORACLE"]])
-    script, output = [], []
-    openings = (b"open", b"open padded") if "N2" in requests else (b"open",)
-    order, call, opened, padded, frames, reads = None, None, False, False, 0, 0
+    script, output, order, call, opened, padded, frames, reads = [], [], None, None, False, False, 0, 0
     while len(script) < 600 and (calls > 0 or order):
-        if rng.chance(stray):
-            text = fuzz.out_of_turn(rng)
-        elif order:
-            text = chip.event(order)
-            text = with_zeros(rng, text, padded) if "N2" in requests else text
-        else:
-            open_line = rng.choice(openings)
-            text = rng.choice((b"version", b"version", open_line)) if opened else rng.choice((open_line, open_line, open_line, b"version"))
+        text = next_line(fuzz, rng, chip, stray, requests, order, opened, padded)
         answer = talk.say(text)
         script.append(text)
         output.append(answer)
@@ -88,10 +106,7 @@ def script_of(fuzz, seed, index, count, requests=()):
             call, frames = word, 0
             padded = text == b"open padded" if word == "open" else padded
             calls -= 1
-            good = rng.chance(clean)
-            chip.good = call == "open"
-            chip.odd = 0 if good else rng.choice((0, 0.05, 0.2))
-            chip.noise = noise if call != "open" else 0 if good else noise / rng.choice((1, 3, 10))
+            begin(rng, chip, call, noise, clean)
         elif answer in (b"refused 1", b"refused 3", b"refused 4"):
             count.add("(" + fuzz.place(order, reads) + ")", fuzz.outcome(answer))
             continue                                        # the order is still pending
@@ -99,12 +114,8 @@ def script_of(fuzz, seed, index, count, requests=()):
             count.add("(" + fuzz.place(order, reads) + ")", text.decode() if text == b"pkt -" else word)
         if answer.startswith(fuzz.ORDERS):
             order = answer
-            if answer.startswith(b"write"):
-                reads = -1000 if answer == fuzz.WRITE_ACK else 0
-                frames += answer != fuzz.WRITE_ACK
-                chip.written(bytes.fromhex(answer[6:].decode()))
-            else:
-                reads += 1
+            reads, frame = ordered(fuzz, chip, answer, reads)
+            frames += frame
         else:
             count.add(call, fuzz.outcome(answer), frames)
             order = None

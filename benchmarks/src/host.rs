@@ -90,7 +90,13 @@ impl Host {
             rcs956_call(
                 &mut self.session,
                 number,
-                Numbers { ms: 0, word, x: 0, y: given, caller: 0 },
+                Numbers {
+                    ms: 0,
+                    word,
+                    x: 0,
+                    y: given,
+                    caller: 0,
+                },
                 bitrate.as_ptr(),
                 bitrate.len(),
                 request.as_ptr(),

@@ -114,7 +114,7 @@ impl Entry {
         ensures { λ r. ⌜ left (outcome r) (now (buffer .exit)) ≡ builtOf self (now (buffer .entry)) ⌝ }
     {
         let payload = self.payload;
-        match settings::numbered(self.setting) {
+        match settings::by_number(self.setting) {
             Setting::Format(format) => build(format, payload, buffer),
             Setting::Nothing => Built::Refused(Refusal::OutOfTurn),
         }

@@ -1,5 +1,1 @@
-mod AnswerLaws
-mod BlockLaws
-mod CodecLaws
 mod NextLaws
-mod PaddedLaws

@@ -2,7 +2,7 @@
 use mathlib.Core.Path.{_≡_, refl, sym, ap, ap₂, _∙_}
 use mathlib.Core.Bool.{Bool, true, false, false≢true}
 use mathlib.Core.List.{List, [], _∷_}
-use Prim.Native.Nat.{ℕ, zero, suc, _+_, _*_, _/_, _%_, _≤_, _<_}
+use Prim.Native.Nat.{ℕ, zero, suc, _+_, _-_, _*_, _/_, _%_, _≤_, _<_}
 use native.Mathlib.Nat.{add-assoc}
 use native.Mathlib.Numerals.{add-one}
 use native.Mathlib.Omega.{arith}
@@ -14,8 +14,8 @@ use Rattle.errors.specs.Refusals.{answered, refused, plain}
 use Rattle.errors.specs.Choice.{pick}
 use Rattle.errors.specs.declared.Refusal.{Refusal}
 use Rattle.framing.specs.Lists.{both, same}
-use Rattle.bench.specs.Texts.{outcome, over, left, putOf, Placed, placed, placedAt}
-use Rattle.bench.specs.TextLaws.{paste-step, paste-all, put-short, put-done}
+use Rattle.bench.specs.Texts.{outcome, over, left, putOf, Placed, placed, putAt}
+use Rattle.bench.specs.TextLaws.{paste-step, paste-all, put-short, put-done, put-none, put-there}
 use Rattle.bench.specs.declared.Put.{Put}
 use Rattle.bench.specs.declared.Put.the-variants.{Bytes, Refused}
 use Rattle.bench.specs.Hex.{valueOf, dash, allDigits, isHex, pairsOf, readOf, digitOf, digitsOf, hexOf}
@@ -147,22 +147,22 @@ pub low-value : (w : List ℕ) (i : ℕ) → isHex w ≡ true → i < length w /
 low-value w i t h = digit-value w (2 * i + 1) (hex-digits w t (omega arith)) (omega arith)
 
 -- `put` by the two cases of its bytes
-module _ (b : List ℕ) (at : ℕ) (none : length b ≡ 0) where
-  pub dash-room : (n : ℕ) → at + length (hexOf b) ≤ n → at + 1 ≤ n
-  dash-room n h = let e = ap length (hex-none b none) in omega arith
+pub put-dash : (b out : List ℕ) (at : ℕ) (x : Placed) → length b ≡ 0 → x ≡ putAt at dash out → x ≡ putAt at (hexOf b) out
+put-dash b out at x none e = rw (hex-none b none) e
 
-  pub put-dash : (out : List ℕ) (x : Placed) → x ≡ placedAt at dash out → x ≡ placedAt at (hexOf b) out
-  put-dash out x e = rw (hex-none b none) e
-
-module _ (b : List ℕ) (at : ℕ) (some : length b ≡ 0 → ⊥) where
+module _ (b out : List ℕ) (at : ℕ) (some : length b ≡ 0 → ⊥) where
   length-some : length (hexOf b) ≡ 2 * length b
   length-some = ap length (hex-some b some) ∙ length-digits b
 
-  pub digits-room : (n : ℕ) → at + length (hexOf b) ≤ n → at + 2 * length b ≤ n
-  digits-room n h = let e = length-some in omega arith
+  pub no-place : length out < at → placed at out ≡ putAt at (hexOf b) out
+  no-place h = put-none (hexOf b) out at (omega (arith, length-some))
 
-  pub put-some : (out o : List ℕ) → o ≡ over at (digitsOf b) out → placed (at + 2 * length b) o ≡ placedAt at (hexOf b) out
-  put-some out o e = ap₂ placed (ap (λ k. at + k) (sym length-some)) (e ∙ ap (λ t. over at t out) (sym (hex-some b some)))
+  pub no-room : (length out - at) / 2 < length b → at ≤ length out → placed at out ≡ putAt at (hexOf b) out
+  no-room h k = put-none (hexOf b) out at (omega (arith, length-some))
+
+  pub put-some : (o : List ℕ) → length b ≤ (length out - at) / 2 → at ≤ length out → o ≡ over at (digitsOf b) out → placed (at + 2 * length b) o ≡ putAt at (hexOf b) out
+  put-some o h k e =
+      ap₂ placed (ap (λ k. at + k) (sym length-some)) (e ∙ ap (λ t. over at t out) (sym (hex-some b some))) ∙ put-there (hexOf b) out at (omega (arith, length-some))
 
 -- the answers of `read`, by what it tested
 module _ (w b : List ℕ) (r : Bool) (told : r ≡ isHex w) where

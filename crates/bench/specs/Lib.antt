@@ -2,7 +2,6 @@ pub mod Texts
 pub mod Hex
 pub mod Words
 pub mod Lines
-pub mod Codec
 pub mod TextLaws
 pub mod DecimalLaws
 pub mod HexLaws

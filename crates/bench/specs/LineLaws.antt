@@ -18,8 +18,8 @@ use Rattle.bench.specs.declared.lines.Given.{Given}
 use Rattle.bench.specs.declared.lines.Held.{Held}
 use Rattle.bench.specs.declared.lines.Line.{Line}
 use Rattle.bench.specs.declared.lines.Line.the-variants.{Text, OverLong, End}
-use Rattle.bench.specs.Texts.{over, placed, placedAt}
-use Rattle.bench.specs.TextLaws.{over-over}
+use Rattle.bench.specs.Texts.{over, placed, placedAt, putAt}
+use Rattle.bench.specs.TextLaws.{over-over, put-there}
 
 -- the first line feed of a list
 whole-slice : (b : List ℕ) → bytes.slice 0 (length b) b ≡ b
@@ -86,9 +86,6 @@ begun-none l = record { count = inl (refl, omega arith); put = rw (take-nil {A =
 pub room-counts : (p : List ℕ) (k : ℕ) → k ≤ length p → k ≡ length (take k p)
 room-counts p k h = sym (length-take-le k p h)
 
-pub room-fits : (l p : List ℕ) (n : ℕ) → n ≤ length l → n + length (take (length l - n) p) ≤ length l
-room-fits l p n h = rw (length-take (length l - n) p) (omega arith)
-
 -- a part behind the text
 module _ (t l p m : List ℕ) (n : ℕ) (b : Begun t l n m) where
   same-room : length m ≡ length l
@@ -120,7 +117,7 @@ module _ (t l p m : List ℕ) (n : ℕ) (b : Begun t l n m) where
       let all : length (t ++ q) ≤ length l = rw (length-append t q) (omega arith) in
       ap₂ (λ i x. over i q x) (e .0 ∙ sym (zero-add (length t))) (b .put ∙ begin-fits t l (e .1)) ∙ over-over l t q 0 room ∙ sym (begin-fits (t ++ q) l all)
 
-  pub add-cut : (r : ℕ) (o : List ℕ) → n ≤ length m → length m - n < length p → placed r o ≡ placedAt n (take (length m - n) p) m
+  pub add-cut : (r : ℕ) (o : List ℕ) → n ≤ length m → length m - n < length p → placed r o ≡ putAt n (take (length m - n) p) m
       → Begun (t ++ p) l (length o + 1) o
   add-cut r o h k e =
       let f : (n ≡ length t) × (length t ≤ length l) = fitting h in
@@ -128,16 +125,18 @@ module _ (t l p m : List ℕ) (n : ℕ) (b : Begun t l n m) where
       let q : List ℕ = take (length m - n) p in
       let all : length q ≡ length m - n = length-take-le (length m - n) p (omega arith) in
       let cut : begin (t ++ q) l ≡ begin (t ++ p) l = ap (λ k. begin (t ++ take k p) l) room ∙ begin-cut t p l (f .1) (omega arith) in
-      let done : o ≡ begin (t ++ p) l = ap (λ x. x .buffer) e ∙ put-part q h (omega arith) ∙ cut in
+      let there : placed r o ≡ placedAt n q m = e ∙ sym (put-there q m n (omega arith)) in
+      let done : o ≡ begin (t ++ p) l = ap (λ x. x .buffer) there ∙ put-part q h (omega arith) ∙ cut in
       let long : length o ≡ length l = ap length done ∙ length-begin (t ++ p) l in
       record { count = inr (ap (λ k. k + 1) long, rw (length-append t p) (omega (arith, same-room))); put = done }
 
-  pub add-whole : (r : ℕ) (o : List ℕ) → n ≤ length m → length p ≤ length m - n → placed r o ≡ placedAt n p m → Begun (t ++ p) l r o
+  pub add-whole : (r : ℕ) (o : List ℕ) → n ≤ length m → length p ≤ length m - n → placed r o ≡ putAt n p m → Begun (t ++ p) l r o
   add-whole r o h k e =
       let f : (n ≡ length t) × (length t ≤ length l) = fitting h in
+      let there : placed r o ≡ placedAt n p m = e ∙ sym (put-there p m n (omega arith)) in
       record {
-        count = inl (ap (λ x. x .next) e ∙ rw (length-append t p) (omega arith), rw (length-append t p) (omega (arith, same-room)));
-        put = ap (λ x. x .buffer) e ∙ put-part p h (omega arith);
+        count = inl (ap (λ x. x .next) there ∙ rw (length-append t p) (omega arith), rw (length-append t p) (omega (arith, same-room)));
+        put = ap (λ x. x .buffer) there ∙ put-part p h (omega arith);
       }
 
 -- what is told of a line

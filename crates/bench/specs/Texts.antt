@@ -1,6 +1,7 @@
 -- A text put into a buffer, and a number as text. A text is the list of its bytes.
+use mathlib.Core.Path.{_≡_}
 use mathlib.Core.List.{List, [], _∷_, _++_}
-use Prim.Native.Nat.{ℕ, zero, suc, _+_, _%_, _/_}
+use Prim.Native.Nat.{ℕ, zero, suc, _+_, _%_, _/_, _≤_}
 use lib.Dec.{ltb}
 use lib.ListN.{length, take, drop}
 use Rattle.errors.specs.Refusals.{Outcome, answered, refused, plain, numbered}
@@ -39,6 +40,14 @@ placed n b = record { next = n; buffer = b }
 
 abbrev pub placedAt : ℕ → List ℕ → List ℕ → Placed
 placedAt at t b = placed (at + length t) (over at t b)
+
+-- the text t put from place `at` on; nothing is put where there is no room
+unfoldable pub putAt : ℕ → List ℕ → List ℕ → Placed
+putAt at t b = pick (ltb (length b) (at + length t)) (placed at b) (placedAt at t b)
+
+-- where the buffer o has a text up to place `at`, o′ has it with t behind it up to place r, if there is room
+pub record Appends (at : ℕ) (t o : List ℕ) (r : ℕ) (o′ : List ℕ) : Type 0 where
+  pub behind : (s b : List ℕ) → placed at o ≡ placedAt 0 s b → length s + length t ≤ length b → placed r o′ ≡ placedAt 0 (s ++ t) b
 
 -- the decimal digits of a number below 10 ^ k, the highest first, with no zero before them
 unfoldable pub decimalUnder : ℕ → ℕ → List ℕ

@@ -7,7 +7,7 @@ ghost use mathlib.Core.Path.{_≡_};
 ghost use mathlib.Core.Bool.{Bool};
 ghost use Prim.Native.Nat.{_+_, _*_, _/_, _≤_, _<_};
 ghost use lib.ListN.{length};
-ghost use Rattle.bench.specs.Texts.{outcome, left, over, putOf, placed, placedAt};
+ghost use Rattle.bench.specs.Texts.{outcome, left, over, placed, putAt};
 ghost use Rattle.bench.specs.Hex.{valueOf, allDigits as allDigitsOf, isHex, pairsOf, readOf, digitOf, digitsOf, hexOf};
 
 // The value of a hex digit; 16 where the byte is none.
@@ -105,32 +105,20 @@ fn put_digits(bytes: &[u8], out: &mut [u8], at: usize)
     }
 }
 
-// Puts the bytes as HEX into the buffer from a place on, and gives the place behind them.
-pub(crate) fn put(bytes: &[u8], out: &mut [u8], at: usize) -> usize
-    requires { ⌜ at + length (hexOf (now bytes)) ≤ length (now out) ⌝ }
-    ensures { λ r. ⌜ placed r (now (out .exit)) ≡ placedAt at (hexOf (now (bytes .entry))) (now (out .entry)) ⌝ }
+// Puts the bytes as HEX into the buffer from a place on, and gives the place behind them. Where there is no room nothing is put.
+pub fn put(bytes: &[u8], out: &mut [u8], at: usize) -> usize
+    ensures { λ r. ⌜ placed r (now (out .exit)) ≡ putAt at (hexOf (now (bytes .entry))) (now (out .entry)) ⌝ }
 {
     let n = bytes.len();
     if n == 0 {
         return text::put(b"-", out, at);
     }
+    if out.len() < at {
+        return at;
+    }
+    if (out.len() - at) / 2 < n {
+        return at;
+    }
     put_digits(bytes, out, at);
     at + 2 * n
-}
-
-// How long the bytes are as HEX.
-fn text_length(bytes: &[u8]) -> usize
-    ensures { λ r. ⌜ r ≡ length (hexOf (now (bytes .entry))) ⌝ }
-{
-    if bytes.len() == 0 { 1 } else { 2 * bytes.len() }
-}
-
-// The bytes as HEX. A short buffer is refused with 2.
-pub fn print(bytes: &[u8], out: &mut [u8]) -> Put
-    ensures { λ r. ⌜ left (outcome r) (now (out .exit)) ≡ putOf (hexOf (now (bytes .entry))) (now (out .entry)) ⌝ }
-{
-    if out.len() < text_length(bytes) {
-        return Put::Refused(Refusal::ShortBuffer);
-    }
-    Put::Bytes(put(bytes, out, 0))
 }

@@ -1,6 +1,4 @@
-// The lines of the bench programs: read, taken apart and printed, as functions on slices.
-mod blocks;
-pub mod codec;
+// What the bench programs share: the lines of their input, words, HEX, and texts, as functions on slices.
 pub mod hex;
 pub mod lines;
 pub mod text;

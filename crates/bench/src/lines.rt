@@ -1,9 +1,11 @@
-// The lines of standard input, one after the other.
+// The lines of standard input, one after the other, and what is written for each.
 use super::text;
 use libc::STDIN_FILENO;
+use libc::STDOUT_FILENO;
 ghost use mathlib.Core.Path.{_≡_};
+ghost use mathlib.Core.Bool.{Bool};
 ghost use mathlib.Core.List.{List, _++_};
-ghost use Prim.Native.Nat.{ℕ, _<_};
+ghost use Prim.Native.Nat.{ℕ, _≤_, _<_};
 ghost use lib.ListN.{length};
 ghost use Rattle.io.specs.Counts.{Counts};
 ghost use Rattle.bench.specs.Lines.{Begun, NoFeed, beforeFeed, Gave, nextOf, heldLine, heldIn, toldOf, heldOf, lastOf, nothing as nothingHeld};
@@ -155,4 +157,17 @@ pub fn next(held: Held, buffer: &mut [u8], line: &mut [u8]) -> Given
         };
     }
     read_on(len, buffer, line)
+}
+
+// Writes the first n bytes to standard output. False where there are none, or they could not be written.
+pub fn write(out: &[u8], n: usize) -> bool
+    ensures { λ r. ⌜ (r ≡ Bool.true → (0 < n) × (n ≤ length (now (out .entry)))) ⌝ }
+{
+    if n == 0 {
+        return false;
+    }
+    if out.len() < n {
+        return false;
+    }
+    io::write_all(STDOUT_FILENO, &out[..n])
 }

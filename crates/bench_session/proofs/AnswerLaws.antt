@@ -12,8 +12,8 @@ use Rattle.engine.specs.Sessions.{Stepped, stepped}
 use Rattle.errors.specs.declared.Refusal.the-variants.{BadArgument}
 use Rattle.engine.specs.declared.core.Output.{Output}
 use Rattle.engine.specs.declared.core.Output.the-variants.{Refused}
-use Rattle.engine.specs.declared.numbered.Known.{Known}
-use Rattle.engine.specs.declared.numbered.Known.the-variants.{Is, Not}
+use Rattle.engine.specs.declared.by_number.Known.{Known}
+use Rattle.engine.specs.declared.by_number.Known.the-variants.{Is, Not}
 use Rattle.engine.specs.declared.session.Session.{Session}
 use Rattle.engine.specs.declared.session.Step.{Step}
 use Rattle.bench.specs.Texts.{over, Placed, placed, placedAt}

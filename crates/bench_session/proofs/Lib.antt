@@ -1,3 +1,2 @@
-mod PrintLaws
 mod OutputLaws
 mod AnswerLaws

@@ -1,7 +1,6 @@
 -- The text that is printed for an order or an answer.
 use mathlib.Core.List.{List, [], _∷_, _++_}
-use mathlib.Core.Path.{_≡_}
-use Prim.Native.Nat.{ℕ, _+_, _≤_}
+use Prim.Native.Nat.{ℕ}
 use lib.Dec.{eqb}
 use lib.ListN.{length, take}
 use Rattle.errors.specs.Choice.{pick}
@@ -10,7 +9,7 @@ use Rattle.errors.specs.declared.Numbered.{Numbered}
 use Rattle.targets.specs.Bitrates.{ascii}
 use Rattle.engine.specs.declared.core.Output.{Output}
 use Rattle.engine.specs.declared.core.Output.the-variants.{Ack, Command, Read, Drain, Pause, Done, Type1, UidAndAts, Nothing, Failed, FailedAfter, Refused}
-use Rattle.bench.specs.Texts.{placed, placedAt, decimalOf}
+use Rattle.bench.specs.Texts.{decimalOf}
 use Rattle.bench.specs.Hex.{hexOf}
 
 -- no text is longer: an answer of 1,024 bytes with two numbers of 20 digits each
@@ -42,10 +41,6 @@ refusedText n =
 -- the refusal that ends a list, and the number of its codes that were finished
 unfoldable pub listRefusedText : Numbered → ℕ → List ℕ
 listRefusedText n finished = refusedText n ++ ascii " finished " ++ decimalOf finished
-
--- where the buffer o has a text up to a place, o′ has it with this name and this number behind it, up to r
-pub record Named (at : ℕ) (name : List ℕ) (number : ℕ) (o : List ℕ) (r : ℕ) (o′ : List ℕ) : Type 0 where
-  pub behind : (t b : List ℕ) → placed at o ≡ placedAt 0 t b → length t + (length name + 20) ≤ length b → placed r o′ ≡ placedAt 0 (t ++ name ++ decimalOf number) b
 
 -- an output whose bytes stand at the start of b
 unfoldable pub textOf : Output → List ℕ → List ℕ

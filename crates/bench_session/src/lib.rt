@@ -1,6 +1,5 @@
 // The lines of the program `session`: a call or an event in, an order or an answer out.
 pub mod output;
-mod text;
 
 use bench::lines;
 use bench::lines::Held;
@@ -11,9 +10,9 @@ use bench_input::Input;
 use bench_input::LINE;
 use bench_input::part;
 use calls::start::Numbers;
+use engine::by_number;
+use engine::by_number::Known;
 use engine::core::Output;
-use engine::numbered;
-use engine::numbered::Known;
 use engine::session::Session;
 use engine::session::Step;
 use errors::Refusal;
@@ -69,7 +68,7 @@ fn called(
 fn told(session: Session, number: u8, n: usize, bytes: &[u8], buffer: &mut [u8]) -> Step
     ensures { λ r. ⌜ stepped r (now (buffer .exit)) ≡ stepOf session (inputIn (now (bytes .entry)) (Input.Event number n)) (now (buffer .entry)) ⌝ }
 {
-    let Known::Is(event) = numbered::event_by(number) else {
+    let Known::Is(event) = by_number::event_by(number) else {
         return unreadable(session);
     };
     session.event(event, part(bytes, 0, n), buffer)
@@ -165,10 +164,7 @@ pub fn run() {
         let n = replied.len;
         let after = replied.session;
         session = after;
-        if n == 0 {
-            return;
-        }
-        if !io::write_all(libc::STDOUT_FILENO, &out[..n]) {
+        if !lines::write(&out, n) {
             return;
         }
         turns -= 1;

@@ -1,16 +1,17 @@
 // What is printed for an order or an answer.
 use super::BUFFER;
 use super::OUT;
-use super::text;
+use bench::hex;
+use bench::text;
 use engine::core::Output;
 use errors::Numbered;
 ghost use mathlib.Core.Path.{_≡_};
 ghost use mathlib.Core.List.{_++_};
-ghost use Prim.Native.Nat.{_+_, _≤_};
+ghost use Prim.Native.Nat.{_≤_};
 ghost use lib.ListN.{length, take};
-ghost use Rattle.bench.specs.Texts.{placed, placedAt, decimalOf};
+ghost use Rattle.bench.specs.Texts.{placed, placedAt, decimalOf, Appends};
 ghost use Rattle.bench.specs.Hex.{hexOf};
-ghost use Rattle.bench_session.specs.Outputs.{outRoom, textLimit, doneText, type1Text, lengthsText, refusedText, listRefusedText, textOf, Named};
+ghost use Rattle.bench_session.specs.Outputs.{outRoom, textLimit, doneText, type1Text, lengthsText, refusedText, listRefusedText, textOf};
 
 // The first n bytes; all of them where there are fewer.
 fn first(n: usize, bytes: &[u8]) -> &[u8]
@@ -20,34 +21,23 @@ fn first(n: usize, bytes: &[u8]) -> &[u8]
 }
 
 fn put_bytes(name: &[u8], bytes: &[u8], out: &mut [u8]) -> usize
-    requires { ⌜ (length (now name) ≤ 6) × (length (now bytes) ≤ 1024) × (outRoom ≤ length (now out)) ⌝ }
-    ensures { λ r. ⌜ placed r (now (out .exit)) ≡ placedAt 0 (now (name .entry) ++ hexOf (now (bytes .entry))) (now (out .entry)) ⌝ }
+    ensures { λ r. ⌜ Appends 0 (now (name .entry) ++ hexOf (now (bytes .entry))) (now (out .entry)) r (now (out .exit)) ⌝ }
 {
     let at = text::put(name, out, 0);
-    text::put_hex(bytes, out, at)
-}
-
-fn put_number(name: &[u8], number: u64, out: &mut [u8]) -> usize
-    requires { ⌜ (length (now name) ≤ 8) × (outRoom ≤ length (now out)) ⌝ }
-    ensures { λ r. ⌜ placed r (now (out .exit)) ≡ placedAt 0 (now (name .entry) ++ decimalOf number) (now (out .entry)) ⌝ }
-{
-    let at = text::put(name, out, 0);
-    text::put_decimal(number, out, at)
+    hex::put(bytes, out, at)
 }
 
 // A name and a number behind the text that ends at a place.
-fn put_named(name: &[u8], number: u8, out: &mut [u8], at: usize) -> usize
-    requires { ⌜ at + (length (now name) + 20) ≤ length (now out) ⌝ }
-    ensures { λ r. ⌜ Named at (now (name .entry)) number (now (out .entry)) r (now (out .exit)) ⌝ }
+fn put_number(name: &[u8], number: u64, out: &mut [u8], at: usize) -> usize
+    ensures { λ r. ⌜ Appends at (now (name .entry) ++ decimalOf number) (now (out .entry)) r (now (out .exit)) ⌝ }
 {
     let behind = text::put(name, out, at);
-    text::put_decimal(number as u64, out, behind)
+    text::put_decimal(number, out, behind)
 }
 
 // An answer's bytes; `done` alone where it has none.
 fn put_done(bytes: &[u8], out: &mut [u8]) -> usize
-    requires { ⌜ (length (now bytes) ≤ 1024) × (outRoom ≤ length (now out)) ⌝ }
-    ensures { λ r. ⌜ placed r (now (out .exit)) ≡ placedAt 0 (doneText (now (bytes .entry))) (now (out .entry)) ⌝ }
+    ensures { λ r. ⌜ Appends 0 (doneText (now (bytes .entry))) (now (out .entry)) r (now (out .exit)) ⌝ }
 {
     if bytes.len() == 0 {
         return text::put(b"done", out, 0);
@@ -57,8 +47,7 @@ fn put_done(bytes: &[u8], out: &mut [u8]) -> usize
 
 // A Type 1 answer's bytes, of which there are always some.
 fn put_type1(bytes: &[u8], out: &mut [u8]) -> usize
-    requires { ⌜ (length (now bytes) ≤ 1024) × (outRoom ≤ length (now out)) ⌝ }
-    ensures { λ r. ⌜ placed r (now (out .exit)) ≡ placedAt 0 (type1Text (now (bytes .entry))) (now (out .entry)) ⌝ }
+    ensures { λ r. ⌜ Appends 0 (type1Text (now (bytes .entry))) (now (out .entry)) r (now (out .exit)) ⌝ }
 {
     let at = put_bytes(b"done ", bytes, out);
     text::put(b" type1", out, at)
@@ -66,53 +55,48 @@ fn put_type1(bytes: &[u8], out: &mut [u8]) -> usize
 
 // An answer's bytes, of which there are always some, and the lengths of the UID and the ATS among them.
 fn put_lengths(bytes: &[u8], uid: u8, ats: u8, out: &mut [u8]) -> usize
-    requires { ⌜ (length (now bytes) ≤ 1024) × (outRoom ≤ length (now out)) ⌝ }
-    ensures { λ r. ⌜ placed r (now (out .exit)) ≡ placedAt 0 (lengthsText (now (bytes .entry)) uid ats) (now (out .entry)) ⌝ }
+    ensures { λ r. ⌜ Appends 0 (lengthsText (now (bytes .entry)) uid ats) (now (out .entry)) r (now (out .exit)) ⌝ }
 {
     let at = put_bytes(b"done ", bytes, out);
-    let behind = put_named(b" uid ", uid, out, at);
-    put_named(b" ats ", ats, out, behind)
+    let behind = put_number(b" uid ", uid as u64, out, at);
+    put_number(b" ats ", ats as u64, out, behind)
 }
 
 // A refusal's number, and the status of 15 or both status flags of 20.
 fn put_refused(numbered: Numbered, out: &mut [u8]) -> usize
-    requires { ⌜ outRoom ≤ length (now out) ⌝ }
-    ensures { λ r. ⌜ placed r (now (out .exit)) ≡ placedAt 0 (refusedText numbered) (now (out .entry)) ⌝ }
+    ensures { λ r. ⌜ Appends 0 (refusedText numbered) (now (out .entry)) r (now (out .exit)) ⌝ }
 {
-    let at = put_number(b"refused ", numbered.number as u64, out);
+    let at = put_number(b"refused ", numbered.number as u64, out, 0);
     if numbered.number == 15 {
         let status = [numbered.status];
         let next = text::put(b" ", out, at);
-        return text::put_hex(&status, out, next);
+        return hex::put(&status, out, next);
     }
     if numbered.number == 20 {
         let flags = [numbered.status, numbered.status2];
         let next = text::put(b" ", out, at);
-        return text::put_hex(&flags, out, next);
+        return hex::put(&flags, out, next);
     }
     at
 }
 
 // The refusal that ends a list, and how many of its codes were finished.
 fn put_list_refused(numbered: Numbered, finished: u8, out: &mut [u8]) -> usize
-    requires { ⌜ outRoom ≤ length (now out) ⌝ }
-    ensures { λ r. ⌜ placed r (now (out .exit)) ≡ placedAt 0 (listRefusedText numbered finished) (now (out .entry)) ⌝ }
+    ensures { λ r. ⌜ Appends 0 (listRefusedText numbered finished) (now (out .entry)) r (now (out .exit)) ⌝ }
 {
     let at = put_refused(numbered, out);
-    let next = text::put(b" finished ", out, at);
-    text::put_decimal(finished as u64, out, next)
+    put_number(b" finished ", finished as u64, out, at)
 }
 
-fn put_output(output: Output, bytes: &[u8], out: &mut [u8; OUT]) -> usize
-    requires { ⌜ length (now bytes) ≤ 1024 ⌝ }
-    ensures { λ r. ⌜ (placed r (now (out .exit)) ≡ placedAt 0 (textOf output (now (bytes .entry))) (now (out .entry))) × (r ≤ textLimit) × (length (now (out .exit)) ≡ outRoom) ⌝ }
+fn put_output(output: Output, bytes: &[u8], out: &mut [u8]) -> usize
+    ensures { λ r. ⌜ Appends 0 (textOf output (now (bytes .entry))) (now (out .entry)) r (now (out .exit)) ⌝ }
 {
     match output {
         Output::Ack => put_bytes(b"write ", first(6, bytes), out),
         Output::Command(n) => put_bytes(b"write ", first(n, bytes), out),
-        Output::Read(ms) => put_number(b"read ", ms as u64, out),
+        Output::Read(ms) => put_number(b"read ", ms as u64, out, 0),
         Output::Drain => text::put(b"drain", out, 0),
-        Output::Pause(us) => put_number(b"pause ", us as u64, out),
+        Output::Pause(us) => put_number(b"pause ", us as u64, out, 0),
         Output::Done(n) => put_done(first(n, bytes), out),
         Output::Type1(n) => put_type1(first(n, bytes), out),
         Output::UidAndAts(n, uid, ats) => put_lengths(first(n, bytes), uid, ats, out),

@@ -4,14 +4,15 @@ use mathlib.Core.Bool.{Bool, true, false}
 use mathlib.Core.List.{List}
 use Prim.Native.Nat.{ℕ}
 use Rattle.errors.specs.declared.Refusal.the-variants.{BadArgument}
-use Rattle.protocol.specs.Calls.{ReaderCall, device, readWithoutEncryption, writeWithoutEncryption, clockOf}
+use Rattle.protocol.specs.Arguments.{flag, msOf, isLong}
+use Rattle.protocol.specs.Calls.{ReaderCall, device, readWithoutEncryption, writeWithoutEncryption, timed}
+use Rattle.protocol.specs.Starts.{clockOf}
 use Rattle.stages.specs.Starts.{refuses, Starts}
 use Rattle.stages.specs.declared.start.Start as code
 use Rattle.device.specs.Blocks.{readFirst, writeFirst}
 use Rattle.device.specs.Transceive.{timeoutOf}
 use Rattle.device.specs.declared.transceive.Timeout.{Timeout}
 use Rattle.calls.specs.Firsts.{deviceFirst, startFor}
-use Rattle.calls.specs.Numbers.{flag, msOf, isLong, timed}
 
 pub long-refused : (r : code.Start) (c : List ℕ) (x : ReaderCall) (y ms : ℕ) (given l : Bool) → given ≡ flag y → l ≡ isLong given ms → l ≡ true
     → Starts r c c (refuses BadArgument) → Starts r c c (startFor (timed (flag y) ms x))

@@ -15,8 +15,8 @@ use Rattle.felica.specs.Requests.{parts}
 use Rattle.felica.specs.declared.check.Checked.{Checked}
 use Rattle.felica.specs.declared.check.Checked.the-variants.{Good, Faulty}
 use Rattle.protocol.specs.Blocks.{byCheck, blockBytes}
-use Rattle.protocol.specs.Chipset.{withStatus as statusThen}
-use Rattle.protocol.specs.Scripts.{value, done, finish, part}
+use Rattle.protocol.specs.Rules.{withStatus as statusThen}
+use Rattle.protocol.specs.Scripts.{done, finish, part}
 use Rattle.device.specs.Blocks.{ifGood, readAnswer, writeAnswer}
 use Rattle.calls.specs.Single.{Interprets, ends, refusing, by-status, empty}
 use Rattle.protocol.specs.Values.{part-values}

@@ -10,7 +10,8 @@ use Rattle.errors.specs.Choice.{pick}
 use Rattle.errors.specs.declared.Fault.the-variants.{Status, ShortResponse, NoCard}
 use Rattle.exchange.specs.Packets.{Reply}
 use Rattle.protocol.specs.Scripts.{own, done, nothing, refused, Script, finish, command, fieldPause, either, refuse, ifElse, rest}
-use Rattle.protocol.specs.Chipset.{anyNonzero, statusByte, jumpData, word}
+use Rattle.protocol.specs.Rules.{anyNonzero, statusByte}
+use Rattle.protocol.specs.Arguments.{jumpData, word}
 use Rattle.protocol.specs.Discovery.{detectTypeB, detectTypeF, detectDep, wakeUp, foundB, poll, noPartner as noPartnerScript}
 use Rattle.stages.specs.Stages.{send}
 use Rattle.chipset.specs.Responses.{foundWritten}
@@ -18,7 +19,9 @@ use Rattle.discovery.specs.Decisions.{typeBCommand, isoDep, listedB, wokenUp, t
 use Rattle.calls.specs.Tables.{commandOf, isResetOf, decidedOf, failedOf}
 use Rattle.calls.specs.Refines.{Refines, refines-keep, refines-put, refines-pause, Awaits, refines-if, refines-status, ending, none-found, refusal, by-length, go-on}
 use Rattle.protocol.specs.Values.{rest-values}
-use Rattle.protocol.specs.Names.{ciuMode, commandClock, inCommunicateThruCode, inJumpForDepClock, inJumpForDepCode, inListPassiveTargetClock, inListPassiveTargetCode, readRegisterCode, registerWriteFailed, registersClock, rfConfigurationCode, rfNotActivated, timeoutStatus, typeBClock, writeRegisterCode}
+use Rattle.protocol.specs.Names.{ciuMode, commandClock, inJumpForDepClock, inListPassiveTargetClock, registerWriteFailed, registersClock, rfNotActivated, timeoutStatus, typeBClock}
+use Rattle.protocol.specs.Calls.{inCommunicateThruCode, inJumpForDepCode, inListPassiveTargetCode, readRegisterCode, rfConfigurationCode, writeRegisterCode}
+use Rattle.discovery.specs.Kinds.{typeBKind, typeFKind, depKind, listStage, deselectStage, wakeUpStage, fieldStage, rfOnStage, pollStage, timeoutsStage, jumpStage, writeModeStage}
 
 -- ---- Type B
 
@@ -27,22 +30,22 @@ module _ (afi : ℕ) where
   wakes = 0x05 ∷ afi ∷ 0x08 ∷ []
 
   typeB-2 : (found : List ℕ)
-      → Awaits 18 2 0 wakes found (either (λ bs. ifElse (eqb (statusByte bs) 0) (finish (done (rest 2 bs 1))) (finish nothing)) (λ _. finish nothing))
+      → Awaits typeBKind wakeUpStage 0 wakes found (either (λ bs. ifElse (eqb (statusByte bs) 0) (finish (done (rest 2 bs 1))) (finish nothing)) (λ _. finish nothing))
   unfolding decidedOf failedOf typeBDecision wokenUp typeBFailure pick
   typeB-2 found = record {
     answered = λ cs few. refines-if (eqb (statusByte cs) 0) (λ _. ending _ (ap done (rest-values 2 cs 1))) (λ _. none-found);
     failing = λ r. none-found;
   }
 
-  typeB-1 : (found : List ℕ) → Awaits 18 1 0 wakes found (λ _. wakeUp afi)
+  typeB-1 : (found : List ℕ) → Awaits typeBKind deselectStage 0 wakes found (λ _. wakeUp afi)
   unfolding decidedOf failedOf typeBDecision typeBFailure commandOf isResetOf typeBCommand pick
   typeB-1 found = record {
-    answered = λ cs few. go-on 2 inCommunicateThruCode typeBClock _ refl refl refl (typeB-2 found);
-    failing = λ r. go-on 2 inCommunicateThruCode typeBClock _ refl refl refl (typeB-2 found);
+    answered = λ cs few. go-on wakeUpStage inCommunicateThruCode typeBClock _ refl refl refl (typeB-2 found);
+    failing = λ r. go-on wakeUpStage inCommunicateThruCode typeBClock _ refl refl refl (typeB-2 found);
   }
 
   typeB-0 : (code : ℕ) (found : List ℕ)
-      → Awaits 18 0 0 (1 ∷ code ∷ afi ∷ []) found (either (λ list. ifElse (eqb (getD list 0 0) 0) (finish nothing) (ifElse (ltb (length list) 2) (refuse ShortResponse) (foundB afi list))) refuse)
+      → Awaits typeBKind listStage 0 (1 ∷ code ∷ afi ∷ []) found (either (λ list. ifElse (eqb (getD list 0 0) 0) (finish nothing) (ifElse (ltb (length list) 2) (refuse ShortResponse) (foundB afi list))) refuse)
   unfolding decidedOf failedOf typeBDecision typeBFailure listedB isoDep commandOf isResetOf typeBCommand pick
   typeB-0 code found = record {
     answered = λ cs few.
@@ -51,7 +54,7 @@ module _ (afi : ℕ) where
         (λ _. refines-if (ltb (length cs) 13) (λ _. none-found)
         (λ _. refines-if (eqb (getD cs 12 0 % 2) 1)
         (λ _. refines-if (eqb (getD cs 12 0 / 8 % 2) 0)
-        (λ _. refines-put 1 _ _ (omega arith) (go-on 1 inCommunicateThruCode typeBClock _ refl refl refl (typeB-1 found))) (λ _. none-found))
+        (λ _. refines-put deselectStage _ _ (omega arith) (go-on deselectStage inCommunicateThruCode typeBClock _ refl refl refl (typeB-1 found))) (λ _. none-found))
         (λ _. none-found))));
     failing = λ r. refusal r;
   }
@@ -61,7 +64,7 @@ module _ (afi : ℕ) where
 module _ (code : ℕ) (req : List ℕ) where
   -- the poll is command j of the call
   typeF-2 : (j : ℕ) (found : List ℕ)
-      → Awaits 19 2 0 (1 ∷ code ∷ req) found (either (λ list. ifElse (eqb (getD list 0 0) 0) (refuse NoCard) (ifElse (ltb (length list) 2) (refuse ShortResponse) (ifElse (ltb (length list) 20) (refuse ShortResponse) (finish (done (rest j list 4)))))) refuse)
+      → Awaits typeFKind pollStage 0 (1 ∷ code ∷ req) found (either (λ list. ifElse (eqb (getD list 0 0) 0) (refuse NoCard) (ifElse (ltb (length list) 2) (refuse ShortResponse) (ifElse (ltb (length list) 20) (refuse ShortResponse) (finish (done (rest j list 4)))))) refuse)
   unfolding decidedOf failedOf typeFDecision polled pick
   typeF-2 j found = record {
     answered = λ cs few.
@@ -70,20 +73,20 @@ module _ (code : ℕ) (req : List ℕ) where
     failing = λ r. refusal r;
   }
 
-  typeF-1 : (found : List ℕ) → Awaits 19 1 0 (1 ∷ code ∷ req) found (either (λ _. fieldPause (poll 2 code req)) refuse)
+  typeF-1 : (found : List ℕ) → Awaits typeFKind rfOnStage 0 (1 ∷ code ∷ req) found (either (λ _. fieldPause (poll 2 code req)) refuse)
   unfolding decidedOf failedOf typeFDecision commandOf isResetOf typeFCommand pick
   typeF-1 found = record {
-    answered = λ cs few. refines-pause 2 _ refl (go-on 2 inListPassiveTargetCode inListPassiveTargetClock _ refl refl refl (typeF-2 2 found));
+    answered = λ cs few. refines-pause pollStage _ refl (go-on pollStage inListPassiveTargetCode inListPassiveTargetClock _ refl refl refl (typeF-2 2 found));
     failing = λ r. refusal r;
   }
 
   typeF-0 : (found : List ℕ)
-      → Awaits 19 0 0 (1 ∷ code ∷ req) found (either (λ bs. ifElse (ltb (length bs) 1) (refuse ShortResponse) (ifElse (eqb (getD bs 0 0 % 4) 0) (command rfConfigurationCode commandClock (0x01 ∷ 0x01 ∷ []) (either (λ _. fieldPause (poll 2 code req)) refuse)) (poll 1 code req))) refuse)
+      → Awaits typeFKind fieldStage 0 (1 ∷ code ∷ req) found (either (λ bs. ifElse (ltb (length bs) 1) (refuse ShortResponse) (ifElse (eqb (getD bs 0 0 % 4) 0) (command rfConfigurationCode commandClock (0x01 ∷ 0x01 ∷ []) (either (λ _. fieldPause (poll 2 code req)) refuse)) (poll 1 code req))) refuse)
   unfolding decidedOf failedOf typeFDecision txControlRead commandOf isResetOf typeFCommand pick
   typeF-0 found = record {
     answered = λ cs few.
         by-length cs 1
-        (λ _. refines-if (eqb (getD cs 0 0 % 4) 0) (λ _. go-on 1 rfConfigurationCode commandClock _ refl refl refl (typeF-1 found)) (λ _. go-on 2 inListPassiveTargetCode inListPassiveTargetClock _ refl refl refl (typeF-2 1 found)));
+        (λ _. refines-if (eqb (getD cs 0 0 % 4) 0) (λ _. go-on rfOnStage rfConfigurationCode commandClock _ refl refl refl (typeF-1 found)) (λ _. go-on pollStage inListPassiveTargetCode inListPassiveTargetClock _ refl refl refl (typeF-2 1 found)));
     failing = λ r. refusal r;
   }
 
@@ -92,7 +95,7 @@ module _ (code : ℕ) (req : List ℕ) where
 abbrev modeWritten : List ℕ → Reply → Script
 modeWritten list = either (λ bs. ifElse (anyNonzero bs) (refuse (Status registerWriteFailed)) (finish (done (own 0xD5 ∷ own 0x01 ∷ rest 1 list 2)))) refuse
 
-dep-2 : (pending list : List ℕ) → Awaits 20 2 0 pending (0xD5 ∷ 0x01 ∷ drop 2 list) (modeWritten list)
+dep-2 : (pending list : List ℕ) → Awaits depKind writeModeStage 0 pending (0xD5 ∷ 0x01 ∷ drop 2 list) (modeWritten list)
 unfolding decidedOf failedOf depDecision foundWritten depFailure pick
 dep-2 pending list = record {
   answered = λ cs few.
@@ -101,34 +104,34 @@ dep-2 pending list = record {
 }
 
 dep-1 : (pending found : List ℕ)
-    → Awaits 20 1 0 pending found (either (λ bs. ifElse (eqb (statusByte bs) 0) (ifElse (ltb (length bs) 2) (refuse ShortResponse) (command writeRegisterCode registersClock (word ciuMode ++ (0x3B ∷ [])) (modeWritten bs))) (noPartnerScript (Status (statusByte bs)))) noPartnerScript)
+    → Awaits depKind jumpStage 0 pending found (either (λ bs. ifElse (eqb (statusByte bs) 0) (ifElse (ltb (length bs) 2) (refuse ShortResponse) (command writeRegisterCode registersClock (word ciuMode ++ (0x3B ∷ [])) (modeWritten bs))) (noPartnerScript (Status (statusByte bs)))) noPartnerScript)
 unfolding decidedOf failedOf depDecision jumpedTo depFailure jumpFailure noPartner commandOf isResetOf depCommand pick
 dep-1 pending found = record {
   answered = λ cs few.
-      refines-if (eqb (statusByte cs) 0) (λ _. by-length cs 2 (λ _. refines-keep 2 _ _ (omega (arith, length-drop 2 cs)) (go-on 2 writeRegisterCode registersClock _ refl refl refl (dep-2 pending cs))))
+      refines-if (eqb (statusByte cs) 0) (λ _. by-length cs 2 (λ _. refines-keep writeModeStage _ _ (omega (arith, length-drop 2 cs)) (go-on writeModeStage writeRegisterCode registersClock _ refl refl refl (dep-2 pending cs))))
       (λ _. refines-if (eqb (statusByte cs) timeoutStatus || eqb (statusByte cs) rfNotActivated) (λ _. none-found) (λ _. refusal (Status (statusByte cs))));
   failing = λ r. refines-status r (λ k e. refines-if (eqb k timeoutStatus || eqb k rfNotActivated) (λ _. none-found) (λ _. ending (refused r) (ap refused e))) (refusal r);
 }
 
 dep-0 : (code : ℕ) (nfcid3 gi found : List ℕ)
-    → Awaits 20 0 0 (jumpData 1 code [] nfcid3 gi) found (either (λ _. command inJumpForDepCode inJumpForDepClock (jumpData 1 code [] nfcid3 gi) (either (λ bs. ifElse (eqb (statusByte bs) 0) (ifElse (ltb (length bs) 2) (refuse ShortResponse) (command writeRegisterCode registersClock (word ciuMode ++ (0x3B ∷ [])) (modeWritten bs))) (noPartnerScript (Status (statusByte bs)))) noPartnerScript)) refuse)
+    → Awaits depKind timeoutsStage 0 (jumpData 1 code [] nfcid3 gi) found (either (λ _. command inJumpForDepCode inJumpForDepClock (jumpData 1 code [] nfcid3 gi) (either (λ bs. ifElse (eqb (statusByte bs) 0) (ifElse (ltb (length bs) 2) (refuse ShortResponse) (command writeRegisterCode registersClock (word ciuMode ++ (0x3B ∷ [])) (modeWritten bs))) (noPartnerScript (Status (statusByte bs)))) noPartnerScript)) refuse)
 unfolding decidedOf failedOf depDecision depFailure commandOf isResetOf depCommand pick
 dep-0 code nfcid3 gi found = record {
-  answered = λ cs few. go-on 1 inJumpForDepCode inJumpForDepClock _ refl refl refl (dep-1 (jumpData 1 code [] nfcid3 gi) found);
+  answered = λ cs few. go-on jumpStage inJumpForDepCode inJumpForDepClock _ refl refl refl (dep-1 (jumpData 1 code [] nfcid3 gi) found);
   failing = λ r. refusal r;
 }
 
 -- ---- each from its first command on
 
-pub typeB-leads : (code afi : ℕ) (found : List ℕ) → Refines 18 0 (1 ∷ code ∷ afi ∷ []) found (send 0) (detectTypeB code afi)
+pub typeB-refines : (code afi : ℕ) (found : List ℕ) → Refines typeBKind 0 (1 ∷ code ∷ afi ∷ []) found (send listStage) (detectTypeB code afi)
 unfolding commandOf isResetOf typeBCommand pick
-typeB-leads code afi found = go-on 0 inListPassiveTargetCode inListPassiveTargetClock _ refl refl refl (typeB-0 afi code found)
+typeB-refines code afi found = go-on listStage inListPassiveTargetCode inListPassiveTargetClock _ refl refl refl (typeB-0 afi code found)
 
-pub typeF-leads : (code : ℕ) (req found : List ℕ) → Refines 19 0 (1 ∷ code ∷ req) found (send 0) (detectTypeF code req)
+pub typeF-refines : (code : ℕ) (req found : List ℕ) → Refines typeFKind 0 (1 ∷ code ∷ req) found (send fieldStage) (detectTypeF code req)
 unfolding commandOf isResetOf typeFCommand pick
-typeF-leads code req found = go-on 0 readRegisterCode registersClock _ refl refl refl (typeF-0 code req found)
+typeF-refines code req found = go-on fieldStage readRegisterCode registersClock _ refl refl refl (typeF-0 code req found)
 
-pub dep-leads : (code : ℕ) (req found : List ℕ)
-    → Refines 20 0 (jumpData 1 code [] (take 10 (drop 2 req)) (drop 16 req)) found (send 0) (detectDep code req)
+pub dep-refines : (code : ℕ) (req found : List ℕ)
+    → Refines depKind 0 (jumpData 1 code [] (take 10 (drop 2 req)) (drop 16 req)) found (send timeoutsStage) (detectDep code req)
 unfolding commandOf isResetOf depCommand pick
-dep-leads code req found = go-on 0 rfConfigurationCode commandClock _ refl refl refl (dep-0 code (take 10 (drop 2 req)) (drop 16 req) found)
+dep-refines code req found = go-on timeoutsStage rfConfigurationCode commandClock _ refl refl refl (dep-0 code (take 10 (drop 2 req)) (drop 16 req) found)

@@ -4,7 +4,8 @@ use lib.ListN.{getD}
 use Rattle.errors.specs.declared.Refusal.the-variants.{BadArgument}
 use Rattle.protocol.specs.Discovery.{sensfReq}
 use Rattle.protocol.specs.Calls.{DeviceCall, detectTypeA, detectTypeASplit, detectTypeB, detectTypeF, pollTypeF, detectDep, transceive, readWithoutEncryption, writeWithoutEncryption}
-use Rattle.protocol.specs.Calls.{ReaderCall, request, device, unknown, Call, opening, reader, typeACode, typeBCode, typeFCode, clockOf}
+use Rattle.protocol.specs.Calls.{ReaderCall, request, device, unknown, Call, opening, reader}
+use Rattle.protocol.specs.Starts.{typeACode, typeBCode, typeFCode, clockOf}
 use Rattle.stages.specs.Starts.{Start, refuses}
 use Rattle.stages.specs.Bitrates.{codeFor}
 use Rattle.chipset.specs.Commands.{firstOf}

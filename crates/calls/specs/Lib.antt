@@ -1,4 +1,5 @@
 -- The calls by their numbers and kinds, and that what is decided at each stage is what the scripts have.
+pub mod Kinds
 pub mod Numbers
 pub mod Firsts
 pub mod BlockStarts

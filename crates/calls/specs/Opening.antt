@@ -11,8 +11,10 @@ use Rattle.errors.specs.Choice.{pick}
 use Rattle.errors.specs.declared.Fault.{Fault}
 use Rattle.errors.specs.declared.Fault.the-variants.{ShortResponse, Status}
 use Rattle.exchange.specs.Packets.{Reply}
-use Rattle.protocol.specs.Scripts.{own, value, Script, finish, reset, either, refuse, ifElse, done, refused}
-use Rattle.protocol.specs.Chipset.{versionBytes, getFirmwareVersion, rfFieldOff, rfConfiguration, setParameters, writeRegister, anyNonzero, word}
+use Rattle.protocol.specs.Scripts.{own, value, Script, finish, reset, either, refuse, done, refused}
+use Rattle.protocol.specs.Rules.{versionBytes, anyNonzero}
+use Rattle.protocol.specs.Chipset.{getFirmwareVersion, rfFieldOff, rfConfiguration, setParameters, writeRegister}
+use Rattle.protocol.specs.Arguments.{word}
 use Rattle.protocol.specs.Device.{deviceNew, chipsetName, hexDigit as hexDigitOf, hex as hexOf}
 use Rattle.stages.specs.Stages.{send, ends, withLength}
 use Rattle.chipset.specs.Responses.{foundWritten}
@@ -20,7 +22,10 @@ use Rattle.device.specs.Names.{hexDigit, hex, dotted, nameBytes, openedBytes}
 use Rattle.device.specs.Opening.{openingCommand, settingsCommand, isResetStage, versionKept, openingDecision}
 use Rattle.calls.specs.Tables.{commandOf, isResetOf, decidedOf, failedOf}
 use Rattle.calls.specs.Refines.{Refines, refines-reset, refines-keep, Awaits, refines-if, ending, refusal, by-length, go-on}
-use Rattle.protocol.specs.Names.{commandClock, getFirmwareVersionCode, registerWriteFailed, registersClock, rfCfgRam07, rfConfigurationCode, setParametersCode, writeRegisterCode}
+use Rattle.protocol.specs.Names.{commandClock, registerWriteFailed, registersClock, rfCfgRam07}
+use Rattle.protocol.specs.Calls.{getFirmwareVersionCode, rfConfigurationCode, setParametersCode, writeRegisterCode}
+use Rattle.chipset.specs.Kinds.{resetModeKind}
+use Rattle.device.specs.Kinds.{openingKind, resetStage, versionStage, fieldOffStage, timeoutsStage, maxRtyComStage, maxRetriesStage, analogStage, parametersStage, resetAgainStage, rfCfgStage}
 
 -- ---- the answer
 
@@ -89,72 +94,72 @@ module _ (pending : List ℕ) where
     answer = openedBytes a b c
 
     -- a command whose response is not looked at
-    passed : (n : ℕ) (s : Script) → ((cs : List ℕ) → decidedOf 1 n 0 pending answer cs ≡ send (n + 1)) → ((r : Fault) → failedOf 1 n 0 pending answer r ≡ ends (refused r))
-        → Refines 1 0 pending answer (send (n + 1)) s → Awaits 1 n 0 pending answer (either (λ _. s) refuse)
+    passed : (n : ℕ) (s : Script) → ((cs : List ℕ) → decidedOf openingKind n 0 pending answer cs ≡ send (n + 1)) → ((r : Fault) → failedOf openingKind n 0 pending answer r ≡ ends (refused r))
+        → Refines openingKind 0 pending answer (send (n + 1)) s → Awaits openingKind n 0 pending answer (either (λ _. s) refuse)
     passed n s h k l = record { answered = λ cs _. rw (h cs) l; failing = λ r. rw (k r) (refusal r) }
 
-    stage-9 : Refines 1 0 pending answer (send 9) (s9 a b c)
+    stage-9 : Refines openingKind 0 pending answer (send rfCfgStage) (s9 a b c)
     unfolding commandOf isResetOf decidedOf failedOf openingCommand settingsCommand isResetStage openingDecision foundWritten pick
     stage-9 =
-        go-on 9 writeRegisterCode registersClock _ refl refl refl
+        go-on rfCfgStage writeRegisterCode registersClock _ refl refl refl
         record {
           answered = λ cs _. refines-if (anyNonzero cs) (λ _. refusal (Status registerWriteFailed)) (λ _. ending _ (ap done (opened-same a b c)));
           failing = λ r. refusal r;
         }
 
-    stage-8 : Refines 1 0 pending answer (send 8) (reset (s9 a b c))
+    stage-8 : Refines openingKind 0 pending answer (send resetAgainStage) (reset (s9 a b c))
     unfolding commandOf isResetOf decidedOf openingCommand settingsCommand isResetStage openingDecision pick
-    stage-8 = refines-reset 8 _ refl refl refl stage-9
+    stage-8 = refines-reset resetAgainStage _ refl refl refl stage-9
 
-    stage-7 : Refines 1 0 pending answer (send 7) (s7 a b c)
+    stage-7 : Refines openingKind 0 pending answer (send parametersStage) (s7 a b c)
     unfolding commandOf isResetOf decidedOf failedOf openingCommand settingsCommand isResetStage openingDecision pick
-    stage-7 = go-on 7 setParametersCode commandClock _ refl refl refl (passed 7 _ (λ _. refl) (λ _. refl) stage-8)
+    stage-7 = go-on parametersStage setParametersCode commandClock _ refl refl refl (passed parametersStage _ (λ _. refl) (λ _. refl) stage-8)
 
-    stage-6 : Refines 1 0 pending answer (send 6) (s6 a b c)
+    stage-6 : Refines openingKind 0 pending answer (send analogStage) (s6 a b c)
     unfolding commandOf isResetOf decidedOf failedOf openingCommand settingsCommand isResetStage openingDecision pick
-    stage-6 = go-on 6 rfConfigurationCode commandClock _ refl refl refl (passed 6 _ (λ _. refl) (λ _. refl) stage-7)
+    stage-6 = go-on analogStage rfConfigurationCode commandClock _ refl refl refl (passed analogStage _ (λ _. refl) (λ _. refl) stage-7)
 
-    stage-5 : Refines 1 0 pending answer (send 5) (s5 a b c)
+    stage-5 : Refines openingKind 0 pending answer (send maxRetriesStage) (s5 a b c)
     unfolding commandOf isResetOf decidedOf failedOf openingCommand settingsCommand isResetStage openingDecision pick
-    stage-5 = go-on 5 rfConfigurationCode commandClock _ refl refl refl (passed 5 _ (λ _. refl) (λ _. refl) stage-6)
+    stage-5 = go-on maxRetriesStage rfConfigurationCode commandClock _ refl refl refl (passed maxRetriesStage _ (λ _. refl) (λ _. refl) stage-6)
 
-    stage-4 : Refines 1 0 pending answer (send 4) (s4 a b c)
+    stage-4 : Refines openingKind 0 pending answer (send maxRtyComStage) (s4 a b c)
     unfolding commandOf isResetOf decidedOf failedOf openingCommand isResetStage openingDecision pick
-    stage-4 = go-on 4 rfConfigurationCode commandClock _ refl refl refl (passed 4 _ (λ _. refl) (λ _. refl) stage-5)
+    stage-4 = go-on maxRtyComStage rfConfigurationCode commandClock _ refl refl refl (passed maxRtyComStage _ (λ _. refl) (λ _. refl) stage-5)
 
-    stage-3 : Refines 1 0 pending answer (send 3) (s3 a b c)
+    stage-3 : Refines openingKind 0 pending answer (send timeoutsStage) (s3 a b c)
     unfolding commandOf isResetOf decidedOf failedOf openingCommand isResetStage openingDecision pick
-    stage-3 = go-on 3 rfConfigurationCode commandClock _ refl refl refl (passed 3 _ (λ _. refl) (λ _. refl) stage-4)
+    stage-3 = go-on timeoutsStage rfConfigurationCode commandClock _ refl refl refl (passed timeoutsStage _ (λ _. refl) (λ _. refl) stage-4)
 
-    stage-2 : Refines 1 0 pending answer (send 2) (rfFieldOff (s3 a b c))
+    stage-2 : Refines openingKind 0 pending answer (send fieldOffStage) (rfFieldOff (s3 a b c))
     unfolding commandOf isResetOf decidedOf failedOf openingCommand isResetStage openingDecision pick
-    stage-2 = go-on 2 rfConfigurationCode commandClock _ refl refl refl (passed 2 _ (λ _. refl) (λ _. refl) stage-3)
+    stage-2 = go-on fieldOffStage rfConfigurationCode commandClock _ refl refl refl (passed fieldOffStage _ (λ _. refl) (λ _. refl) stage-3)
 
-  stage-1 : (found : List ℕ) → Refines 1 0 pending found (send 1) (getFirmwareVersion (λ a b c. rfFieldOff (s3 a b c)))
+  stage-1 : (found : List ℕ) → Refines openingKind 0 pending found (send versionStage) (getFirmwareVersion (λ a b c. rfFieldOff (s3 a b c)))
   unfolding commandOf isResetOf decidedOf failedOf openingCommand isResetStage openingDecision versionKept pick
   stage-1 found =
-      go-on 1 getFirmwareVersionCode commandClock _ refl refl refl
+      go-on versionStage getFirmwareVersionCode commandClock _ refl refl refl
       record {
         answered = λ cs _.
-            by-length cs 4 (λ _. refines-keep 2 _ _ (opened-few (getD cs 0 0) (getD cs 1 0) (getD cs 2 0)) (stage-2 (getD cs 0 0) (getD cs 1 0) (getD cs 2 0)));
+            by-length cs 4 (λ _. refines-keep fieldOffStage _ _ (opened-few (getD cs 0 0) (getD cs 1 0) (getD cs 2 0)) (stage-2 (getD cs 0 0) (getD cs 1 0) (getD cs 2 0)));
         failing = λ r. refusal r;
       }
 
   -- `Device::new`
-  pub opening-leads : (found : List ℕ) → Refines 1 0 pending found (send 0) deviceNew
+  pub opening-script-refines : (found : List ℕ) → Refines openingKind 0 pending found (send resetStage) deviceNew
   unfolding commandOf isResetOf decidedOf openingCommand isResetStage openingDecision pick
-  opening-leads found = refines-reset 0 _ refl refl refl (stage-1 found)
+  opening-script-refines found = refines-reset resetStage _ refl refl refl (stage-1 found)
 
 -- ---- a failed write of ACK refuses
 
-pub opening-fails : (kind stage cursor : ℕ) (pending found : List ℕ) (r : Fault) → eqb kind 1 ≡ true → failedOf kind stage cursor pending found r ≡ ends (refused r)
+pub opening-fails : (kind stage cursor : ℕ) (pending found : List ℕ) (r : Fault) → eqb kind openingKind ≡ true → failedOf kind stage cursor pending found r ≡ ends (refused r)
 unfolding failedOf pick
-opening-fails kind stage cursor pending found r h = rw (eqb-true kind 1 h)
+opening-fails kind stage cursor pending found r h = rw (eqb-true kind openingKind h)
 
 pub reset-fails : (kind stage cursor : ℕ) (pending found : List ℕ) (r : Fault) → isResetOf kind stage ≡ true → failedOf kind stage cursor pending found r ≡ ends (refused r)
 unfolding isResetOf failedOf pick
-reset-fails kind stage cursor pending found r = go (eqb kind 1) refl
+reset-fails kind stage cursor pending found r = go (eqb kind openingKind) refl
   where
-    go : (t : Bool) → eqb kind 1 ≡ t → pick t (isResetStage stage) (eqb kind 3) ≡ true → failedOf kind stage cursor pending found r ≡ ends (refused r)
+    go : (t : Bool) → eqb kind openingKind ≡ t → pick t (isResetStage stage) (eqb kind resetModeKind) ≡ true → failedOf kind stage cursor pending found r ≡ ends (refused r)
     go true e h = opening-fails kind stage cursor pending found r e
-    go false e h = rw (eqb-true kind 3 h)
+    go false e h = rw (eqb-true kind resetModeKind h)

@@ -15,7 +15,7 @@ use Rattle.framing.specs.Valid.{both-left, both-right}
 use Rattle.exchange.specs.Packets.{Reply}
 use Rattle.protocol.specs.Scripts.{Byte, own, card, value, behind, Answer, done, refused, refusedAfter, Script, finish, command, fieldPause, either, refuse, ifElse, andThen, rest}
 use Rattle.protocol.specs.Discovery.{sensfReq, poll, byNoCard, cardMet, noCardMet, detectTypeF, codeEnd, pollCodes, pollTypeF}
-use Rattle.protocol.specs.Calls.{systemCodesFit, wordsIn}
+use Rattle.protocol.specs.Arguments.{systemCodesFit, wordsIn}
 use Rattle.protocol.specs.Laws.{by-fault}
 use Rattle.stages.specs.Stages.{cmd, Decision, send, ends, withLength}
 use Rattle.discovery.specs.Decisions.{typeFCommand, txControlRead, polled, typeFDecision, pollOf, pollCommand, soFar, hasNext, codeFinished, pollFailure, onEnd, pollDecision}
@@ -24,13 +24,15 @@ use Rattle.discovery.specs.PollLaws.{none-yet, all-found}
 use Rattle.calls.specs.Tables.{commandOf, isResetOf, decidedOf, failedOf}
 use Rattle.calls.specs.Refines.{Refines, refines-next, refines-pause, Awaits, ending, go-on}
 use Rattle.protocol.specs.Values.{rest-values}
-use Rattle.protocol.specs.Names.{commandClock, inListPassiveTargetClock, inListPassiveTargetCode, readRegisterCode, registersClock, rfConfigurationCode}
+use Rattle.protocol.specs.Names.{commandClock, inListPassiveTargetClock, registersClock}
+use Rattle.protocol.specs.Calls.{inListPassiveTargetCode, readRegisterCode, rfConfigurationCode}
+use Rattle.discovery.specs.Kinds.{pollTypeFKind, fieldStage, rfOnStage, pollStage}
 
 -- ---- one code: Type F's stages, and behind its end whatever f has
 
 module _ (cursor : ℕ) (pending found : List ℕ) (f : ℕ → Answer Byte → Script) where
-  abbrev LeadsHere : Decision → Script → Type 0
-  LeadsHere = Refines 21 cursor pending found
+  abbrev RefinesHere : Decision → Script → Type 0
+  RefinesHere = Refines pollTypeFKind cursor pending found
 
   -- Type F's decision with the ends of a code
   abbrev ended : Decision → Decision
@@ -38,25 +40,25 @@ module _ (cursor : ℕ) (pending found : List ℕ) (f : ℕ → Answer Byte → 
 
   -- f follows the ends of a code
   record Follows : Type 0 where
-    met : (k : ℕ) (bytes : List Byte) → LeadsHere (codeFinished cursor pending found (0x01 ∷ take 16 (map value bytes))) (f k (done bytes))
-    fails : (k : ℕ) (r : Fault) → LeadsHere (pollFailure cursor pending found r) (f k (refused r))
+    met : (k : ℕ) (bytes : List Byte) → RefinesHere (codeFinished cursor pending found (0x01 ∷ take 16 (map value bytes))) (f k (done bytes))
+    fails : (k : ℕ) (r : Fault) → RefinesHere (pollFailure cursor pending found r) (f k (refused r))
 
-  then-if : (t : Bool) (k : ℕ) (x y : Decision) (s u : Script) → LeadsHere (ended x) (andThen s k f) → LeadsHere (ended y) (andThen u k f)
-      → LeadsHere (ended (pick t x y)) (andThen (ifElse t s u) k f)
+  then-if : (t : Bool) (k : ℕ) (x y : Decision) (s u : Script) → RefinesHere (ended x) (andThen s k f) → RefinesHere (ended y) (andThen u k f)
+      → RefinesHere (ended (pick t x y)) (andThen (ifElse t s u) k f)
   unfolding pick
   then-if true k x y s u h l = h
   then-if false k x y s u h l = l
 
   module _ (follows : Follows) where
-    then-long : (bs : List ℕ) (n k : ℕ) (d : Decision) (s : Script) → LeadsHere (ended d) (andThen s k f)
-        → LeadsHere (ended (withLength bs n d)) (andThen (ifElse (ltb (length bs) n) (refuse ShortResponse) s) k f)
+    then-long : (bs : List ℕ) (n k : ℕ) (d : Decision) (s : Script) → RefinesHere (ended d) (andThen s k f)
+        → RefinesHere (ended (withLength bs n d)) (andThen (ifElse (ltb (length bs) n) (refuse ShortResponse) s) k f)
     unfolding withLength
     then-long bs n k d s h = then-if (ltb (length bs) n) k _ d _ s (follows .fails k ShortResponse) h
 
     module _ (code : ℕ) (req : List ℕ) (polls : pollOf cursor pending ≡ 1 ∷ code ∷ req) where
       -- the poll is command j of the code, and k commands of the call are through behind it
       poll-2 : (j k : ℕ)
-          → Awaits 21 2 cursor pending found (λ r. andThen (either (λ list. ifElse (eqb (getD list 0 0) 0) (refuse NoCard) (ifElse (ltb (length list) 2) (refuse ShortResponse) (ifElse (ltb (length list) 20) (refuse ShortResponse) (finish (done (rest j list 4)))))) refuse r) k f)
+          → Awaits pollTypeFKind pollStage cursor pending found (λ r. andThen (either (λ list. ifElse (eqb (getD list 0 0) 0) (refuse NoCard) (ifElse (ltb (length list) 2) (refuse ShortResponse) (ifElse (ltb (length list) 20) (refuse ShortResponse) (finish (done (rest j list 4)))))) refuse r) k f)
       unfolding decidedOf failedOf pollDecision typeFDecision polled pick
       poll-2 j k = record {
         answered = λ cs few.
@@ -65,26 +67,26 @@ module _ (cursor : ℕ) (pending found : List ℕ) (f : ℕ → Answer Byte → 
         failing = λ r. follows .fails k r;
       }
 
-      poll-1 : (k : ℕ) → Awaits 21 1 cursor pending found (λ r. andThen (either (λ _. fieldPause (poll 2 code req)) refuse r) k f)
+      poll-1 : (k : ℕ) → Awaits pollTypeFKind rfOnStage cursor pending found (λ r. andThen (either (λ _. fieldPause (poll 2 code req)) refuse r) k f)
       unfolding decidedOf failedOf pollDecision typeFDecision commandOf isResetOf pollCommand typeFCommand pick
       poll-1 k = record {
-        answered = λ cs few. refines-pause 2 _ refl (go-on 2 inListPassiveTargetCode inListPassiveTargetClock (1 ∷ code ∷ req) refl refl (ap (cmd inListPassiveTargetCode inListPassiveTargetClock) polls) (poll-2 2 (suc k)));
+        answered = λ cs few. refines-pause pollStage _ refl (go-on pollStage inListPassiveTargetCode inListPassiveTargetClock (1 ∷ code ∷ req) refl refl (ap (cmd inListPassiveTargetCode inListPassiveTargetClock) polls) (poll-2 2 (suc k)));
         failing = λ r. follows .fails k r;
       }
 
       poll-0 : (k : ℕ)
-          → Awaits 21 0 cursor pending found (λ r. andThen (either (λ bs. ifElse (ltb (length bs) 1) (refuse ShortResponse) (ifElse (eqb (getD bs 0 0 % 4) 0) (command rfConfigurationCode commandClock (0x01 ∷ 0x01 ∷ []) (either (λ _. fieldPause (poll 2 code req)) refuse)) (poll 1 code req))) refuse r) k f)
+          → Awaits pollTypeFKind fieldStage cursor pending found (λ r. andThen (either (λ bs. ifElse (ltb (length bs) 1) (refuse ShortResponse) (ifElse (eqb (getD bs 0 0 % 4) 0) (command rfConfigurationCode commandClock (0x01 ∷ 0x01 ∷ []) (either (λ _. fieldPause (poll 2 code req)) refuse)) (poll 1 code req))) refuse r) k f)
       unfolding decidedOf failedOf pollDecision typeFDecision txControlRead commandOf isResetOf pollCommand typeFCommand pick
       poll-0 k = record {
         answered = λ cs few.
             then-long cs 1 k _ _
-            (then-if (eqb (getD cs 0 0 % 4) 0) k (send 1) (send 2) _ _ (go-on 1 rfConfigurationCode commandClock _ refl refl refl (poll-1 (suc k))) (go-on 2 inListPassiveTargetCode inListPassiveTargetClock (1 ∷ code ∷ req) refl refl (ap (cmd inListPassiveTargetCode inListPassiveTargetClock) polls) (poll-2 1 (suc k))));
+            (then-if (eqb (getD cs 0 0 % 4) 0) k (send rfOnStage) (send pollStage) _ _ (go-on rfOnStage rfConfigurationCode commandClock _ refl refl refl (poll-1 (suc k))) (go-on pollStage inListPassiveTargetCode inListPassiveTargetClock (1 ∷ code ∷ req) refl refl (ap (cmd inListPassiveTargetCode inListPassiveTargetClock) polls) (poll-2 1 (suc k))));
         failing = λ r. follows .fails k r;
       }
 
-      code-leads : (first : ℕ) → LeadsHere (send 0) (andThen (detectTypeF code req) first f)
+      code-refines : (first : ℕ) → RefinesHere (send fieldStage) (andThen (detectTypeF code req) first f)
       unfolding commandOf isResetOf pollCommand typeFCommand pick
-      code-leads first = go-on 0 readRegisterCode registersClock _ refl refl refl (poll-0 (suc first))
+      code-refines first = go-on fieldStage readRegisterCode registersClock _ refl refl refl (poll-0 (suc first))
 
 -- ---- the codes one after the other
 
@@ -153,24 +155,24 @@ module _ (code : ℕ) (words : List ℕ) (few : length words ≤ 32) where
     count = omega (arith, sym (length-drop (2 * cursor) words) ∙ ap length (at .left))
 
     -- the last code is finished
-    list-ends : (add : List Byte) → length ws < 2 → Refines 21 cursor pending found (codeFinished cursor pending found (map value add)) (finish (done (added add)))
+    list-ends : (add : List Byte) → length ws < 2 → Refines pollTypeFKind cursor pending found (codeFinished cursor pending found (map value add)) (finish (done (added add)))
     unfolding codeFinished pick
     list-ends add h =
         rw (has-no-next cursor pending (omega (arith, h, count))) (ending _ (ap done (values-added cursor first found bytes add (at .same))))
 
     -- another code follows
-    list-goes-on : (add : List Byte) (s : Script) → length add ≤ 17 → 2 ≤ length ws → Refines 21 (suc cursor) pending (soFar cursor found ++ map value add) (send 0) s
-        → Refines 21 cursor pending found (codeFinished cursor pending found (map value add)) s
+    list-goes-on : (add : List Byte) (s : Script) → length add ≤ 17 → 2 ≤ length ws → Refines pollTypeFKind (suc cursor) pending (soFar cursor found ++ map value add) (send fieldStage) s
+        → Refines pollTypeFKind cursor pending found (codeFinished cursor pending found (map value add)) s
     unfolding codeFinished pick
     list-goes-on add s short h l =
         let n : length (soFar cursor found ++ map value add) ≤ 1024
         = omega (arith, short, count, few, at .within, ap length (sym (values-added cursor first found bytes add (at .same))), length-map (added add) value, length-added cursor first found bytes add (at .same)) in
         let one : cursor + 1 ≡ suc cursor = omega arith in
-        rw (has-next cursor pending (omega (arith, h, count, few)) (omega (arith, h, count)), one) (refines-next 0 (suc cursor) _ s n l)
+        rw (has-next cursor pending (omega (arith, h, count, few)) (omega (arith, h, count)), one) (refines-next fieldStage (suc cursor) _ s n l)
 
     -- a code leads to its script where its end does
-    code-step : (codes : List ℕ) → ((k : ℕ) (add : List Byte) → length add ≤ 17 → Refines 21 cursor pending found (codeFinished cursor pending found (map value add)) (pollCodes code k (suc cursor) (added add) codes))
-        → Refines 21 cursor pending found (send 0) (pollCodes code first cursor bytes ((256 * high + low) ∷ codes))
+    code-step : (codes : List ℕ) → ((k : ℕ) (add : List Byte) → length add ≤ 17 → Refines pollTypeFKind cursor pending found (codeFinished cursor pending found (map value add)) (pollCodes code k (suc cursor) (added add) codes))
+        → Refines pollTypeFKind cursor pending found (send fieldStage) (pollCodes code first cursor bytes ((256 * high + low) ∷ codes))
     unfolding pollFailure
     code-step codes finishes =
         let f : ℕ → Answer Byte → Script = λ k a. codeEnd (λ add. pollCodes code k (suc cursor) (added add) codes) (λ r. finish (refusedAfter r cursor)) a in
@@ -178,7 +180,7 @@ module _ (code : ℕ) (words : List ℕ) (few : length words ≤ 32) where
           met = λ k bs. rw (values-taken 16 bs) at (finishes k (cardMet bs) (omega (arith, length-take 16 bs)));
           fails = λ k r. by-no-card (finishes k noCardMet (omega arith)) (ending (refusedAfter r cursor) refl) r;
         } in
-        code-leads cursor pending found f follows code _ (polls-code code words cursor high low ws (at .left)) first
+        code-refines cursor pending found f follows code _ (polls-code code words cursor high low ws (at .left)) first
 
   -- the next code, where there is one
   next-at : (cursor first high low x y : ℕ) (ws found : List ℕ) (bytes add : List Byte) (at : At cursor high low (x ∷ y ∷ ws) found bytes) → length add ≤ 17
@@ -197,7 +199,7 @@ module _ (code : ℕ) (words : List ℕ) (few : length words ≤ 32) where
       }
 
   codes-lead : (ws : List ℕ) (cursor first high low : ℕ) (found : List ℕ) (bytes : List Byte) → At cursor high low ws found bytes
-      → Refines 21 cursor (code ∷ words) found (send 0) (pollCodes code first cursor bytes ((256 * high + low) ∷ wordsIn ws))
+      → Refines pollTypeFKind cursor (code ∷ words) found (send fieldStage) (pollCodes code first cursor bytes ((256 * high + low) ∷ wordsIn ws))
   codes-lead [] cursor first high low found bytes at =
       code-step cursor first high low [] found bytes at [] (λ k add short. list-ends cursor first high low [] found bytes at add (omega arith))
   codes-lead (x ∷ []) cursor first high low found bytes at =
@@ -207,13 +209,13 @@ module _ (code : ℕ) (words : List ℕ) (few : length words ≤ 32) where
       (λ k add short. list-goes-on cursor first high low (x ∷ y ∷ ws) found bytes at add _ short (omega arith)
       (codes-lead ws (suc cursor) k x y (soFar cursor found ++ map value add) (bytes ++ map (behind first) add) (next-at cursor first high low x y ws found bytes add at short)))
 
-pub poll-leads : (code : ℕ) (words : List ℕ) → systemCodesFit words ≡ true → (found : List ℕ) → Refines 21 0 (code ∷ words) found (send 0) (pollTypeF code (wordsIn words))
-poll-leads code words fits found = go words (list-few words fits) some-code
+pub poll-refines : (code : ℕ) (words : List ℕ) → systemCodesFit words ≡ true → (found : List ℕ) → Refines pollTypeFKind 0 (code ∷ words) found (send fieldStage) (pollTypeF code (wordsIn words))
+poll-refines code words fits found = go words (list-few words fits) some-code
   where
     some-code : 1 ≤ length words / 2
     some-code = leb-true 1 (length words / 2) (both-left (leb 1 (length words / 2)) _ (both-right (eqb (length words % 2) 0) _ fits))
 
-    go : (l : List ℕ) → length l ≤ 32 → 1 ≤ length l / 2 → Refines 21 0 (code ∷ l) found (send 0) (pollTypeF code (wordsIn l))
+    go : (l : List ℕ) → length l ≤ 32 → 1 ≤ length l / 2 → Refines pollTypeFKind 0 (code ∷ l) found (send fieldStage) (pollTypeF code (wordsIn l))
     go [] few h = absurd (omega (arith, h))
     go (x ∷ []) few h = absurd (omega (arith, h))
     go (x ∷ y ∷ ws) few h =

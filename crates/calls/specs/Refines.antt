@@ -16,17 +16,18 @@ use Rattle.protocol.specs.Follows.{plainAnswer}
 use Rattle.stages.specs.Stages.{cmd, Decision, send, keep, next, put, pause, ends, withLength}
 use Rattle.calls.specs.Tables.{commandOf, isResetOf, decidedOf, failedOf}
 use Rattle.protocol.specs.Names.{fieldPauseTime}
+use Rattle.calls.specs.Kinds.{lastStage}
 
 -- A decision of a call of this kind, with its cursor, its pending command and its found bytes, leads to the script: both end with the same answer, or
 -- send the same command and go on so for every reply; what is kept or put by is what the later decisions see.
 pub data Refines (kind : ℕ) : ℕ → List ℕ → List ℕ → Decision → Script → Type 0 where
   refines-end : {cursor : ℕ} {pending found : List ℕ} (a : Answer Byte) (b : Answer ℕ) → plainAnswer a ≡ b → Refines kind cursor pending found (ends b) (finish a)
-  refines-send : {cursor : ℕ} {pending found : List ℕ} (n code clock : ℕ) (bytes : List ℕ) (k : Reply → Script) → leb n 9 ≡ true → isResetOf kind n ≡ false
+  refines-send : {cursor : ℕ} {pending found : List ℕ} (n code clock : ℕ) (bytes : List ℕ) (k : Reply → Script) → leb n lastStage ≡ true → isResetOf kind n ≡ false
       → commandOf kind n cursor pending ≡ cmd code clock bytes
       → ((cs : List ℕ) → length cs ≤ 1022 → Refines kind cursor pending found (decidedOf kind n cursor pending found cs) (k (response cs)))
       → ((r : Fault) → Refines kind cursor pending found (failedOf kind n cursor pending found r) (k (failed r)))
       → Refines kind cursor pending found (send n) (command code clock bytes k)
-  refines-reset : {cursor : ℕ} {pending found : List ℕ} (n : ℕ) (s : Script) → leb n 9 ≡ true → isResetOf kind n ≡ true
+  refines-reset : {cursor : ℕ} {pending found : List ℕ} (n : ℕ) (s : Script) → leb n lastStage ≡ true → isResetOf kind n ≡ true
       → commandOf kind n cursor pending ≡ cmd resetCode 100 resetData
       → Refines kind cursor pending found (decidedOf kind n cursor pending found []) s → Refines kind cursor pending found (send n) (reset s)
   refines-keep : {cursor : ℕ} {pending found : List ℕ} (n : ℕ) (l : List ℕ) (s : Script) → length l ≤ 1024 → Refines kind cursor pending l (send n) s
@@ -35,7 +36,7 @@ pub data Refines (kind : ℕ) : ℕ → List ℕ → List ℕ → Decision → S
       → Refines kind cursor pending found (next n later l) s
   refines-put : {cursor : ℕ} {pending found : List ℕ} (n : ℕ) (l : List ℕ) (s : Script) → length l ≤ 512 → Refines kind cursor l found (send n) s
       → Refines kind cursor pending found (put n l) s
-  refines-pause : {cursor : ℕ} {pending found : List ℕ} (n : ℕ) (s : Script) → leb n 9 ≡ true → Refines kind cursor pending found (send n) s
+  refines-pause : {cursor : ℕ} {pending found : List ℕ} (n : ℕ) (s : Script) → leb n lastStage ≡ true → Refines kind cursor pending found (send n) s
       → Refines kind cursor pending found (pause fieldPauseTime n) (fieldPause s)
 
 -- the command of a stage was sent: both its response and its failure lead on
@@ -86,6 +87,6 @@ module _ {kind cursor : ℕ} {pending found : List ℕ} where
   unfolding withLength
   by-length bs n h = refines-if (ltb (length bs) n) (λ _. refusal ShortResponse) (λ e. h (ltb-false (length bs) n e))
 
-  pub go-on : (n code clock : ℕ) (bytes : List ℕ) {k : Reply → Script} → leb n 9 ≡ true → isResetOf kind n ≡ false
+  pub go-on : (n code clock : ℕ) (bytes : List ℕ) {k : Reply → Script} → leb n lastStage ≡ true → isResetOf kind n ≡ false
       → commandOf kind n cursor pending ≡ cmd code clock bytes → Awaits kind n cursor pending found k → Refines kind cursor pending found (send n) (command code clock bytes k)
   go-on n code clock bytes h q p s = refines-send n code clock bytes _ h q p (s .answered) (s .failing)

@@ -1,4 +1,4 @@
--- Each call of one command: its response leads to what the script has.
+-- Each rule, and transceive: the response leads to what the script has.
 use mathlib.Core.Path.{_≡_, refl, sym, ap, _∙_}
 use mathlib.Core.Bool.{Bool, true, false}
 use mathlib.Core.List.{List, [], _∷_, _++_, map-append}
@@ -13,9 +13,8 @@ use Rattle.errors.specs.declared.Fault.{Fault}
 use Rattle.errors.specs.declared.Fault.the-variants.{ShortResponse, Status, CrcA, Rate}
 use Rattle.crc.specs.Crc.{typeA as crcA, checks}
 use Rattle.exchange.specs.Packets.{isEmpty}
-use Rattle.protocol.specs.Scripts.{Byte, own, value, Answer, done, nothing, refused, Script, finish, refuse, ifElse, part, rest, byteAt}
-use Rattle.protocol.specs.Chipset.{anyNonzero, statusByte, withStatus as statusThen, withLength as lengthThen, maskedStatus, moreFlag, sendIndex, receiveIndex, rate, versionBytes}
-use Rattle.protocol.specs.Calls.{finished, answer, rateBytes}
+use Rattle.protocol.specs.Scripts.{Byte, own, value, Answer, done, nothing, refused, Script, finish, refuse, ifElse, part, rest}
+use Rattle.protocol.specs.Rules.{anyNonzero, statusByte, withStatus as statusThen, withLength as lengthThen, maskedStatus, moreFlag, sendIndex, receiveIndex, finished, answer, ruleScript, version, registersWritten, firstByte, listedTarget, exchangedData, thru, jump, initiatorCommand, targetStatus}
 use Rattle.protocol.specs.Follows.{plainAnswer}
 use Rattle.protocol.specs.Values.{part-values, rest-values}
 use Rattle.chipset.specs.Responses.{withLength, withStatus, versionAnswer, writeAnswer, firstAnswer, listAnswer, exchangeAnswer, jumpAnswer, initiatorAnswer, targetAnswer}
@@ -32,8 +31,8 @@ pub record Interprets (s : Script) (a : Answer ℕ) : Type 0 where
   pub plain : plainAnswer answer ≡ a
 
 -- so it is what the response leads to
-pub leads : {kind cursor : ℕ} {pending found : List ℕ} {s : Script} {a : Answer ℕ} → Interprets s a → Refines kind cursor pending found (endsWith a) s
-leads j = rw (j .is) (refines-end (j .answer) _ (j .plain))
+pub answer-refines : {kind cursor : ℕ} {pending found : List ℕ} {s : Script} {a : Answer ℕ} → Interprets s a → Refines kind cursor pending found (endsWith a) s
+answer-refines j = rw (j .is) (refines-end (j .answer) _ (j .plain))
 
 pub ends : (a : Answer Byte) {b : Answer ℕ} → plainAnswer a ≡ b → Interprets (finish a) b
 ends a h = record { answer = a; is = refl; plain = h }
@@ -62,19 +61,19 @@ empty = ends (done []) refl
 
 -- ---- the rules
 
-pub interprets-version : (bs : List ℕ) → Interprets (lengthThen bs 4 (finish (done (versionBytes 0 (getD bs 0 0) (getD bs 1 0) (getD bs 2 0))))) (versionAnswer bs)
+pub interprets-version : (bs : List ℕ) → Interprets (ruleScript version bs) (versionAnswer bs)
 unfolding versionAnswer
 interprets-version bs = by-length bs 4 (λ h. ends _ (ap done (sym (first-three bs (omega arith)))))
 
-pub interprets-write : (bs : List ℕ) → Interprets (ifElse (anyNonzero bs) (refuse (Status registerWriteFailed)) finished) (writeAnswer bs)
+pub interprets-write : (bs : List ℕ) → Interprets (ruleScript registersWritten bs) (writeAnswer bs)
 unfolding writeAnswer
 interprets-write bs = interprets-if (anyNonzero bs) (λ _. refusing (Status registerWriteFailed)) (λ _. empty)
 
-pub interprets-first : (bs : List ℕ) → Interprets (lengthThen bs 1 (finish (done (byteAt 0 bs 0 ∷ [])))) (firstAnswer bs)
+pub interprets-first : (bs : List ℕ) → Interprets (ruleScript firstByte bs) (firstAnswer bs)
 unfolding firstAnswer
 interprets-first bs = by-length bs 1 (λ h. ends _ (ap done (sym (ap (take 1) (drop-cons bs 0 0 (omega arith))))))
 
-pub interprets-list : (bs : List ℕ) → Interprets (ifElse (eqb (getD bs 0 0) 0) (finish nothing) (lengthThen bs 2 (answer 2 bs))) (listAnswer bs)
+pub interprets-list : (bs : List ℕ) → Interprets (ruleScript listedTarget bs) (listAnswer bs)
 unfolding listAnswer
 interprets-list bs = interprets-if (eqb (getD bs 0 0) 0) (λ _. ends nothing refl) (λ _. by-length bs 2 (λ _. answers 2 bs))
 
@@ -82,12 +81,10 @@ pub empty-length : (bs : List ℕ) → isEmpty bs ≡ eqb (length bs) 0
 empty-length [] = refl
 empty-length (b ∷ bs) = sym (ne-eqb (suc (length bs)) 0 (λ e. omega (arith, e)))
 
-pub interprets-thru : (bs : List ℕ) → Interprets (statusThen bs (answer 1 bs)) (withStatus bs (done (drop 1 bs)))
+pub interprets-thru : (bs : List ℕ) → Interprets (ruleScript thru bs) (withStatus bs (done (drop 1 bs)))
 interprets-thru bs = by-status bs (answers 1 bs)
 
-pub interprets-exchange : (bs : List ℕ)
-    → Interprets (ifElse (isEmpty bs) (refuse (Status noData)) (ifElse (eqb (maskedStatus bs) 0) (finish (done (rest 0 bs 1 ++ (own (moreFlag bs) ∷ [])))) (refuse (Status (maskedStatus bs)))))
-    (exchangeAnswer bs)
+pub interprets-exchange : (bs : List ℕ) → Interprets (ruleScript exchangedData bs) (exchangeAnswer bs)
 unfolding exchangeAnswer
 interprets-exchange bs =
     rw (sym (empty-length bs))
@@ -114,23 +111,15 @@ interprets-type1 bs =
     rw (sym (empty-length bs))
     (interprets-if (isEmpty bs) (λ _. refusing (Status noData)) (λ _. interprets-if (eqb (maskedStatus bs) 0) (λ _. answers 1 bs) (λ _. refusing (Status (maskedStatus bs)))))
 
-pub interprets-jump : (bs : List ℕ) → Interprets (statusThen bs (lengthThen bs 2 (answer 2 bs))) (jumpAnswer bs)
+pub interprets-jump : (bs : List ℕ) → Interprets (ruleScript jump bs) (jumpAnswer bs)
 unfolding jumpAnswer
 interprets-jump bs = by-status bs (by-length bs 2 (λ _. answers 2 bs))
 
-pub interprets-initiator : (bs : List ℕ) → Interprets (ifElse (eqb (statusByte bs) 0) (answer 1 bs) (finish nothing)) (initiatorAnswer bs)
+pub interprets-initiator : (bs : List ℕ) → Interprets (ruleScript initiatorCommand bs) (initiatorAnswer bs)
 unfolding initiatorAnswer
 interprets-initiator bs = interprets-if (eqb (statusByte bs) 0) (λ _. answers 1 bs) (λ _. ends nothing refl)
 
-abbrev targetScript : List ℕ → ℕ → ℕ → Script
-targetScript bs send receive = finish (done (byteAt 0 bs 0 ∷ (rateBytes send ++ rateBytes receive)))
-
-pub interprets-target : (bs : List ℕ)
-    → Interprets (lengthThen bs 2
-    (ifElse (eqb (getD bs 0 0) 1)
-    (ifElse (ltb 2 (sendIndex bs)) (refuse Rate) (ifElse (ltb 2 (receiveIndex bs)) (refuse Rate) (targetScript bs (rate (sendIndex bs)) (rate (receiveIndex bs)))))
-    (targetScript bs 0 0)))
-    (targetAnswer bs)
+pub interprets-target : (bs : List ℕ) → Interprets (ruleScript targetStatus bs) (targetAnswer bs)
 unfolding targetAnswer
 interprets-target bs =
     by-length bs 2

@@ -12,26 +12,25 @@ use Rattle.errors.specs.Choice.{pick}
 use Rattle.errors.specs.declared.Refusal.{Refusal}
 use Rattle.errors.specs.declared.Refusal.the-variants.{OverLong, BadArgument, Bitrate as BadBitrate, NotSendable}
 use Rattle.errors.specs.declared.Fault.{Fault}
-use Rattle.framing.specs.Lists.{both}
 use Rattle.framing.specs.Valid.{both-right}
 use Rattle.exchange.specs.Packets.{Reply}
 use Rattle.targets.specs.Bitrates.{Choice, chosen, noCode, choiceOf}
 use Rattle.targets.specs.declared.Bitrate.{Bitrate}
-use Rattle.protocol.specs.Scripts.{Answer, Script, command, either, refuse}
-use Rattle.protocol.specs.Chipset.{jumpData, initData}
+use Rattle.protocol.specs.Scripts.{Answer, Script, command, either, refuse, ask, ifElse}
+use Rattle.protocol.specs.Rules.{Rule, version, noBytes, allBytes, registersWritten, firstByte, listedTarget, exchangedData, thru, jump, status, initiatorCommand, targetStatus, ruleScript}
 use Rattle.protocol.specs.Discovery.{cascaded, sensfReq, detectDep as depScript, transceiveType1, transceiveType2, transceiveThru}
-use Rattle.protocol.specs.Scripts.{ifElse}
 use Rattle.protocol.specs.Blocks.{readBlocks, writeBlocks}
-use Rattle.protocol.specs.Calls.{Request, version, resetMode, setParameters, rfConfiguration, rfFieldOff, readRegister, writeRegister, readSingleRegister, writeSingleRegister, inListPassiveTarget, inDataExchange, inCommunicateThru, inJumpForDep, tgInitTarget, tgSetGeneralBytes, tgGetInitiatorCommand, tgResponseToInitiator, tgGetTargetStatus}
+use Rattle.protocol.specs.Calls.{Row, row, resets, rowOf, inCommunicateThruCode, inDataExchangeCode, ReaderCall, request, device, unknown}
 use Rattle.protocol.specs.Calls.{DeviceCall, detectTypeA, detectTypeASplit, detectTypeB, detectTypeF, pollTypeF, detectDep, transceive, readWithoutEncryption, writeWithoutEncryption}
-use Rattle.protocol.specs.Calls.{ReaderCall, request, device, unknown, Start, starts, requestStart, deviceStart, readerStart, finished, registers, systemCodesFit, initFits, activeByte, typeACode, typeBCode, typeFCode, depCode, is106A, type2SelRes, isSendable, clockOf, transceiveStart}
-use Rattle.protocol.specs.Calls.{refuses as refusesStart, limited as limitedStart, asserted as assertedStart, onCode as codeStart, withBitrate as bitrateStart}
+use Rattle.protocol.specs.Starts.{Start, starts, rowStart, deviceStart, readerStart, typeACode, typeBCode, typeFCode, depCode, is106A, type2SelRes, isSendable, clockOf, transceiveStart}
+use Rattle.protocol.specs.Arguments.{systemCodesFit, atrReqFits}
+use Rattle.protocol.specs.Starts.{refuses as refusesStart, limited as limitedStart, asserted as assertedStart, onCode as codeStart, withBitrate as bitrateStart}
 use Rattle.stages.specs.Stages.{cmd, send, ends, refuse as refuseWith}
 use Rattle.stages.specs.Starts.{refuses, sends, staged, limited, stagedLimited, asserted}
 use Rattle.stages.specs.Starts as stages
 use Rattle.stages.specs.Bitrates.{onCode, withBitrate, codeFor}
-use Rattle.chipset.specs.Commands.{firstOf}
-use Rattle.chipset.specs.Laws.{few-words, few-triples}
+use Rattle.chipset.specs.Commands.{rowFirst, firstOf}
+use Rattle.chipset.specs.Kinds.{kindOf, versionKind, resetModeKind, noBytesKind, allBytesKind, registersWrittenKind, firstByteKind, listedTargetKind, exchangedDataKind, thruKind, jumpKind, statusKind, initiatorCommandKind, targetStatusKind}
 use Rattle.chipset.specs.Responses.{answerOf}
 use Rattle.device.specs.Transceive.{type1First, thruFirst, transceiveFirst}
 use Rattle.device.specs.Blocks.{readFirst, writeFirst, readAnswer, writeAnswer}
@@ -41,49 +40,51 @@ use Rattle.discovery.specs.FirstLaws.{jump-few, list-few}
 use Rattle.calls.specs.Firsts.{deviceFirst, startFor}
 use Rattle.calls.specs.Tables.{commandOf, isResetOf, decidedOf, failedOf}
 use Rattle.calls.specs.Refines.{Refines, refines-reset, Awaits, refusal}
-use Rattle.calls.specs.Single.{Interprets, leads, answers, empty, by-status, interprets-version, interprets-write, interprets-first, interprets-list, interprets-exchange, interprets-thru, interprets-type2, interprets-type1, interprets-jump, interprets-initiator, interprets-target}
-use Rattle.calls.specs.TypeA.{typeA-leads, split-leads}
-use Rattle.calls.specs.Discoveries.{typeB-leads, typeF-leads, dep-leads}
+use Rattle.calls.specs.Single.{Interprets, answer-refines, answers, empty, by-status, interprets-version, interprets-write, interprets-first, interprets-list, interprets-exchange, interprets-thru, interprets-type2, interprets-type1, interprets-jump, interprets-initiator, interprets-target}
+use Rattle.calls.specs.TypeA.{typeA-refines, split-refines}
+use Rattle.calls.specs.Discoveries.{typeB-refines, typeF-refines, dep-refines}
 use Rattle.calls.specs.Blocks.{read-length, write-length, interprets-read, interprets-written}
-use Rattle.calls.specs.Polls.{poll-leads}
-use Rattle.protocol.specs.Names.{commandClock, getFirmwareVersionCode, inCommunicateThruCode, inDataExchangeCode, inJumpForDepClock, inJumpForDepCode, inListPassiveTargetClock, inListPassiveTargetCode, readRegisterCode, registersClock, rfConfigurationCode, setParametersCode, tgGetInitiatorCommandCode, tgGetTargetStatusCode, tgInitTargetCode, tgResponseToInitiatorClock, tgResponseToInitiatorCode, tgSetGeneralBytesCode, writeRegisterCode}
+use Rattle.calls.specs.Polls.{poll-refines}
+use Rattle.device.specs.Kinds.{openingKind, type2Kind, type1Kind, readBlocksKind, writeBlocksKind}
+use Rattle.discovery.specs.Kinds.{typeAKind, typeBKind, typeFKind, depKind, pollTypeFKind, typeASplitKind}
+use Rattle.calls.specs.Kinds.{noCallKind, lastKind, firstStage}
 
 -- a kind of a call of an open reader
 pub record Kind (kind : ℕ) : Type 0 where
-  pub running : eqb kind 0 ≡ false
-  pub noOpening : eqb kind 1 ≡ false
-  pub within : leb kind 24 ≡ true
+  pub running : eqb kind noCallKind ≡ false
+  pub noOpening : eqb kind openingKind ≡ false
+  pub within : leb kind lastKind ≡ true
 
-a-kind : {kind : ℕ} → eqb kind 0 ≡ false → eqb kind 1 ≡ false → leb kind 24 ≡ true → Kind kind
+a-kind : {kind : ℕ} → eqb kind noCallKind ≡ false → eqb kind openingKind ≡ false → leb kind lastKind ≡ true → Kind kind
 a-kind p q r = record { running = p; noOpening = q; within = r }
 
 -- both refuse; the script's first command is the one sent; or the command of stage 0 leads to the script
 pub data Starting : Start → stages.Start → Type 0 where
   refusedNow : (r : Refusal) → Starting (refusesStart r) (refuses r)
-  first : (kind code clock : ℕ) (bytes : List ℕ) (k : Reply → Script) → Kind kind → isResetOf kind 0 ≡ false → length bytes ≤ 512
-      → ((found : List ℕ) → Awaits kind 0 0 bytes found k) → Starting (starts (command code clock bytes k)) (sends kind (cmd code clock bytes))
-  leading : (kind : ℕ) (pending : List ℕ) (s : Script) → Kind kind → length pending ≤ 512 → ((found : List ℕ) → Refines kind 0 pending found (send 0) s)
+  first : (kind code clock : ℕ) (bytes : List ℕ) (k : Reply → Script) → Kind kind → isResetOf kind firstStage ≡ false → length bytes ≤ 512
+      → ((found : List ℕ) → Awaits kind firstStage 0 bytes found k) → Starting (starts (command code clock bytes k)) (sends kind (cmd code clock bytes))
+  leading : (kind : ℕ) (pending : List ℕ) (s : Script) → Kind kind → length pending ≤ 512 → ((found : List ℕ) → Refines kind 0 pending found (send firstStage) s)
       → Starting (starts s) (staged kind pending)
 
 -- ---- a call of one command
 
 -- the response leads to the answer a
 pub record Reads (kind : ℕ) (bytes : List ℕ) (f : List ℕ → Script) (a : List ℕ → Answer ℕ) : Type 0 where
-  decides : (found bs : List ℕ) → decidedOf kind 0 0 bytes found bs ≡ ends (a bs)
-  fails : (found : List ℕ) (r : Fault) → failedOf kind 0 0 bytes found r ≡ refuseWith r
-  judged : (bs : List ℕ) → Interprets (f bs) (a bs)
+  decides : (found bs : List ℕ) → decidedOf kind firstStage 0 bytes found bs ≡ ends (a bs)
+  fails : (found : List ℕ) (r : Fault) → failedOf kind firstStage 0 bytes found r ≡ refuseWith r
+  interprets : (bs : List ℕ) → Interprets (f bs) (a bs)
 
-reads : {kind : ℕ} {bytes : List ℕ} {f : List ℕ → Script} {a : List ℕ → Answer ℕ} → ((found bs : List ℕ) → decidedOf kind 0 0 bytes found bs ≡ ends (a bs))
-    → ((found : List ℕ) (r : Fault) → failedOf kind 0 0 bytes found r ≡ refuseWith r) → ((bs : List ℕ) → Interprets (f bs) (a bs)) → Reads kind bytes f a
-reads p q r = record { decides = p; fails = q; judged = r }
+reads : {kind : ℕ} {bytes : List ℕ} {f : List ℕ → Script} {a : List ℕ → Answer ℕ} → ((found bs : List ℕ) → decidedOf kind firstStage 0 bytes found bs ≡ ends (a bs))
+    → ((found : List ℕ) (r : Fault) → failedOf kind firstStage 0 bytes found r ≡ refuseWith r) → ((bs : List ℕ) → Interprets (f bs) (a bs)) → Reads kind bytes f a
+reads p q r = record { decides = p; fails = q; interprets = r }
 
-single : (kind code clock : ℕ) (bytes : List ℕ) (f : List ℕ → Script) (a : List ℕ → Answer ℕ) → Kind kind → isResetOf kind 0 ≡ false → length bytes ≤ 512 → Reads kind bytes f a
+single : (kind code clock : ℕ) (bytes : List ℕ) (f : List ℕ → Script) (a : List ℕ → Answer ℕ) → Kind kind → isResetOf kind firstStage ≡ false → length bytes ≤ 512 → Reads kind bytes f a
     → Starting (starts (command code clock bytes (either f refuse))) (sends kind (cmd code clock bytes))
 single kind code clock bytes f a h q few k =
     first kind code clock bytes (either f refuse) h q few
-    (λ found. record { answered = λ cs _. rw (k .decides found cs) (leads (k .judged cs)); failing = λ e. rw (k .fails found e) (refusal e) })
+    (λ found. record { answered = λ cs _. rw (k .decides found cs) (answer-refines (k .interprets cs)); failing = λ e. rw (k .fails found e) (refusal e) })
 
-single-limited : (kind code clock : ℕ) (bytes : List ℕ) (f : List ℕ → Script) (a : List ℕ → Answer ℕ) → Kind kind → isResetOf kind 0 ≡ false → Reads kind bytes f a
+single-limited : (kind code clock : ℕ) (bytes : List ℕ) (f : List ℕ → Script) (a : List ℕ → Answer ℕ) → Kind kind → isResetOf kind firstStage ≡ false → Reads kind bytes f a
     → Starting (limitedStart bytes (command code clock bytes (either f refuse))) (limited kind (cmd code clock bytes))
 unfolding limited pick
 single-limited kind code clock bytes f a h q k = go (ltb 512 (length bytes)) refl
@@ -98,28 +99,26 @@ unfolding asserted pick
 begins-asserted true h = h refl
 begins-asserted false h = refusedNow BadArgument
 
--- one line for each call
-request-begins : (q : Request) → Starting (requestStart q) (firstOf q)
-unfolding firstOf answerOf decidedOf failedOf isResetOf commandOf pick
-request-begins version = single 2 getFirmwareVersionCode commandClock [] _ _ (a-kind refl refl refl) refl (omega arith) (reads (λ _ _. refl) (λ _ _. refl) interprets-version)
-request-begins resetMode = leading 3 [] _ (a-kind refl refl refl) (omega arith) (λ found. refines-reset 0 _ refl refl refl (leads empty))
-request-begins (setParameters flags) = single 4 setParametersCode commandClock _ _ _ (a-kind refl refl refl) refl (omega arith) (reads (λ _ _. refl) (λ _ _. refl) (λ _. empty))
-request-begins (rfConfiguration item bytes) = single-limited 4 rfConfigurationCode commandClock (item ∷ bytes) _ _ (a-kind refl refl refl) refl (reads (λ _ _. refl) (λ _ _. refl) (λ _. empty))
-request-begins rfFieldOff = single 4 rfConfigurationCode commandClock _ _ _ (a-kind refl refl refl) refl (omega arith) (reads (λ _ _. refl) (λ _ _. refl) (λ _. empty))
-request-begins (readRegister addresses) = begins-asserted (registers 2 addresses) (λ h. single 5 readRegisterCode registersClock addresses _ _ (a-kind refl refl refl) refl (few-words addresses h) (reads (λ _ _. refl) (λ _ _. refl) (answers 0)))
-request-begins (writeRegister values) = begins-asserted (registers 3 values) (λ h. single 6 writeRegisterCode registersClock values _ _ (a-kind refl refl refl) refl (few-triples values h) (reads (λ _ _. refl) (λ _ _. refl) interprets-write))
-request-begins (readSingleRegister address) = single 7 readRegisterCode registersClock _ _ _ (a-kind refl refl refl) refl (omega arith) (reads (λ _ _. refl) (λ _ _. refl) interprets-first)
-request-begins (writeSingleRegister address value) = single 6 writeRegisterCode registersClock _ _ _ (a-kind refl refl refl) refl (omega arith) (reads (λ _ _. refl) (λ _ _. refl) interprets-write)
-request-begins (inListPassiveTarget maxTg bitrate bytes) = single-limited 8 inListPassiveTargetCode inListPassiveTargetClock (maxTg ∷ bitrate ∷ bytes) _ _ (a-kind refl refl refl) refl (reads (λ _ _. refl) (λ _ _. refl) interprets-list)
-request-begins (inDataExchange bytes ms) = single-limited 9 inDataExchangeCode ms (0x01 ∷ bytes) _ _ (a-kind refl refl refl) refl (reads (λ _ _. refl) (λ _ _. refl) interprets-exchange)
-request-begins (inCommunicateThru bytes ms) = single-limited 10 inCommunicateThruCode ms bytes _ _ (a-kind refl refl refl) refl (reads (λ _ _. refl) (λ _ _. refl) interprets-thru)
-request-begins (inJumpForDep active br passive nfcid3 gi) = single-limited 11 inJumpForDepCode inJumpForDepClock (jumpData (activeByte active) br passive nfcid3 gi) _ _ (a-kind refl refl refl) refl (reads (λ _ _. refl) (λ _ _. refl) interprets-jump)
-request-begins (tgInitTarget mode mifare felica nfcid3t gt ms) =
-    begins-asserted (initFits mode mifare felica nfcid3t) (λ _. single-limited 5 tgInitTargetCode ms (initData mode mifare felica nfcid3t gt) _ _ (a-kind refl refl refl) refl (reads (λ _ _. refl) (λ _ _. refl) (answers 0)))
-request-begins (tgSetGeneralBytes gb) = single-limited 12 tgSetGeneralBytesCode commandClock gb _ _ (a-kind refl refl refl) refl (reads (λ _ _. refl) (λ _ _. refl) (λ bs. by-status bs empty))
-request-begins (tgGetInitiatorCommand ms) = single 13 tgGetInitiatorCommandCode ms _ _ _ (a-kind refl refl refl) refl (omega arith) (reads (λ _ _. refl) (λ _ _. refl) interprets-initiator)
-request-begins (tgResponseToInitiator bytes) = single-limited 12 tgResponseToInitiatorCode tgResponseToInitiatorClock bytes _ _ (a-kind refl refl refl) refl (reads (λ _ _. refl) (λ _ _. refl) (λ bs. by-status bs empty))
-request-begins tgGetTargetStatus = single 14 tgGetTargetStatusCode commandClock _ _ _ (a-kind refl refl refl) refl (omega arith) (reads (λ _ _. refl) (λ _ _. refl) interprets-target)
+-- a command of any row, a line for each rule
+rule-begins : (code clock : ℕ) (bytes : List ℕ) (q : Rule) → Starting (limitedStart bytes (ask code clock bytes (ruleScript q))) (limited (kindOf q) (cmd code clock bytes))
+unfolding answerOf decidedOf failedOf isResetOf pick
+rule-begins code clock bytes version = single-limited versionKind code clock bytes _ _ (a-kind refl refl refl) refl (reads (λ _ _. refl) (λ _ _. refl) interprets-version)
+rule-begins code clock bytes noBytes = single-limited noBytesKind code clock bytes _ _ (a-kind refl refl refl) refl (reads (λ _ _. refl) (λ _ _. refl) (λ _. empty))
+rule-begins code clock bytes allBytes = single-limited allBytesKind code clock bytes _ _ (a-kind refl refl refl) refl (reads (λ _ _. refl) (λ _ _. refl) (answers 0))
+rule-begins code clock bytes registersWritten = single-limited registersWrittenKind code clock bytes _ _ (a-kind refl refl refl) refl (reads (λ _ _. refl) (λ _ _. refl) interprets-write)
+rule-begins code clock bytes firstByte = single-limited firstByteKind code clock bytes _ _ (a-kind refl refl refl) refl (reads (λ _ _. refl) (λ _ _. refl) interprets-first)
+rule-begins code clock bytes listedTarget = single-limited listedTargetKind code clock bytes _ _ (a-kind refl refl refl) refl (reads (λ _ _. refl) (λ _ _. refl) interprets-list)
+rule-begins code clock bytes exchangedData = single-limited exchangedDataKind code clock bytes _ _ (a-kind refl refl refl) refl (reads (λ _ _. refl) (λ _ _. refl) interprets-exchange)
+rule-begins code clock bytes thru = single-limited thruKind code clock bytes _ _ (a-kind refl refl refl) refl (reads (λ _ _. refl) (λ _ _. refl) interprets-thru)
+rule-begins code clock bytes jump = single-limited jumpKind code clock bytes _ _ (a-kind refl refl refl) refl (reads (λ _ _. refl) (λ _ _. refl) interprets-jump)
+rule-begins code clock bytes status = single-limited statusKind code clock bytes _ _ (a-kind refl refl refl) refl (reads (λ _ _. refl) (λ _ _. refl) (λ bs. by-status bs empty))
+rule-begins code clock bytes initiatorCommand = single-limited initiatorCommandKind code clock bytes _ _ (a-kind refl refl refl) refl (reads (λ _ _. refl) (λ _ _. refl) interprets-initiator)
+rule-begins code clock bytes targetStatus = single-limited targetStatusKind code clock bytes _ _ (a-kind refl refl refl) refl (reads (λ _ _. refl) (λ _ _. refl) interprets-target)
+
+row-begins : (w : Row) → Starting (rowStart w) (rowFirst w)
+unfolding isResetOf commandOf decidedOf answerOf pick
+row-begins (row holds code clock bytes q) = begins-asserted holds (λ _. rule-begins code clock bytes q)
+row-begins resets = leading resetModeKind [] _ (a-kind refl refl refl) (omega arith) (λ found. refines-reset firstStage _ refl refl refl (answer-refines empty))
 
 -- ---- a discovery, or transceive
 
@@ -137,7 +136,7 @@ by-code takes text f g h = go (choiceOf text)
     go (noCode e) = refusedNow BadBitrate
 
 -- Type A's list, of a kind that has its stages
-list-begins : (kind : ℕ) → Kind kind → (uid : List ℕ) (code : ℕ) (s : Script) → ((found : List ℕ) → Refines kind 0 (1 ∷ code ∷ cascaded uid) found (send 0) s)
+list-begins : (kind : ℕ) → Kind kind → (uid : List ℕ) (code : ℕ) (s : Script) → ((found : List ℕ) → Refines kind 0 (1 ∷ code ∷ cascaded uid) found (send firstStage) s)
     → Starting (limitedStart (1 ∷ code ∷ cascaded uid) s) (listFirst kind uid code)
 unfolding listFirst stagedLimited pick
 list-begins kind h uid code s k = go (ltb 512 (length (1 ∷ code ∷ cascaded uid))) refl
@@ -149,21 +148,21 @@ list-begins kind h uid code s k = go (ltb 512 (length (1 ∷ code ∷ cascaded u
 
 dep-begins : (req : List ℕ) → length req ≤ 64 → (code : ℕ) → Starting (starts (depScript code req)) (depFirst req code)
 unfolding depFirst
-dep-begins req h code = leading 20 _ _ (a-kind refl refl refl) (jump-few req code h) (dep-leads code req)
+dep-begins req h code = leading depKind _ _ (a-kind refl refl refl) (jump-few req code h) (dep-refines code req)
 
 transceive-begins : (rate : Bitrate) (selRes : List ℕ) (ridRes : Bool) (bytes : List ℕ) (ms : ℕ)
     → Starting (transceiveStart rate selRes ridRes bytes ms) (pick ridRes (type1First bytes ms) (thruFirst rate selRes bytes ms))
 unfolding type1First thruFirst answerOf decidedOf failedOf isResetOf pick
 transceive-begins rate selRes true bytes ms = go (isSendable bytes)
   where
-    go : (t : Bool) → Starting (cond t (limitedStart (0x01 ∷ bytes) (transceiveType1 bytes ms)) (refusesStart NotSendable)) (pick t (limited 16 (cmd inDataExchangeCode ms (0x01 ∷ bytes))) (refuses NotSendable))
-    go true = single-limited 16 inDataExchangeCode ms (0x01 ∷ bytes) _ _ (a-kind refl refl refl) refl (reads (λ _ _. refl) (λ _ _. refl) interprets-type1)
+    go : (t : Bool) → Starting (cond t (limitedStart (0x01 ∷ bytes) (transceiveType1 bytes ms)) (refusesStart NotSendable)) (pick t (limited type1Kind (cmd inDataExchangeCode ms (0x01 ∷ bytes))) (refuses NotSendable))
+    go true = single-limited type1Kind inDataExchangeCode ms (0x01 ∷ bytes) _ _ (a-kind refl refl refl) refl (reads (λ _ _. refl) (λ _ _. refl) interprets-type1)
     go false = refusedNow NotSendable
 transceive-begins rate selRes false bytes ms = go (is106A rate && type2SelRes selRes)
   where
-    go : (t : Bool) → Starting (limitedStart bytes (ifElse t (transceiveType2 bytes ms) (transceiveThru bytes ms))) (limited (pick t 15 10) (cmd inCommunicateThruCode ms bytes))
-    go true = single-limited 15 inCommunicateThruCode ms bytes _ _ (a-kind refl refl refl) refl (reads (λ _ _. refl) (λ _ _. refl) interprets-type2)
-    go false = single-limited 10 inCommunicateThruCode ms bytes _ _ (a-kind refl refl refl) refl (reads (λ _ _. refl) (λ _ _. refl) interprets-thru)
+    go : (t : Bool) → Starting (limitedStart bytes (ifElse t (transceiveType2 bytes ms) (transceiveThru bytes ms))) (limited (pick t type2Kind thruKind) (cmd inCommunicateThruCode ms bytes))
+    go true = single-limited type2Kind inCommunicateThruCode ms bytes _ _ (a-kind refl refl refl) refl (reads (λ _ _. refl) (λ _ _. refl) interprets-type2)
+    go false = single-limited thruKind inCommunicateThruCode ms bytes _ _ (a-kind refl refl refl) refl (reads (λ _ _. refl) (λ _ _. refl) interprets-thru)
 
 -- a read and a write of FeliCa blocks
 read-begins : (idm : List ℕ) (service : ℕ) (blocks : List ℕ) (ms : ℕ)
@@ -171,7 +170,7 @@ read-begins : (idm : List ℕ) (service : ℕ) (blocks : List ℕ) (ms : ℕ)
 unfolding readFirst decidedOf failedOf isResetOf pick
 read-begins idm service blocks ms =
     begins-asserted (requestFits idm blocks)
-    (λ h. single 23 inCommunicateThruCode ms (readRequest idm service blocks) _ (readAnswer (readRequest idm service blocks)) (a-kind refl refl refl) refl (read-length idm service blocks h)
+    (λ h. single readBlocksKind inCommunicateThruCode ms (readRequest idm service blocks) _ (readAnswer (readRequest idm service blocks)) (a-kind refl refl refl) refl (read-length idm service blocks h)
     (reads (λ _ _. refl) (λ _ _. refl) (interprets-read idm service blocks h)))
 
 write-begins : (idm : List ℕ) (service : ℕ) (blocks bytes : List ℕ) (ms : ℕ)
@@ -179,24 +178,24 @@ write-begins : (idm : List ℕ) (service : ℕ) (blocks bytes : List ℕ) (ms : 
 unfolding writeFirst decidedOf failedOf isResetOf pick
 write-begins idm service blocks bytes ms =
     begins-asserted (writeFits idm blocks bytes)
-    (λ h. single 24 inCommunicateThruCode ms (writeRequest idm service blocks bytes) _ (writeAnswer (writeRequest idm service blocks bytes)) (a-kind refl refl refl) refl (write-length idm service blocks bytes h)
+    (λ h. single writeBlocksKind inCommunicateThruCode ms (writeRequest idm service blocks bytes) _ (writeAnswer (writeRequest idm service blocks bytes)) (a-kind refl refl refl) refl (write-length idm service blocks bytes h)
     (reads (λ _ _. refl) (λ _ _. refl) (interprets-written idm service blocks bytes h)))
 
 -- one line for each call
 device-begins : (d : DeviceCall) → Starting (deviceStart d) (deviceFirst d)
 unfolding deviceFirst typeBFirst typeFFirst pollAsserted pollFirst depAsserted transceiveFirst
-device-begins (detectTypeA text uid) = by-code typeACode text _ _ (λ code. list-begins 17 (a-kind refl refl refl) uid code _ (typeA-leads code uid))
-device-begins (detectTypeASplit text uid) = by-code typeACode text _ _ (λ code. list-begins 22 (a-kind refl refl refl) uid code _ (split-leads code uid))
+device-begins (detectTypeA text uid) = by-code typeACode text _ _ (λ code. list-begins typeAKind (a-kind refl refl refl) uid code _ (typeA-refines code uid))
+device-begins (detectTypeASplit text uid) = by-code typeACode text _ _ (λ code. list-begins typeASplitKind (a-kind refl refl refl) uid code _ (split-refines code uid))
 device-begins (detectTypeB text sensbReq) =
-    by-code typeBCode text _ _ (λ code. leading 18 _ _ (a-kind refl refl refl) (omega arith) (typeB-leads code (getD sensbReq 0 0)))
+    by-code typeBCode text _ _ (λ code. leading typeBKind _ _ (a-kind refl refl refl) (omega arith) (typeB-refines code (getD sensbReq 0 0)))
 device-begins (detectTypeF text systemCode requestCode timeSlots) =
     by-code typeFCode text _ _
-    (λ code. leading 19 _ _ (a-kind refl refl refl) (omega arith) (typeF-leads code (sensfReq systemCode requestCode timeSlots)))
+    (λ code. leading typeFKind _ _ (a-kind refl refl refl) (omega arith) (typeF-refines code (sensfReq systemCode requestCode timeSlots)))
 device-begins (pollTypeF text words) =
     begins-asserted (systemCodesFit words)
-    (λ h. by-code typeFCode text _ _ (λ code. leading 21 _ _ (a-kind refl refl refl) (omega (arith, list-few words h)) (poll-leads code words h)))
+    (λ h. by-code typeFCode text _ _ (λ code. leading pollTypeFKind _ _ (a-kind refl refl refl) (omega (arith, list-few words h)) (poll-refines code words h)))
 device-begins (detectDep text atrReq) =
-    begins-asserted (both (leb 16 (length atrReq)) (leb (length atrReq) 64))
+    begins-asserted (atrReqFits atrReq)
     (λ h. by-code depCode text _ _ (dep-begins atrReq (leb-true (length atrReq) 64 (both-right (leb 16 (length atrReq)) _ h))))
 device-begins (transceive text selRes ridRes bytes ms) = go (choiceOf text)
   where
@@ -209,7 +208,7 @@ device-begins (readWithoutEncryption idm service blocks ms) = read-begins idm se
 device-begins (writeWithoutEncryption idm service blocks bytes ms) = write-begins idm service blocks bytes (clockOf ms)
 
 pub reader-begins : (q : ReaderCall) → Starting (readerStart q) (startFor q)
-unfolding startFor
-reader-begins (request r) = request-begins r
+unfolding startFor firstOf
+reader-begins (request r) = row-begins (rowOf r)
 reader-begins (device d) = device-begins d
 reader-begins unknown = refusedNow BadArgument

@@ -13,7 +13,8 @@ use Rattle.errors.specs.declared.Fault.the-variants.{Status, ShortResponse, Uid
 use Rattle.exchange.specs.Packets.{Reply, response, isEmpty}
 use Rattle.targets.specs.TypeA.{isTargetData}
 use Rattle.protocol.specs.Scripts.{Byte, Answer, done, type1, uidAndAts, nothing, refused, Script, finish, command, either, refuse, ifElse, byteAt, rest}
-use Rattle.protocol.specs.Chipset.{anyNonzero, maskedStatus, word}
+use Rattle.protocol.specs.Rules.{anyNonzero, maskedStatus}
+use Rattle.protocol.specs.Arguments.{word}
 use Rattle.protocol.specs.Discovery.{detectTypeA, detectTypeASplit, cascaded, isType2, cardA, uidLength, atsLength, foundA, foundSplit, noneOnStatus, cardType1, tryType1, noTarget}
 use Rattle.protocol.specs.Follows.{plainAnswer}
 use Rattle.protocol.specs.Values.{rest-values}
@@ -23,7 +24,9 @@ use Rattle.discovery.specs.Decisions.{typeACommand, cardBytes, listedA, fifoRea
 use Rattle.calls.specs.Tables.{commandOf, isResetOf, decidedOf, failedOf}
 use Rattle.calls.specs.Refines.{Refines, refines-keep, refines-next, refines-put, Awaits, refines-if, refines-status, ending, none-found, refusal, by-length, go-on}
 use Rattle.calls.specs.Single.{empty-length}
-use Rattle.protocol.specs.Names.{ciuRxMode, inDataExchangeCode, inListPassiveTargetClock, inListPassiveTargetCode, readRegisterCode, registerWriteFailed, registersClock, ridClock, writeRegisterCode}
+use Rattle.protocol.specs.Names.{ciuRxMode, inListPassiveTargetClock, registerWriteFailed, registersClock, ridClock}
+use Rattle.protocol.specs.Calls.{inDataExchangeCode, inListPassiveTargetCode, readRegisterCode, writeRegisterCode}
+use Rattle.discovery.specs.Kinds.{typeAKind, typeASplitKind, listStage, fifoStage, listType1Stage, ridStage, readRxModeStage, writeRxModeStage}
 
 -- the answer without places, at once and where its bytes were kept
 card-plain : (list : List ℕ) → plainAnswer (done (cardA list)) ≡ done (cardBytes list)
@@ -64,10 +67,10 @@ sens-res-few list = go (ltb (length list) 4)
 record LikeTypeA (kind : ℕ) : Type 0 where
   commands : (stage cursor : ℕ) (pending : List ℕ) → commandOf kind stage cursor pending ≡ typeACommand stage pending
   noReset : (stage : ℕ) → isResetOf kind stage ≡ false
-  fifo : (cursor : ℕ) (pending found bs : List ℕ) → decidedOf kind 1 cursor pending found bs ≡ fifoRead bs
-  type1List : (cursor : ℕ) (pending found bs : List ℕ) → decidedOf kind 2 cursor pending found bs ≡ listedType1 bs
-  rid : (cursor : ℕ) (pending found bs : List ℕ) → decidedOf kind 3 cursor pending found bs ≡ ridOf found bs
-  rxMode : (cursor : ℕ) (pending found bs : List ℕ) → decidedOf kind 4 cursor pending found bs ≡ rxModeRead bs
+  fifo : (cursor : ℕ) (pending found bs : List ℕ) → decidedOf kind fifoStage cursor pending found bs ≡ fifoRead bs
+  type1List : (cursor : ℕ) (pending found bs : List ℕ) → decidedOf kind listType1Stage cursor pending found bs ≡ listedType1 bs
+  rid : (cursor : ℕ) (pending found bs : List ℕ) → decidedOf kind ridStage cursor pending found bs ≡ ridOf found bs
+  rxMode : (cursor : ℕ) (pending found bs : List ℕ) → decidedOf kind readRxModeStage cursor pending found bs ≡ rxModeRead bs
   fails : (stage cursor : ℕ) (pending found : List ℕ) (r : Fault) → failedOf kind stage cursor pending found r ≡ typeAFailure stage r
 
 module _ (kind : ℕ) (like : LikeTypeA kind) where
@@ -82,7 +85,7 @@ module _ (kind : ℕ) (like : LikeTypeA kind) where
       go true = refusal ShortResponse
       go false = ending _ (ap (λ l. type1 (getD list 3 0 ∷ getD list 2 0 ∷ l)) (rest-values 3 cs 1))
 
-  stage-3 : (pending list : List ℕ) → Awaits kind 3 0 pending (sensRes list) (ridAnswered list)
+  stage-3 : (pending list : List ℕ) → Awaits kind ridStage 0 pending (sensRes list) (ridAnswered list)
   unfolding typeAFailure ridOf ridFailure pick
   stage-3 pending list = record {
     answered = λ cs few.
@@ -93,31 +96,31 @@ module _ (kind : ℕ) (like : LikeTypeA kind) where
   }
 
   -- the RX mode, with any cursor
-  stage-4 : (cursor : ℕ) (found : List ℕ) (a : Answer Byte) → ((pending : List ℕ) → Awaits kind 5 cursor pending found (rxWritten a))
-      → (pending : List ℕ) → Awaits kind 4 cursor pending found (rxRead a)
+  stage-4 : (cursor : ℕ) (found : List ℕ) (a : Answer Byte) → ((pending : List ℕ) → Awaits kind writeRxModeStage cursor pending found (rxWritten a))
+      → (pending : List ℕ) → Awaits kind readRxModeStage cursor pending found (rxRead a)
   unfolding rxModeRead typeAFailure typeACommand pick
   stage-4 cursor found a then pending = record {
     answered = λ cs few.
         rw (like .rxMode cursor pending found cs)
-        (by-length cs 1 (λ _. refines-put 5 _ _ (omega arith) (go-on 5 writeRegisterCode registersClock _ refl (like .noReset 5) (like .commands 5 cursor _) (then (word ciuRxMode ++ (getD cs 0 0 % 128 ∷ []))))));
+        (by-length cs 1 (λ _. refines-put writeRxModeStage _ _ (omega arith) (go-on writeRxModeStage writeRegisterCode registersClock _ refl (like .noReset 5) (like .commands 5 cursor _) (then (word ciuRxMode ++ (getD cs 0 0 % 128 ∷ []))))));
     failing = λ r. rw (like .fails 4 cursor pending found r) (refusal r);
   }
 
   stage-2 : (pending found : List ℕ)
-      → Awaits kind 2 0 pending found (either (λ list. ifElse (eqb (getD list 0 0) 0) (finish nothing) (ifElse (ltb (length list) 2) (refuse ShortResponse) (command inDataExchangeCode ridClock (0x01 ∷ 0x78 ∷ 0x00 ∷ 0x00 ∷ 0x00 ∷ 0x00 ∷ 0x00 ∷ 0x00 ∷ []) (ridAnswered list)))) refuse)
+      → Awaits kind listType1Stage 0 pending found (either (λ list. ifElse (eqb (getD list 0 0) 0) (finish nothing) (ifElse (ltb (length list) 2) (refuse ShortResponse) (command inDataExchangeCode ridClock (0x01 ∷ 0x78 ∷ 0x00 ∷ 0x00 ∷ 0x00 ∷ 0x00 ∷ 0x00 ∷ 0x00 ∷ []) (ridAnswered list)))) refuse)
   unfolding typeAFailure listedType1 typeACommand pick
   stage-2 pending found = record {
     answered = λ cs few.
         rw (like .type1List 0 pending found cs)
         (refines-if (eqb (getD cs 0 0) 0) (λ _. none-found)
-        (λ _. by-length cs 2 (λ _. refines-keep 3 _ _ (sens-res-few cs) (go-on 3 inDataExchangeCode ridClock _ refl (like .noReset 3) (like .commands 3 0 _) (stage-3 pending cs)))));
+        (λ _. by-length cs 2 (λ _. refines-keep ridStage _ _ (sens-res-few cs) (go-on ridStage inDataExchangeCode ridClock _ refl (like .noReset 3) (like .commands 3 0 _) (stage-3 pending cs)))));
     failing = λ r. rw (like .fails 2 0 pending found r) (refusal r);
   }
 
-  stage-1 : (pending found : List ℕ) → Awaits kind 1 0 pending found (either (λ bs. ifElse (eqb (getD bs 0 0) 0x26) (finish nothing) tryType1) (λ _. tryType1))
+  stage-1 : (pending found : List ℕ) → Awaits kind fifoStage 0 pending found (either (λ bs. ifElse (eqb (getD bs 0 0) 0x26) (finish nothing) tryType1) (λ _. tryType1))
   unfolding fifoRead typeAFailure typeACommand pick
   stage-1 pending found =
-      let type1Try = go-on 2 inListPassiveTargetCode inListPassiveTargetClock _ refl (like .noReset 2) (like .commands 2 0 _) (stage-2 pending found) in
+      let type1Try = go-on listType1Stage inListPassiveTargetCode inListPassiveTargetClock _ refl (like .noReset 2) (like .commands 2 0 _) (stage-2 pending found) in
       record {
         answered = λ cs few. rw (like .fifo 0 pending found cs) (refines-if (eqb (getD cs 0 0) 0x26) (λ _. none-found) (λ _. type1Try));
         failing = λ r. rw (like .fails 1 0 pending found r) type1Try;
@@ -125,19 +128,19 @@ module _ (kind : ℕ) (like : LikeTypeA kind) where
 
   -- no target, and a list that is too short; the rest by what was listed
   listed-else : (f : List ℕ → Script) (pending found cs : List ℕ) {d : Decision} → (2 ≤ length cs → Refines kind 0 pending found d (f cs))
-      → Refines kind 0 pending found (pick (eqb (getD cs 0 0) 0) (send 1) (withLength cs 2 d)) (listAnswered f (response cs))
+      → Refines kind 0 pending found (pick (eqb (getD cs 0 0) 0) (send fifoStage) (withLength cs 2 d)) (listAnswered f (response cs))
   unfolding typeACommand pick
   listed-else f pending found cs h =
-      refines-if (eqb (getD cs 0 0) 0) (λ _. go-on 1 readRegisterCode registersClock _ refl (like .noReset 1) (like .commands 1 0 _) (stage-1 pending found)) (λ _. by-length cs 2 h)
+      refines-if (eqb (getD cs 0 0) 0) (λ _. go-on fifoStage readRegisterCode registersClock _ refl (like .noReset 1) (like .commands 1 0 _) (stage-1 pending found)) (λ _. by-length cs 2 h)
 
-  from-list : (code : ℕ) (uid found : List ℕ) (f : List ℕ → Script) → Awaits kind 0 0 (1 ∷ code ∷ cascaded uid) found (listAnswered f)
-      → Refines kind 0 (1 ∷ code ∷ cascaded uid) found (send 0) (command inListPassiveTargetCode inListPassiveTargetClock (1 ∷ code ∷ cascaded uid) (listAnswered f))
+  from-list : (code : ℕ) (uid found : List ℕ) (f : List ℕ → Script) → Awaits kind listStage 0 (1 ∷ code ∷ cascaded uid) found (listAnswered f)
+      → Refines kind 0 (1 ∷ code ∷ cascaded uid) found (send listStage) (command inListPassiveTargetCode inListPassiveTargetClock (1 ∷ code ∷ cascaded uid) (listAnswered f))
   unfolding typeACommand pick
-  from-list code uid found f h = go-on 0 inListPassiveTargetCode inListPassiveTargetClock _ refl (like .noReset 0) (like .commands 0 0 _) h
+  from-list code uid found f h = go-on listStage inListPassiveTargetCode inListPassiveTargetClock _ refl (like .noReset 0) (like .commands 0 0 _) h
 
 -- ---- the mode off
 
-off : LikeTypeA 17
+off : LikeTypeA typeAKind
 unfolding commandOf isResetOf decidedOf failedOf typeADecision pick
 off = record {
   commands = λ stage cursor pending. refl;
@@ -149,29 +152,29 @@ off = record {
   fails = λ stage cursor pending found r. refl;
 }
 
-typeA-5 : (list pending : List ℕ) → Awaits 17 5 0 pending (cardBytes list) (rxWritten (done (cardA list)))
+typeA-5 : (list pending : List ℕ) → Awaits typeAKind writeRxModeStage 0 pending (cardBytes list) (rxWritten (done (cardA list)))
 unfolding decidedOf failedOf typeADecision foundWritten typeAFailure pick
 typeA-5 list pending = record {
   answered = λ cs few. refines-if (anyNonzero cs) (λ _. refusal (Status registerWriteFailed)) (λ _. ending _ (card-plain list));
   failing = λ r. refusal r;
 }
 
-typeA-0 : (pending found : List ℕ) → Awaits 17 0 0 pending found (listAnswered foundA)
+typeA-0 : (pending found : List ℕ) → Awaits typeAKind listStage 0 pending found (listAnswered foundA)
 unfolding decidedOf failedOf typeADecision typeAFailure listedA typeACommand pick
 typeA-0 pending found = record {
   answered = λ cs few.
-      listed-else 17 off foundA pending found cs
+      listed-else typeAKind off foundA pending found cs
       (λ _. refines-if (ltb (length cs) 6) (λ _. none-found)
-      (λ _. refines-if (isType2 (getD cs 4 0)) (λ _. refines-keep 4 _ _ (omega (arith, length-drop 6 cs)) (go-on 4 readRegisterCode registersClock _ refl (off .noReset 4) (off .commands 4 0 _) (stage-4 17 off 0 _ _ (typeA-5 cs) pending))) (λ _. ending _ (card-plain cs))));
+      (λ _. refines-if (isType2 (getD cs 4 0)) (λ _. refines-keep readRxModeStage _ _ (omega (arith, length-drop 6 cs)) (go-on readRxModeStage readRegisterCode registersClock _ refl (off .noReset 4) (off .commands 4 0 _) (stage-4 typeAKind off 0 _ _ (typeA-5 cs) pending))) (λ _. ending _ (card-plain cs))));
   failing = λ r. refusal r;
 }
 
-pub typeA-leads : (code : ℕ) (uid found : List ℕ) → Refines 17 0 (1 ∷ code ∷ cascaded uid) found (send 0) (detectTypeA code uid)
-typeA-leads code uid found = from-list 17 off code uid found foundA (typeA-0 _ found)
+pub typeA-refines : (code : ℕ) (uid found : List ℕ) → Refines typeAKind 0 (1 ∷ code ∷ cascaded uid) found (send listStage) (detectTypeA code uid)
+typeA-refines code uid found = from-list typeAKind off code uid found foundA (typeA-0 _ found)
 
 -- ---- the mode on: the cursor is the UID's length behind the list
 
-on : LikeTypeA 22
+on : LikeTypeA typeASplitKind
 unfolding commandOf isResetOf decidedOf failedOf splitDecision typeADecision pick
 on = record {
   commands = λ stage cursor pending. refl;
@@ -183,7 +186,7 @@ on = record {
   fails = λ stage cursor pending found r. refl;
 }
 
-split-5 : (list pending : List ℕ) → Awaits 22 5 (uidLength list) pending (cardBytes list) (rxWritten (uidAndAts (cardA list) (uidLength list) (atsLength list)))
+split-5 : (list pending : List ℕ) → Awaits typeASplitKind writeRxModeStage (uidLength list) pending (cardBytes list) (rxWritten (uidAndAts (cardA list) (uidLength list) (atsLength list)))
 unfolding decidedOf failedOf splitDecision splitWritten typeAFailure pick
 split-5 list pending = record {
   answered = λ cs few.
@@ -192,17 +195,17 @@ split-5 list pending = record {
   failing = λ r. refusal r;
 }
 
-split-0 : (pending found : List ℕ) → Awaits 22 0 0 pending found (listAnswered foundSplit)
+split-0 : (pending found : List ℕ) → Awaits typeASplitKind listStage 0 pending found (listAnswered foundSplit)
 unfolding decidedOf failedOf splitDecision typeAFailure splitListed splitFound typeACommand pick
 split-0 pending found = record {
   answered = λ cs few.
-      listed-else 22 on foundSplit pending found cs
+      listed-else typeASplitKind on foundSplit pending found cs
       (λ _. refines-if (ltb (length cs) 6) (λ _. none-found)
       (λ _. refines-if (isTargetData (drop 2 cs))
-      (λ _. refines-if (isType2 (getD cs 4 0)) (λ _. refines-next 4 _ _ _ (omega (arith, length-drop 6 cs)) (go-on 4 readRegisterCode registersClock _ refl (on .noReset 4) (on .commands 4 (uidLength cs) _) (stage-4 22 on _ _ _ (split-5 cs) pending))) (λ _. ending _ (split-plain cs)))
+      (λ _. refines-if (isType2 (getD cs 4 0)) (λ _. refines-next readRxModeStage _ _ _ (omega (arith, length-drop 6 cs)) (go-on readRxModeStage readRegisterCode registersClock _ refl (on .noReset 4) (on .commands 4 (uidLength cs) _) (stage-4 typeASplitKind on _ _ _ (split-5 cs) pending))) (λ _. ending _ (split-plain cs)))
       (λ _. refusal UidLayout)));
   failing = λ r. refusal r;
 }
 
-pub split-leads : (code : ℕ) (uid found : List ℕ) → Refines 22 0 (1 ∷ code ∷ cascaded uid) found (send 0) (detectTypeASplit code uid)
-split-leads code uid found = from-list 22 on code uid found foundSplit (split-0 _ found)
+pub split-refines : (code : ℕ) (uid found : List ℕ) → Refines typeASplitKind 0 (1 ∷ code ∷ cascaded uid) found (send listStage) (detectTypeASplit code uid)
+split-refines code uid found = from-list typeASplitKind on code uid found foundSplit (split-0 _ found)

@@ -29,7 +29,7 @@ use stages::Decision;
 ghost use mathlib.Core.List.{List};
 ghost use mathlib.Core.Path.{_≡_};
 ghost use Prim.Native.Nat.{ℕ};
-ghost use Rattle.stages.specs.Decided.{Decides, Sends};
+ghost use Rattle.stages.specs.Decided.{DecisionRefines, Sends};
 ghost use Rattle.calls.specs.Tables.{commandOf, isResetOf, decidedOf, failedOf};
 
 // The command of a stage; `cursor` is where the call stands in a list of its own, and `pending` is the pending command.
@@ -68,7 +68,7 @@ pub fn decided(
     found: &[u8],
     response: &[u8],
 ) -> Decision
-    ensures { λ r. ⌜ Decides (now (found .entry)) (now (response .entry)) r (decidedOf kind stage cursor (now (pending .entry)) (now (found .entry)) (now (response .entry))) ⌝ }
+    ensures { λ r. ⌜ DecisionRefines (now (found .entry)) (now (response .entry)) r (decidedOf kind stage cursor (now (pending .entry)) (now (found .entry)) (now (response .entry))) ⌝ }
 {
     match kind {
         OPENING => device::decided(stage, found, response),
@@ -95,7 +95,7 @@ pub fn failed(
     found: &[u8],
     fault: Fault,
 ) -> Decision
-    ensures { λ r. ⌜ ((b : List ℕ) → Decides (now (found .entry)) b r (failedOf kind stage cursor (now (pending .entry)) (now (found .entry)) fault)) ⌝ }
+    ensures { λ r. ⌜ ((b : List ℕ) → DecisionRefines (now (found .entry)) b r (failedOf kind stage cursor (now (pending .entry)) (now (found .entry)) fault)) ⌝ }
 {
     match kind {
         TYPE_A => type_a::failed(stage, fault),

@@ -22,8 +22,9 @@ ghost use mathlib.Core.Path.{_≡_};
 ghost use Prim.Native.Nat.{ℕ, _≤_, _<_};
 ghost use Rattle.stages.specs.Starts.{Starts};
 ghost use Rattle.device.specs.Transceive.{timeoutOf};
-ghost use Rattle.protocol.specs.Calls.{device, readWithoutEncryption, writeWithoutEncryption};
-ghost use Rattle.calls.specs.Numbers.{flag, msOf, isLong, timed, callOf};
+ghost use Rattle.protocol.specs.Arguments.{flag, msOf, isLong};
+ghost use Rattle.protocol.specs.Calls.{device, readWithoutEncryption, writeWithoutEncryption, timed};
+ghost use Rattle.calls.specs.Numbers.{callOf};
 ghost use Rattle.calls.specs.Firsts.{startFor, startBy};
 
 // A call's arguments that are numbers: milliseconds, a word of 16 bits, two bytes, and its caller. What a call does not use counts for
@@ -93,6 +94,8 @@ pub const DETECT_TYPE_A_SPLIT: u8 = 25;
 pub const READ_WITHOUT_ENCRYPTION: u8 = 26;
 
 pub const WRITE_WITHOUT_ENCRYPTION: u8 = 27;
+
+pub const LAST: u8 = WRITE_WITHOUT_ENCRYPTION;
 
 // The most ms that are given to a read or a write of FeliCa blocks.
 const MOST_MS: u32 = 65535;
@@ -221,8 +224,8 @@ fn write_blocks(
     write_without_encryption(idm, service, blocks, bytes, timeout, command)
 }
 
-// Calls 26 and 27: FeliCa blocks. A number that has no call is refused with 4.
-fn on_blocks(
+// Calls from 26 on: FeliCa blocks. A number that has no call is refused with 4.
+fn later(
     number: u8,
     numbers: Numbers,
     first: &[u8],
@@ -266,7 +269,7 @@ fn on_device(
         }
         POLL_TYPE_F => poll_type_f(first, second, command),
         DETECT_TYPE_A_SPLIT => detect_type_a_split(first, second, command),
-        _ => on_blocks(number, numbers, first, second, third, command),
+        _ => later(number, numbers, first, second, third, command),
     }
 }
 

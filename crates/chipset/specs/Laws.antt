@@ -1,25 +1,19 @@
 -- Laws of what the functions answer.
 use mathlib.Core.Path.{_≡_, refl, sym, ap, _∙_, subst}
-use mathlib.Core.Bool.{Bool, true, false}
-use mathlib.Core.List.{List, [], _∷_, _++_, append-nil, append-assoc}
-use Prim.Native.Nat.{ℕ, _+_, _*_, _-_, _/_, _%_, _≤_, _<_}
+use mathlib.Core.Bool.{true, false}
+use mathlib.Core.List.{List, [], _∷_, _++_, append-nil}
+use Prim.Native.Nat.{ℕ, _+_, _*_, _-_, _≤_, _<_}
 use native.Mathlib.Numerals.{add-one}
 use native.Mathlib.Omega.{arith}
-use borrow.Author.Tests.{eq-eqb, ne-eqb, lt-ltb, le-ltb, leb-true, ltb-false}
-use borrow.Rule.Slice.PartMut.{putMid}
-use lib.Dec.{eqb, ltb}
-use lib.ListN.{length, take, drop, getD, length-append, length-drop, drop-of-length-le}
-use lib.Seq.{drop-cons, take-all, take-at}
-use Rattle.crc.specs.Crc.{typeA as crcA, checks}
-use Rattle.errors.specs.Choice.{pick}
-use Rattle.errors.specs.declared.Refusal.the-variants.{OverLong, BadArgument}
-use Rattle.framing.specs.Copied.{copied}
-use Rattle.framing.specs.Valid.{both-right}
-use Rattle.protocol.specs.Calls.{registers}
-use Rattle.protocol.specs.Chipset.{anyNonzero, word, bit}
+use borrow.Author.Tests.{eq-eqb, ne-eqb}
+use lib.Dec.{eqb}
+use lib.ListN.{length, take, drop, getD, length-drop, drop-of-length-le}
+use lib.Seq.{drop-cons, take-all}
+use Rattle.protocol.specs.Rules.{anyNonzero}
+use Rattle.protocol.specs.Arguments.{word, bit}
 use Rattle.protocol.specs.Scripts.{done}
-use Rattle.stages.specs.Decided.{Lays, Comes}
-use Rattle.stages.specs.Laws.{comes-done}
+use Rattle.stages.specs.Decided.{Lays, AnswerRefines}
+use Rattle.stages.specs.Laws.{answer-done}
 use Rattle.stages.specs.declared.Decision.{Decision}
 use Rattle.stages.specs.declared.Decision.the-variants.{Done}
 use Rattle.stages.specs.declared.Layout.{Layout}
@@ -45,32 +39,21 @@ has-first (x ∷ l) r e f = omega arith
 
 module _ (bs : List ℕ) where
   -- the data, and the more flag behind it
-  pub flagged : (r : Layout) (m : ℕ) → 1 ≤ length bs → ((f : List ℕ) → Lays f bs r (take (length bs - 1) (drop 1 bs) ++ (m ∷ []))) → Comes bs (Done r) (done (drop 1 bs ++ (m ∷ [])))
+  pub flagged : (r : Layout) (m : ℕ) → 1 ≤ length bs → ((f : List ℕ) → Lays f bs r (take (length bs - 1) (drop 1 bs) ++ (m ∷ []))) → AnswerRefines bs (Done r) (done (drop 1 bs ++ (m ∷ [])))
   flagged r m h k =
       let l : length (drop 1 bs) ≤ length bs - 1 = rw (length-drop 1 bs) (omega arith) in
-      comes-done bs r _ (λ f. rw (take-all (length bs - 1) (drop 1 bs) l) at (k f))
+      answer-done bs r _ (λ f. rw (take-all (length bs - 1) (drop 1 bs) l) at (k f))
 
   -- the first byte, and two words behind it
-  pub with-words : (r : Layout) (m n : ℕ) → 1 ≤ length bs → ((f : List ℕ) → Lays f bs r (take 1 bs ++ (word m ++ word n))) → Comes bs (Done r) (done (getD bs 0 0 ∷ (word m ++ word n)))
+  pub with-words : (r : Layout) (m n : ℕ) → 1 ≤ length bs → ((f : List ℕ) → Lays f bs r (take 1 bs ++ (word m ++ word n))) → AnswerRefines bs (Done r) (done (getD bs 0 0 ∷ (word m ++ word n)))
   with-words r m n h k =
       let first : take 1 bs ≡ getD bs 0 0 ∷ [] = ap (take 1) (drop-cons bs 0 0 h) in
-      comes-done bs r _ (λ f. subst (λ l. Lays f bs r (l ++ (word m ++ word n))) first (k f))
+      answer-done bs r _ (λ f. subst (λ l. Lays f bs r (l ++ (word m ++ word n))) first (k f))
 
   -- the rates as their indexes give them
-  pub comes-rates : (r : Decision) (m n m′ n′ : ℕ) → m ≡ m′ → n ≡ n′ → Comes bs r (done (getD bs 0 0 ∷ (word m ++ word n)))
-      → Comes bs r (done (getD bs 0 0 ∷ (word m′ ++ word n′)))
+  pub comes-rates : (r : Decision) (m n m′ n′ : ℕ) → m ≡ m′ → n ≡ n′ → AnswerRefines bs r (done (getD bs 0 0 ∷ (word m ++ word n)))
+      → AnswerRefines bs r (done (getD bs 0 0 ∷ (word m′ ++ word n′)))
   comes-rates r m n m′ n′ e f h = rw (← e, ← f) h
-
--- 64 registers are within the limit
-pub few-words : (l : List ℕ) → registers 2 l ≡ true → length l ≤ 512
-few-words l h =
-    let k : length l / 2 ≤ 64 = leb-true (length l / 2) 64 (both-right (eqb (length l % 2) 0) _ h) in
-    omega arith
-
-pub few-triples : (l : List ℕ) → registers 3 l ≡ true → length l ≤ 512
-few-triples l h =
-    let k : length l / 3 ≤ 64 = leb-true (length l / 3) 64 (both-right (eqb (length l % 3) 0) _ h) in
-    omega arith
 
 -- the bit of a part of in_jump_for_dep
 pub bit-none : (l : List ℕ) → length l ≡ 0 → 0 ≡ bit l

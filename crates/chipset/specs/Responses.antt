@@ -7,8 +7,10 @@ use Rattle.errors.specs.Choice.{pick}
 use Rattle.errors.specs.declared.Fault.the-variants.{Status, ShortResponse, Rate}
 use Rattle.protocol.specs.Scripts.{Answer, done, nothing, refused}
 use Rattle.stages.specs.Stages.{Decision, ends, refuse}
-use Rattle.protocol.specs.Chipset.{anyNonzero, statusByte, maskedStatus, moreFlag, sendIndex, receiveIndex, rate, word}
+use Rattle.protocol.specs.Rules.{anyNonzero, statusByte, maskedStatus, moreFlag, sendIndex, receiveIndex, rate}
+use Rattle.protocol.specs.Arguments.{word}
 use Rattle.protocol.specs.Names.{noData, registerWriteFailed}
+use Rattle.chipset.specs.Kinds.{versionKind, allBytesKind, registersWrittenKind, firstByteKind, listedTargetKind, exchangedDataKind, thruKind, jumpKind, statusKind, initiatorCommandKind, targetStatusKind}
 
 -- at least n bytes, else 16; a status of 0, else 15
 unfoldable pub withLength : List ℕ → ℕ → Answer ℕ → Answer ℕ
@@ -17,7 +19,6 @@ withLength bs n a = pick (ltb (length bs) n) (refused ShortResponse) a
 unfoldable pub withStatus : List ℕ → Answer ℕ → Answer ℕ
 withStatus bs a = pick (eqb (statusByte bs) 0) a (refused (Status (statusByte bs)))
 
--- kinds 2, 6 to 9, 11, 13 and 14
 unfoldable pub versionAnswer : List ℕ → Answer ℕ
 versionAnswer bs = withLength bs 4 (done (take 3 bs))
 
@@ -55,23 +56,23 @@ targetAnswer bs =
 
 unfoldable pub answerOf : ℕ → List ℕ → Answer ℕ
 answerOf kind bs =
-    pick (eqb kind 2) (versionAnswer bs)
-    (pick (eqb kind 5) (done bs)
-    (pick (eqb kind 6) (writeAnswer bs)
-    (pick (eqb kind 7) (firstAnswer bs)
-    (pick (eqb kind 8) (listAnswer bs)
-    (pick (eqb kind 9) (exchangeAnswer bs)
-    (pick (eqb kind 10) (withStatus bs (done (drop 1 bs)))
-    (pick (eqb kind 11) (jumpAnswer bs)
-    (pick (eqb kind 12) (withStatus bs (done []))
-    (pick (eqb kind 13) (initiatorAnswer bs)
-    (pick (eqb kind 14) (targetAnswer bs) (done [])))))))))))
+    pick (eqb kind versionKind) (versionAnswer bs)
+    (pick (eqb kind allBytesKind) (done bs)
+    (pick (eqb kind registersWrittenKind) (writeAnswer bs)
+    (pick (eqb kind firstByteKind) (firstAnswer bs)
+    (pick (eqb kind listedTargetKind) (listAnswer bs)
+    (pick (eqb kind exchangedDataKind) (exchangeAnswer bs)
+    (pick (eqb kind thruKind) (withStatus bs (done (drop 1 bs)))
+    (pick (eqb kind jumpKind) (jumpAnswer bs)
+    (pick (eqb kind statusKind) (withStatus bs (done []))
+    (pick (eqb kind initiatorCommandKind) (initiatorAnswer bs)
+    (pick (eqb kind targetStatusKind) (targetAnswer bs) (done [])))))))))))
 
--- the kinds from 10 on
+-- the kinds from `thruKind` on
 unfoldable pub laterAnswer : ℕ → List ℕ → Answer ℕ
 laterAnswer kind bs =
-    pick (eqb kind 10) (withStatus bs (done (drop 1 bs)))
-    (pick (eqb kind 11) (jumpAnswer bs)
-    (pick (eqb kind 12) (withStatus bs (done []))
-    (pick (eqb kind 13) (initiatorAnswer bs)
-    (pick (eqb kind 14) (targetAnswer bs) (done [])))))
+    pick (eqb kind thruKind) (withStatus bs (done (drop 1 bs)))
+    (pick (eqb kind jumpKind) (jumpAnswer bs)
+    (pick (eqb kind statusKind) (withStatus bs (done []))
+    (pick (eqb kind initiatorCommandKind) (initiatorAnswer bs)
+    (pick (eqb kind targetStatusKind) (targetAnswer bs) (done [])))))

@@ -3,7 +3,6 @@ use super::NO_BYTES;
 use super::RESET_MODE;
 use super::VERSION;
 use super::clock;
-use super::cmd;
 use super::response::part;
 use errors::Fault;
 use stages::Command;
@@ -12,10 +11,19 @@ use stages::put::put_two;
 use stages::start;
 use stages::start::Start;
 ghost use Rattle.protocol.specs.Calls.{version, resetMode, setParameters, rfConfiguration, rfFieldOff};
-ghost use Rattle.stages.specs.Decided.{Comes, Commands};
+ghost use Rattle.stages.specs.Decided.{AnswerRefines, Commands};
 ghost use Rattle.stages.specs.Starts.{Starts};
 ghost use Rattle.chipset.specs.Commands.{firstOf, resetCommand};
 ghost use Rattle.chipset.specs.Responses.{versionAnswer};
+
+// The command codes.
+pub const GET_FIRMWARE_VERSION: u8 = 0x02;
+
+pub const SET_PARAMETERS: u8 = 0x12;
+
+const RESET: u8 = 0x18;
+
+pub const RF_CONFIGURATION: u8 = 0x32;
 
 // What reset_mode clears.
 const CLEAR: u8 = 0x01;
@@ -39,11 +47,11 @@ pub fn get_firmware_version(command: &mut [u8; 512]) -> Start
     ensures { λ r. ⌜ Starts r (now (command .entry)) (now (command .exit)) (firstOf version) ⌝ }
 {
     let n = put_two(&[], &[], command);
-    start::command(VERSION, cmd::GET_FIRMWARE_VERSION, clock::COMMAND, n)
+    start::command(VERSION, GET_FIRMWARE_VERSION, clock::COMMAND, n)
 }
 
 pub(crate) fn get_firmware_version_response(response: &[u8]) -> Decision
-    ensures { λ r. ⌜ Comes (now (response .entry)) r (versionAnswer (now (response .entry))) ⌝ }
+    ensures { λ r. ⌜ AnswerRefines (now (response .entry)) r (versionAnswer (now (response .entry))) ⌝ }
 {
     if response.len() < 4 {
         Decision::Refused(Fault::ShortResponse)
@@ -64,26 +72,26 @@ pub fn reset_mode_command() -> Command
     ensures { λ r. ⌜ Commands r resetCommand ⌝ }
 {
     let bytes = [CLEAR, 0, 0, 0, 0, 0, 0, 0, 0, 0, 0, 0];
-    Command::with(cmd::RESET_MODE, clock::COMMAND, bytes, 1)
+    Command::with(RESET, clock::COMMAND, bytes, 1)
 }
 
 pub fn set_parameters(flags: u8, command: &mut [u8; 512]) -> Start
     ensures { λ r. ⌜ Starts r (now (command .entry)) (now (command .exit)) (firstOf (setParameters flags)) ⌝ }
 {
     let n = put_two(&[flags], &[], command);
-    start::command(NO_BYTES, cmd::SET_PARAMETERS, clock::COMMAND, n)
+    start::command(NO_BYTES, SET_PARAMETERS, clock::COMMAND, n)
 }
 
 pub fn rf_configuration(item: u8, config: &[u8], command: &mut [u8; 512]) -> Start
     ensures { λ r. ⌜ Starts r (now (command .entry)) (now (command .exit)) (firstOf (rfConfiguration item (now (config .entry)))) ⌝ }
 {
     let n = put_two(&[item], config, command);
-    start::command(NO_BYTES, cmd::RF_CONFIGURATION, clock::COMMAND, n)
+    start::command(NO_BYTES, RF_CONFIGURATION, clock::COMMAND, n)
 }
 
 pub fn rf_field_off(command: &mut [u8; 512]) -> Start
     ensures { λ r. ⌜ Starts r (now (command .entry)) (now (command .exit)) (firstOf rfFieldOff) ⌝ }
 {
     let n = put_two(&[RF_FIELD, FIELD_OFF], &[], command);
-    start::command(NO_BYTES, cmd::RF_CONFIGURATION, clock::COMMAND, n)
+    start::command(NO_BYTES, RF_CONFIGURATION, clock::COMMAND, n)
 }

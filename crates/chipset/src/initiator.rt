@@ -4,7 +4,6 @@ use super::JUMP;
 use super::LISTED_TARGET;
 use super::THRU;
 use super::clock;
-use super::cmd;
 use super::err;
 use super::response::from;
 use errors::Fault;
@@ -20,12 +19,21 @@ ghost use mathlib.Core.Path.{_≡_};
 ghost use Prim.Native.Nat.{_≤_};
 ghost use lib.ListN.{drop};
 ghost use Rattle.protocol.specs.Scripts.{done};
-ghost use Rattle.protocol.specs.Chipset.{bit as bitOf};
-ghost use Rattle.protocol.specs.Calls.{inListPassiveTarget, inDataExchange, inCommunicateThru, inJumpForDep, activeByte};
-ghost use Rattle.stages.specs.Decided.{Comes};
+ghost use Rattle.protocol.specs.Arguments.{bit as bitOf, activeByte};
+ghost use Rattle.protocol.specs.Calls.{inListPassiveTarget, inDataExchange, inCommunicateThru, inJumpForDep};
+ghost use Rattle.stages.specs.Decided.{AnswerRefines};
 ghost use Rattle.stages.specs.Starts.{Starts};
 ghost use Rattle.chipset.specs.Commands.{firstOf};
 ghost use Rattle.chipset.specs.Responses.{withStatus, listAnswer, exchangeAnswer, jumpAnswer};
+
+// The command codes.
+pub const IN_DATA_EXCHANGE: u8 = 0x40;
+
+pub const IN_COMMUNICATE_THRU: u8 = 0x42;
+
+pub const IN_LIST_PASSIVE_TARGET: u8 = 0x4A;
+
+pub const IN_JUMP_FOR_DEP: u8 = 0x56;
 
 // The number of the one target that the chip has listed.
 pub const TARGET: u8 = 0x01;
@@ -41,7 +49,7 @@ pub fn in_list_passive_target(
     let n = put_two(&[max_tg, bitrate], initiator, command);
     start::command(
         LISTED_TARGET,
-        cmd::IN_LIST_PASSIVE_TARGET,
+        IN_LIST_PASSIVE_TARGET,
         clock::IN_LIST_PASSIVE_TARGET,
         n,
     )
@@ -49,7 +57,7 @@ pub fn in_list_passive_target(
 
 // NbTg and Tg are left out.
 pub(crate) fn in_list_passive_target_response(response: &[u8]) -> Decision
-    ensures { λ r. ⌜ Comes (now (response .entry)) r (listAnswer (now (response .entry))) ⌝ }
+    ensures { λ r. ⌜ AnswerRefines (now (response .entry)) r (listAnswer (now (response .entry))) ⌝ }
 {
     if byte_or(response, 0, 0) == 0 {
         return Decision::Nothing;
@@ -65,12 +73,12 @@ pub fn in_data_exchange(bytes: &[u8], ms: u32, command: &mut [u8; 512]) -> Start
     ensures { λ r. ⌜ Starts r (now (command .entry)) (now (command .exit)) (firstOf (inDataExchange (now (bytes .entry)) ms)) ⌝ }
 {
     let n = put_two(&[TARGET], bytes, command);
-    start::command(EXCHANGED_DATA, cmd::IN_DATA_EXCHANGE, ms, n)
+    start::command(EXCHANGED_DATA, IN_DATA_EXCHANGE, ms, n)
 }
 
 // The status is masked, and the more flag stands behind the data.
 pub(crate) fn in_data_exchange_response(response: &[u8]) -> Decision
-    ensures { λ r. ⌜ Comes (now (response .entry)) r (exchangeAnswer (now (response .entry))) ⌝ }
+    ensures { λ r. ⌜ AnswerRefines (now (response .entry)) r (exchangeAnswer (now (response .entry))) ⌝ }
 {
     if response.len() == 0 {
         return Decision::Refused(Fault::Status(err::NO_DATA));
@@ -89,12 +97,12 @@ pub fn in_communicate_thru(bytes: &[u8], ms: u32, command: &mut [u8; 512]) -> St
     ensures { λ r. ⌜ Starts r (now (command .entry)) (now (command .exit)) (firstOf (inCommunicateThru (now (bytes .entry)) ms)) ⌝ }
 {
     let n = put_two(&[], bytes, command);
-    start::command(THRU, cmd::IN_COMMUNICATE_THRU, ms, n)
+    start::command(THRU, IN_COMMUNICATE_THRU, ms, n)
 }
 
 // The status is not masked.
 pub(crate) fn in_communicate_thru_response(response: &[u8]) -> Decision
-    ensures { λ r. ⌜ Comes (now (response .entry)) r (withStatus (now (response .entry)) (done (drop 1 (now (response .entry))))) ⌝ }
+    ensures { λ r. ⌜ AnswerRefines (now (response .entry)) r (withStatus (now (response .entry)) (done (drop 1 (now (response .entry))))) ⌝ }
 {
     let status = byte_or(response, 0, err::NO_DATA);
     if status == 0 {
@@ -130,12 +138,12 @@ pub fn in_jump_for_dep(
     let nf = bit(passive) + 2 * bit(nfcid3) + 4 * bit(gi);
     let head = [active_byte(active), br, nf];
     let n = put_all(&head, passive, nfcid3, gi, &[], command);
-    start::command(JUMP, cmd::IN_JUMP_FOR_DEP, clock::IN_JUMP_FOR_DEP, n)
+    start::command(JUMP, IN_JUMP_FOR_DEP, clock::IN_JUMP_FOR_DEP, n)
 }
 
 // Status and Tg are left out.
 pub(crate) fn in_jump_for_dep_response(response: &[u8]) -> Decision
-    ensures { λ r. ⌜ Comes (now (response .entry)) r (jumpAnswer (now (response .entry))) ⌝ }
+    ensures { λ r. ⌜ AnswerRefines (now (response .entry)) r (jumpAnswer (now (response .entry))) ⌝ }
 {
     let status = byte_or(response, 0, err::NO_DATA);
     if status == 0 {

@@ -1,7 +1,6 @@
 // The public commands of chipset.rs: the data that each sends, and what its response comes to.
 pub mod ciu;
 pub mod clock;
-pub mod cmd;
 pub mod err;
 pub mod general;
 pub mod initiator;

@@ -3,7 +3,6 @@ use super::ALL_BYTES;
 use super::FIRST_BYTE;
 use super::REGISTERS_WRITTEN;
 use super::clock;
-use super::cmd;
 use super::err;
 use super::response::part;
 use errors::Fault;
@@ -16,12 +15,18 @@ use stages::start;
 use stages::start::Start;
 ghost use mathlib.Core.Path.{_≡_};
 ghost use Prim.Native.Nat.{_<_};
-ghost use Rattle.protocol.specs.Chipset.{anyNonzero};
-ghost use Rattle.protocol.specs.Calls.{readRegister, writeRegister, readSingleRegister, writeSingleRegister, registers as registersOf};
-ghost use Rattle.stages.specs.Decided.{Decides, Comes, Commands};
+ghost use Rattle.protocol.specs.Rules.{anyNonzero};
+ghost use Rattle.protocol.specs.Calls.{readRegister, writeRegister, readSingleRegister, writeSingleRegister};
+ghost use Rattle.protocol.specs.Arguments.{registers as registersOf};
+ghost use Rattle.stages.specs.Decided.{DecisionRefines, AnswerRefines, Commands};
 ghost use Rattle.stages.specs.Starts.{Starts};
 ghost use Rattle.chipset.specs.Commands.{firstOf, readCommand, writeCommand};
 ghost use Rattle.chipset.specs.Responses.{foundWritten, writeAnswer, firstAnswer};
+
+// The command codes.
+pub const READ_REGISTER: u8 = 0x06;
+
+pub const WRITE_REGISTER: u8 = 0x08;
 
 // Whole words or triples, of at most 64 registers.
 fn whole_registers(bytes: &[u8], size: usize) -> bool
@@ -41,7 +46,7 @@ pub fn read_register(addresses: &[u8], command: &mut [u8; 512]) -> Start
 {
     if whole_registers(addresses, 2) {
         let n = put_two(addresses, &[], command);
-        start::command(ALL_BYTES, cmd::READ_REGISTER, clock::REGISTERS, n)
+        start::command(ALL_BYTES, READ_REGISTER, clock::REGISTERS, n)
     } else {
         start::refused(Refusal::BadArgument)
     }
@@ -53,7 +58,7 @@ pub fn write_register(registers: &[u8], command: &mut [u8; 512]) -> Start
 {
     if whole_registers(registers, 3) {
         let n = put_two(registers, &[], command);
-        start::command(REGISTERS_WRITTEN, cmd::WRITE_REGISTER, clock::REGISTERS, n)
+        start::command(REGISTERS_WRITTEN, WRITE_REGISTER, clock::REGISTERS, n)
     } else {
         start::refused(Refusal::BadArgument)
     }
@@ -75,7 +80,7 @@ pub fn any_nonzero(bytes: &[u8]) -> bool
 
 // A register was not written.
 pub(crate) fn write_register_response(response: &[u8]) -> Decision
-    ensures { λ r. ⌜ Comes (now (response .entry)) r (writeAnswer (now (response .entry))) ⌝ }
+    ensures { λ r. ⌜ AnswerRefines (now (response .entry)) r (writeAnswer (now (response .entry))) ⌝ }
 {
     if any_nonzero(response) {
         Decision::Refused(Fault::Status(err::REGISTER_WRITE_FAILED))
@@ -86,7 +91,7 @@ pub(crate) fn write_register_response(response: &[u8]) -> Decision
 
 // A register was written, the last command of a call: the answer is what was found.
 pub fn found_written(found: &[u8], response: &[u8]) -> Decision
-    ensures { λ r. ⌜ Decides (now (found .entry)) (now (response .entry)) r (foundWritten (now (found .entry)) (now (response .entry))) ⌝ }
+    ensures { λ r. ⌜ DecisionRefines (now (found .entry)) (now (response .entry)) r (foundWritten (now (found .entry)) (now (response .entry))) ⌝ }
 {
     if any_nonzero(response) {
         Decision::Refused(Fault::Status(err::REGISTER_WRITE_FAILED))
@@ -100,7 +105,7 @@ pub fn read_single_register(address: u16, command: &mut [u8; 512]) -> Start
 {
     let word = [(address / 256) as u8, (address % 256) as u8];
     let n = put_two(&word, &[], command);
-    start::command(FIRST_BYTE, cmd::READ_REGISTER, clock::REGISTERS, n)
+    start::command(FIRST_BYTE, READ_REGISTER, clock::REGISTERS, n)
 }
 
 // The same as a stage's command.
@@ -110,11 +115,11 @@ pub fn read_single_register_command(address: u16) -> Command
     let high = (address / 256) as u8;
     let low = (address % 256) as u8;
     let bytes = [high, low, 0, 0, 0, 0, 0, 0, 0, 0, 0, 0];
-    Command::with(cmd::READ_REGISTER, clock::REGISTERS, bytes, 2)
+    Command::with(READ_REGISTER, clock::REGISTERS, bytes, 2)
 }
 
 pub(crate) fn read_single_register_response(response: &[u8]) -> Decision
-    ensures { λ r. ⌜ Comes (now (response .entry)) r (firstAnswer (now (response .entry))) ⌝ }
+    ensures { λ r. ⌜ AnswerRefines (now (response .entry)) r (firstAnswer (now (response .entry))) ⌝ }
 {
     if response.len() < 1 {
         Decision::Refused(Fault::ShortResponse)
@@ -128,7 +133,7 @@ pub fn write_single_register(address: u16, value: u8, command: &mut [u8; 512]) -
 {
     let register = [(address / 256) as u8, (address % 256) as u8, value];
     let n = put_two(&register, &[], command);
-    start::command(REGISTERS_WRITTEN, cmd::WRITE_REGISTER, clock::REGISTERS, n)
+    start::command(REGISTERS_WRITTEN, WRITE_REGISTER, clock::REGISTERS, n)
 }
 
 pub fn write_single_register_command(address: u16, value: u8) -> Command
@@ -137,5 +142,5 @@ pub fn write_single_register_command(address: u16, value: u8) -> Command
     let high = (address / 256) as u8;
     let low = (address % 256) as u8;
     let bytes = [high, low, value, 0, 0, 0, 0, 0, 0, 0, 0, 0];
-    Command::with(cmd::WRITE_REGISTER, clock::REGISTERS, bytes, 3)
+    Command::with(WRITE_REGISTER, clock::REGISTERS, bytes, 3)
 }

@@ -15,31 +15,34 @@ use super::initiator;
 use super::registers;
 use super::target;
 use stages::Decision;
-use stages::Layout;
 ghost use mathlib.Core.List.{List};
 ghost use Prim.Native.Nat.{ℕ, _+_, _≤_};
 ghost use lib.ListN.{length, take, drop};
 ghost use Rattle.protocol.specs.Scripts.{done};
-ghost use Rattle.stages.specs.Decided.{Comes};
+ghost use Rattle.stages.specs.Decided.{AnswerRefines};
 ghost use Rattle.chipset.specs.Responses.{answerOf, laterAnswer};
 
 // A part of the response and nothing behind it.
 pub fn part(start: usize, len: usize) -> Decision
-    ensures { λ r. ⌜ ((bs : List ℕ) → start + len ≤ length bs → Comes bs r (done (take len (drop start bs)))) ⌝ }
+    ensures { λ r. ⌜ ((bs : List ℕ) → start + len ≤ length bs → AnswerRefines bs r (done (take len (drop start bs)))) ⌝ }
 {
-    Decision::Done(Layout::part(start, len))
+    Decision::Part(start, len)
 }
 
 // The response from `start` on.
 pub fn from(response: &[u8], start: usize) -> Decision
-    ensures { λ r. ⌜ Comes (now (response .entry)) r (done (drop start (now (response .entry)))) ⌝ }
+    ensures { λ r. ⌜ AnswerRefines (now (response .entry)) r (done (drop start (now (response .entry)))) ⌝ }
 {
-    Decision::Done(Layout::rest(response, start))
+    if start <= response.len() {
+        Decision::Part(start, response.len() - start)
+    } else {
+        Decision::Part(0, 0)
+    }
 }
 
 // What the response to a call of one command comes to.
 pub fn decided(kind: u8, response: &[u8]) -> Decision
-    ensures { λ r. ⌜ Comes (now (response .entry)) r (answerOf kind (now (response .entry))) ⌝ }
+    ensures { λ r. ⌜ AnswerRefines (now (response .entry)) r (answerOf kind (now (response .entry))) ⌝ }
 {
     match kind {
         VERSION => general::get_firmware_version_response(response),
@@ -54,7 +57,7 @@ pub fn decided(kind: u8, response: &[u8]) -> Decision
 
 // The kinds from 10 on; any other gives no bytes.
 fn decided_by_status(kind: u8, response: &[u8]) -> Decision
-    ensures { λ r. ⌜ Comes (now (response .entry)) r (laterAnswer kind (now (response .entry))) ⌝ }
+    ensures { λ r. ⌜ AnswerRefines (now (response .entry)) r (laterAnswer kind (now (response .entry))) ⌝ }
 {
     match kind {
         THRU => initiator::in_communicate_thru_response(response),

@@ -4,7 +4,6 @@ use super::INITIATOR_COMMAND;
 use super::STATUS;
 use super::TARGET_STATUS;
 use super::clock;
-use super::cmd;
 use super::err;
 use super::response::from;
 use super::response::part;
@@ -25,12 +24,24 @@ ghost use lib.Dec.{eqb, leb};
 ghost use lib.ListN.{length, getD};
 ghost use Rattle.framing.specs.Lists.{both};
 ghost use Rattle.protocol.specs.Scripts.{done};
-ghost use Rattle.protocol.specs.Chipset.{rate as rateOf, word};
-ghost use Rattle.protocol.specs.Calls.{tgInitTarget, tgSetGeneralBytes, tgGetInitiatorCommand, tgResponseToInitiator, tgGetTargetStatus, initFits};
-ghost use Rattle.stages.specs.Decided.{Comes};
+ghost use Rattle.protocol.specs.Rules.{rate as rateOf};
+ghost use Rattle.protocol.specs.Arguments.{word, initFits};
+ghost use Rattle.protocol.specs.Calls.{tgInitTarget, tgSetGeneralBytes, tgGetInitiatorCommand, tgResponseToInitiator, tgGetTargetStatus};
+ghost use Rattle.stages.specs.Decided.{AnswerRefines};
 ghost use Rattle.stages.specs.Starts.{Starts};
 ghost use Rattle.chipset.specs.Commands.{firstOf};
 ghost use Rattle.chipset.specs.Responses.{withStatus, initiatorAnswer, targetAnswer};
+
+// The command codes.
+const TG_GET_INITIATOR_COMMAND: u8 = 0x88;
+
+const TG_GET_TARGET_STATUS: u8 = 0x8A;
+
+const TG_INIT_TARGET: u8 = 0x8C;
+
+const TG_RESPONSE_TO_INITIATOR: u8 = 0x90;
+
+const TG_SET_GENERAL_BYTES: u8 = 0x92;
 
 // The mode is 0 or 2.
 fn is_mode(mode: u8) -> bool
@@ -70,7 +81,7 @@ pub fn tg_init_target(
 {
     if init_fits(mode, mifare, felica, nfcid3t) {
         let n = put_all(&[mode], mifare, felica, nfcid3t, gt, command);
-        start::command(ALL_BYTES, cmd::TG_INIT_TARGET, ms, n)
+        start::command(ALL_BYTES, TG_INIT_TARGET, ms, n)
     } else {
         start::refused(Refusal::BadArgument)
     }
@@ -80,19 +91,19 @@ pub fn tg_set_general_bytes(gb: &[u8], command: &mut [u8; 512]) -> Start
     ensures { λ r. ⌜ Starts r (now (command .entry)) (now (command .exit)) (firstOf (tgSetGeneralBytes (now (gb .entry)))) ⌝ }
 {
     let n = put_two(&[], gb, command);
-    start::command(STATUS, cmd::TG_SET_GENERAL_BYTES, clock::COMMAND, n)
+    start::command(STATUS, TG_SET_GENERAL_BYTES, clock::COMMAND, n)
 }
 
 pub fn tg_get_initiator_command(ms: u32, command: &mut [u8; 512]) -> Start
     ensures { λ r. ⌜ Starts r (now (command .entry)) (now (command .exit)) (firstOf (tgGetInitiatorCommand ms)) ⌝ }
 {
     let n = put_two(&[], &[], command);
-    start::command(INITIATOR_COMMAND, cmd::TG_GET_INITIATOR_COMMAND, ms, n)
+    start::command(INITIATOR_COMMAND, TG_GET_INITIATOR_COMMAND, ms, n)
 }
 
 // None on any other status.
 pub(crate) fn tg_get_initiator_command_response(response: &[u8]) -> Decision
-    ensures { λ r. ⌜ Comes (now (response .entry)) r (initiatorAnswer (now (response .entry))) ⌝ }
+    ensures { λ r. ⌜ AnswerRefines (now (response .entry)) r (initiatorAnswer (now (response .entry))) ⌝ }
 {
     if byte_or(response, 0, err::NO_DATA) == 0 {
         from(response, 1)
@@ -107,7 +118,7 @@ pub fn tg_response_to_initiator(bytes: &[u8], command: &mut [u8; 512]) -> Start
     let n = put_two(&[], bytes, command);
     start::command(
         STATUS,
-        cmd::TG_RESPONSE_TO_INITIATOR,
+        TG_RESPONSE_TO_INITIATOR,
         clock::TG_RESPONSE_TO_INITIATOR,
         n,
     )
@@ -115,7 +126,7 @@ pub fn tg_response_to_initiator(bytes: &[u8], command: &mut [u8; 512]) -> Start
 
 // Of tg_set_general_bytes and tg_response_to_initiator.
 pub(crate) fn status_response(response: &[u8]) -> Decision
-    ensures { λ r. ⌜ Comes (now (response .entry)) r (withStatus (now (response .entry)) (done [])) ⌝ }
+    ensures { λ r. ⌜ AnswerRefines (now (response .entry)) r (withStatus (now (response .entry)) (done [])) ⌝ }
 {
     let status = byte_or(response, 0, err::NO_DATA);
     if status == 0 {
@@ -129,7 +140,7 @@ pub fn tg_get_target_status(command: &mut [u8; 512]) -> Start
     ensures { λ r. ⌜ Starts r (now (command .entry)) (now (command .exit)) (firstOf tgGetTargetStatus) ⌝ }
 {
     let n = put_two(&[], &[], command);
-    start::command(TARGET_STATUS, cmd::TG_GET_TARGET_STATUS, clock::COMMAND, n)
+    start::command(TARGET_STATUS, TG_GET_TARGET_STATUS, clock::COMMAND, n)
 }
 
 // A rate by its index.
@@ -144,7 +155,7 @@ fn rate(index: u8) -> u16
 
 // The state and the two rates, high byte first.
 fn with_rates(send: u16, receive: u16) -> Decision
-    ensures { λ r. ⌜ ((bs : List ℕ) → 1 ≤ length bs → Comes bs r (done (getD bs 0 0 ∷ (word send ++ word receive)))) ⌝ }
+    ensures { λ r. ⌜ ((bs : List ℕ) → 1 ≤ length bs → AnswerRefines bs r (done (getD bs 0 0 ∷ (word send ++ word receive)))) ⌝ }
 {
     let tail = Tail(
         (send / 256) as u8,
@@ -164,7 +175,7 @@ fn with_rates(send: u16, receive: u16) -> Decision
 }
 
 pub(crate) fn tg_get_target_status_response(response: &[u8]) -> Decision
-    ensures { λ r. ⌜ Comes (now (response .entry)) r (targetAnswer (now (response .entry))) ⌝ }
+    ensures { λ r. ⌜ AnswerRefines (now (response .entry)) r (targetAnswer (now (response .entry))) ⌝ }
 {
     if response.len() < 2 {
         return Decision::Refused(Fault::ShortResponse);

@@ -1,4 +1,4 @@
 // The frame and CRC library on its own, for goods-in: one line in, one line out.
 fn main() {
-    bench::codec::run();
+    bench_codec::run();
 }

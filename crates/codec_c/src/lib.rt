@@ -77,7 +77,7 @@ pub extern "C" fn rcs956_frame_build(
 ) -> u8
     ensures { λ r. ⌜ written r (now (buffer .exit)) (now (count .exit)) ≡ buildFor (settingOf setting) (now (payload .entry)) (now (buffer .entry)) (now (count .entry)) ⌝ }
 {
-    let Setting::Format(format) = framing::settings::numbered(setting) else {
+    let Setting::Format(format) = framing::settings::by_number(setting) else {
         return number(Refusal::BadArgument);
     };
     match framing::build(format, payload, buffer) {
@@ -101,7 +101,7 @@ pub extern "C" fn rcs956_frame_parse(
 ) -> u8
     ensures { λ r. ⌜ parsed r (found (now (kind .exit)) (now (start .exit)) (now (len .exit)) (now (frame .exit))) ≡ parseFor (settingOf setting) (now (packet .entry)) (found (now (kind .entry)) (now (start .entry)) (now (len .entry)) (now (frame .entry))) ⌝ }
 {
-    let Setting::Format(format) = framing::settings::numbered(setting) else {
+    let Setting::Format(format) = framing::settings::by_number(setting) else {
         return number(Refusal::BadArgument);
     };
     let places = encode(framing::parse(format, packet));
@@ -126,7 +126,7 @@ pub extern "C" fn rcs956_frame_parse_padded(
 ) -> u8
     ensures { λ r. ⌜ parsedPadded r (found (now (kind .exit)) (now (start .exit)) (now (len .exit)) (now (frame .exit))) (now (zeros .exit)) ≡ paddedFor (settingOf setting) (now (packet .entry)) (found (now (kind .entry)) (now (start .entry)) (now (len .entry)) (now (frame .entry))) (now (zeros .entry)) ⌝ }
 {
-    let Setting::Format(format) = framing::settings::numbered(setting) else {
+    let Setting::Format(format) = framing::settings::by_number(setting) else {
         return number(Refusal::BadArgument);
     };
     let padded = framing::padded::parse_padded(format, true, packet);

@@ -1,4 +1,4 @@
 // Requests and replies of FeliCa blocks through the program `codec`, as tools/felica-reference.py works them out.
 fn main() {
-    bench::codec::run();
+    bench_codec::run();
 }

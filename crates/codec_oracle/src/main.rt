@@ -1,4 +1,4 @@
 // The program `codec` over a fixed list of lines; its answers are those of the Rust (tools/codec-list.py).
 fn main() {
-    bench::codec::run();
+    bench_codec::run();
 }

@@ -1,4 +1,4 @@
 // The program `codec` over the standards' vectors and document 01's edges; its answers were written by hand from those papers.
 fn main() {
-    bench::codec::run();
+    bench_codec::run();
 }

@@ -17,7 +17,7 @@ use Rattle.errors.specs.declared.Fault.the-variants.{Transport, TimeOut, FalseS
 use Rattle.targets.specs.declared.Bitrate.{Bitrate}
 use Rattle.targets.specs.declared.Bitrate.the-variants.{B106A, B212F, B424F, B106B, B212B, B424B, B848B, Other}
 use Rattle.targets.proofs.Bitrate.{the-type}
-use Rattle.protocol.specs.Calls.{is106A, isSendable}
+use Rattle.protocol.specs.Starts.{is106A, isSendable}
 
 pub not-106a : (b : Bitrate) (t : Bool) → OneOf (1 ∷ 2 ∷ 3 ∷ 4 ∷ 5 ∷ 6 ∷ 7 ∷ []) (tagOf the-type b) → false ≡ (is106A b && t)
 not-106a B106A t h = absurd (miss (1 ∷ 2 ∷ 3 ∷ 4 ∷ 5 ∷ 6 ∷ 7 ∷ []) 0 tt h)

@@ -20,26 +20,27 @@ use Rattle.felica.specs.Checks.{readCheck, writeCheck}
 use Rattle.felica.specs.Laid.{request-length, fits-idm, fits-few, write-idm, write-few as felica-few, write-few-bytes}
 use Rattle.felica.specs.declared.check.Checked.{Checked}
 use Rattle.felica.specs.declared.check.Checked.the-variants.{Good, Faulty}
-use Rattle.protocol.specs.Names.{inCommunicateThruCode}
+use Rattle.protocol.specs.Calls.{inCommunicateThruCode}
 use Rattle.protocol.specs.Scripts.{Answer, done, refused}
 use Rattle.stages.specs.Put.{Puts, Joins, joins-within}
 use Rattle.stages.specs.Stages.{cmd}
 use Rattle.stages.specs.Starts.{Start, refuses, sends, limited, asserted, Starts, short-command}
-use Rattle.stages.specs.Decided.{Comes}
-use Rattle.stages.specs.Laws.{comes-refused}
+use Rattle.stages.specs.Decided.{AnswerRefines}
+use Rattle.stages.specs.Laws.{answer-refused}
 use Rattle.stages.specs.declared.Decision.{Decision}
 use Rattle.stages.specs.declared.start.Start as code
 use Rattle.chipset.specs.Responses.{withStatus}
+use Rattle.device.specs.Kinds.{readBlocksKind, writeBlocksKind}
 
--- kind 23 is a read's, 24 a write's: the request is sent through InCommunicateThru where there is one, else 4
+-- the request is sent through InCommunicateThru where there is one, else 4
 abbrev pub thruIf : Bool → ℕ → ℕ → List ℕ → Start
 thruIf fits kind ms p = asserted fits (sends kind (cmd inCommunicateThruCode ms p))
 
 unfoldable pub readFirst : List ℕ → ℕ → List ℕ → ℕ → Start
-readFirst idm service blocks ms = thruIf (requestFits idm blocks) 23 ms (readRequest idm service blocks)
+readFirst idm service blocks ms = thruIf (requestFits idm blocks) readBlocksKind ms (readRequest idm service blocks)
 
 unfoldable pub writeFirst : List ℕ → ℕ → List ℕ → List ℕ → ℕ → Start
-writeFirst idm service blocks bytes ms = thruIf (writeFits idm blocks bytes) 24 ms (writeRequest idm service blocks bytes)
+writeFirst idm service blocks bytes ms = thruIf (writeFits idm blocks bytes) writeBlocksKind ms (writeRequest idm service blocks bytes)
 
 -- the response from a place on where the reply is good; else its fault
 abbrev pub ifGood : ℕ → List ℕ → Checked → Answer ℕ
@@ -121,10 +122,10 @@ pub behind-status : (bs : List ℕ) → 1 ≤ length bs → take (length bs - 1)
 behind-status bs h = take-all (length bs - 1) (drop 1 bs) (omega (arith, length-drop 1 bs))
 
 module _ (pending bs : List ℕ) (r : Decision) (c : Checked) (h : 1 ≤ length bs) where
-  pub comes-read : c ≡ readCheck (idmIn pending) (countIn pending) (take (length bs - 1) (drop 1 bs)) → Comes bs r (ifGood 14 bs c)
-      → Comes bs r (ifGood 14 bs (readCheck (idmIn pending) (countIn pending) (drop 1 bs)))
+  pub comes-read : c ≡ readCheck (idmIn pending) (countIn pending) (take (length bs - 1) (drop 1 bs)) → AnswerRefines bs r (ifGood 14 bs c)
+      → AnswerRefines bs r (ifGood 14 bs (readCheck (idmIn pending) (countIn pending) (drop 1 bs)))
   comes-read e k = rw (← behind-status bs h, ← e) k
 
-  pub comes-written : c ≡ writeCheck (idmIn pending) (take (length bs - 1) (drop 1 bs)) → Comes bs r (ifGood (length bs) bs c)
-      → Comes bs r (ifGood (length bs) bs (writeCheck (idmIn pending) (drop 1 bs)))
+  pub comes-written : c ≡ writeCheck (idmIn pending) (take (length bs - 1) (drop 1 bs)) → AnswerRefines bs r (ifGood (length bs) bs c)
+      → AnswerRefines bs r (ifGood (length bs) bs (writeCheck (idmIn pending) (drop 1 bs)))
   comes-written e k = rw (← behind-status bs h, ← e) k

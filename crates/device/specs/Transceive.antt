@@ -15,8 +15,8 @@ use Rattle.crc.specs.Crc.{typeA as crcA, checks}
 use Rattle.targets.specs.Bitrates.{choiceOf}
 use Rattle.targets.specs.declared.Bitrate.{Bitrate}
 use Rattle.protocol.specs.Scripts.{Answer, done, refused}
-use Rattle.protocol.specs.Chipset.{maskedStatus}
-use Rattle.protocol.specs.Calls.{is106A, type2SelRes, isSendable}
+use Rattle.protocol.specs.Rules.{maskedStatus}
+use Rattle.protocol.specs.Starts.{is106A, type2SelRes, isSendable}
 use Rattle.stages.specs.Stages.{Command, cmd}
 use Rattle.stages.specs.Starts.{Start, refuses, limited, Starts}
 use Rattle.stages.specs.Bitrates.{withBitrate}
@@ -24,18 +24,21 @@ use Rattle.stages.specs.declared.start.Start as code
 use Rattle.chipset.specs.Responses.{withStatus}
 use Rattle.device.specs.declared.transceive.Timeout.{Timeout}
 use Rattle.device.specs.declared.transceive.Timeout.the-variants.{Standard, Ms}
-use Rattle.protocol.specs.Names.{inCommunicateThruCode, inDataExchangeCode, noData}
+use Rattle.protocol.specs.Calls.{inCommunicateThruCode, inDataExchangeCode}
+use Rattle.protocol.specs.Names.{noData}
+use Rattle.chipset.specs.Kinds.{thruKind}
+use Rattle.device.specs.Kinds.{type2Kind, type1Kind}
 
 abbrev pub timeoutOf : Timeout → Option ℕ
 timeoutOf Standard = none
 timeoutOf (Ms ms) = some ms
 
--- kind 16 is a Type 1 target's, 15 a Type 2 target's, 10 in_communicate_thru's
+-- by the kind of target; any other is in_communicate_thru's
 unfoldable pub type1First : List ℕ → ℕ → Start
-type1First bytes ms = pick (isSendable bytes) (limited 16 (cmd inDataExchangeCode ms (0x01 ∷ bytes))) (refuses NotSendable)
+type1First bytes ms = pick (isSendable bytes) (limited type1Kind (cmd inDataExchangeCode ms (0x01 ∷ bytes))) (refuses NotSendable)
 
 unfoldable pub thruFirst : Bitrate → List ℕ → List ℕ → ℕ → Start
-thruFirst rate selRes bytes ms = limited (pick (is106A rate && type2SelRes selRes) 15 10) (cmd inCommunicateThruCode ms bytes)
+thruFirst rate selRes bytes ms = limited (pick (is106A rate && type2SelRes selRes) type2Kind thruKind) (cmd inCommunicateThruCode ms bytes)
 
 unfoldable pub transceiveFirst : List ℕ → List ℕ → Bool → List ℕ → ℕ → Start
 transceiveFirst text selRes ridRes bytes ms = withBitrate (choiceOf text) (λ rate. pick ridRes (type1First bytes ms) (thruFirst rate selRes bytes ms))
@@ -61,11 +64,11 @@ sel-res [] h = absurd (h refl)
 sel-res (x ∷ l) h = refl
 
 module _ (r : code.Start) (c₀ c₁ : List ℕ) (c : Command) (t : Bool) where
-  pub kind-type2 : t ≡ true → Starts r c₀ c₁ (limited 15 c) → Starts r c₀ c₁ (limited (pick t 15 10) c)
+  pub kind-type2 : t ≡ true → Starts r c₀ c₁ (limited type2Kind c) → Starts r c₀ c₁ (limited (pick t type2Kind thruKind) c)
   unfolding pick
   kind-type2 h e = rw h e
 
-  pub kind-thru : t ≡ false → Starts r c₀ c₁ (limited 10 c) → Starts r c₀ c₁ (limited (pick t 15 10) c)
+  pub kind-thru : t ≡ false → Starts r c₀ c₁ (limited thruKind c) → Starts r c₀ c₁ (limited (pick t type2Kind thruKind) c)
   unfolding pick
   kind-thru h e = rw h e
 

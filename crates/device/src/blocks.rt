@@ -2,8 +2,8 @@
 // the request.
 use super::transceive::Timeout;
 use super::transceive::clock;
-use chipset::cmd;
 use chipset::err;
+use chipset::initiator;
 use chipset::response::from;
 use errors::Fault;
 use felica::check::Checked;
@@ -23,8 +23,8 @@ ghost use Prim.Native.Nat.{ℕ, _≤_};
 ghost use lib.ListN.{length};
 ghost use Rattle.framing.specs.Build.{outcome, left};
 ghost use Rattle.felica.specs.Packets.{builtOf};
-ghost use Rattle.protocol.specs.Calls.{clockOf};
-ghost use Rattle.stages.specs.Decided.{Comes};
+ghost use Rattle.protocol.specs.Starts.{clockOf};
+ghost use Rattle.stages.specs.Decided.{AnswerRefines};
 ghost use Rattle.stages.specs.Starts.{Starts};
 ghost use Rattle.device.specs.Transceive.{timeoutOf};
 ghost use Rattle.device.specs.Blocks.{thruIf, readFirst, writeFirst, ifGood, readAnswer, writeAnswer};
@@ -42,7 +42,7 @@ fn sent(kind: u8, built: Built, ms: u32) -> Start
     ensures { λ r. ⌜ ((fits : Bool) (p c₀ c₁ : List ℕ) → (fits ≡ Bool.true → (length p ≤ 512) × (length p ≤ length c₀)) → left (outcome built) c₁ ≡ builtOf fits p c₀ → Starts r c₀ c₁ (thruIf fits kind ms p)) ⌝ }
 {
     match built {
-        Built::Frame(n) => start::command(kind, cmd::IN_COMMUNICATE_THRU, ms, n),
+        Built::Frame(n) => start::command(kind, initiator::IN_COMMUNICATE_THRU, ms, n),
         Built::Refused(refusal) => start::refused(refusal),
     }
 }
@@ -78,7 +78,7 @@ pub fn write_without_encryption(
 
 // The response from a place on where the reply is good; else its fault.
 fn if_good(checked: Checked, response: &[u8], start: usize) -> Decision
-    ensures { λ r. ⌜ Comes (now (response .entry)) r (ifGood start (now (response .entry)) checked) ⌝ }
+    ensures { λ r. ⌜ AnswerRefines (now (response .entry)) r (ifGood start (now (response .entry)) checked) ⌝ }
 {
     match checked {
         Checked::Good => from(response, start),
@@ -88,7 +88,7 @@ fn if_good(checked: Checked, response: &[u8], start: usize) -> Decision
 
 // The blocks, in the order of the request; `pending` is the request.
 pub fn read_response(pending: &[u8], response: &[u8]) -> Decision
-    ensures { λ r. ⌜ Comes (now (response .entry)) r (readAnswer (now (pending .entry)) (now (response .entry))) ⌝ }
+    ensures { λ r. ⌜ AnswerRefines (now (response .entry)) r (readAnswer (now (pending .entry)) (now (response .entry))) ⌝ }
 {
     let status = byte_or(response, 0, err::NO_DATA);
     if status == 0 {
@@ -100,7 +100,7 @@ pub fn read_response(pending: &[u8], response: &[u8]) -> Decision
 
 // No bytes.
 pub fn write_response(pending: &[u8], response: &[u8]) -> Decision
-    ensures { λ r. ⌜ Comes (now (response .entry)) r (writeAnswer (now (pending .entry)) (now (response .entry))) ⌝ }
+    ensures { λ r. ⌜ AnswerRefines (now (response .entry)) r (writeAnswer (now (pending .entry)) (now (response .entry))) ⌝ }
 {
     let status = byte_or(response, 0, err::NO_DATA);
     if status == 0 {

@@ -4,7 +4,6 @@ pub mod transceive;
 
 use chipset::ciu;
 use chipset::clock;
-use chipset::cmd;
 use chipset::general;
 use chipset::registers;
 use errors::Fault;
@@ -23,7 +22,7 @@ ghost use mathlib.Core.Path.{_≡_};
 ghost use Prim.Native.Nat.{ℕ, _≤_, _<_};
 ghost use lib.ListN.{take};
 ghost use Rattle.stages.specs.Stages.{cmd};
-ghost use Rattle.stages.specs.Decided.{tailBytes, Decides, Commands};
+ghost use Rattle.stages.specs.Decided.{tailBytes, DecisionRefines, Commands};
 ghost use Rattle.device.specs.Names.{hexDigit, dotted, nameBytes};
 ghost use Rattle.device.specs.Opening.{openingCommand, settingsCommand, isResetStage, versionKept, openingDecision};
 
@@ -77,7 +76,7 @@ const PARAMETERS: u8 = 0x08;
 fn configured(bytes: [u8; 12], len: usize) -> Command
     ensures { λ r. ⌜ (len ≤ 12 → Commands r (λ pending. cmd 0x32 100 (take len bytes))) ⌝ }
 {
-    Command::with(cmd::RF_CONFIGURATION, clock::COMMAND, bytes, len)
+    Command::with(general::RF_CONFIGURATION, clock::COMMAND, bytes, len)
 }
 
 // The commands of Device::new, one for each stage.
@@ -86,7 +85,7 @@ pub fn command(stage: u8) -> Command
 {
     match stage {
         STAGE_RESET => general::reset_mode_command(),
-        STAGE_VERSION => Command::with(cmd::GET_FIRMWARE_VERSION, clock::COMMAND, [0; 12], 0),
+        STAGE_VERSION => Command::with(general::GET_FIRMWARE_VERSION, clock::COMMAND, [0; 12], 0),
         STAGE_FIELD_OFF => configured([RF_FIELD, FIELD_OFF, 0, 0, 0, 0, 0, 0, 0, 0, 0, 0], 2),
         STAGE_TIMEOUTS => configured([TIMEOUTS, 0x0B, 0x0B, 0x0A, 0, 0, 0, 0, 0, 0, 0, 0], 4),
         STAGE_MAX_RTY_COM => configured([MAX_RTY_COM, 0x00, 0, 0, 0, 0, 0, 0, 0, 0, 0, 0], 2),
@@ -102,7 +101,7 @@ fn settings(stage: u8) -> Command
         STAGE_MAX_RETRIES => configured([MAX_RETRIES, 0x00, 0x00, 0x01, 0, 0, 0, 0, 0, 0, 0, 0], 4),
         STAGE_ANALOG => configured(RF_106A, 12),
         STAGE_PARAMETERS => Command::with(
-            cmd::SET_PARAMETERS,
+            general::SET_PARAMETERS,
             clock::COMMAND,
             [PARAMETERS, 0, 0, 0, 0, 0, 0, 0, 0, 0, 0, 0],
             1,
@@ -204,7 +203,7 @@ fn chipset_name(version: u8, revision: u8) -> Named
 
 // get_firmware_version was answered: the three bytes and the chip's name are kept.
 fn version(response: &[u8]) -> Decision
-    ensures { λ r. ⌜ ((f : List ℕ) → Decides f (now (response .entry)) r (versionKept (now (response .entry)))) ⌝ }
+    ensures { λ r. ⌜ ((f : List ℕ) → DecisionRefines f (now (response .entry)) r (versionKept (now (response .entry)))) ⌝ }
 {
     if response.len() < 4 {
         return Decision::Refused(Fault::ShortResponse);
@@ -216,7 +215,7 @@ fn version(response: &[u8]) -> Decision
 
 // What follows a response, or a reset; `found` is the answer once the version is known.
 pub fn decided(stage: u8, found: &[u8], response: &[u8]) -> Decision
-    ensures { λ r. ⌜ Decides (now (found .entry)) (now (response .entry)) r (openingDecision stage (now (found .entry)) (now (response .entry))) ⌝ }
+    ensures { λ r. ⌜ DecisionRefines (now (found .entry)) (now (response .entry)) r (openingDecision stage (now (found .entry)) (now (response .entry))) ⌝ }
 {
     if stage == STAGE_VERSION {
         return version(response);

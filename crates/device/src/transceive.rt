@@ -1,7 +1,7 @@
 // transceive (device.rs): how it starts, and its responses. That of any other target is in_communicate_thru's.
 use chipset::THRU;
-use chipset::cmd;
 use chipset::err;
+use chipset::initiator;
 use chipset::initiator::TARGET;
 use chipset::response::from;
 use chipset::response::part;
@@ -16,8 +16,8 @@ use targets::Bitrate;
 use targets::Coded;
 ghost use mathlib.Core.Bool.{_&&_};
 ghost use mathlib.Core.Path.{_≡_};
-ghost use Rattle.protocol.specs.Calls.{is106A, type2SelRes, isSendable, clockOf};
-ghost use Rattle.stages.specs.Decided.{Comes};
+ghost use Rattle.protocol.specs.Starts.{is106A, type2SelRes, isSendable, clockOf};
+ghost use Rattle.stages.specs.Decided.{AnswerRefines};
 ghost use Rattle.stages.specs.Starts.{Starts};
 ghost use Rattle.device.specs.Transceive.{timeoutOf, type1First, thruFirst, transceiveFirst, type2Answer, type1Answer};
 
@@ -31,13 +31,18 @@ pub enum Timeout {
     Ms(u16),
 }
 
+// What transceive waits for a card where it is not told, and what the chip gets beside it.
+const STANDARD_MS: u32 = 1000;
+
+const MARGIN_MS: u32 = 100;
+
 // The ms of the command's clock.
 pub(crate) fn clock(timeout: Timeout) -> u32
     ensures { λ r. ⌜ r ≡ clockOf (timeoutOf timeout) ⌝ }
 {
     match timeout {
-        Timeout::Standard => 1000 + 100,
-        Timeout::Ms(ms) => ms as u32 + 100,
+        Timeout::Standard => STANDARD_MS + MARGIN_MS,
+        Timeout::Ms(ms) => ms as u32 + MARGIN_MS,
     }
 }
 
@@ -89,7 +94,7 @@ fn type1(bytes: &[u8], ms: u32, command: &mut [u8; 512]) -> Start
 {
     if is_sendable(bytes) {
         let n = put_two(&[TARGET], bytes, command);
-        start::command(TYPE_1, cmd::IN_DATA_EXCHANGE, ms, n)
+        start::command(TYPE_1, initiator::IN_DATA_EXCHANGE, ms, n)
     } else {
         start::refused(Refusal::NotSendable)
     }
@@ -100,9 +105,9 @@ fn thru(bitrate: Bitrate, sel_res: &[u8], bytes: &[u8], ms: u32, command: &mut [
 {
     let n = put_two(&[], bytes, command);
     if is_type2_106a(bitrate, sel_res) {
-        start::command(TYPE_2, cmd::IN_COMMUNICATE_THRU, ms, n)
+        start::command(TYPE_2, initiator::IN_COMMUNICATE_THRU, ms, n)
     } else {
-        start::command(THRU, cmd::IN_COMMUNICATE_THRU, ms, n)
+        start::command(THRU, initiator::IN_COMMUNICATE_THRU, ms, n)
     }
 }
 
@@ -130,7 +135,7 @@ pub fn transceive(
 
 // Of a Type 2 target: a reply over 2 bytes must pass CRC_A and loses two bytes.
 pub fn type2_response(response: &[u8]) -> Decision
-    ensures { λ r. ⌜ Comes (now (response .entry)) r (type2Answer (now (response .entry))) ⌝ }
+    ensures { λ r. ⌜ AnswerRefines (now (response .entry)) r (type2Answer (now (response .entry))) ⌝ }
 {
     let status = byte_or(response, 0, err::NO_DATA);
     if status == 0 {
@@ -150,7 +155,7 @@ pub fn type2_response(response: &[u8]) -> Decision
 
 // Of a Type 1 target: the more flag is left out.
 pub fn type1_response(response: &[u8]) -> Decision
-    ensures { λ r. ⌜ Comes (now (response .entry)) r (type1Answer (now (response .entry))) ⌝ }
+    ensures { λ r. ⌜ AnswerRefines (now (response .entry)) r (type1Answer (now (response .entry))) ⌝ }
 {
     if response.len() == 0 {
         return Decision::Refused(Fault::Status(err::NO_DATA));

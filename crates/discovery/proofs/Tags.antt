@@ -15,14 +15,14 @@ use Rattle.errors.specs.Refusals.{byStatus}
 use Rattle.errors.specs.declared.Fault.{Fault}
 use Rattle.errors.specs.declared.Fault.the-variants.{Transport, TimeOut, FalseStart, BrokenFrame, Length, FrameKind, Identifier, Code, Status, ShortResponse, NoCard, CrcA, Rate, CardStatus, OtherCard, UidLayout}
 use Rattle.stages.specs.Stages as stages
-use Rattle.stages.specs.Decided.{Decides}
+use Rattle.stages.specs.Decided.{DecisionRefines}
 use Rattle.stages.specs.declared.Decision.{Decision}
-use Rattle.stages.specs.declared.Decision.the-variants.{Send, Keep, Next, Put, Pause, Done, Type1, UidAndAts, Nothing, Refused, RefusedAfter}
+use Rattle.stages.specs.declared.Decision.the-variants.{Send, Keep, Next, Put, Pause, Done, Part, Type1, UidAndAts, Nothing, Refused, RefusedAfter}
 use Rattle.targets.specs.declared.Bitrate.{Bitrate}
 use Rattle.targets.specs.declared.Bitrate.the-variants.{B106A, B212F, B424F, B106B, B212B, B424B, B848B, Other}
 use Rattle.targets.proofs.Bitrate.{the-type}
 use Rattle.protocol.specs.Discovery.{byNoCard}
-use Rattle.protocol.specs.Calls.{typeACode, typeBCode, typeFCode, depCode, is106A, isSendable}
+use Rattle.protocol.specs.Starts.{typeACode, typeBCode, typeFCode, depCode}
 use Rattle.discovery.specs.Decisions.{onEnd}
 
 pub no-type-a : (b : Bitrate) → OneOf (4 ∷ 5 ∷ 6 ∷ 7 ∷ []) (tagOf the-type b) → none ≡ typeACode b
@@ -115,15 +115,16 @@ not-no-card x a UidLayout h = refl
 
 -- no end with bytes or with a fault
 pub not-ended : (f b : List ℕ) (F : List ℕ → stages.Decision) (G : Fault → stages.Decision) (r : Decision) (d : stages.Decision)
-    → OneOf (0 ∷ 1 ∷ 2 ∷ 3 ∷ 4 ∷ 6 ∷ 7 ∷ 8 ∷ 10 ∷ []) (tagOf Rattle.stages.proofs.Decision.the-type r) → Decides f b r d → Decides f b r (onEnd F G d)
+    → OneOf (0 ∷ 1 ∷ 2 ∷ 3 ∷ 4 ∷ 7 ∷ 8 ∷ 9 ∷ 11 ∷ []) (tagOf Rattle.stages.proofs.Decision.the-type r) → DecisionRefines f b r d → DecisionRefines f b r (onEnd F G d)
 not-ended f b F G (Send n) d h k = record { is = ap (onEnd F G) (k .is); fits = k .fits }
 not-ended f b F G (Keep n l) d h k = record { is = ap (onEnd F G) (k .is); fits = k .fits }
 not-ended f b F G (Next n c l) d h k = record { is = ap (onEnd F G) (k .is); fits = k .fits }
 not-ended f b F G (Put n x) d h k = record { is = ap (onEnd F G) (k .is); fits = k .fits }
 not-ended f b F G (Pause us n) d h k = record { is = ap (onEnd F G) (k .is); fits = k .fits }
-not-ended f b F G (Done l) d h k = absurd (miss (0 ∷ 1 ∷ 2 ∷ 3 ∷ 4 ∷ 6 ∷ 7 ∷ 8 ∷ 10 ∷ []) 5 tt h)
+not-ended f b F G (Done l) d h k = absurd (miss (0 ∷ 1 ∷ 2 ∷ 3 ∷ 4 ∷ 7 ∷ 8 ∷ 9 ∷ 11 ∷ []) 5 tt h)
+not-ended f b F G (Part s n) d h k = absurd (miss (0 ∷ 1 ∷ 2 ∷ 3 ∷ 4 ∷ 7 ∷ 8 ∷ 9 ∷ 11 ∷ []) 6 tt h)
 not-ended f b F G (Type1 l) d h k = record { is = ap (onEnd F G) (k .is); fits = k .fits }
 not-ended f b F G (UidAndAts l uid ats) d h k = record { is = ap (onEnd F G) (k .is); fits = k .fits }
 not-ended f b F G Nothing d h k = record { is = ap (onEnd F G) (k .is); fits = k .fits }
-not-ended f b F G (Refused r) d h k = absurd (miss (0 ∷ 1 ∷ 2 ∷ 3 ∷ 4 ∷ 6 ∷ 7 ∷ 8 ∷ 10 ∷ []) 9 tt h)
+not-ended f b F G (Refused r) d h k = absurd (miss (0 ∷ 1 ∷ 2 ∷ 3 ∷ 4 ∷ 7 ∷ 8 ∷ 9 ∷ 11 ∷ []) 10 tt h)
 not-ended f b F G (RefusedAfter r n) d h k = record { is = ap (onEnd F G) (k .is); fits = k .fits }

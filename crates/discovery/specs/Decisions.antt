@@ -11,21 +11,24 @@ use Rattle.errors.specs.declared.Fault.the-variants.{Status, NoCard, UidLayout}
 use Rattle.targets.specs.TypeA.{isTargetData}
 use Rattle.framing.specs.Lists.{both}
 use Rattle.protocol.specs.Scripts.{done, type1, uidAndAts, nothing, refused, refusedAfter}
-use Rattle.protocol.specs.Chipset.{anyNonzero, statusByte, maskedStatus, word}
+use Rattle.protocol.specs.Rules.{anyNonzero, statusByte, maskedStatus}
+use Rattle.protocol.specs.Arguments.{word}
 use Rattle.protocol.specs.Discovery.{isType2, uidLength, atsLength, sensfReq, byNoCard}
 use Rattle.chipset.specs.Responses.{foundWritten}
 use Rattle.stages.specs.Stages.{Command, cmd, Decision, send, keep, next, put, pause, ends, refuse, withLength}
-use Rattle.protocol.specs.Names.{ciuFifoData, ciuMode, ciuRxMode, ciuTxControl, commandClock, fieldPauseTime, inCommunicateThruCode, inDataExchangeCode, inJumpForDepClock, inJumpForDepCode, inListPassiveTargetClock, inListPassiveTargetCode, readRegisterCode, registerWriteFailed, registersClock, rfConfigurationCode, rfNotActivated, ridClock, timeoutStatus, typeBClock, writeRegisterCode}
+use Rattle.protocol.specs.Names.{ciuFifoData, ciuMode, ciuRxMode, ciuTxControl, commandClock, fieldPauseTime, inJumpForDepClock, inListPassiveTargetClock, registerWriteFailed, registersClock, rfNotActivated, ridClock, timeoutStatus, typeBClock}
+use Rattle.protocol.specs.Calls.{inCommunicateThruCode, inDataExchangeCode, inJumpForDepCode, inListPassiveTargetCode, readRegisterCode, rfConfigurationCode, writeRegisterCode}
+use Rattle.discovery.specs.Kinds.{listStage, fifoStage, listType1Stage, ridStage, readRxModeStage, writeRxModeStage, deselectStage, wakeUpStage, fieldStage, rfOnStage, pollStage, timeoutsStage, jumpStage, writeModeStage}
 
--- ---- Type A: 0 list, 1 FIFO, 2 list of Type 1, 3 RID, 4 RX mode read, 5 RX mode written
+-- ---- Type A
 
 unfoldable pub typeACommand : ℕ → List ℕ → Command
 typeACommand stage pending =
-    pick (eqb stage 0) (cmd inListPassiveTargetCode inListPassiveTargetClock pending)
-    (pick (eqb stage 1) (cmd readRegisterCode registersClock (word ciuFifoData))
-    (pick (eqb stage 2) (cmd inListPassiveTargetCode inListPassiveTargetClock (0x01 ∷ 0x04 ∷ []))
-    (pick (eqb stage 3) (cmd inDataExchangeCode ridClock (0x01 ∷ 0x78 ∷ 0x00 ∷ 0x00 ∷ 0x00 ∷ 0x00 ∷ 0x00 ∷ 0x00 ∷ []))
-    (pick (eqb stage 4) (cmd readRegisterCode registersClock (word ciuRxMode)) (cmd writeRegisterCode registersClock pending)))))
+    pick (eqb stage listStage) (cmd inListPassiveTargetCode inListPassiveTargetClock pending)
+    (pick (eqb stage fifoStage) (cmd readRegisterCode registersClock (word ciuFifoData))
+    (pick (eqb stage listType1Stage) (cmd inListPassiveTargetCode inListPassiveTargetClock (0x01 ∷ 0x04 ∷ []))
+    (pick (eqb stage ridStage) (cmd inDataExchangeCode ridClock (0x01 ∷ 0x78 ∷ 0x00 ∷ 0x00 ∷ 0x00 ∷ 0x00 ∷ 0x00 ∷ 0x00 ∷ []))
+    (pick (eqb stage readRxModeStage) (cmd readRegisterCode registersClock (word ciuRxMode)) (cmd writeRegisterCode registersClock pending)))))
 
 -- SENS_RES in the other order, SEL_RES, SDD_RES
 abbrev pub cardBytes : List ℕ → List ℕ
@@ -33,19 +36,19 @@ cardBytes list = getD list 3 0 ∷ getD list 2 0 ∷ getD list 4 0 ∷ drop 6 li
 
 unfoldable pub listedA : List ℕ → Decision
 listedA bs =
-    pick (eqb (getD bs 0 0) 0) (send 1)
+    pick (eqb (getD bs 0 0) 0) (send fifoStage)
     (withLength bs 2
-    (pick (ltb (length bs) 6) (ends nothing) (pick (isType2 (getD bs 4 0)) (keep 4 (cardBytes bs)) (ends (done (cardBytes bs))))))
+    (pick (ltb (length bs) 6) (ends nothing) (pick (isType2 (getD bs 4 0)) (keep readRxModeStage (cardBytes bs)) (ends (done (cardBytes bs))))))
 
 unfoldable pub fifoRead : List ℕ → Decision
-fifoRead bs = pick (eqb (getD bs 0 0) 0x26) (ends nothing) (send 2)
+fifoRead bs = pick (eqb (getD bs 0 0) 0x26) (ends nothing) (send listType1Stage)
 
 -- SENS_RES of a Type 1 tag in the other order, nothing of a list that is too short for it
 unfoldable pub sensRes : List ℕ → List ℕ
 sensRes list = pick (ltb (length list) 4) [] (getD list 3 0 ∷ getD list 2 0 ∷ [])
 
 unfoldable pub listedType1 : List ℕ → Decision
-listedType1 bs = pick (eqb (getD bs 0 0) 0) (ends nothing) (withLength bs 2 (keep 3 (sensRes bs)))
+listedType1 bs = pick (eqb (getD bs 0 0) 0) (ends nothing) (withLength bs 2 (keep ridStage (sensRes bs)))
 
 -- a status other than 0 is none; a list that was too short gives 16
 unfoldable pub ridOf : List ℕ → List ℕ → Decision
@@ -54,22 +57,22 @@ ridOf found bs =
     (pick (eqb (maskedStatus bs) 0) (withLength found 2 (ends (type1 (take 2 found ++ drop 1 bs)))) (ends nothing))
 
 unfoldable pub rxModeRead : List ℕ → Decision
-rxModeRead bs = withLength bs 1 (put 5 (word ciuRxMode ++ (getD bs 0 0 % 128 ∷ [])))
+rxModeRead bs = withLength bs 1 (put writeRxModeStage (word ciuRxMode ++ (getD bs 0 0 % 128 ∷ [])))
 
 unfoldable pub typeADecision : ℕ → List ℕ → List ℕ → Decision
 typeADecision stage found bs =
-    pick (eqb stage 0) (listedA bs)
-    (pick (eqb stage 1) (fifoRead bs)
-    (pick (eqb stage 2) (listedType1 bs)
-    (pick (eqb stage 3) (ridOf found bs)
-    (pick (eqb stage 4) (rxModeRead bs) (foundWritten found bs)))))
+    pick (eqb stage listStage) (listedA bs)
+    (pick (eqb stage fifoStage) (fifoRead bs)
+    (pick (eqb stage listType1Stage) (listedType1 bs)
+    (pick (eqb stage ridStage) (ridOf found bs)
+    (pick (eqb stage readRxModeStage) (rxModeRead bs) (foundWritten found bs)))))
 
 -- a status is none in the RID exchange
 unfoldable pub ridFailure : Fault → Decision
 ridFailure fault = byStatus (λ status. ends nothing) (refuse fault) fault
 
 unfoldable pub typeAFailure : ℕ → Fault → Decision
-typeAFailure stage fault = pick (eqb stage 1) (send 2) (pick (eqb stage 3) (ridFailure fault) (refuse fault))
+typeAFailure stage fault = pick (eqb stage fifoStage) (send listType1Stage) (pick (eqb stage ridStage) (ridFailure fault) (refuse fault))
 
 -- ---- Type A in the mode in which UID and ATS are told apart: Type A's stages. The cursor is the UID's length while the RX mode is set, where
 -- the found bytes are three bytes, the UID and the ATS.
@@ -77,12 +80,12 @@ typeAFailure stage fault = pick (eqb stage 1) (send 2) (pick (eqb stage 3) (ridF
 unfoldable pub splitFound : List ℕ → Decision
 splitFound bs =
     pick (isTargetData (drop 2 bs))
-    (pick (isType2 (getD bs 4 0)) (next 4 (uidLength bs) (cardBytes bs)) (ends (uidAndAts (cardBytes bs) (uidLength bs) (atsLength bs))))
+    (pick (isType2 (getD bs 4 0)) (next readRxModeStage (uidLength bs) (cardBytes bs)) (ends (uidAndAts (cardBytes bs) (uidLength bs) (atsLength bs))))
     (refuse UidLayout)
 
 unfoldable pub splitListed : List ℕ → Decision
 splitListed bs =
-    pick (eqb (getD bs 0 0) 0) (send 1) (withLength bs 2 (pick (ltb (length bs) 6) (ends nothing) (splitFound bs)))
+    pick (eqb (getD bs 0 0) 0) (send fifoStage) (withLength bs 2 (pick (ltb (length bs) 6) (ends nothing) (splitFound bs)))
 
 unfoldable pub splitWritten : ℕ → List ℕ → List ℕ → Decision
 splitWritten cursor found bs =
@@ -90,17 +93,17 @@ splitWritten cursor found bs =
 
 unfoldable pub splitDecision : ℕ → ℕ → List ℕ → List ℕ → Decision
 splitDecision stage cursor found bs =
-    pick (eqb stage 0) (splitListed bs) (pick (eqb stage 5) (splitWritten cursor found bs) (typeADecision stage found bs))
+    pick (eqb stage listStage) (splitListed bs) (pick (eqb stage writeRxModeStage) (splitWritten cursor found bs) (typeADecision stage found bs))
 
--- ---- Type B: 0 list, 1 deselect, 2 wake-up
+-- ---- Type B
 
 unfoldable pub typeBCommand : ℕ → List ℕ → Command
-typeBCommand stage pending = pick (eqb stage 0) (cmd inListPassiveTargetCode inListPassiveTargetClock pending) (pick (eqb stage 1) (cmd inCommunicateThruCode typeBClock (0xC2 ∷ [])) (cmd inCommunicateThruCode typeBClock pending))
+typeBCommand stage pending = pick (eqb stage listStage) (cmd inListPassiveTargetCode inListPassiveTargetClock pending) (pick (eqb stage deselectStage) (cmd inCommunicateThruCode typeBClock (0xC2 ∷ [])) (cmd inCommunicateThruCode typeBClock pending))
 
 -- a tag that is capable of ISO-DEP, by its protocol byte, is deselected; the wake-up is put by
 unfoldable pub isoDep : ℕ → ℕ → Decision
 isoDep protocol afi =
-    pick (eqb (protocol % 2) 1) (pick (eqb (protocol / 8 % 2) 0) (put 1 (0x05 ∷ afi ∷ 0x08 ∷ [])) (ends nothing)) (ends nothing)
+    pick (eqb (protocol % 2) 1) (pick (eqb (protocol / 8 % 2) 0) (put deselectStage (0x05 ∷ afi ∷ 0x08 ∷ [])) (ends nothing)) (ends nothing)
 
 -- the pending command is the list's, which has the AFI behind 1 and the bitrate's code
 unfoldable pub listedB : List ℕ → List ℕ → Decision
@@ -112,25 +115,25 @@ unfoldable pub wokenUp : List ℕ → Decision
 wokenUp bs = pick (eqb (statusByte bs) 0) (ends (done (drop 1 bs))) (ends nothing)
 
 unfoldable pub typeBDecision : ℕ → List ℕ → List ℕ → Decision
-typeBDecision stage pending bs = pick (eqb stage 0) (listedB pending bs) (pick (eqb stage 1) (send 2) (wokenUp bs))
+typeBDecision stage pending bs = pick (eqb stage listStage) (listedB pending bs) (pick (eqb stage deselectStage) (send wakeUpStage) (wokenUp bs))
 
 unfoldable pub typeBFailure : ℕ → Fault → Decision
-typeBFailure stage fault = pick (eqb stage 1) (send 2) (pick (eqb stage 2) (ends nothing) (refuse fault))
+typeBFailure stage fault = pick (eqb stage deselectStage) (send wakeUpStage) (pick (eqb stage wakeUpStage) (ends nothing) (refuse fault))
 
--- ---- Type F: 0 field, 1 RF on, then the field pause, 2 poll
+-- ---- Type F
 
 unfoldable pub typeFCommand : ℕ → List ℕ → Command
 typeFCommand stage pending =
-    pick (eqb stage 0) (cmd readRegisterCode registersClock (word ciuTxControl)) (pick (eqb stage 1) (cmd rfConfigurationCode commandClock (0x01 ∷ 0x01 ∷ [])) (cmd inListPassiveTargetCode inListPassiveTargetClock pending))
+    pick (eqb stage fieldStage) (cmd readRegisterCode registersClock (word ciuTxControl)) (pick (eqb stage rfOnStage) (cmd rfConfigurationCode commandClock (0x01 ∷ 0x01 ∷ [])) (cmd inListPassiveTargetCode inListPassiveTargetClock pending))
 
 unfoldable pub txControlRead : List ℕ → Decision
-txControlRead bs = withLength bs 1 (pick (eqb (getD bs 0 0 % 4) 0) (send 1) (send 2))
+txControlRead bs = withLength bs 1 (pick (eqb (getD bs 0 0 % 4) 0) (send rfOnStage) (send pollStage))
 
 unfoldable pub polled : List ℕ → Decision
 polled bs = pick (eqb (getD bs 0 0) 0) (refuse NoCard) (withLength bs 2 (withLength bs 20 (ends (done (drop 4 bs)))))
 
 unfoldable pub typeFDecision : ℕ → List ℕ → Decision
-typeFDecision stage bs = pick (eqb stage 0) (txControlRead bs) (pick (eqb stage 1) (pause fieldPauseTime 2) (polled bs))
+typeFDecision stage bs = pick (eqb stage fieldStage) (txControlRead bs) (pick (eqb stage rfOnStage) (pause fieldPauseTime pollStage) (polled bs))
 
 -- ---- several system codes: Type F's stages for each. The pending command is the bitrate's code and the words of the system codes; the
 -- cursor is the number of codes finished.
@@ -153,7 +156,7 @@ hasNext cursor pending = both (ltb cursor 15) (leb (2 * cursor + 5) (length pend
 -- a code is finished, and adds these bytes
 unfoldable pub codeFinished : ℕ → List ℕ → List ℕ → List ℕ → Decision
 codeFinished cursor pending found bytes =
-    pick (hasNext cursor pending) (next 0 (cursor + 1) (soFar cursor found ++ bytes)) (ends (done (soFar cursor found ++ bytes)))
+    pick (hasNext cursor pending) (next fieldStage (cursor + 1) (soFar cursor found ++ bytes)) (ends (done (soFar cursor found ++ bytes)))
 
 -- no card is the mark 00; any other fault ends the list
 unfoldable pub pollFailure : ℕ → List ℕ → List ℕ → Fault → Decision
@@ -178,24 +181,24 @@ unfoldable pub pollDecision : ℕ → ℕ → List ℕ → List ℕ → List ℕ
 pollDecision stage cursor pending found bs =
     onEnd (λ bytes. codeFinished cursor pending found (0x01 ∷ take 16 bytes)) (pollFailure cursor pending found) (typeFDecision stage bs)
 
--- ---- DEP: 0 time-outs, 1 jump, 2 MODE
+-- ---- DEP
 
 unfoldable pub depCommand : ℕ → List ℕ → Command
 depCommand stage pending =
-    pick (eqb stage 0) (cmd rfConfigurationCode commandClock (0x02 ∷ 0x0B ∷ 0x0B ∷ 0x0A ∷ []))
-    (pick (eqb stage 1) (cmd inJumpForDepCode inJumpForDepClock pending) (cmd writeRegisterCode registersClock (word ciuMode ++ (0x3B ∷ []))))
+    pick (eqb stage timeoutsStage) (cmd rfConfigurationCode commandClock (0x02 ∷ 0x0B ∷ 0x0B ∷ 0x0A ∷ []))
+    (pick (eqb stage jumpStage) (cmd inJumpForDepCode inJumpForDepClock pending) (cmd writeRegisterCode registersClock (word ciuMode ++ (0x3B ∷ []))))
 
 unfoldable pub noPartner : ℕ → Decision
 noPartner status = pick (eqb status timeoutStatus || eqb status rfNotActivated) (ends nothing) (refuse (Status status))
 
 unfoldable pub jumpedTo : List ℕ → Decision
-jumpedTo bs = pick (eqb (statusByte bs) 0) (withLength bs 2 (keep 2 (0xD5 ∷ 0x01 ∷ drop 2 bs))) (noPartner (statusByte bs))
+jumpedTo bs = pick (eqb (statusByte bs) 0) (withLength bs 2 (keep writeModeStage (0xD5 ∷ 0x01 ∷ drop 2 bs))) (noPartner (statusByte bs))
 
 unfoldable pub depDecision : ℕ → List ℕ → List ℕ → Decision
-depDecision stage found bs = pick (eqb stage 0) (send 1) (pick (eqb stage 1) (jumpedTo bs) (foundWritten found bs))
+depDecision stage found bs = pick (eqb stage timeoutsStage) (send jumpStage) (pick (eqb stage jumpStage) (jumpedTo bs) (foundWritten found bs))
 
 unfoldable pub jumpFailure : Fault → Decision
 jumpFailure fault = byStatus noPartner (refuse fault) fault
 
 unfoldable pub depFailure : ℕ → Fault → Decision
-depFailure stage fault = pick (eqb stage 1) (jumpFailure fault) (refuse fault)
+depFailure stage fault = pick (eqb stage jumpStage) (jumpFailure fault) (refuse fault)

@@ -12,9 +12,8 @@ use lib.Seq.{take-all}
 use Rattle.errors.specs.declared.Refusal.the-variants.{Bitrate as BadBitrate}
 use Rattle.framing.specs.Lists.{both}
 use Rattle.framing.specs.Valid.{both-left, both-right}
-use Rattle.protocol.specs.Chipset.{bit, jumpData}
+use Rattle.protocol.specs.Arguments.{bit, jumpData, systemCodesFit}
 use Rattle.protocol.specs.Discovery.{cascaded}
-use Rattle.protocol.specs.Calls.{systemCodesFit}
 use Rattle.chipset.specs.Laws.{bit-none, bit-some}
 use Rattle.stages.specs.Starts.{Start, refuses, Starts}
 use Rattle.stages.specs.Bitrates.{onCode}

@@ -2,49 +2,48 @@
 use mathlib.Core.List.{List, [], _∷_}
 use mathlib.Core.Option.{Option, none, some}
 use Prim.Native.Nat.{ℕ}
-use lib.Dec.{leb}
 use lib.ListN.{length, take, drop}
-use Rattle.framing.specs.Lists.{both}
-use Rattle.protocol.specs.Chipset.{jumpData}
+use Rattle.protocol.specs.Arguments.{jumpData, systemCodesFit, atrReqFits}
 use Rattle.protocol.specs.Discovery.{cascaded}
-use Rattle.protocol.specs.Calls.{typeFCode, depCode, systemCodesFit}
+use Rattle.protocol.specs.Starts.{typeFCode, depCode}
 use Rattle.stages.specs.Starts.{Start, staged, stagedLimited, asserted}
 use Rattle.stages.specs.Bitrates.{codeFor}
 use Rattle.discovery.specs.declared.rates.Supported.{Supported}
 use Rattle.discovery.specs.declared.rates.Supported.the-variants.{Code, Not}
+use Rattle.discovery.specs.Kinds.{typeAKind, typeBKind, typeFKind, depKind, pollTypeFKind, typeASplitKind}
 
 -- the list with the UID, of a kind that has Type A's stages
 unfoldable pub listFirst : ℕ → List ℕ → ℕ → Start
 listFirst kind uid code = stagedLimited kind (1 ∷ code ∷ cascaded uid)
 
 abbrev pub typeAFirst : List ℕ → ℕ → Start
-typeAFirst uid code = listFirst 17 uid code
+typeAFirst uid code = listFirst typeAKind uid code
 
 -- the same in the mode in which UID and ATS are told apart
 abbrev pub splitFirst : List ℕ → ℕ → Start
-splitFirst uid code = listFirst 22 uid code
+splitFirst uid code = listFirst typeASplitKind uid code
 
 -- the list with the AFI
 unfoldable pub typeBFirst : ℕ → ℕ → Start
-typeBFirst afi code = staged 18 (1 ∷ code ∷ afi ∷ [])
+typeBFirst afi code = staged typeBKind (1 ∷ code ∷ afi ∷ [])
 
 -- the poll
 unfoldable pub typeFFirst : List ℕ → ℕ → Start
-typeFFirst req code = staged 19 (1 ∷ code ∷ req)
+typeFFirst req code = staged typeFKind (1 ∷ code ∷ req)
 
 -- the bitrate's code and the words of the system codes
 unfoldable pub pollFirst : List ℕ → ℕ → Start
-pollFirst words code = staged 21 (code ∷ words)
+pollFirst words code = staged pollTypeFKind (code ∷ words)
 
 unfoldable pub pollAsserted : List ℕ → List ℕ → Start
 pollAsserted text words = asserted (systemCodesFit words) (codeFor typeFCode text (pollFirst words))
 
 -- the jump
 unfoldable pub depFirst : List ℕ → ℕ → Start
-depFirst atrReq code = staged 20 (jumpData 1 code [] (take 10 (drop 2 atrReq)) (drop 16 atrReq))
+depFirst atrReq code = staged depKind (jumpData 1 code [] (take 10 (drop 2 atrReq)) (drop 16 atrReq))
 
 unfoldable pub depAsserted : List ℕ → List ℕ → Start
-depAsserted text atrReq = asserted (both (leb 16 (length atrReq)) (leb (length atrReq) 64)) (codeFor depCode text (depFirst atrReq))
+depAsserted text atrReq = asserted (atrReqFits atrReq) (codeFor depCode text (depFirst atrReq))
 
 -- what the code's answer says
 abbrev pub supportedIn : Supported → Option ℕ

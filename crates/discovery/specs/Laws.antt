@@ -12,8 +12,8 @@ use Rattle.errors.specs.Choice.{pick}
 use Rattle.errors.specs.declared.Fault.the-variants.{ShortResponse}
 use Rattle.stages.specs.Stages.{refuse, withLength}
 use Rattle.stages.specs.Stages as stages
-use Rattle.stages.specs.Decided.{Lays, Decides}
-use Rattle.stages.specs.Laws.{decides-refused}
+use Rattle.stages.specs.Decided.{Lays, DecisionRefines}
+use Rattle.stages.specs.Laws.{decision-refused}
 use Rattle.stages.specs.declared.Decision.{Decision}
 use Rattle.stages.specs.declared.Decision.the-variants.{Refused}
 use Rattle.stages.specs.declared.Layout.{Layout}
@@ -35,22 +35,22 @@ lays-rid f b r k =
     rw (take-all (length b - 1) (drop 1 b) l) at k
 
 -- a status that a call answered
-pub decides-partner : (f b : List ℕ) (r : Decision) (s x : ℕ) → s ≡ x → Decides f b r (noPartner s) → Decides f b r (noPartner x)
+pub decides-partner : (f b : List ℕ) (r : Decision) (s x : ℕ) → s ≡ x → DecisionRefines f b r (noPartner s) → DecisionRefines f b r (noPartner x)
 decides-partner f b r s x e d = rw (← e) d
 
 -- an AFI that a call answered
-pub same-afi : (f b : List ℕ) (r : Decision) (p x y : ℕ) → x ≡ y → Decides f b r (isoDep p x) → Decides f b r (isoDep p y)
+pub same-afi : (f b : List ℕ) (r : Decision) (p x y : ℕ) → x ≡ y → DecisionRefines f b r (isoDep p x) → DecisionRefines f b r (isoDep p y)
 same-afi f b r p x y e d = rw (← e) d
 
 -- under 20 bytes, and so perhaps under 2
 pub short-either : (f b l : List ℕ) (d : stages.Decision) → length l < 20
-    → Decides f b (Refused ShortResponse) (withLength l 2 (withLength l 20 d))
+    → DecisionRefines f b (Refused ShortResponse) (withLength l 2 (withLength l 20 d))
 unfolding withLength pick
 short-either f b l d h = go (ltb (length l) 2)
   where
-    go : (t : Bool) → Decides f b (Refused ShortResponse) (pick t (refuse ShortResponse) (pick (ltb (length l) 20) (refuse ShortResponse) d))
-    go true = decides-refused f b ShortResponse
-    go false = rw (lt-ltb (length l) 20 h) (decides-refused f b ShortResponse)
+    go : (t : Bool) → DecisionRefines f b (Refused ShortResponse) (pick t (refuse ShortResponse) (pick (ltb (length l) 20) (refuse ShortResponse) d))
+    go true = decision-refused f b ShortResponse
+    go false = rw (lt-ltb (length l) 20 h) (decision-refused f b ShortResponse)
 
 pub not-short : (l : List ℕ) → 20 ≤ length l → ltb (length l) 2 ≡ false
 not-short l h = le-ltb (length l) 2 (omega arith)

@@ -12,14 +12,15 @@ use Rattle.errors.specs.Choice.{pick}
 use Rattle.errors.specs.declared.Fault.{Fault}
 use Rattle.errors.specs.declared.Fault.the-variants.{NoCard, ShortResponse}
 use Rattle.framing.specs.Valid.{both-left}
-use Rattle.protocol.specs.Scripts.{Answer, done, type1, uidAndAts, nothing, refused, refusedAfter}
+use Rattle.protocol.specs.Scripts.{done, type1, uidAndAts, nothing, refused, refusedAfter}
 use Rattle.stages.specs.Stages.{Decision, send, keep, next, put, pause, ends, refuse, withLength}
-use Rattle.stages.specs.Decided.{layoutBytes, decisionIn, Lays, Decides}
+use Rattle.stages.specs.Decided.{decisionIn, Lays, DecisionRefines}
 use Rattle.stages.specs.declared.Decision as code
-use Rattle.stages.specs.declared.Decision.the-variants.{Done, Refused}
+use Rattle.stages.specs.declared.Decision.the-variants.{Refused}
 use Rattle.stages.specs.declared.Layout.{Layout}
 use Rattle.discovery.specs.Decisions.{txControlRead, polled, typeFDecision, pollOf, soFar, hasNext, codeFinished, pollFailure, pollDecision}
 use Rattle.protocol.specs.Names.{fieldPauseTime}
+use Rattle.discovery.specs.Kinds.{rfOnStage, pollStage}
 
 -- ---- what the finished codes add
 
@@ -76,7 +77,7 @@ type-f-done : (stage : ℕ) (bs l : List ℕ) → hasBytes (typeFDecision stage 
 unfolding typeFDecision txControlRead polled withLength pick
 type-f-done stage bs l = go (eqb stage 0) (eqb stage 1)
   where
-    on : (t u : Bool) → hasBytes (pick t (refuse ShortResponse) (pick u (send 1) (send 2))) l → (drop 4 bs ≡ l) × (20 ≤ length bs)
+    on : (t u : Bool) → hasBytes (pick t (refuse ShortResponse) (pick u (send rfOnStage) (send pollStage))) l → (drop 4 bs ≡ l) × (20 ≤ length bs)
     on true u h = absurd h
     on false true h = absurd h
     on false false h = absurd h
@@ -88,7 +89,7 @@ type-f-done stage bs l = go (eqb stage 0) (eqb stage 1)
     met false false true e h = absurd h
     met false false false e h = (h, ltb-false (length bs) 20 e)
 
-    go : (t u : Bool) → hasBytes (pick t (txControlRead bs) (pick u (pause fieldPauseTime 2) (polled bs))) l → (drop 4 bs ≡ l) × (20 ≤ length bs)
+    go : (t u : Bool) → hasBytes (pick t (txControlRead bs) (pick u (pause fieldPauseTime pollStage) (polled bs))) l → (drop 4 bs ≡ l) × (20 ≤ length bs)
     go true u h = on (ltb (length bs) 1) (eqb (getD bs 0 0 % 4) 0) h
     go false true h = absurd h
     go false false h = met (eqb (getD bs 0 0) 0) (ltb (length bs) 2) (ltb (length bs) 20) refl h
@@ -97,15 +98,15 @@ with-bytes : (d : Decision) (l : List ℕ) → ends (done l) ≡ d → hasBytes 
 with-bytes d l e = rw (← e) refl
 
 -- what the code decides, where d is what Type F's function gave
-module _ (f b pending : List ℕ) (r d : code.Decision) (stage cursor : ℕ) (given : Decides f b d (typeFDecision stage b)) where
-  pub poll-done : (l : Layout) → d ≡ Done l → (20 ≤ length b → Decides f b r (codeFinished cursor pending f (0x01 ∷ take 16 (drop 4 b))))
-      → Decides f b r (pollDecision stage cursor pending f b)
+module _ (f b pending : List ℕ) (r d : code.Decision) (stage cursor : ℕ) (given : DecisionRefines f b d (typeFDecision stage b)) where
+  pub poll-done : (bytes : List ℕ) → decisionIn f b d ≡ ends (done bytes) → (20 ≤ length b → DecisionRefines f b r (codeFinished cursor pending f (0x01 ∷ take 16 (drop 4 b))))
+      → DecisionRefines f b r (pollDecision stage cursor pending f b)
   unfolding pollDecision
-  poll-done l e k =
-      let is : ends (done (layoutBytes f b l)) ≡ typeFDecision stage b = ap (decisionIn f b) (sym e) ∙ given .is in
-      let m = type-f-done stage b (layoutBytes f b l) (with-bytes _ _ is) in
+  poll-done bytes e k =
+      let is : ends (done bytes) ≡ typeFDecision stage b = sym e ∙ given .is in
+      let m = type-f-done stage b bytes (with-bytes _ _ is) in
       rw (← is, ← m .0) (k (m .1))
 
-  pub poll-refused : (fault : Fault) → d ≡ Refused fault → Decides f b r (pollFailure cursor pending f fault) → Decides f b r (pollDecision stage cursor pending f b)
+  pub poll-refused : (fault : Fault) → d ≡ Refused fault → DecisionRefines f b r (pollFailure cursor pending f fault) → DecisionRefines f b r (pollDecision stage cursor pending f b)
   unfolding pollDecision
   poll-refused fault e k = let is : refuse fault ≡ typeFDecision stage b = ap (decisionIn f b) (sym e) ∙ given .is in rw (← is) k

@@ -9,8 +9,8 @@ use lib.Seq.{take-all}
 use Rattle.protocol.specs.Scripts.{uidAndAts}
 use Rattle.targets.specs.TypeA.{isTargetData}
 use Rattle.stages.specs.Stages.{ends}
-use Rattle.stages.specs.Decided.{Lays, Decides}
-use Rattle.stages.specs.Laws.{decides-uid-and-ats}
+use Rattle.stages.specs.Decided.{Lays, DecisionRefines}
+use Rattle.stages.specs.Laws.{decision-uid-and-ats}
 use Rattle.stages.specs.declared.Decision.the-variants.{UidAndAts}
 use Rattle.stages.specs.declared.Layout.{Layout}
 
@@ -22,5 +22,5 @@ data-told l p r t q e h =
 
 -- the ATS's length as a call answered it
 pub decides-lengths : (f b : List ℕ) (l : Layout) (bytes : List ℕ) (uid ats x : ℕ) → Lays f b l bytes → ats ≡ x
-    → Decides f b (UidAndAts l uid ats) (ends (uidAndAts bytes uid x))
-decides-lengths f b l bytes uid ats x h e = rw (← e) (decides-uid-and-ats f b l bytes uid ats h)
+    → DecisionRefines f b (UidAndAts l uid ats) (ends (uidAndAts bytes uid x))
+decides-lengths f b l bytes uid ats x h e = rw (← e) (decision-uid-and-ats f b l bytes uid ats h)

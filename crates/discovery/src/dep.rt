@@ -4,9 +4,10 @@ use super::rates::Supported;
 use super::rates::dep_code;
 use chipset::ciu;
 use chipset::clock;
-use chipset::cmd;
 use chipset::err;
+use chipset::general;
 use chipset::general::TIMEOUTS;
+use chipset::initiator;
 use chipset::registers;
 use errors::Fault;
 use errors::Refusal;
@@ -21,22 +22,31 @@ use stages::start::Start;
 use targets::Coded;
 ghost use mathlib.Core.List.{List};
 ghost use Prim.Native.Nat.{ℕ};
-ghost use Rattle.stages.specs.Decided.{Decides, Always, Commands};
+ghost use Rattle.stages.specs.Decided.{DecisionRefines, Always, Commands};
 ghost use Rattle.discovery.specs.Decisions.{depCommand, noPartner, jumpedTo, depDecision, jumpFailure, depFailure};
 ghost use Rattle.stages.specs.Starts.{Starts};
 ghost use mathlib.Core.Path.{_≡_};
 ghost use mathlib.Core.List.{[]};
 ghost use Prim.Native.Nat.{_+_, _*_, _≤_};
 ghost use lib.ListN.{length, take, drop};
-ghost use Rattle.protocol.specs.Chipset.{bit};
+ghost use Rattle.protocol.specs.Arguments.{bit};
 ghost use Rattle.discovery.specs.Firsts.{depFirst, depAsserted};
+
+// An ATR_REQ without general bytes, and the longest.
+const SHORTEST_ATR_REQ: usize = 16;
+
+const LONGEST_ATR_REQ: usize = 64;
 
 // What InJumpForDEP is given: NFCID3, and the general bytes where ATR_REQ has some.
 fn given(atr_req: &[u8]) -> u8
     requires { ⌜ 16 ≤ length (now «atr_req») ⌝ }
     ensures { λ r. ⌜ r ≡ 2 * bit (take 10 (drop 2 (now («atr_req» .entry)))) + 4 * bit (drop 16 (now («atr_req» .entry))) ⌝ }
 {
-    if atr_req.len() == 16 { 2 } else { 6 }
+    if atr_req.len() == SHORTEST_ATR_REQ {
+        2
+    } else {
+        6
+    }
 }
 
 // The time-outs are set first; the jump is put by.
@@ -52,10 +62,10 @@ fn jump(code: u8, atr_req: &[u8], command: &mut [u8; 512]) -> Start
 pub fn detect_dep(bitrate: &[u8], atr_req: &[u8], command: &mut [u8; 512]) -> Start
     ensures { λ r. ⌜ Starts r (now (command .entry)) (now (command .exit)) (depAsserted (now (bitrate .entry)) (now («atr_req» .entry))) ⌝ }
 {
-    if atr_req.len() < 16 {
+    if atr_req.len() < SHORTEST_ATR_REQ {
         return start::refused(Refusal::BadArgument);
     }
-    if 64 < atr_req.len() {
+    if LONGEST_ATR_REQ < atr_req.len() {
         return start::refused(Refusal::BadArgument);
     }
     let Coded::Code(rate) = targets::code(bitrate) else {
@@ -85,15 +95,20 @@ pub fn command(stage: u8) -> Command
     ensures { λ r. ⌜ Commands r (depCommand stage) ⌝ }
 {
     match stage {
-        STAGE_TIMEOUTS => Command::with(cmd::RF_CONFIGURATION, clock::COMMAND, ATR_RES_TIMEOUTS, 4),
-        STAGE_JUMP => Command::pending(cmd::IN_JUMP_FOR_DEP, clock::IN_JUMP_FOR_DEP),
+        STAGE_TIMEOUTS => Command::with(
+            general::RF_CONFIGURATION,
+            clock::COMMAND,
+            ATR_RES_TIMEOUTS,
+            4,
+        ),
+        STAGE_JUMP => Command::pending(initiator::IN_JUMP_FOR_DEP, clock::IN_JUMP_FOR_DEP),
         _ => registers::write_single_register_command(ciu::MODE, NO_DETECT_SYNC),
     }
 }
 
 // A time-out, or a field that was not switched on in time, is none.
 fn no_partner(status: u8) -> Decision
-    ensures { λ r. ⌜ ((f b : List ℕ) → Decides f b r (noPartner status)) ⌝ }
+    ensures { λ r. ⌜ ((f b : List ℕ) → DecisionRefines f b r (noPartner status)) ⌝ }
 {
     match status {
         err::TIMEOUT | err::RF_NOT_ACTIVATED => Decision::Nothing,
@@ -103,7 +118,7 @@ fn no_partner(status: u8) -> Decision
 
 // The reply to the jump: D5 01 and its rest are kept.
 fn jumped(response: &[u8]) -> Decision
-    ensures { λ r. ⌜ ((f : List ℕ) → Decides f (now (response .entry)) r (jumpedTo (now (response .entry)))) ⌝ }
+    ensures { λ r. ⌜ ((f : List ℕ) → DecisionRefines f (now (response .entry)) r (jumpedTo (now (response .entry)))) ⌝ }
 {
     let status = byte_or(response, 0, err::NO_DATA);
     if status == 0 {
@@ -122,7 +137,7 @@ fn jumped(response: &[u8]) -> Decision
 
 // What follows a response; `found` are the bytes that were kept of an earlier one.
 pub fn decided(stage: u8, found: &[u8], response: &[u8]) -> Decision
-    ensures { λ r. ⌜ Decides (now (found .entry)) (now (response .entry)) r (depDecision stage (now (found .entry)) (now (response .entry))) ⌝ }
+    ensures { λ r. ⌜ DecisionRefines (now (found .entry)) (now (response .entry)) r (depDecision stage (now (found .entry)) (now (response .entry))) ⌝ }
 {
     match stage {
         STAGE_TIMEOUTS => Decision::Send(STAGE_JUMP),

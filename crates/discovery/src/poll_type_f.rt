@@ -4,6 +4,7 @@ use super::POLL_TYPE_F;
 use super::rates::Supported;
 use super::rates::type_f_code;
 use super::type_f;
+use super::type_f::STAGE_FIELD;
 use errors::Fault;
 use errors::Refusal;
 use stages::Command;
@@ -18,8 +19,8 @@ ghost use mathlib.Core.List.{List, _∷_};
 ghost use mathlib.Core.Path.{_≡_};
 ghost use Prim.Native.Nat.{ℕ, _+_, _≤_};
 ghost use lib.ListN.{length, take, drop};
-ghost use Rattle.protocol.specs.Calls.{systemCodesFit};
-ghost use Rattle.stages.specs.Decided.{Decides, Sends};
+ghost use Rattle.protocol.specs.Arguments.{systemCodesFit};
+ghost use Rattle.stages.specs.Decided.{DecisionRefines, Sends};
 ghost use Rattle.stages.specs.Starts.{Starts};
 ghost use Rattle.discovery.specs.Decisions.{pollCommand, soFar, hasNext, codeFinished, pollFailure, pollDecision};
 ghost use Rattle.discovery.specs.Firsts.{pollAsserted};
@@ -129,11 +130,11 @@ fn finished(
     start: usize,
     len: usize,
 ) -> Decision
-    ensures { λ r. ⌜ ((b : List ℕ) → start + len ≤ length b → len ≤ 16 → Decides (now (found .entry)) b r (codeFinished cursor (now (pending .entry)) (now (found .entry)) (mark ∷ take len (drop start b)))) ⌝ }
+    ensures { λ r. ⌜ ((b : List ℕ) → start + len ≤ length b → len ≤ 16 → DecisionRefines (now (found .entry)) b r (codeFinished cursor (now (pending .entry)) (now (found .entry)) (mark ∷ take len (drop start b)))) ⌝ }
 {
     let layout = Layout::marked(kept(cursor, found), mark, start, len);
     if has_next(cursor, pending) {
-        Decision::Next(0, cursor + 1, layout)
+        Decision::Next(STAGE_FIELD, cursor + 1, layout)
     } else {
         Decision::Done(layout)
     }
@@ -141,7 +142,7 @@ fn finished(
 
 // What follows a command that failed: no card is a mark, any other fault ends the list.
 pub fn failed(cursor: u8, pending: &[u8], found: &[u8], fault: Fault) -> Decision
-    ensures { λ r. ⌜ ((b : List ℕ) → Decides (now (found .entry)) b r (pollFailure cursor (now (pending .entry)) (now (found .entry)) fault)) ⌝ }
+    ensures { λ r. ⌜ ((b : List ℕ) → DecisionRefines (now (found .entry)) b r (pollFailure cursor (now (pending .entry)) (now (found .entry)) fault)) ⌝ }
 {
     match fault {
         Fault::NoCard => finished(cursor, pending, found, NO_CARD, 0, 0),
@@ -151,11 +152,12 @@ pub fn failed(cursor: u8, pending: &[u8], found: &[u8], fault: Fault) -> Decisio
 
 // What follows a response: what Type F's stage decides, but for its ends.
 pub fn decided(stage: u8, cursor: u8, pending: &[u8], found: &[u8], response: &[u8]) -> Decision
-    ensures { λ r. ⌜ Decides (now (found .entry)) (now (response .entry)) r (pollDecision stage cursor (now (pending .entry)) (now (found .entry)) (now (response .entry))) ⌝ }
+    ensures { λ r. ⌜ DecisionRefines (now (found .entry)) (now (response .entry)) r (pollDecision stage cursor (now (pending .entry)) (now (found .entry)) (now (response .entry))) ⌝ }
 {
     let decision = type_f::decided(stage, response);
     match decision {
         Decision::Done(_) => finished(cursor, pending, found, CARD, IDM, IDM_AND_PMM),
+        Decision::Part(_, _) => finished(cursor, pending, found, CARD, IDM, IDM_AND_PMM),
         Decision::Refused(fault) => failed(cursor, pending, found, fault),
         _ => decision,
     }

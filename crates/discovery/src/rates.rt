@@ -1,7 +1,7 @@
 // The bitrates that each discovery takes, and their codes for the chip.
 use targets::Bitrate;
 ghost use mathlib.Core.Path.{_≡_};
-ghost use Rattle.protocol.specs.Calls.{typeACode, typeBCode, typeFCode, depCode};
+ghost use Rattle.protocol.specs.Starts.{typeACode, typeBCode, typeFCode, depCode};
 ghost use Rattle.discovery.specs.Firsts.{supportedIn};
 
 // The chip's code of a bitrate, where the call takes it.

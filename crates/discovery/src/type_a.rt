@@ -4,7 +4,7 @@ use super::rates::Supported;
 use super::rates::type_a_code;
 use chipset::ciu;
 use chipset::clock;
-use chipset::cmd;
+use chipset::initiator;
 use chipset::initiator::TARGET;
 use chipset::registers;
 use errors::Fault;
@@ -22,10 +22,10 @@ ghost use mathlib.Core.List.{List};
 ghost use mathlib.Core.Path.{_≡_};
 ghost use Prim.Native.Nat.{ℕ, _≤_};
 ghost use lib.ListN.{length};
-ghost use Rattle.stages.specs.Decided.{Lays, Decides, Always, Commands};
+ghost use Rattle.stages.specs.Decided.{Lays, DecisionRefines, Always, Commands};
 ghost use Rattle.discovery.specs.Decisions.{cardBytes, sensRes, typeACommand, listedA, fifoRead, listedType1, ridOf, rxModeRead, typeADecision, ridFailure, typeAFailure};
 ghost use Rattle.stages.specs.Starts.{Starts};
-ghost use Rattle.protocol.specs.Calls.{typeACode};
+ghost use Rattle.protocol.specs.Starts.{typeACode};
 ghost use Rattle.stages.specs.Bitrates.{codeFor};
 ghost use Rattle.discovery.specs.Firsts.{listFirst, typeAFirst};
 
@@ -98,19 +98,22 @@ pub fn command(stage: u8) -> Command
     ensures { λ r. ⌜ Commands r (typeACommand stage) ⌝ }
 {
     match stage {
-        STAGE_LIST => Command::pending(cmd::IN_LIST_PASSIVE_TARGET, clock::IN_LIST_PASSIVE_TARGET),
+        STAGE_LIST => Command::pending(
+            initiator::IN_LIST_PASSIVE_TARGET,
+            clock::IN_LIST_PASSIVE_TARGET,
+        ),
         STAGE_FIFO => registers::read_single_register_command(ciu::FIFO_DATA),
         STAGE_LIST_TYPE_1 => {
             Command::with(
-                cmd::IN_LIST_PASSIVE_TARGET,
+                initiator::IN_LIST_PASSIVE_TARGET,
                 clock::IN_LIST_PASSIVE_TARGET,
                 TYPE_1_LIST,
                 2,
             )
         }
-        STAGE_RID => Command::with(cmd::IN_DATA_EXCHANGE, RID_CLOCK, RID, 8),
+        STAGE_RID => Command::with(initiator::IN_DATA_EXCHANGE, RID_CLOCK, RID, 8),
         STAGE_READ_RX_MODE => registers::read_single_register_command(ciu::RX_MODE),
-        _ => Command::pending(cmd::WRITE_REGISTER, clock::REGISTERS),
+        _ => Command::pending(registers::WRITE_REGISTER, clock::REGISTERS),
     }
 }
 
@@ -124,7 +127,7 @@ pub(crate) fn card(list: &[u8]) -> Layout
 
 // detect_type_a: a target was listed, or none. Of a Type 2 tag the RX mode is set before it is handed out.
 fn listed_a(response: &[u8]) -> Decision
-    ensures { λ r. ⌜ ((f : List ℕ) → Decides f (now (response .entry)) r (listedA (now (response .entry)))) ⌝ }
+    ensures { λ r. ⌜ ((f : List ℕ) → DecisionRefines f (now (response .entry)) r (listedA (now (response .entry)))) ⌝ }
 {
     if byte_or(response, 0, 0) == 0 {
         return Decision::Send(STAGE_FIFO);
@@ -144,7 +147,7 @@ fn listed_a(response: &[u8]) -> Decision
 
 // No SENS_RES came where the FIFO still holds the request.
 fn fifo(response: &[u8]) -> Decision
-    ensures { λ r. ⌜ ((f : List ℕ) → Decides f (now (response .entry)) r (fifoRead (now (response .entry)))) ⌝ }
+    ensures { λ r. ⌜ ((f : List ℕ) → DecisionRefines f (now (response .entry)) r (fifoRead (now (response .entry)))) ⌝ }
 {
     if byte_or(response, 0, 0) == SENS_REQ {
         Decision::Nothing
@@ -166,7 +169,7 @@ fn sens_res(list: &[u8]) -> Layout
 
 // try_type1_detection: a target was listed, or none.
 fn listed_type1(response: &[u8]) -> Decision
-    ensures { λ r. ⌜ ((f : List ℕ) → Decides f (now (response .entry)) r (listedType1 (now (response .entry)))) ⌝ }
+    ensures { λ r. ⌜ ((f : List ℕ) → DecisionRefines f (now (response .entry)) r (listedType1 (now (response .entry)))) ⌝ }
 {
     if byte_or(response, 0, 0) == 0 {
         return Decision::Nothing;
@@ -180,7 +183,7 @@ fn listed_type1(response: &[u8]) -> Decision
 
 // The RID reply. A status other than 0 is none.
 fn rid(found: &[u8], response: &[u8]) -> Decision
-    ensures { λ r. ⌜ Decides (now (found .entry)) (now (response .entry)) r (ridOf (now (found .entry)) (now (response .entry))) ⌝ }
+    ensures { λ r. ⌜ DecisionRefines (now (found .entry)) (now (response .entry)) r (ridOf (now (found .entry)) (now (response .entry))) ⌝ }
 {
     if response.len() == 0 {
         return Decision::Nothing;
@@ -196,7 +199,7 @@ fn rid(found: &[u8], response: &[u8]) -> Decision
 
 // The RX mode of a Type 2 tag has the CRC check switched off.
 fn rx_mode(response: &[u8]) -> Decision
-    ensures { λ r. ⌜ ((f : List ℕ) → Decides f (now (response .entry)) r (rxModeRead (now (response .entry)))) ⌝ }
+    ensures { λ r. ⌜ ((f : List ℕ) → DecisionRefines f (now (response .entry)) r (rxModeRead (now (response .entry)))) ⌝ }
 {
     if response.len() < 1 {
         Decision::Refused(Fault::ShortResponse)
@@ -209,7 +212,7 @@ fn rx_mode(response: &[u8]) -> Decision
 
 // What follows a response; `found` are the bytes that were kept of an earlier one.
 pub fn decided(stage: u8, found: &[u8], response: &[u8]) -> Decision
-    ensures { λ r. ⌜ Decides (now (found .entry)) (now (response .entry)) r (typeADecision stage (now (found .entry)) (now (response .entry))) ⌝ }
+    ensures { λ r. ⌜ DecisionRefines (now (found .entry)) (now (response .entry)) r (typeADecision stage (now (found .entry)) (now (response .entry))) ⌝ }
 {
     match stage {
         STAGE_LIST => listed_a(response),

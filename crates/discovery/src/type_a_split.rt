@@ -18,10 +18,10 @@ use targets::type_a::is_target_data;
 ghost use mathlib.Core.List.{List};
 ghost use Prim.Native.Nat.{ℕ, _≤_};
 ghost use lib.ListN.{length};
-ghost use Rattle.stages.specs.Decided.{Decides};
+ghost use Rattle.stages.specs.Decided.{DecisionRefines};
 ghost use Rattle.stages.specs.Starts.{Starts};
 ghost use Rattle.stages.specs.Bitrates.{codeFor};
-ghost use Rattle.protocol.specs.Calls.{typeACode};
+ghost use Rattle.protocol.specs.Starts.{typeACode};
 ghost use Rattle.discovery.specs.Decisions.{splitFound, splitListed, splitWritten, splitDecision};
 ghost use Rattle.discovery.specs.Firsts.{splitFirst};
 
@@ -41,7 +41,7 @@ pub fn detect_type_a_split(bitrate: &[u8], uid: &[u8], command: &mut [u8; 512]) 
 // A target was listed: its data is looked at before the RX mode is.
 fn found(response: &[u8]) -> Decision
     requires { ⌜ 6 ≤ length (now response) ⌝ }
-    ensures { λ r. ⌜ ((f : List ℕ) → Decides f (now (response .entry)) r (splitFound (now (response .entry)))) ⌝ }
+    ensures { λ r. ⌜ ((f : List ℕ) → DecisionRefines f (now (response .entry)) r (splitFound (now (response .entry)))) ⌝ }
 {
     if is_target_data(&response[2..]) {
         let uid = response[UID_LENGTH];
@@ -58,7 +58,7 @@ fn found(response: &[u8]) -> Decision
 
 // A target was listed, or none.
 fn listed(response: &[u8]) -> Decision
-    ensures { λ r. ⌜ ((f : List ℕ) → Decides f (now (response .entry)) r (splitListed (now (response .entry)))) ⌝ }
+    ensures { λ r. ⌜ ((f : List ℕ) → DecisionRefines f (now (response .entry)) r (splitListed (now (response .entry)))) ⌝ }
 {
     if byte_or(response, 0, 0) == 0 {
         return Decision::Send(STAGE_FIFO);
@@ -74,7 +74,7 @@ fn listed(response: &[u8]) -> Decision
 
 // The RX mode of a Type 2 tag was written.
 fn written(cursor: u8, found: &[u8], response: &[u8]) -> Decision
-    ensures { λ r. ⌜ Decides (now (found .entry)) (now (response .entry)) r (splitWritten cursor (now (found .entry)) (now (response .entry))) ⌝ }
+    ensures { λ r. ⌜ DecisionRefines (now (found .entry)) (now (response .entry)) r (splitWritten cursor (now (found .entry)) (now (response .entry))) ⌝ }
 {
     if any_nonzero(response) {
         Decision::Refused(Fault::Status(err::REGISTER_WRITE_FAILED))
@@ -86,7 +86,7 @@ fn written(cursor: u8, found: &[u8], response: &[u8]) -> Decision
 
 // What follows a response: what Type A's stage decides, but for the list and the end.
 pub fn decided(stage: u8, cursor: u8, found: &[u8], response: &[u8]) -> Decision
-    ensures { λ r. ⌜ Decides (now (found .entry)) (now (response .entry)) r (splitDecision stage cursor (now (found .entry)) (now (response .entry))) ⌝ }
+    ensures { λ r. ⌜ DecisionRefines (now (found .entry)) (now (response .entry)) r (splitDecision stage cursor (now (found .entry)) (now (response .entry))) ⌝ }
 {
     match stage {
         STAGE_LIST => listed(response),

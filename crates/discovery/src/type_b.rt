@@ -3,14 +3,14 @@ use super::TYPE_B;
 use super::rates::Supported;
 use super::rates::type_b_code;
 use chipset::clock;
-use chipset::cmd;
 use chipset::err;
+use chipset::initiator;
+use chipset::response::from;
 use errors::Fault;
 use errors::Refusal;
 use stages::Command;
 use stages::Decision;
 use stages::Head;
-use stages::Layout;
 use stages::byte_or;
 use stages::put::put_two;
 use stages::start;
@@ -19,10 +19,10 @@ use targets::Coded;
 ghost use mathlib.Core.List.{List};
 ghost use Prim.Native.Nat.{ℕ};
 ghost use lib.ListN.{getD};
-ghost use Rattle.stages.specs.Decided.{Decides, Always, Commands};
+ghost use Rattle.stages.specs.Decided.{DecisionRefines, Always, Commands};
 ghost use Rattle.discovery.specs.Decisions.{typeBCommand, isoDep, listedB, wokenUp, typeBDecision, typeBFailure};
 ghost use Rattle.stages.specs.Starts.{Starts};
-ghost use Rattle.protocol.specs.Calls.{typeBCode};
+ghost use Rattle.protocol.specs.Starts.{typeBCode};
 ghost use Rattle.stages.specs.Bitrates.{codeFor};
 ghost use Rattle.discovery.specs.Firsts.{typeBFirst};
 
@@ -62,15 +62,18 @@ pub fn command(stage: u8) -> Command
     ensures { λ r. ⌜ Commands r (typeBCommand stage) ⌝ }
 {
     match stage {
-        STAGE_LIST => Command::pending(cmd::IN_LIST_PASSIVE_TARGET, clock::IN_LIST_PASSIVE_TARGET),
-        STAGE_DESELECT => Command::with(cmd::IN_COMMUNICATE_THRU, THRU_CLOCK, DESELECT, 1),
-        _ => Command::pending(cmd::IN_COMMUNICATE_THRU, THRU_CLOCK),
+        STAGE_LIST => Command::pending(
+            initiator::IN_LIST_PASSIVE_TARGET,
+            clock::IN_LIST_PASSIVE_TARGET,
+        ),
+        STAGE_DESELECT => Command::with(initiator::IN_COMMUNICATE_THRU, THRU_CLOCK, DESELECT, 1),
+        _ => Command::pending(initiator::IN_COMMUNICATE_THRU, THRU_CLOCK),
     }
 }
 
 // A tag that is capable of ISO-DEP, by its protocol byte, is deselected; the wake-up is put by, with the AFI of the list.
 fn iso_dep(protocol: u8, afi: u8) -> Decision
-    ensures { λ r. ⌜ ((f b : List ℕ) → Decides f b r (isoDep protocol afi)) ⌝ }
+    ensures { λ r. ⌜ ((f b : List ℕ) → DecisionRefines f b r (isoDep protocol afi)) ⌝ }
 {
     if protocol % 2 == 1 {
         if protocol / 8 % 2 == 0 {
@@ -85,7 +88,7 @@ fn iso_dep(protocol: u8, afi: u8) -> Decision
 
 // detect_type_b: a target was listed, or none.
 fn listed_b(pending: &[u8], response: &[u8]) -> Decision
-    ensures { λ r. ⌜ ((f : List ℕ) → Decides f (now (response .entry)) r (listedB (now (pending .entry)) (now (response .entry)))) ⌝ }
+    ensures { λ r. ⌜ ((f : List ℕ) → DecisionRefines f (now (response .entry)) r (listedB (now (pending .entry)) (now (response .entry)))) ⌝ }
 {
     if byte_or(response, 0, 0) == 0 {
         return Decision::Nothing;
@@ -102,10 +105,10 @@ fn listed_b(pending: &[u8], response: &[u8]) -> Decision
 
 // The reply to the wake-up.
 fn woken(response: &[u8]) -> Decision
-    ensures { λ r. ⌜ ((f : List ℕ) → Decides f (now (response .entry)) r (wokenUp (now (response .entry)))) ⌝ }
+    ensures { λ r. ⌜ ((f : List ℕ) → DecisionRefines f (now (response .entry)) r (wokenUp (now (response .entry)))) ⌝ }
 {
     if byte_or(response, 0, err::NO_DATA) == 0 {
-        Decision::Done(Layout::rest(response, 1))
+        from(response, 1)
     } else {
         Decision::Nothing
     }
@@ -113,7 +116,7 @@ fn woken(response: &[u8]) -> Decision
 
 // What follows a response; `pending` is the pending command.
 pub fn decided(stage: u8, pending: &[u8], response: &[u8]) -> Decision
-    ensures { λ r. ⌜ ((f : List ℕ) → Decides f (now (response .entry)) r (typeBDecision stage (now (pending .entry)) (now (response .entry)))) ⌝ }
+    ensures { λ r. ⌜ ((f : List ℕ) → DecisionRefines f (now (response .entry)) r (typeBDecision stage (now (pending .entry)) (now (response .entry)))) ⌝ }
 {
     match stage {
         STAGE_LIST => listed_b(pending, response),

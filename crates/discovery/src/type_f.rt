@@ -2,12 +2,16 @@
 use super::TYPE_F;
 use super::rates::Supported;
 use super::rates::type_f_code;
-use chipset::cmd;
+use chipset::ciu;
+use chipset::clock;
+use chipset::general;
+use chipset::initiator;
+use chipset::registers;
+use chipset::response::from;
 use errors::Fault;
 use errors::Refusal;
 use stages::Command;
 use stages::Decision;
-use stages::Layout;
 use stages::byte_or;
 use stages::put::put_two;
 use stages::start;
@@ -15,10 +19,10 @@ use stages::start::Start;
 use targets::Coded;
 ghost use mathlib.Core.List.{List};
 ghost use Prim.Native.Nat.{ℕ};
-ghost use Rattle.stages.specs.Decided.{Decides, Commands};
+ghost use Rattle.stages.specs.Decided.{DecisionRefines, Commands};
 ghost use Rattle.discovery.specs.Decisions.{typeFCommand, txControlRead, polled as polledOf, typeFDecision};
 ghost use Rattle.stages.specs.Starts.{Starts};
-ghost use Rattle.protocol.specs.Calls.{typeFCode};
+ghost use Rattle.protocol.specs.Starts.{typeFCode};
 ghost use Rattle.protocol.specs.Discovery.{sensfReq};
 ghost use Rattle.stages.specs.Bitrates.{codeFor};
 ghost use Rattle.discovery.specs.Firsts.{typeFFirst};
@@ -46,55 +50,50 @@ pub fn detect_type_f(
     start::staged(TYPE_F, n)
 }
 
+// The stages.
+pub(crate) const STAGE_FIELD: u8 = 0;
+
+const STAGE_RF_ON: u8 = 1;
+
+const STAGE_POLL: u8 = 2;
+
 // The field is on for so long before a card is polled.
 const FIELD_PAUSE: u32 = 20400;
+
+// RF configuration's item 01, RF field, on.
+const RF_ON: [u8; 12] = [0x01, 0x01, 0, 0, 0, 0, 0, 0, 0, 0, 0, 0];
 
 // The command of a stage.
 pub fn command(stage: u8) -> Command
     ensures { λ r. ⌜ Commands r (typeFCommand stage) ⌝ }
 {
     match stage {
-        0 => Command {
-            code: cmd::READ_REGISTER,
-            clock: 250,
-            is_pending: false,
-            bytes: [0x63, 0x04, 0, 0, 0, 0, 0, 0, 0, 0, 0, 0],
-            len: 2,
-        },
-        1 => Command {
-            code: cmd::RF_CONFIGURATION,
-            clock: 100,
-            is_pending: false,
-            bytes: [0x01, 0x01, 0, 0, 0, 0, 0, 0, 0, 0, 0, 0],
-            len: 2,
-        },
-        _ => Command {
-            code: cmd::IN_LIST_PASSIVE_TARGET,
-            clock: 1000,
-            is_pending: true,
-            bytes: [0; 12],
-            len: 0,
-        },
+        STAGE_FIELD => registers::read_single_register_command(ciu::TX_CONTROL),
+        STAGE_RF_ON => Command::with(general::RF_CONFIGURATION, clock::COMMAND, RF_ON, 2),
+        _ => Command::pending(
+            initiator::IN_LIST_PASSIVE_TARGET,
+            clock::IN_LIST_PASSIVE_TARGET,
+        ),
     }
 }
 
 // The RF field is on, or is switched on.
 fn tx_control(response: &[u8]) -> Decision
-    ensures { λ r. ⌜ ((f : List ℕ) → Decides f (now (response .entry)) r (txControlRead (now (response .entry)))) ⌝ }
+    ensures { λ r. ⌜ ((f : List ℕ) → DecisionRefines f (now (response .entry)) r (txControlRead (now (response .entry)))) ⌝ }
 {
     if response.len() < 1 {
         return Decision::Refused(Fault::ShortResponse);
     }
     if response[0] % 4 == 0 {
-        Decision::Send(1)
+        Decision::Send(STAGE_RF_ON)
     } else {
-        Decision::Send(2)
+        Decision::Send(STAGE_POLL)
     }
 }
 
 // IDm, PMm and the request data of a SENSF_RES.
 fn polled(response: &[u8]) -> Decision
-    ensures { λ r. ⌜ ((f : List ℕ) → Decides f (now (response .entry)) r (polledOf (now (response .entry)))) ⌝ }
+    ensures { λ r. ⌜ ((f : List ℕ) → DecisionRefines f (now (response .entry)) r (polledOf (now (response .entry)))) ⌝ }
 {
     if byte_or(response, 0, 0) == 0 {
         return Decision::Refused(Fault::NoCard);
@@ -102,17 +101,17 @@ fn polled(response: &[u8]) -> Decision
     if response.len() < 20 {
         Decision::Refused(Fault::ShortResponse)
     } else {
-        Decision::Done(Layout::rest(response, 4))
+        from(response, 4)
     }
 }
 
 // What follows a response.
 pub fn decided(stage: u8, response: &[u8]) -> Decision
-    ensures { λ r. ⌜ ((f : List ℕ) → Decides f (now (response .entry)) r (typeFDecision stage (now (response .entry)))) ⌝ }
+    ensures { λ r. ⌜ ((f : List ℕ) → DecisionRefines f (now (response .entry)) r (typeFDecision stage (now (response .entry)))) ⌝ }
 {
     match stage {
-        0 => tx_control(response),
-        1 => Decision::Pause(FIELD_PAUSE, 2),
+        STAGE_FIELD => tx_control(response),
+        STAGE_RF_ON => Decision::Pause(FIELD_PAUSE, STAGE_POLL),
         _ => polled(response),
     }
 }

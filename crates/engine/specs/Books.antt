@@ -8,6 +8,7 @@ use Rattle.errors.specs.Choice.{pick}
 use Rattle.framing.specs.Lists.{both}
 use Rattle.framing.specs.Padded.{extraZeros}
 use Rattle.protocol.specs.Calls.{isPaddedMode}
+use Rattle.protocol.specs.Session.{packetLimit}
 use Rattle.engine.specs.declared.core.Output.{Output}
 use Rattle.engine.specs.declared.core.Output.the-variants.{Ack, Command, Read, Drain, Pause, Done, Type1, UidAndAts, Nothing, Failed, FailedAfter, Refused}
 
@@ -33,15 +34,19 @@ callerIn b = getD (b .numbers) 2 0
 abbrev pub noBooks : ℕ → Books
 noBooks mode = books 0 mode 0 (replicate 8 0)
 
+-- callers are numbered from 0 to 7
+abbrev pub lastCaller : ℕ
+lastCaller = 7
+
 abbrev pub inRange : ℕ → ℕ → ℕ → Bool
-inRange opened mode caller = both (leb opened 1) (both (leb mode 1) (leb caller 7))
+inRange opened mode caller = both (leb opened 1) (both (leb mode 1) (leb caller lastCaller))
 
 abbrev pub isInRange : Books → Bool
 isInRange b = inRange (openedIn b) (modeIn b) (callerIn b)
 
 -- how many bytes the mode takes off a packet's start: its extra zeros in the padded one, unless it is over-long
 unfoldable pub extraIn : ℕ → List ℕ → ℕ
-extraIn mode packet = pick (isPaddedMode mode) (pick (ltb 1024 (length packet)) 0 (extraZeros packet)) 0
+extraIn mode packet = pick (isPaddedMode mode) (pick (ltb packetLimit (length packet)) 0 (extraZeros packet)) 0
 
 -- one command frame more, up to the ceiling
 unfoldable pub oneMore : ℕ → ℕ

@@ -15,7 +15,8 @@ use Rattle.exchange.specs.Exchange.{Order, write, read, pause, Event, ended, ad
 use Rattle.exchange.specs.Steps.{stepOf}
 use Rattle.protocol.specs.Scripts.{Script, refused}
 use Rattle.protocol.specs.Device.{deviceNew}
-use Rattle.protocol.specs.Calls.{ReaderCall, Start, starts, readerStart, opening, reader, isOpening}
+use Rattle.protocol.specs.Calls.{ReaderCall, opening, reader}
+use Rattle.protocol.specs.Starts.{Start, starts, readerStart}
 use Rattle.protocol.specs.Session.{byReply, ofReset, enter, afterReply, progress, Running, idle, packetLength, admitted, eventOutcome, outcome, started}
 use Rattle.protocol.specs.Session.{runs as runsOf}
 use Rattle.stages.specs.Stages.{cmd, Decision, send, refuse}
@@ -23,15 +24,17 @@ use Rattle.stages.specs.Put.{take-put}
 use Rattle.stages.specs.Starts as stages
 use Rattle.calls.specs.Tables.{isResetOf, decidedOf, failedOf}
 use Rattle.calls.specs.Refines.{Refines}
-use Rattle.calls.specs.Opening.{opening-leads, opening-fails, reset-fails}
+use Rattle.calls.specs.Opening.{opening-script-refines, opening-fails, reset-fails}
 use Rattle.calls.specs.Firsts.{startFor}
 use Rattle.calls.specs.Starts.{Kind, Starting, refusedNow, first, leading, reader-begins}
-use Rattle.engine.specs.Transitions.{noCall, firstCall, Transitioned, orders as goesOn, sends, resetDone, replies, refuses, fits, replyLength, transitionOf, overTransition, endedTransition, validCall}
+use Rattle.engine.specs.Transitions.{exchangePhase, resetAckPhase, pausePhase, noCall, firstCall, Transitioned, orders as goesOn, sends, resetDone, replies, refuses, fits, replyLength, transitionOf, overTransition, endedTransition, validCall}
 use Rattle.engine.specs.Core.{stageOf, admittedOf, transitionedOf, followsOf, failsOf, repliesOf, eventCore, openCore, startOn}
-use Rattle.engine.specs.Relation.{Place, Wait, reply, resetReply, resetAck, resetPause, openingAck, openingReads, pausing, phaseNumber, callAt, phaseAt, Fields, coreWith, heldAt, Agrees, coreAt, runningAt, free}
+use Rattle.engine.specs.Relation.{Place, Wait, reply, resetReply, resetAck, resetPause, openingAck, openingReads, pausing, phaseNumber, callAt, phaseAt, Fields, coreWith, arraysAt, Agrees, coreAt, runningAt, free}
 use Rattle.engine.specs.Exchanges.{NoCommand, good, reply-short}
 use Rattle.engine.specs.Simulation.{Simulates, sim-unchanged, sim-orders, sim-sends, sim-answer, with-command, lead-sims, SimulatesHere, Advances, advances-none, advances, advances-enter, advances-exchange, two-write, two-read, two-pause}
 use Rattle.protocol.specs.Names.{openingReadTime, resetPauseTime}
+use Rattle.calls.specs.Kinds.{firstStage}
+use Rattle.device.specs.Kinds.{openingKind, resetStage}
 
 -- ---- an event, by what the call waits for
 
@@ -39,7 +42,7 @@ module _ (p : Place) (w : Wait p) (v : Fields) (agrees : Agrees p v) where
   -- an order follows that is no command
   advances-order : (u : Wait p) (o : Order) → NoCommand o
       → (e : Event) (b : List ℕ) → replyLength (goesOn o (callAt p u) (v .exchange)) ≤ packetLength e
-      → SimulatesHere p w v agrees (admittedOf (coreAt p w v) (heldAt v) (goesOn o (callAt p u) (v .exchange)) e b)
+      → SimulatesHere p w v agrees (admittedOf (coreAt p w v) (arraysAt v) (goesOn o (callAt p u) (v .exchange)) e b)
       (admitted e (length b) (runsOf (p .call) o (phaseAt u (v .exchange))))
   unfolding transitionedOf
   advances-order u o k =
@@ -47,14 +50,14 @@ module _ (p : Place) (w : Wait p) (v : Fields) (agrees : Agrees p v) where
 
   -- what is decided leads to the script
   advances-lead : (mv : Transitioned) (d : Decision) (s : Script) → fits mv ≡ true
-      → ((b : List ℕ) → transitionedOf (coreAt p w v) (heldAt v) mv b ≡ followsOf (coreAt p w v) (heldAt v) d b)
+      → ((b : List ℕ) → transitionedOf (coreAt p w v) (arraysAt v) mv b ≡ followsOf (coreAt p w v) (arraysAt v) d b)
       → (replyLength mv ≤ 1024 → Refines (p .kind) (p .cursor) (p .pending) (p .found) d s) → Advances p w v agrees mv (enter s)
   advances-lead mv d s h is l =
       advances-enter p w v agrees mv s h (λ b few. rw (is b) (lead-sims p _ v (p .stage) _ d s b (agrees .pending) (agrees .found) (l few)))
 
   -- the command of the call's stage follows
   advances-send : (s : Script) → Refines (p .kind) (p .cursor) (p .pending) (p .found) (send (p .stage)) s
-      → Advances p w v agrees (sends (record { kind = p .kind; stage = p .stage; cursor = p .cursor; phase = 0 })) (enter s)
+      → Advances p w v agrees (sends (record { kind = p .kind; stage = p .stage; cursor = p .cursor; phase = exchangePhase })) (enter s)
   unfolding transitionedOf followsOf
   advances-send s l = advances-lead (sends _) (send (p .stage)) s refl (λ b. refl) (λ _. l)
 
@@ -76,7 +79,7 @@ module _ (p : Place) (w : Wait p) (v : Fields) (agrees : Agrees p v) where
       rw h (advances-lead (refuses r) (failedOf (p .kind) (p .stage) (p .cursor) (p .pending) (p .found) r) _ refl (λ b. rw (agrees .pending, agrees .found)) (λ _. failing r))
 
   -- a reset's exchange ends: ACK follows, whatever came of it
-  reset-ends : (s : Script) (u : Wait p) → isResetOf (p .kind) (p .stage) ≡ true → phaseAt u (v .exchange) ≡ Rattle.protocol.specs.Session.resetAck s → callAt p u ≡ record { kind = p .kind; stage = p .stage; cursor = p .cursor; phase = 1 }
+  reset-ends : (s : Script) (u : Wait p) → isResetOf (p .kind) (p .stage) ≡ true → phaseAt u (v .exchange) ≡ Rattle.protocol.specs.Session.resetAck s → callAt p u ≡ record { kind = p .kind; stage = p .stage; cursor = p .cursor; phase = resetAckPhase }
       → (r : Reply) → Advances p w v agrees (endedTransition (callAt p w) (v .exchange) r) (afterReply (ofReset s) r)
   unfolding overTransition pick
   reset-ends s u h is call r = rw h (rw (← is, ← call) (advances-order u (write ack) refl))
@@ -111,7 +114,7 @@ event-advances p (pausing s l) v agrees e =
 
 -- ---- the entries
 
-phase-fits : {p : Place} (w : Wait p) → leb (phaseNumber w) 5 ≡ true
+phase-fits : {p : Place} (w : Wait p) → leb (phaseNumber w) pausePhase ≡ true
 phase-fits (reply k h l) = refl
 phase-fits (resetReply s h l) = refl
 phase-fits (resetAck s h l) = refl
@@ -125,13 +128,13 @@ unfolding validCall
 call-fits p w = rw (p .kindFits, p .stageFits, phase-fits w)
 
 pub event-sims : (p : Place) (w : Wait p) (v : Fields) (agrees : Agrees p v) (e : Event) (b : List ℕ)
-    → SimulatesHere p w v agrees (eventCore (coreAt p w v) (heldAt v) e b) (eventOutcome (p .call) e (length b) (progress (phaseAt w (v .exchange)) e))
+    → SimulatesHere p w v agrees (eventCore (coreAt p w v) (arraysAt v) e b) (eventOutcome (p .call) e (length b) (progress (phaseAt w (v .exchange)) e))
 unfolding eventCore pick
 event-sims p w v agrees e b = rw (p .running) (event-advances p w v agrees e e b (reply-short (callAt p w) (v .exchange) e))
 
 -- ---- a call begins
 
-pub open-sims : (v : Fields) (mode : ℕ) (b : List ℕ) → Simulates true idle (openCore (coreWith v noCall) (heldAt v) b) (started (opening mode) (starts deviceNew))
+pub open-sims : (v : Fields) (mode : ℕ) (b : List ℕ) → Simulates true idle (openCore (coreWith v noCall) (arraysAt v) b) (started (opening mode) (starts deviceNew))
 unfolding openCore
 open-sims v mode b =
     let u : Fields = record {
@@ -146,8 +149,8 @@ open-sims v mode b =
     } in
     let p : Place = record {
       call = opening mode;
-      kind = 1;
-      stage = 0;
+      kind = openingKind;
+      stage = resetStage;
       cursor = 0;
       pending = take (v .pending) (v .command);
       found = [];
@@ -156,7 +159,7 @@ open-sims v mode b =
       kindFits = refl;
       stageFits = refl;
     } in
-    sim-orders u noCall true idle p (openingAck deviceNew refl (opening-leads (take (v .pending) (v .command)) [])) (v .exchange) (write ack) b (v .phaseFits)
+    sim-orders u noCall true idle p (openingAck deviceNew refl (opening-script-refines (take (v .pending) (v .command)) [])) (v .exchange) (write ack) b (v .phaseFits)
     record { pending = refl; found = refl } refl
 
 abbrev first-place : (q : ReaderCall) (kind : ℕ) (pending found : List ℕ) → Kind kind → Place
@@ -164,7 +167,7 @@ first-place q kind pending found h =
     record {
       call = reader q;
       kind = kind;
-      stage = 0;
+      stage = firstStage;
       cursor = 0;
       pending = pending;
       found = found;
@@ -175,14 +178,14 @@ first-place q kind pending found h =
     }
 
 start-sims : (v : Fields) (q : ReaderCall) (b : List ℕ) (x : Start) (y : stages.Start) → Starting x y
-    → Simulates false idle (startOn (coreWith v noCall) (heldAt v) y b) (started (reader q) x)
+    → Simulates false idle (startOn (coreWith v noCall) (arraysAt v) y b) (started (reader q) x)
 unfolding startOn stepOf followsOf stageOf
 start-sims v q b x y (refusedNow r) = sim-unchanged r b (free v refl refl refl)
 start-sims v q b x y (first kind code clock bytes k isKind noReset small stands) =
     sim-sends (with-command v bytes small) noCall false idle (first-place q kind bytes (take (v .kept) (v .found)) isKind)
     (reply k noReset (stands (take (v .kept) (v .found)))) code clock bytes b record { pending = take-put bytes (v .command); found = refl }
 start-sims v q b x y (leading kind later s isKind small l) =
-    lead-sims (first-place q kind later (take (v .kept) (v .found)) isKind) idle (with-command v later small) 0 0 (send 0) s b (take-put later (v .command)) refl (l (take (v .kept) (v .found)))
+    lead-sims (first-place q kind later (take (v .kept) (v .found)) isKind) idle (with-command v later small) 0 0 (send firstStage) s b (take-put later (v .command)) refl (l (take (v .kept) (v .found)))
 
-pub call-sims : (v : Fields) (q : ReaderCall) (b : List ℕ) → Simulates false idle (startOn (coreWith v noCall) (heldAt v) (startFor q) b) (started (reader q) (readerStart q))
+pub call-sims : (v : Fields) (q : ReaderCall) (b : List ℕ) → Simulates false idle (startOn (coreWith v noCall) (arraysAt v) (startFor q) b) (started (reader q) (readerStart q))
 call-sims v q b = start-sims v q b (readerStart q) (startFor q) (reader-begins q)

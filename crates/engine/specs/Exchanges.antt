@@ -15,7 +15,7 @@ use Rattle.exchange.specs.Responses.{response-short}
 use Rattle.exchange.specs.declared.Exchange.{Exchange}
 use Rattle.protocol.specs.Laws.{split, by-write, by-read, by-pause}
 use Rattle.calls.specs.Tables.{isResetOf}
-use Rattle.engine.specs.Transitions.{phaseOf, packetLength, replyLength, Transitioned, unfitting, replyTransition, overTransition, exchangeTransition, transitionOf}
+use Rattle.engine.specs.Transitions.{exchangePhase, resetAckPhase, resetPausePhase, openingAckPhase, openingReadsPhase, pausePhase, phaseOf, packetLength, replyLength, Transitioned, unfitting, replyTransition, overTransition, exchangeTransition, transitionOf}
 use Rattle.engine.specs.declared.call.Call.{Call}
 
 -- an order that writes no command: a write is ACK's
@@ -92,9 +92,9 @@ reply-short c x e =
     let L : Transitioned → Type 0 = λ m. replyLength m ≤ packetLength e in
     let P : Event → Transitioned → Type 0 = λ d m. replyLength m ≤ packetLength d in
     let none : (d : Event) → P d unfitting = λ d. omega arith in
-    by-pick L (eqb (c .phase) 0) _ _ (exchange-short (packetLength e) c x (advance (stepOf x) e) (good x e))
-    (by-pick L (eqb (c .phase) 1) _ _ (by-write P unfitting none _ _ (omega arith) (omega arith) e)
-    (by-pick L (eqb (c .phase) 2) _ _ (by-pause P unfitting none _ (omega arith) e)
-    (by-pick L (eqb (c .phase) 3) _ _ (by-write P unfitting none _ _ (omega arith) (omega arith) e)
-    (by-pick L (eqb (c .phase) 4) _ _ (by-read P unfitting none _ _ _ _ (λ _. omega arith) (omega arith) (omega arith) (omega arith) e)
-    (by-pick L (eqb (c .phase) 5) _ _ (by-pause P unfitting none _ (omega arith) e) (omega arith))))))
+    by-pick L (eqb (c .phase) exchangePhase) _ _ (exchange-short (packetLength e) c x (advance (stepOf x) e) (good x e))
+    (by-pick L (eqb (c .phase) resetAckPhase) _ _ (by-write P unfitting none _ _ (omega arith) (omega arith) e)
+    (by-pick L (eqb (c .phase) resetPausePhase) _ _ (by-pause P unfitting none _ (omega arith) e)
+    (by-pick L (eqb (c .phase) openingAckPhase) _ _ (by-write P unfitting none _ _ (omega arith) (omega arith) e)
+    (by-pick L (eqb (c .phase) openingReadsPhase) _ _ (by-read P unfitting none _ _ _ _ (λ _. omega arith) (omega arith) (omega arith) (omega arith) e)
+    (by-pick L (eqb (c .phase) pausePhase) _ _ (by-pause P unfitting none _ (omega arith) e) (omega arith))))))

@@ -12,24 +12,26 @@ use Rattle.errors.specs.declared.Refusal.{Refusal}
 use Rattle.errors.specs.declared.Refusal.the-variants.{OutOfTurn, ShortBuffer, BadArgument}
 use Rattle.exchange.specs.Exchange.{Order, Event}
 use Rattle.exchange.specs.Steps.{exchangeAt}
-use Rattle.protocol.specs.Calls.{ReaderCall, opening, reader, isPaddedMode, startOf}
+use Rattle.protocol.specs.Calls.{ReaderCall, opening, reader, isPaddedMode}
+use Rattle.protocol.specs.Starts.{startOf}
 use Rattle.protocol.specs.Session.{Running, idle, lastCaller, seen, started, Entry, call, event, Outcome, unchanged as unchangedOf, runs as runsOf, ends, outcomeOf, after as afterOf, given, fresh, step}
 use Rattle.protocol.specs.Session as Meant
 use Rattle.protocol.specs.Follows.{plain, Machine, Obeys, obeys, entries, givenOut, stateAfter}
 use Rattle.protocol.specs.Reference.{offEntry, Plain, Padded, referenceOf, MachineSame, machine-reference, machine-plain}
 use Rattle.engine.specs.Booking.{bookNumbers, Bounded, begun-bounded, books-in-range, open-flag, mode-flag, no-books, bounded as bounded-by}
 use Rattle.engine.specs.Books.{noBooks, booked as bookedBy}
-use Rattle.engine.specs.Core.{Held, After, unchanged, eventCore}
+use Rattle.engine.specs.Core.{Arrays, After, unchanged, eventCore}
 use Rattle.engine.specs.Core.{isValid as validCore}
 use Rattle.engine.specs.Transitions.{noCall, validCall}
-use Rattle.engine.specs.Sessions.{State, state, stateIn, valid, isValid, bookedAfter, sessionAfter, eventAfter, openIn, openAfter, startAfter, heldIn, freshSession}
+use Rattle.engine.specs.Sessions.{State, state, stateIn, valid, isValid, bookedAfter, sessionAfter, eventAfter, openIn, openAfter, startAfter, arraysIn, freshSession}
 use Rattle.engine.specs.Inputs.{Input, opens, asks, tells, entryOf, outputOf, afterInput, act}
-use Rattle.engine.specs.Relation.{Place, Wait, callAt, Fields, coreWith, heldAt, Agrees, coreAt, runningAt, Represents, free, runs, Means}
+use Rattle.engine.specs.Relation.{Place, Wait, callAt, Fields, coreWith, arraysAt, Agrees, coreAt, runningAt, Represents, free, runs, Means}
 use Rattle.engine.specs.Simulation.{Simulates}
 use Rattle.engine.specs.Events.{call-fits, event-sims, open-sims, call-sims}
 use Rattle.engine.specs.declared.call.Call.{Call as CallNumbers}
 use Rattle.engine.specs.declared.core.Core.{Core}
 use Rattle.engine.specs.declared.session.Session.{Session}
+use Rattle.calls.specs.Kinds.{noCallKind}
 
 -- ---- what an entry leaves of a session, beside what the definitions say
 
@@ -42,7 +44,7 @@ module _ (m : Running) (b : Meant.Books) (bounds : Bounded b) where
   meant = record { running = m; books = b }
 
   -- an entry that is refused
-  refused-refines : {s : Core} {f : Held} (e : Entry) (r : Refusal) (buffer : List ℕ) → Represents s f m
+  refused-refines : {s : Core} {f : Arrays} (e : Entry) (r : Refusal) (buffer : List ℕ) → Represents s f m
       → Refines meant e (unchanged (state s (bookNumbers b)) f r buffer) (unchangedOf r)
   refused-refines e r buffer h = record { means = record { call = h; booked = refl; bounded = bounds }; told = refl }
 
@@ -102,15 +104,15 @@ unfolding valid validCore
 in-range v c b bounds h = rw (v .pendingFits, v .keptFits, v .phaseFits, h) (books-in-range b bounds)
 
 running-refines : (p : Place) (w : Wait p) (v : Fields) → Agrees p v → (b : Meant.Books) (bounds : Bounded b) (i : Input)
-    → Refines (meant (runningAt p w v) b bounds) (entryOf i) (afterInput (state (coreAt p w v) (bookNumbers b)) (heldAt v) i) (outcomeOf (runningAt p w v) b (entryOf i))
+    → Refines (meant (runningAt p w v) b bounds) (entryOf i) (afterInput (state (coreAt p w v) (bookNumbers b)) (arraysAt v) i) (outcomeOf (runningAt p w v) b (entryOf i))
 unfolding openAfter startAfter eventAfter pick
 running-refines p w v agrees b bounds i = go i (in-range v (callAt p w) b bounds (call-fits p w)) (p .running)
   where
-    here : Represents (coreAt p w v) (heldAt v) (runningAt p w v)
+    here : Represents (coreAt p w v) (arraysAt v) (runningAt p w v)
     here = runs p w v agrees refl refl refl
 
-    go : (i : Input) → isValid (state (coreAt p w v) (bookNumbers b)) ≡ true → eqb (p .kind) 0 ≡ false
-        → Refines (meant (runningAt p w v) b bounds) (entryOf i) (afterInput (state (coreAt p w v) (bookNumbers b)) (heldAt v) i) (outcomeOf (runningAt p w v) b (entryOf i))
+    go : (i : Input) → isValid (state (coreAt p w v) (bookNumbers b)) ≡ true → eqb (p .kind) noCallKind ≡ false
+        → Refines (meant (runningAt p w v) b bounds) (entryOf i) (afterInput (state (coreAt p w v) (bookNumbers b)) (arraysAt v) i) (outcomeOf (runningAt p w v) b (entryOf i))
     go (opens c mode buffer) h k = rw (h, k) (refused-refines (runningAt p w v) b bounds _ OutOfTurn buffer here)
     go (asks c q buffer) h k = rw (h, k) (refused-refines (runningAt p w v) b bounds _ OutOfTurn buffer here)
     go (tells e buffer) h k =
@@ -125,25 +127,25 @@ or-false true = refl
 or-false false = refl
 
 free-refines : (v : Fields) (b : Meant.Books) (bounds : Bounded b) (i : Input)
-    → Refines (meant idle b bounds) (entryOf i) (afterInput (state (coreWith v noCall) (bookNumbers b)) (heldAt v) i) (outcomeOf idle b (entryOf i))
+    → Refines (meant idle b bounds) (entryOf i) (afterInput (state (coreWith v noCall) (bookNumbers b)) (arraysAt v) i) (outcomeOf idle b (entryOf i))
 unfolding openAfter startAfter eventAfter eventCore validCall pick
 free-refines v b bounds i = go i (in-range v noCall b bounds refl)
   where
-    here : Represents (coreWith v noCall) (heldAt v) idle
+    here : Represents (coreWith v noCall) (arraysAt v) idle
     here = free v refl refl refl
 
-    stays : (e : Entry) (r : Refusal) (buffer : List ℕ) → Refines (meant idle b bounds) e (unchanged (state (coreWith v noCall) (bookNumbers b)) (heldAt v) r buffer) (unchangedOf r)
+    stays : (e : Entry) (r : Refusal) (buffer : List ℕ) → Refines (meant idle b bounds) e (unchanged (state (coreWith v noCall) (bookNumbers b)) (arraysAt v) r buffer) (unchangedOf r)
     stays e r buffer = refused-refines idle b bounds e r buffer here
 
     in-mode : (k mode : ℕ) (buffer : List ℕ) → k ≤ lastCaller → (t : Bool) → ltb 1 mode ≡ t
-        → Refines (meant idle b bounds) (call k (opening mode) (length buffer)) (openIn (state (coreWith v noCall) (bookNumbers b)) (heldAt v) k mode buffer) (started (opening mode) (startOf (opening mode)))
+        → Refines (meant idle b bounds) (call k (opening mode) (length buffer)) (openIn (state (coreWith v noCall) (bookNumbers b)) (arraysAt v) k mode buffer) (started (opening mode) (startOf (opening mode)))
     in-mode k mode buffer caller true e = rw (e, lt-leb mode 1 (ltb-true 1 mode e)) (stays _ BadArgument buffer)
     in-mode k mode buffer caller false e =
         let fits : mode ≤ 1 = ltb-false 1 mode e in
         rw (e, le-leb mode 1 fits) (opening-refines idle b bounds k mode (length buffer) _ _ _ caller fits (open-sims v mode buffer))
 
     go : (i : Input) → isValid (state (coreWith v noCall) (bookNumbers b)) ≡ true
-        → Refines (meant idle b bounds) (entryOf i) (afterInput (state (coreWith v noCall) (bookNumbers b)) (heldAt v) i) (outcomeOf idle b (entryOf i))
+        → Refines (meant idle b bounds) (entryOf i) (afterInput (state (coreWith v noCall) (bookNumbers b)) (arraysAt v) i) (outcomeOf idle b (entryOf i))
     go (opens k mode buffer) h =
         rw (h, or-true (b .opened))
         (refines-if (ltb (length buffer) 1024) (λ _. stays _ ShortBuffer buffer)
@@ -161,10 +163,10 @@ free-refines v b bounds i = go i (in-range v noCall b bounds refl)
 abbrev pub Follows : Input → Session → Meant.Session → Type 0
 Follows i s m = Means ((act s i) .0) ((step m (entryOf i)) .0) × ((act s i) .1 ≡ plain ((step m (entryOf i)) .1))
 
-by-input : (i : Input) (s : Session) (m : Meant.Session) → Refines m (entryOf i) (afterInput (stateIn s) (heldIn s) i) (outcomeOf (m .running) (m .books) (entryOf i)) → Follows i s m
+by-input : (i : Input) (s : Session) (m : Meant.Session) → Refines m (entryOf i) (afterInput (stateIn s) (arraysIn s) i) (outcomeOf (m .running) (m .books) (entryOf i)) → Follows i s m
 by-input i s m h = (h .means, h .told)
 
-parts-refine : (s : Core) (f : Held) (r : Running) (b : Meant.Books) (bounds : Bounded b) (i : Input) → Represents s f r
+parts-refine : (s : Core) (f : Arrays) (r : Running) (b : Meant.Books) (bounds : Bounded b) (i : Input) → Represents s f r
     → Refines (meant r b bounds) (entryOf i) (afterInput (state s (bookNumbers b)) f i) (outcomeOf r b (entryOf i))
 parts-refine s f r b bounds i (free v p q e) = rw (p, q, e) (free-refines v b bounds i)
 parts-refine s f r b bounds i (runs p w v a q e g) = rw (q, e, g) (running-refines p w v a b bounds i)
@@ -172,8 +174,8 @@ parts-refine s f r b bounds i (runs p w v a q e g) = rw (q, e, g) (running-refin
 pub follow : (s : Session) (m : Meant.Session) (i : Input) → Means s m → Follows i s m
 follow s m i h =
     by-input i s m
-    (subst (λ b. Refines m (entryOf i) (afterInput (state (s .core) b) (heldIn s) i) (outcomeOf (m .running) (m .books) (entryOf i))) (sym (h .booked))
-    (parts-refine (s .core) (heldIn s) (m .running) (m .books) (h .bounded) i (h .call)))
+    (subst (λ b. Refines m (entryOf i) (afterInput (state (s .core) b) (arraysIn s) i) (outcomeOf (m .running) (m .books) (entryOf i))) (sym (h .booked))
+    (parts-refine (s .core) (arraysIn s) (m .running) (m .books) (h .bounded) i (h .call)))
 
 pub same-counts : (s : Session) (m : Meant.Session) → Means s m → s .frames ≡ m .books .counts
 same-counts s m h = ap (λ b. b .frames) (h .booked)

@@ -8,8 +8,8 @@ use Rattle.protocol.specs.Calls.{ReaderCall, opening, reader}
 use Rattle.protocol.specs.Session.{Entry, call, event}
 use Rattle.protocol.specs.Session.{Output as Given, orders, answers, rejects}
 use Rattle.calls.specs.Firsts.{startFor}
-use Rattle.engine.specs.Core.{Held, After}
-use Rattle.engine.specs.Sessions.{State, heldIn, stateIn, sessionAfter, eventAfter, Stepped}
+use Rattle.engine.specs.Core.{Arrays, After}
+use Rattle.engine.specs.Sessions.{State, arraysIn, stateIn, sessionAfter, eventAfter, Stepped}
 use Rattle.engine.specs.Sessions.{openAfter as openedAt, startAfter}
 use Rattle.engine.specs.declared.core.Output.{Output}
 use Rattle.engine.specs.declared.core.Output.the-variants.{Ack, Command, Read, Drain, Pause, Done, Type1, UidAndAts, Nothing, Failed, FailedAfter, Refused}
@@ -46,13 +46,13 @@ entryOf (opens k mode b) = call k (opening mode) (length b)
 entryOf (asks k c b) = call k (reader c) (length b)
 entryOf (tells e b) = event e (length b)
 
-abbrev pub afterInput : State → Held → Input → After State
+abbrev pub afterInput : State → Arrays → Input → After State
 afterInput s f (opens k mode b) = openedAt s f k mode b
 afterInput s f (asks k c b) = startAfter s f k (startFor c) b
 afterInput s f (tells e b) = eventAfter s f e b
 
 abbrev pub stepWith : Session → Input → Stepped
-stepWith s i = sessionAfter (afterInput (stateIn s) (heldIn s) i)
+stepWith s i = sessionAfter (afterInput (stateIn s) (arraysIn s) i)
 
 abbrev pub act : Session → Input → Session × Given ℕ
 act s i = ((stepWith s i) .session, outputOf ((stepWith s i) .output) ((stepWith s i) .buffer))

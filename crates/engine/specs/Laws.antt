@@ -6,7 +6,7 @@ use Prim.Native.Nat.{ℕ, _+_, _-_, _≤_, _<_}
 use native.Mathlib.Decide.{decLe}
 use native.Mathlib.Omega.{arith}
 use borrow.Rule.Slice.PartMut.{putMid}
-use borrow.Author.Tests.{le-ltb, leb-true}
+use borrow.Author.Tests.{ne-eqb, le-ltb, leb-true}
 use lib.Dec.{leb, ltb}
 use lib.ListN.{length, take, drop, getD, length-append, length-drop, take-append-drop, length-take}
 use lib.Seq.{drop-cons, take-length, take-all, take-append-seam, drop-append-add, drop-drop, length-take-le, take-take}
@@ -23,12 +23,15 @@ use Rattle.framing.specs.Valid.{both-left, both-right}
 use Rattle.framing.specs.Padded.{extraZeros, unpadded}
 use Rattle.framing.specs.Unpadded.{extra-fits}
 use Rattle.exchange.specs.Exchange.{pkt}
+use Rattle.exchange.specs.Exchange as exchange
 use Rattle.exchange.specs.Packets.{commandFrame}
 use Rattle.exchange.specs.Steps.{exchangeAt, eventOf}
 use Rattle.exchange.specs.declared.Event.{Event}
 use Rattle.exchange.specs.declared.Event.the-variants.{Ok, Bad, Packet, Time, Fail, Late, Slept}
 use Rattle.exchange.specs.declared.Exchange.{Exchange}
-use Rattle.stages.specs.Put.{put}
+use Rattle.stages.specs.Decided.{Fitting}
+use Rattle.stages.specs.Put.{put, Appends, puts-none}
+use Rattle.stages.specs.declared.Layout.{Layout}
 use Rattle.stages.specs.Stages.{Command}
 use Rattle.protocol.specs.Scripts.{type1, uidAndAts}
 use Rattle.protocol.specs.Calls.{isPaddedMode}
@@ -37,8 +40,8 @@ use Rattle.engine.specs.Books.{Books, booksOf, callerIn, booked, extraIn
 use Rattle.engine.specs.declared.core.Progress.{Progress}
 use Rattle.engine.specs.Booking.{range-caller}
 use Rattle.engine.specs.Sessions.{State, state, effected, bookedAfter, valid, isValid as validState}
-use Rattle.engine.specs.Core.{isValid, Held, progressed, After, eventCore, endsOf, doneOf, answersOf, sendsOf, running, after}
-use Rattle.engine.specs.Transitions.{validCall}
+use Rattle.engine.specs.Core.{isValid, Arrays, progressed, After, admittedOf, eventCore, endsOf, doneOf, answersOf, sendsOf, running, after}
+use Rattle.engine.specs.Transitions.{Transitioned, transitionOf, validCall}
 use Rattle.engine.specs.declared.call.Call.{Call}
 use Rattle.engine.specs.declared.core.Core.{Core}
 use Rattle.engine.specs.declared.core.Output.the-variants.{Command as Sends, Done, Type1, UidAndAts}
@@ -59,7 +62,7 @@ command-built code bytes b h room =
     rw (le-ltb 65535 (length (commandPayload code bytes)) n, le-ltb (length b) (length (commandFrame code bytes)) (omega (arith, m)))
 
 -- the frame of a command was built, and nothing else can be
-module _ (s : Core) (f : Held) (c : Call) (m : Command) (b b₁ : List ℕ) (h : length (m .bytes) ≤ 512) (room : 1024 ≤ length b) where
+module _ (s : Core) (f : Arrays) (c : Call) (m : Command) (b b₁ : List ℕ) (h : length (m .bytes) ≤ 512) (room : 1024 ≤ length b) where
   pub sent-frame : (core : Core) (built : Built) (n : ℕ) (x : Exchange) → built ≡ Frame n → left (outcome built) b₁ ≡ buildOf rcs956 (commandPayload (m .code) (m .bytes)) b
       → x ≡ exchangeAt 0 (m .code) (m .clock) → core ≡ running s c x → after core f (Sends n) b₁ ≡ sendsOf s f c m b
   unfolding outcome
@@ -81,18 +84,35 @@ module _ (s : Core) (f : Held) (c : Call) (m : Command) (b b₁ : List ℕ) (h :
       absurd (omega (arith, z))
 
 -- a call that is done with bytes at the buffer's start
-pub done-copied : (s : Core) (f : Held) (bytes b b₁ : List ℕ) (n : ℕ) (a : After Core) → n ≡ length bytes → b₁ ≡ put bytes b → a ≡ endsOf s f (Done n) b₁ → a ≡ doneOf s f bytes b
+pub done-copied : (s : Core) (f : Arrays) (bytes b b₁ : List ℕ) (n : ℕ) (a : After Core) → n ≡ length bytes → b₁ ≡ put bytes b → a ≡ endsOf s f (Done n) b₁ → a ≡ doneOf s f bytes b
 done-copied s f bytes b b₁ n a p q e = e ∙ (λ i. endsOf s f (Done (p i)) (q i))
 
 -- the same of a Type 1 tag
-pub type1-copied : (s : Core) (f : Held) (bytes b b₁ : List ℕ) (n : ℕ) (a : After Core) → n ≡ length bytes → b₁ ≡ put bytes b → a ≡ endsOf s f (Type1 n) b₁
+pub type1-copied : (s : Core) (f : Arrays) (bytes b b₁ : List ℕ) (n : ℕ) (a : After Core) → n ≡ length bytes → b₁ ≡ put bytes b → a ≡ endsOf s f (Type1 n) b₁
     → a ≡ answersOf s f (type1 bytes) b
 type1-copied s f bytes b b₁ n a p q e = e ∙ (λ i. endsOf s f (Type1 (p i)) (q i))
 
 -- the same with two lengths
-pub lengths-copied : (s : Core) (f : Held) (bytes b b₁ : List ℕ) (n uid ats : ℕ) (a : After Core) → n ≡ length bytes → b₁ ≡ put bytes b
+pub lengths-copied : (s : Core) (f : Arrays) (bytes b b₁ : List ℕ) (n uid ats : ℕ) (a : After Core) → n ≡ length bytes → b₁ ≡ put bytes b
     → a ≡ endsOf s f (UidAndAts n uid ats) b₁ → a ≡ answersOf s f (uidAndAts bytes uid ats) b
 lengths-copied s f bytes b b₁ n uid ats a p q e = e ∙ (λ i. endsOf s f (UidAndAts (p i) uid ats) (q i))
+
+-- done with a part of the response
+pub part-copied : (s : Core) (f : Arrays) (bs b b₁ : List ℕ) (n : ℕ) (a : After Core) (start len : ℕ) → start + len ≤ length bs → length bs ≤ 1022 → 1024 ≤ length b
+    → Appends (take (start + len - start) (drop start bs)) b b₁ 0 n → a ≡ endsOf s f (Done n) b₁ → a ≡ doneOf s f (take len (drop start bs)) b
+part-copied s f bs b b₁ n a start len within few room laid e =
+    let size : start + len - start ≡ len = omega arith in
+    let part : take (start + len - start) (drop start bs) ≡ take len (drop start bs) = ap (λ m. take m (drop start bs)) size in
+    let fits : 0 + length (take (start + len - start) (drop start bs)) ≤ length b = omega (arith, length-take (start + len - start) (drop start bs)) in
+    let p = laid .puts [] b fits (puts-none b) in
+    done-copied s f (take len (drop start bs)) b b₁ n a (p .count ∙ ap length part) (p .is ∙ ap (λ l. put l b) part) e
+
+-- the bytes of an answer fit a buffer
+pub answer-fits : (n : ℕ) (found bs b : List ℕ) (l : Layout) → length found ≡ 1024 → length bs ≤ 1022 → 1024 ≤ length b → Fitting (take n found) bs l
+    → Fitting (take n found) bs l × (l .kept + (l .«head_len» + (l .len + l .«tail_len»)) ≤ length b)
+answer-fits n found bs b l h few room f =
+    let most : length (take n found) ≤ 1024 = omega (arith, length-take n found) in
+    (f, omega (arith, f .room most few))
 
 -- a session in range has its lengths in range
 pub valid-command : (s : Core) → isValid s ≡ true → s .command ≤ 512
@@ -103,9 +123,15 @@ pub valid-found : (s : Core) → isValid s ≡ true → s .found ≤ 1024
 unfolding isValid
 valid-found s h = leb-true (s .found) 1024 (both-left (leb (s .found) 1024) _ (both-right (leb (s .command) 512) _ h))
 
+-- an event while a call runs
+pub event-admitted : (s : Core) (f : Arrays) (m : Transitioned) (e : exchange.Event) (b : List ℕ) (x : After Core) → m ≡ transitionOf (s .call) (s .exchange) e → (s .call .kind ≡ 0 → ⊥)
+    → x ≡ admittedOf s f m e b → x ≡ eventCore s f e b
+unfolding eventCore pick
+event-admitted s f m e b x is runs h = rw (ne-eqb (s .call .kind) 0 runs) (h ∙ ap (λ n. admittedOf s f n e b) is)
+
 -- what came out of the running call, with the books as they are booked
 pub booked-after : (k : ℕ) (t : Bool) (p : Progress) (b : Books) (m n : List ℕ) → booksOf m n ≡ booked k t (p .output) b
-    → (f : Held) (buffer : List ℕ) → effected p m n f buffer ≡ bookedAfter k t b (progressed p f buffer)
+    → (f : Arrays) (buffer : List ℕ) → effected p m n f buffer ≡ bookedAfter k t b (progressed p f buffer)
 booked-after k t p b m n h f buffer = ap (λ x. after (state (p .core) x) f (p .output) buffer) h
 
 -- numbers in range have one of the eight callers
@@ -143,7 +169,7 @@ module _ (n mode : ℕ) (packet : List ℕ) (is : n ≡ extraIn mode packet) whe
       go false u = omega arith
 
   -- the part is `&packet[n..]`
-  pub event-seen : (s : Core) (f : Held) (e : Event) (b : List ℕ)
+  pub event-seen : (s : Core) (f : Arrays) (e : Event) (b : List ℕ)
       → eventCore s f (eventOf e (take (length packet - n) (drop n packet))) b ≡ eventCore s f (seen (isPaddedMode mode) (eventOf e packet)) b
   event-seen s f e b =
       let all : take (length packet - n) (drop n packet) ≡ drop n packet = take-all (length packet - n) (drop n packet) (rw (length-drop n packet) (omega arith)) in

@@ -9,6 +9,7 @@ pub mod Inputs
 pub mod Numbers
 pub mod Relation
 pub mod Simulation
+pub mod Ends
 pub mod Events
 pub mod Follows
 pub mod PollCodes

@@ -8,14 +8,14 @@ use Rattle.errors.specs.declared.Refusal.the-variants.{OutOfTurn}
 use Rattle.exchange.specs.Exchange.{Event, ok, bad, pkt, time, fail, late, slept}
 use Rattle.exchange.specs.Steps as steps
 use Rattle.protocol.specs.Calls.{Call, opening, reader}
-use Rattle.engine.specs.Core.{Held, After, unchanged}
+use Rattle.engine.specs.Core.{Arrays, After, unchanged}
 use Rattle.engine.specs.Sessions.{State, eventAfter, openAfter, startAfter}
 use Rattle.calls.specs.Numbers.{callOf, reader-call}
 use Rattle.calls.specs.Firsts.{startBy}
 use Rattle.calls.specs.declared.start.Numbers.{Numbers}
 use Rattle.engine.specs.Inputs.{Input, opens, asks, afterInput}
-use Rattle.engine.specs.declared.numbered.Known.{Known}
-use Rattle.engine.specs.declared.numbered.Known.the-variants.{Is, Not}
+use Rattle.engine.specs.declared.by_number.Known.{Known}
+use Rattle.engine.specs.declared.by_number.Known.the-variants.{Is, Not}
 
 abbrev pub callInput : ℕ → Call → List ℕ → Input
 callInput k (opening mode) b = opens k mode b
@@ -33,18 +33,18 @@ knownIn (Is e) packet = some (steps.eventOf e packet)
 knownIn Not packet = none
 
 -- an event with a number that has none fits no order
-abbrev pub numberedAfter : State → Held → Option Event → List ℕ → After State
-numberedAfter s f none b = unchanged s f OutOfTurn b
-numberedAfter s f (some e) b = eventAfter s f e b
+abbrev pub afterEventNumber : State → Arrays → Option Event → List ℕ → After State
+afterEventNumber s f none b = unchanged s f OutOfTurn b
+afterEventNumber s f (some e) b = eventAfter s f e b
 
 -- a call of any number but 0 is one of an open reader
-pub reader-input : (number : ℕ) (n : Numbers) (first second third fourth b : List ℕ) (s : State) (f : Held) → (number ≡ 0 → ⊥)
+pub reader-input : (number : ℕ) (n : Numbers) (first second third fourth b : List ℕ) (s : State) (f : Arrays) → (number ≡ 0 → ⊥)
     → startAfter s f (n .caller) (startBy (callOf number n first second third fourth)) b
     ≡ afterInput s f (callInput (n .caller) (callOf number n first second third fourth) b)
 reader-input zero n first second third fourth b s f h = absurd (h refl)
 reader-input (suc k) n first second third fourth b s f h = rw (reader-call k n first second third fourth)
 
-pub opening-input : (number : ℕ) (n : Numbers) (first second third fourth b : List ℕ) (s : State) (f : Held) → number ≡ 0
+pub opening-input : (number : ℕ) (n : Numbers) (first second third fourth b : List ℕ) (s : State) (f : Arrays) → number ≡ 0
     → openAfter s f (n .caller) (n .x) b ≡ afterInput s f (callInput (n .caller) (callOf number n first second third fourth) b)
 unfolding callOf
 opening-input number n first second third fourth b s f h = rw h

@@ -5,7 +5,7 @@ use mathlib.Core.Bool.{true}
 use mathlib.Core.List.{List}
 use Prim.Native.Nat.{ℕ}
 use lib.ListN.{length}
-use Rattle.protocol.specs.Calls.{systemCodesFit, wordsIn}
+use Rattle.protocol.specs.Arguments.{systemCodesFit, wordsIn}
 use Rattle.protocol.specs.Session.{Books}
 use Rattle.protocol.specs.Follows.{Machine, entries}
 use Rattle.protocol.specs.PollList.{EventAndRoom, oneCall, singleCalls, idleWith}

@@ -16,12 +16,14 @@ use Rattle.stages.specs.Stages.{send}
 use Rattle.calls.specs.Tables.{isResetOf, decidedOf}
 use Rattle.calls.specs.Refines.{Refines, Awaits}
 use Rattle.engine.specs.Booking.{bookNumbers, Bounded}
-use Rattle.engine.specs.Core.{Held, held}
-use Rattle.engine.specs.Transitions.{noCall}
-use Rattle.engine.specs.Sessions.{heldIn, stateIn}
+use Rattle.engine.specs.Core.{Arrays, arrays}
+use Rattle.engine.specs.Transitions.{exchangePhase, resetAckPhase, resetPausePhase, openingAckPhase, openingReadsPhase, pausePhase, noCall}
+use Rattle.engine.specs.Sessions.{arraysIn, stateIn}
 use Rattle.engine.specs.declared.call.Call.{Call}
 use Rattle.engine.specs.declared.core.Core.{Core}
 use Rattle.engine.specs.declared.session.Session.{Session}
+use Rattle.calls.specs.Kinds.{noCallKind, lastKind, lastStage}
+use Rattle.device.specs.Kinds.{openingKind}
 
 -- where a call stands: its kind, stage and cursor, its pending command and its found bytes
 pub record Place : Type 0 where
@@ -31,10 +33,10 @@ pub record Place : Type 0 where
   pub cursor : ℕ
   pub pending : List ℕ
   pub found : List ℕ
-  pub running : eqb kind 0 ≡ false
-  pub opens : eqb kind 1 ≡ isOpening call
-  pub kindFits : leb kind 24 ≡ true
-  pub stageFits : leb stage 9 ≡ true
+  pub running : eqb kind noCallKind ≡ false
+  pub opens : eqb kind openingKind ≡ isOpening call
+  pub kindFits : leb kind lastKind ≡ true
+  pub stageFits : leb stage lastStage ≡ true
 
 -- what it waits for, and the script that is left: a command's reply, a reset's exchange, ACK or pause, or what comes before the command of
 -- its stage, the opening's ACK or reads, or a pause
@@ -43,18 +45,18 @@ pub data Wait (p : Place) : Type 0 where
   resetReply : (s : Script) → isResetOf (p .kind) (p .stage) ≡ true → Refines (p .kind) (p .cursor) (p .pending) (p .found) (decidedOf (p .kind) (p .stage) (p .cursor) (p .pending) (p .found) []) s → Wait p
   resetAck : (s : Script) → isResetOf (p .kind) (p .stage) ≡ true → Refines (p .kind) (p .cursor) (p .pending) (p .found) (decidedOf (p .kind) (p .stage) (p .cursor) (p .pending) (p .found) []) s → Wait p
   resetPause : (s : Script) → Refines (p .kind) (p .cursor) (p .pending) (p .found) (decidedOf (p .kind) (p .stage) (p .cursor) (p .pending) (p .found) []) s → Wait p
-  openingAck : (s : Script) → eqb (p .kind) 1 ≡ true → Refines (p .kind) (p .cursor) (p .pending) (p .found) (send (p .stage)) s → Wait p
+  openingAck : (s : Script) → eqb (p .kind) openingKind ≡ true → Refines (p .kind) (p .cursor) (p .pending) (p .found) (send (p .stage)) s → Wait p
   openingReads : (s : Script) → Refines (p .kind) (p .cursor) (p .pending) (p .found) (send (p .stage)) s → Wait p
   pausing : (s : Script) → Refines (p .kind) (p .cursor) (p .pending) (p .found) (send (p .stage)) s → Wait p
 
 abbrev pub phaseNumber : {p : Place} → Wait p → ℕ
-phaseNumber (reply k h l) = 0
-phaseNumber (resetReply s h l) = 0
-phaseNumber (resetAck s h l) = 1
-phaseNumber (resetPause s l) = 2
-phaseNumber (openingAck s h l) = 3
-phaseNumber (openingReads s l) = 4
-phaseNumber (pausing s l) = 5
+phaseNumber (reply k h l) = exchangePhase
+phaseNumber (resetReply s h l) = exchangePhase
+phaseNumber (resetAck s h l) = resetAckPhase
+phaseNumber (resetPause s l) = resetPausePhase
+phaseNumber (openingAck s h l) = openingAckPhase
+phaseNumber (openingReads s l) = openingReadsPhase
+phaseNumber (pausing s l) = pausePhase
 
 abbrev pub callAt : (p : Place) → Wait p → Call
 callAt p w = record { kind = p .kind; stage = p .stage; cursor = p .cursor; phase = phaseNumber w }
@@ -83,8 +85,8 @@ pub record Fields : Type 0 where
 abbrev pub coreWith : Fields → Call → Core
 coreWith v c = record { command = v .pending; found = v .kept; exchange = v .exchange; call = c }
 
-abbrev pub heldAt : Fields → Held
-heldAt v = held (v .command) (v .found)
+abbrev pub arraysAt : Fields → Arrays
+arraysAt v = arrays (v .command) (v .found)
 
 -- the pending command and the found bytes are those of the place
 pub record Agrees (p : Place) (v : Fields) : Type 0 where
@@ -98,12 +100,12 @@ abbrev pub runningAt : (p : Place) → Wait p → Fields → Running
 runningAt p w v = busy (p .call) (phaseAt w (v .exchange))
 
 -- the running call of the definitions that the numbers and the arrays represent
-pub data Represents (s : Core) (f : Held) (m : Running) : Type 0 where
-  free : (v : Fields) → s ≡ coreWith v noCall → f ≡ heldAt v → m ≡ idle → Represents s f m
-  runs : (p : Place) (w : Wait p) (v : Fields) → Agrees p v → s ≡ coreAt p w v → f ≡ heldAt v → m ≡ runningAt p w v → Represents s f m
+pub data Represents (s : Core) (f : Arrays) (m : Running) : Type 0 where
+  free : (v : Fields) → s ≡ coreWith v noCall → f ≡ arraysAt v → m ≡ idle → Represents s f m
+  runs : (p : Place) (w : Wait p) (v : Fields) → Agrees p v → s ≡ coreAt p w v → f ≡ arraysAt v → m ≡ runningAt p w v → Represents s f m
 
 -- the session of the definitions that a session's fields represent
 pub record Means (s : Session) (m : Meant.Session) : Type 0 where
-  pub call : Represents (s .core) (heldIn s) (m .running)
+  pub call : Represents (s .core) (arraysIn s) (m .running)
   pub booked : (stateIn s) .books ≡ bookNumbers (m .books)
   pub bounded : Bounded (m .books)

@@ -9,16 +9,19 @@ use Rattle.errors.specs.declared.Refusal.the-variants.{OutOfTurn, ShortBuffer, 
 use Rattle.framing.specs.Lists.{both}
 use Rattle.exchange.specs.Exchange.{Event}
 use Rattle.protocol.specs.Calls.{isPaddedMode}
-use Rattle.protocol.specs.Session.{seen}
+use Rattle.protocol.specs.Session.{seen, bufferNeed}
+use Rattle.protocol.specs.Starts.{dataLimit}
 use Rattle.stages.specs.Starts.{Start}
-use Rattle.engine.specs.Books.{Books, booksOf, openedIn, modeIn, callerIn, noBooks, inRange, booked}
-use Rattle.engine.specs.Core.{noCore, Held, held, progressed, After, after, unchanged, eventCore, openCore, startOn}
+use Rattle.engine.specs.Books.{lastCaller, Books, booksOf, openedIn, modeIn, callerIn, noBooks, inRange, booked}
+use Rattle.engine.specs.Core.{foundLimit, noCore, Arrays, arrays, progressed, After, after, unchanged, eventCore, openCore, startOn}
 use Rattle.engine.specs.Core.{isValid as validCore}
 use Rattle.engine.specs.declared.core.Core.{Core}
 use Rattle.engine.specs.declared.core.Output.{Output}
 use Rattle.engine.specs.declared.core.Progress.{Progress}
 use Rattle.engine.specs.declared.session.Session.{Session}
 use Rattle.engine.specs.declared.session.Step.{Step}
+use Rattle.calls.specs.Kinds.{noCallKind}
+use Rattle.device.specs.Kinds.{openingKind}
 
 -- the running call's numbers, and the books
 pub record State : Type 0 where
@@ -40,41 +43,41 @@ abbrev pub isValid : State → Bool
 isValid s = valid (s .core) (openedIn (s .books)) (modeIn (s .books)) (callerIn (s .books))
 
 abbrev pub withBooks : List ℕ → List ℕ → After Core → After State
-withBooks b n a = after (stateOf (a .state) b n) (a .held) (a .output) (a .buffer)
+withBooks b n a = after (stateOf (a .state) b n) (a .arrays) (a .output) (a .buffer)
 
-abbrev pub effected : Progress → List ℕ → List ℕ → Held → List ℕ → After State
+abbrev pub effected : Progress → List ℕ → List ℕ → Arrays → List ℕ → After State
 effected p b n f buffer = withBooks b n (progressed p f buffer)
 
 -- what came out of a caller's call, an opening or not, is booked
 abbrev pub bookedAfter : ℕ → Bool → Books → After Core → After State
-bookedAfter k isOpening b a = after (state (a .state) (booked k isOpening (a .output) b)) (a .held) (a .output) (a .buffer)
+bookedAfter k isOpening b a = after (state (a .state) (booked k isOpening (a .output) b)) (a .arrays) (a .output) (a .buffer)
 
 -- ---- the entries: a session out of range is refused with 1
 
 -- an event is taken as the mode sees it
-unfoldable pub eventAfter : State → Held → Event → List ℕ → After State
+unfoldable pub eventAfter : State → Arrays → Event → List ℕ → After State
 eventAfter s f e b =
-    pick (isValid s) (bookedAfter (callerIn (s .books)) (eqb (s .core .call .kind) 1) (s .books) (eventCore (s .core) f (seen (isPaddedMode (modeIn (s .books))) e) b)) (unchanged s f OutOfTurn b)
+    pick (isValid s) (bookedAfter (callerIn (s .books)) (eqb (s .core .call .kind) openingKind) (s .books) (eventCore (s .core) f (seen (isPaddedMode (modeIn (s .books))) e) b)) (unchanged s f OutOfTurn b)
 
 -- a call: 1, 2, then its own refusals
 abbrev pub free : Core → ℕ → ℕ → ℕ → Bool
-free c opened mode caller = both (valid c opened mode caller) (eqb (c .call .kind) 0)
+free c opened mode caller = both (valid c opened mode caller) (eqb (c .call .kind) noCallKind)
 
 abbrev pub isFree : State → Bool
 isFree s = free (s .core) (openedIn (s .books)) (modeIn (s .books)) (callerIn (s .books))
 
-abbrev pub withRoom : State → Held → List ℕ → After State → After State
-withRoom s f b x = pick (ltb (length b) 1024) (unchanged s f ShortBuffer b) x
+abbrev pub withRoom : State → Arrays → List ℕ → After State → After State
+withRoom s f b x = pick (ltb (length b) bufferNeed) (unchanged s f ShortBuffer b) x
 
 -- a caller above 7 is a bad argument
-abbrev pub withCaller : State → Held → ℕ → List ℕ → After State → After State
-withCaller s f k b x = pick (ltb 7 k) (unchanged s f BadArgument b) x
+abbrev pub withCaller : State → Arrays → ℕ → List ℕ → After State → After State
+withCaller s f k b x = pick (ltb lastCaller k) (unchanged s f BadArgument b) x
 
 -- an opening begins the books anew, in a mode that there is
-abbrev pub openIn : State → Held → ℕ → ℕ → List ℕ → After State
+abbrev pub openIn : State → Arrays → ℕ → ℕ → List ℕ → After State
 openIn s f k mode b = pick (ltb 1 mode) (unchanged s f BadArgument b) (bookedAfter k true (noBooks mode) (openCore (s .core) f b))
 
-unfoldable pub openAfter : State → Held → ℕ → ℕ → List ℕ → After State
+unfoldable pub openAfter : State → Arrays → ℕ → ℕ → List ℕ → After State
 openAfter s f k mode b = pick (isFree s) (withRoom s f b (withCaller s f k b (openIn s f k mode b))) (unchanged s f OutOfTurn b)
 
 -- a call of an open reader
@@ -84,7 +87,7 @@ admitted c opened mode caller = both (free c opened mode caller) (eqb opened 1)
 abbrev pub isAdmitted : State → Bool
 isAdmitted s = admitted (s .core) (openedIn (s .books)) (modeIn (s .books)) (callerIn (s .books))
 
-unfoldable pub startAfter : State → Held → ℕ → Start → List ℕ → After State
+unfoldable pub startAfter : State → Arrays → ℕ → Start → List ℕ → After State
 startAfter s f k x b =
     pick (isAdmitted s) (withRoom s f b (withCaller s f k b (bookedAfter k false (s .books) (startOn (s .core) f x b)))) (unchanged s f OutOfTurn b)
 
@@ -100,10 +103,10 @@ stepped r b = record { session = r .session; output = r .output; buffer = b }
 
 abbrev pub sessionAfter : After State → Stepped
 sessionAfter a =
-    record { session = record { command = a .held .command; found = a .held .found; frames = a .state .books .frames; books = a .state .books .numbers; core = a .state .core }; output = a .output; buffer = a .buffer }
+    record { session = record { command = a .arrays .command; found = a .arrays .found; frames = a .state .books .frames; books = a .state .books .numbers; core = a .state .core }; output = a .output; buffer = a .buffer }
 
-abbrev pub heldIn : Session → Held
-heldIn s = held (s .command) (s .found)
+abbrev pub arraysIn : Session → Arrays
+arraysIn s = arrays (s .command) (s .found)
 
 abbrev pub stateIn : Session → State
 stateIn s = stateOf (s .core) (s .books) (s .frames)
@@ -111,8 +114,8 @@ stateIn s = stateOf (s .core) (s .books) (s .frames)
 abbrev pub freshSession : Session
 freshSession =
     record {
-      command = replicate 512 0;
-      found = replicate 1024 0;
+      command = replicate dataLimit 0;
+      found = replicate foundLimit 0;
       frames = replicate 8 0;
       books = replicate 3 0;
       core = noCore;

@@ -29,26 +29,27 @@ use Rattle.calls.specs.Tables.{commandOf}
 use Rattle.calls.specs.Refines.{Refines, refines-end, refines-send, refines-reset, refines-keep, refines-next, refines-put, refines-pause}
 use Rattle.engine.specs.Books.{booked as bookedBy}
 use Rattle.engine.specs.Booking.{bookNumbers, Bounded, bookBy, quiet-booked, ack-counts, frame-booked, end-booked}
-use Rattle.engine.specs.Core.{Held, After, unchanged, running, putFound, putCommand, ordersOf, sendsOf, stageOf, endsOf, doneOf, answersOf, followsOf, admittedOf, isLong, transitionedOf}
+use Rattle.engine.specs.Core.{Arrays, After, unchanged, running, putFound, putCommand, ordersOf, sendsOf, stageOf, endsOf, doneOf, answersOf, followsOf, admittedOf, isLong, transitionedOf}
 use Rattle.engine.specs.Transitions.{Transitioned, unfitting, orders as goesOn, fits, replyLength, endedTransition, exchangeTransition, exchangeIn}
 use Rattle.engine.specs.Inputs.{outputOf}
-use Rattle.engine.specs.Relation.{Place, Wait, reply, resetReply, pausing, callAt, phaseAt, Fields, coreWith, heldAt, Agrees, coreAt, runningAt, Represents, free, runs}
+use Rattle.engine.specs.Relation.{Place, Wait, reply, resetReply, pausing, callAt, phaseAt, Fields, coreWith, arraysAt, Agrees, coreAt, runningAt, Represents, free, runs}
 use Rattle.engine.specs.Exchanges.{NoCommand, Good}
 use Rattle.engine.specs.declared.call.Call.{Call}
 use Rattle.engine.specs.declared.core.Core.{Core}
 use Rattle.engine.specs.declared.core.Output.{Output}
 use Rattle.engine.specs.declared.core.Output.the-variants as out
 use Rattle.protocol.specs.Names.{fieldPauseTime}
+use Rattle.calls.specs.Kinds.{lastStage}
 
 -- What an entry leaves, beside what the definitions say; the running call is m before it. What is booked of the output, of the call of any
 -- caller k, is what the definitions book of the outcome.
 pub record Simulates (opens : Bool) (m : Running) (a : After Core) (o : Outcome) : Type 0 where
-  pub represents : Represents (a .state) (a .held) (runningAfter m o)
+  pub represents : Represents (a .state) (a .arrays) (runningAfter m o)
   pub output : outputOf (a .output) (a .buffer) ≡ plain (given o)
   pub booked : (k : ℕ) (b : Meant.Books) → Bounded b → bookedBy k opens (a .output) (bookNumbers b) ≡ bookNumbers (bookBy k o b)
 
 module _ {t : Bool} {m : Running} where
-  pub sim-unchanged : {s : Core} {f : Held} (r : Refusal) (b : List ℕ) → Represents s f m → Simulates t m (unchanged s f r b) (unchangedOf r)
+  pub sim-unchanged : {s : Core} {f : Arrays} (r : Refusal) (b : List ℕ) → Represents s f m → Simulates t m (unchanged s f r b) (unchangedOf r)
   sim-unchanged r b h = record { represents = h; output = refl; booked = λ k b h. refl }
 
   pub sim-pick : (u : Bool) {x y : After Core} {o w : Outcome} → Simulates t m x o → (u ≡ false → Simulates t m y w) → Simulates t m (pick u x y) (cond u o w)
@@ -61,10 +62,10 @@ module _ {t : Bool} {m : Running} where
 module _ (v : Fields) (c : Call) (t : Bool) (m : Running) where
   -- with an order that is no command
   pub sim-orders : (p : Place) (w : Wait p) (x : Exchange) (o : Order) (b : List ℕ) → leb (x .phase) 6 ≡ true → Agrees p v → NoCommand o
-      → Simulates t m (ordersOf (coreWith v c) (heldAt v) o (callAt p w) x b) (runsOf (p .call) o (phaseAt w x))
+      → Simulates t m (ordersOf (coreWith v c) (arraysAt v) o (callAt p w) x b) (runsOf (p .call) o (phaseAt w x))
   sim-orders p w x o b small agrees e = go o e
     where
-      here : Represents (running (coreWith v c) (callAt p w) x) (heldAt v) (busy (p .call) (phaseAt w x))
+      here : Represents (running (coreWith v c) (callAt p w) x) (arraysAt v) (busy (p .call) (phaseAt w x))
       here =
           let u : Fields = record {
             command = v .command;
@@ -78,7 +79,7 @@ module _ (v : Fields) (c : Call) (t : Bool) (m : Running) where
           } in
           runs p w u record { pending = agrees .pending; found = agrees .found } refl refl refl
 
-      go : (o : Order) → NoCommand o → Simulates t m (ordersOf (coreWith v c) (heldAt v) o (callAt p w) x b) (runsOf (p .call) o (phaseAt w x))
+      go : (o : Order) → NoCommand o → Simulates t m (ordersOf (coreWith v c) (arraysAt v) o (callAt p w) x b) (runsOf (p .call) o (phaseAt w x))
       go (write bytes) e = record {
         represents = here;
         output = rw e (ap (λ l. orders (write l)) (take-append-seam ack (drop 6 b)));
@@ -90,7 +91,7 @@ module _ (v : Fields) (c : Call) (t : Bool) (m : Running) where
 
   -- with a command
   pub sim-sends : (p : Place) (w : Wait p) (code clock : ℕ) (bytes b : List ℕ) → Agrees p v
-      → Simulates t m (sendsOf (coreWith v c) (heldAt v) (callAt p w) (cmd code clock bytes) b)
+      → Simulates t m (sendsOf (coreWith v c) (arraysAt v) (callAt p w) (cmd code clock bytes) b)
       (runsOf (p .call) (write (commandFrame code bytes)) (phaseAt w (exchangeAt 0 code clock)))
   sim-sends p w code clock bytes b agrees =
       let u : Fields = record {
@@ -113,13 +114,13 @@ module _ (v : Fields) (c : Call) (t : Bool) (m : Running) where
 module _ (v : Fields) (c : Call) (q : CallOf) (m : Running) where
   sim-ends : (a : Answer Byte) (o : Output) (b : List ℕ) → outputOf o b ≡ answers (plainAnswer a)
       → ((k : ℕ) (n : Meant.Books) → bookedBy k (isOpening q) o (bookNumbers n) ≡ bookNumbers (bookBy k (endsIn q a) n))
-      → Simulates (isOpening q) m (endsOf (coreWith v c) (heldAt v) o b) (endsIn q a)
+      → Simulates (isOpening q) m (endsOf (coreWith v c) (arraysAt v) o b) (endsIn q a)
   sim-ends a o b given k = record { represents = free v refl refl refl; output = given; booked = λ i n h. k i n }
 
-  pub sim-answer : (a : Answer ℕ) (d : Answer Byte) (b : List ℕ) → plainAnswer d ≡ a → Simulates (isOpening q) m (answersOf (coreWith v c) (heldAt v) a b) (endsIn q d)
-  sim-answer a d b e = subst (λ x. Simulates (isOpening q) m (answersOf (coreWith v c) (heldAt v) x b) (endsIn q d)) e (go d)
+  pub sim-answer : (a : Answer ℕ) (d : Answer Byte) (b : List ℕ) → plainAnswer d ≡ a → Simulates (isOpening q) m (answersOf (coreWith v c) (arraysAt v) a b) (endsIn q d)
+  sim-answer a d b e = subst (λ x. Simulates (isOpening q) m (answersOf (coreWith v c) (arraysAt v) x b) (endsIn q d)) e (go d)
     where
-      go : (d : Answer Byte) → Simulates (isOpening q) m (answersOf (coreWith v c) (heldAt v) (plainAnswer d) b) (endsIn q d)
+      go : (d : Answer Byte) → Simulates (isOpening q) m (answersOf (coreWith v c) (arraysAt v) (plainAnswer d) b) (endsIn q d)
       go (done bytes) =
           sim-ends (done bytes) (out.Done (length (map value bytes))) _ (ap (λ l. answers (done l)) (take-append-seam (map value bytes) _))
           (end-booked q (done bytes))
@@ -135,7 +136,7 @@ module _ (v : Fields) (c : Call) (q : CallOf) (m : Running) where
 
 -- ---- what a call decided leads to what its script has
 
-abbrev pub atStage : (p : Place) (stage cursor : ℕ) (later found : List ℕ) → leb stage 9 ≡ true → Place
+abbrev pub atStage : (p : Place) (stage cursor : ℕ) (later found : List ℕ) → leb stage lastStage ≡ true → Place
 atStage p stage cursor later found h =
     record {
       call = p .call;
@@ -181,26 +182,26 @@ abbrev callOf : Place → ℕ → ℕ → ℕ → Call
 callOf p stage cursor phase = record { kind = p .kind; stage = stage; cursor = cursor; phase = phase }
 
 -- the numbers that a call had are of no account to its next command
-same-stage : (v : Fields) (c d k : Call) (b : List ℕ) → stageOf (coreWith v c) (heldAt v) k b ≡ stageOf (coreWith v d) (heldAt v) k b
+same-stage : (v : Fields) (c d k : Call) (b : List ℕ) → stageOf (coreWith v c) (arraysAt v) k b ≡ stageOf (coreWith v d) (arraysAt v) k b
 unfolding stageOf
 same-stage v c d k b = refl
 
 module _ (p : Place) (m : Running) where
   -- the command of a stage, from a call at any stage and cursor
-  pub stage-sims : (v : Fields) (later found : List ℕ) (n i : ℕ) (h : leb n 9 ≡ true) (w : Wait (atStage p n i later found h)) (c : Call) (code clock : ℕ) (bytes b : List ℕ)
+  pub stage-sims : (v : Fields) (later found : List ℕ) (n i : ℕ) (h : leb n lastStage ≡ true) (w : Wait (atStage p n i later found h)) (c : Call) (code clock : ℕ) (bytes b : List ℕ)
       → take (v .pending) (v .command) ≡ later → take (v .kept) (v .found) ≡ found → commandOf (p .kind) n i later ≡ cmd code clock bytes → callAt _ w ≡ callOf p n i 0
-      → Simulates (isOpening (p .call)) m (stageOf (coreWith v c) (heldAt v) (callOf p n i 0) b)
+      → Simulates (isOpening (p .call)) m (stageOf (coreWith v c) (arraysAt v) (callOf p n i 0) b)
       (runsOf (p .call) (write (commandFrame code bytes)) (phaseAt w (exchangeAt 0 code clock)))
   unfolding stageOf
   stage-sims v later found n i h w c code clock bytes b e f plan is =
       let sent : commandOf (p .kind) n i (take (v .pending) (v .command)) ≡ cmd code clock bytes = ap (commandOf (p .kind) n i) e ∙ plan in
-      subst (λ k. Simulates (isOpening (p .call)) m (sendsOf (coreWith v c) (heldAt v) k (commandOf (p .kind) n i (take (v .pending) (v .command))) b)
+      subst (λ k. Simulates (isOpening (p .call)) m (sendsOf (coreWith v c) (arraysAt v) k (commandOf (p .kind) n i (take (v .pending) (v .command))) b)
       (runsOf (p .call) (write (commandFrame code bytes)) (phaseAt w (exchangeAt 0 code clock)))) is
       (rw sent (sim-sends v c (isOpening (p .call)) m _ w code clock bytes b record { pending = e; found = f }))
 
   pub lead-sims : {later found : List ℕ} {i : ℕ} (v : Fields) (stage phase : ℕ) (d : Decision) (s : Script) (b : List ℕ)
       → take (v .pending) (v .command) ≡ later → take (v .kept) (v .found) ≡ found → Refines (p .kind) i later found d s
-      → Simulates (isOpening (p .call)) m (followsOf (coreWith v (callOf p stage i phase)) (heldAt v) d b) (outcome (p .call) (enter s))
+      → Simulates (isOpening (p .call)) m (followsOf (coreWith v (callOf p stage i phase)) (arraysAt v) d b) (outcome (p .call) (enter s))
   unfolding followsOf stepOf
   lead-sims v stage phase d s b e f (refines-end a c h) = sim-answer v (callOf p stage _ phase) (p .call) m c a b h
   lead-sims v stage phase d s b e f (refines-send n code clock bytes k h q plan answered failing) =
@@ -225,9 +226,9 @@ module _ (p : Place) (w : Wait p) (v : Fields) (agrees : Agrees p v) where
   abbrev pub Advances : Transitioned → CallResult → Type 0
   Advances mv r =
       (e : Event) (b : List ℕ) → replyLength mv ≤ packetLength e
-      → SimulatesHere (admittedOf (coreAt p w v) (heldAt v) mv e b) (eventOutcome (p .call) e (length b) r)
+      → SimulatesHere (admittedOf (coreAt p w v) (arraysAt v) mv e b) (eventOutcome (p .call) e (length b) r)
 
-  stays : (r : Refusal) (b : List ℕ) → SimulatesHere (unchanged (coreAt p w v) (heldAt v) r b) (unchangedOf r)
+  stays : (r : Refusal) (b : List ℕ) → SimulatesHere (unchanged (coreAt p w v) (arraysAt v) r b) (unchangedOf r)
   stays r b = sim-unchanged r b (runs p w v agrees refl refl refl)
 
   pub advances-none : Advances unfitting unfit
@@ -235,8 +236,8 @@ module _ (p : Place) (w : Wait p) (v : Fields) (agrees : Agrees p v) where
   advances-none e b l = stays OutOfTurn b
 
   -- buffer and packet are looked at first
-  pub advances : (mv : Transitioned) (o : Outcome) → fits mv ≡ true → ((b : List ℕ) → replyLength mv ≤ 1024 → SimulatesHere (transitionedOf (coreAt p w v) (heldAt v) mv b) o)
-      → (e : Event) (b : List ℕ) → replyLength mv ≤ packetLength e → SimulatesHere (admittedOf (coreAt p w v) (heldAt v) mv e b) (admitted e (length b) o)
+  pub advances : (mv : Transitioned) (o : Outcome) → fits mv ≡ true → ((b : List ℕ) → replyLength mv ≤ 1024 → SimulatesHere (transitionedOf (coreAt p w v) (arraysAt v) mv b) o)
+      → (e : Event) (b : List ℕ) → replyLength mv ≤ packetLength e → SimulatesHere (admittedOf (coreAt p w v) (arraysAt v) mv e b) (admitted e (length b) o)
   unfolding admittedOf isLong pick
   advances mv o h k e b l =
       rw h
@@ -244,7 +245,7 @@ module _ (p : Place) (w : Wait p) (v : Fields) (agrees : Agrees p v) where
       (λ _. sim-pick (ltb 1024 (packetLength e)) (stays OverLong b) (λ n. k b (omega (arith, l, ltb-false 1024 (packetLength e) n)))))
 
   -- a script is entered
-  pub advances-enter : (mv : Transitioned) (s : Script) → fits mv ≡ true → ((b : List ℕ) → replyLength mv ≤ 1024 → SimulatesHere (transitionedOf (coreAt p w v) (heldAt v) mv b) (outcome (p .call) (enter s)))
+  pub advances-enter : (mv : Transitioned) (s : Script) → fits mv ≡ true → ((b : List ℕ) → replyLength mv ≤ 1024 → SimulatesHere (transitionedOf (coreAt p w v) (arraysAt v) mv b) (outcome (p .call) (enter s)))
       → Advances mv (enter s)
   advances-enter mv (finish a) h k = advances mv _ h k
   advances-enter mv (command code clock bytes n) h k = advances mv _ h k

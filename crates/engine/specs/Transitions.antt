@@ -16,35 +16,54 @@ use borrow.Author.Tests.{eq-eqb}
 use Rattle.exchange.specs.Exchange.{Event, unfit, pending, ended, onWrite, onRead, onPause, Step, sending, reading, waiting, cancelling, rejecting, draining, ExchangeResult, advance}
 use Rattle.exchange.specs.Exchange.{Order as HostOrder, write, read, drain, pause}
 use Rattle.exchange.specs.Packets.{Reply, response, failed, replyOf}
-use Rattle.exchange.specs.Steps.{stepOf, exchangeAt, resultIn, Kept}
-use Rattle.exchange.specs.Steps.{orderOf as nextOrder}
+use Rattle.exchange.specs.Steps.{orderOf, stepOf, exchangeAt, resultIn, SameCommand}
 use Rattle.exchange.specs.declared.Advanced.{Advanced}
-use Rattle.exchange.specs.declared.Next.{Next}
+use Rattle.exchange.specs.declared.Order.{Order}
 use Rattle.exchange.specs.declared.Exchange.{Exchange}
 use Rattle.calls.specs.Tables.{isResetOf}
 use Rattle.engine.specs.declared.call.Call.{Call}
-use Rattle.engine.specs.declared.call.Order.{Order}
-use Rattle.engine.specs.declared.call.Order.the-variants.{Ack, Read, Drain, Pause}
+use Rattle.engine.specs.declared.call.End.{End}
+use Rattle.engine.specs.declared.call.End.the-variants.{ResetDone, Arrived, Failed}
 use Rattle.engine.specs.declared.call.Transition.{Transition}
-use Rattle.engine.specs.declared.call.Transition.the-variants.{Unfit, Orders, Sends, ResetDone, Arrives, Fails}
+use Rattle.engine.specs.declared.call.Transition.the-variants.{Unfit, Orders, Sends, Ends}
 use Rattle.protocol.specs.Names.{openingReadTime, resetPauseTime}
+use Rattle.calls.specs.Kinds.{noCallKind, lastKind, firstStage, lastStage}
+
+-- what a call waits for: its command's exchange, a reset's ACK or pause, the opening's ACK or reads, a pause (src/call.rt)
+abbrev pub exchangePhase : ℕ
+exchangePhase = 0
+
+abbrev pub resetAckPhase : ℕ
+resetAckPhase = 1
+
+abbrev pub resetPausePhase : ℕ
+resetPausePhase = 2
+
+abbrev pub openingAckPhase : ℕ
+openingAckPhase = 3
+
+abbrev pub openingReadsPhase : ℕ
+openingReadsPhase = 4
+
+abbrev pub pausePhase : ℕ
+pausePhase = 5
 
 abbrev pub noCall : Call
-noCall = record { kind = 0; stage = 0; cursor = 0; phase = 0 }
+noCall = record { kind = noCallKind; stage = firstStage; cursor = 0; phase = exchangePhase }
 
 -- at the first command of a call
 abbrev pub firstCall : ℕ → Call
-firstCall kind = record { kind = kind; stage = 0; cursor = 0; phase = 0 }
+firstCall kind = record { kind = kind; stage = firstStage; cursor = 0; phase = exchangePhase }
 
 -- a call at another phase, at the command of a stage, and at that with another cursor
 abbrev pub at : Call → ℕ → Call
 at c phase = record { kind = c .kind; stage = c .stage; cursor = c .cursor; phase = phase }
 
 abbrev pub toStage : Call → ℕ → Call
-toStage c n = record { kind = c .kind; stage = n; cursor = c .cursor; phase = 0 }
+toStage c n = record { kind = c .kind; stage = n; cursor = c .cursor; phase = exchangePhase }
 
 abbrev pub toCursor : Call → ℕ → ℕ → Call
-toCursor c n cursor = record { kind = c .kind; stage = n; cursor = cursor; phase = 0 }
+toCursor c n cursor = record { kind = c .kind; stage = n; cursor = cursor; phase = exchangePhase }
 
 -- ACK is being written: after a failed write 3, at the deadline 4
 abbrev cancelPhase : Fault → ℕ
@@ -87,29 +106,27 @@ pub data Transitioned : Type 0 where
   replies : List ℕ → Transitioned
   refuses : Fault → Transitioned
 
-abbrev pub orderOf : Order → HostOrder
-orderOf Ack = write ack
-orderOf (Read ms) = read ms
-orderOf Drain = drain
-orderOf (Pause us) = pause us
-
 -- the response in a packet, or its fault
 abbrev pub replyTransition : Reply → Transitioned
 replyTransition (response bytes) = replies bytes
 replyTransition (failed r) = refuses r
+
+-- the end of a command with this code, by a packet
+abbrev pub endTransition : ℕ → List ℕ → End → Transitioned
+endTransition code packet ResetDone = resetDone
+endTransition code packet Arrived = replyTransition (replyOf code packet)
+endTransition code packet (Failed r) = refuses r
 
 -- of a packet that a command with this code waits for
 abbrev pub transitionIn : ℕ → List ℕ → Transition → Transitioned
 transitionIn code packet Unfit = unfitting
 transitionIn code packet (Orders o c x) = orders (orderOf o) c x
 transitionIn code packet (Sends c) = sends c
-transitionIn code packet ResetDone = resetDone
-transitionIn code packet Arrives = replyTransition (replyOf code packet)
-transitionIn code packet (Fails r) = refuses r
+transitionIn code packet (Ends e) = endTransition code packet e
 
 -- a command's exchange is over: behind a reset's follows ACK, whatever came of it
 unfoldable pub overTransition : Call → Exchange → Transitioned → Transitioned
-overTransition c x m = pick (isResetOf (c .kind) (c .stage)) (orders (write ack) (at c 1) x) m
+overTransition c x m = pick (isResetOf (c .kind) (c .stage)) (orders (write ack) (at c resetAckPhase) x) m
 
 abbrev pub endedTransition : Call → Exchange → Reply → Transitioned
 endedTransition c x r = overTransition c x (replyTransition r)
@@ -120,28 +137,28 @@ exchangeTransition c x (pending o step) = orders o c (exchangeIn x step)
 exchangeTransition c x (ended r) = endedTransition c x r
 
 abbrev pub resetAckTransition : Call → Exchange → Event → Transitioned
-resetAckTransition c x e = onWrite unfitting (orders (pause resetPauseTime) (at c 2) x) (refuses Transport) e
+resetAckTransition c x e = onWrite unfitting (orders (pause resetPauseTime) (at c resetPausePhase) x) (refuses Transport) e
 
 abbrev pub resetPauseTransition : Event → Transitioned
 resetPauseTransition e = onPause unfitting resetDone e
 
 abbrev pub openingAckTransition : Call → Exchange → Event → Transitioned
-openingAckTransition c x e = onWrite unfitting (orders (read openingReadTime) (at c 4) x) (refuses Transport) e
+openingAckTransition c x e = onWrite unfitting (orders (read openingReadTime) (at c openingReadsPhase) x) (refuses Transport) e
 
 abbrev pub openingReadsTransition : Call → Exchange → Event → Transitioned
-openingReadsTransition c x e = onRead unfitting (λ p. orders (read openingReadTime) c x) (sends (at c 0)) (sends (at c 0)) unfitting e
+openingReadsTransition c x e = onRead unfitting (λ p. orders (read openingReadTime) c x) (sends (at c exchangePhase)) (sends (at c exchangePhase)) unfitting e
 
 abbrev pub pauseTransition : Call → Event → Transitioned
-pauseTransition c e = onPause unfitting (sends (at c 0)) e
+pauseTransition c e = onPause unfitting (sends (at c exchangePhase)) e
 
 unfoldable pub transitionOf : Call → Exchange → Event → Transitioned
 transitionOf c x e =
-    pick (eqb (c .phase) 0) (exchangeTransition c x (advance (stepOf x) e))
-    (pick (eqb (c .phase) 1) (resetAckTransition c x e)
-    (pick (eqb (c .phase) 2) (resetPauseTransition e)
-    (pick (eqb (c .phase) 3) (openingAckTransition c x e)
-    (pick (eqb (c .phase) 4) (openingReadsTransition c x e)
-    (pick (eqb (c .phase) 5) (pauseTransition c e) unfitting)))))
+    pick (eqb (c .phase) exchangePhase) (exchangeTransition c x (advance (stepOf x) e))
+    (pick (eqb (c .phase) resetAckPhase) (resetAckTransition c x e)
+    (pick (eqb (c .phase) resetPausePhase) (resetPauseTransition e)
+    (pick (eqb (c .phase) openingAckPhase) (openingAckTransition c x e)
+    (pick (eqb (c .phase) openingReadsPhase) (openingReadsTransition c x e)
+    (pick (eqb (c .phase) pausePhase) (pauseTransition c e) unfitting)))))
 
 abbrev pub fits : Transitioned → Bool
 fits unfitting = false
@@ -155,6 +172,11 @@ fits (refuses r) = true
 pub reply-fits : (r : Reply) → fits (replyTransition r) ≡ true
 reply-fits (response bytes) = refl
 reply-fits (failed r) = refl
+
+pub end-fits : (code : ℕ) (packet : List ℕ) (e : End) → fits (endTransition code packet e) ≡ true
+end-fits code packet ResetDone = refl
+end-fits code packet Arrived = reply-fits (replyOf code packet)
+end-fits code packet (Failed r) = refl
 
 -- how many bytes of a packet come with an event, and how many at least a response's packet has
 abbrev pub packetLength : Event → ℕ
@@ -170,11 +192,11 @@ replyLength (refuses r) = 0
 
 -- every field of a call is in its range; a cursor has none
 unfoldable pub validCall : Call → Bool
-validCall c = both (leb (c .kind) 24) (both (leb (c .stage) 9) (leb (c .phase) 5))
+validCall c = both (leb (c .kind) lastKind) (both (leb (c .stage) lastStage) (leb (c .phase) pausePhase))
 
 -- ---- laws
 
-pub over-reset : (c k : Call) (x : Exchange) (m : Transitioned) → isResetOf (c .kind) (c .stage) ≡ true → k ≡ at c 1 → orders (write ack) k x ≡ overTransition c x m
+pub over-reset : (c k : Call) (x : Exchange) (m : Transitioned) → isResetOf (c .kind) (c .stage) ≡ true → k ≡ at c resetAckPhase → orders (write ack) k x ≡ overTransition c x m
 unfolding overTransition pick
 over-reset c k x m h e = rw h (ap (λ d. orders (write ack) d x) e)
 
@@ -203,12 +225,12 @@ module _ (c : Call) (x : Exchange) (packet : List ℕ) (a : Advanced) (r : Excha
   unfolding exchangeTransition
   exchange-unfit h = let e : r ≡ unfit = sym is ∙ ap (resultIn x packet) h in rw e
 
-  pub exchange-pending : (m : Transitioned) (n : Next) (y : Exchange) → a ≡ Advanced.Pending n y → Kept x a → m ≡ orders (nextOrder n) c y → m ≡ exchangeTransition c x r
+  pub exchange-pending : (m : Transitioned) (n : Order) (y : Exchange) → a ≡ Advanced.Pending n y → SameCommand x a → m ≡ orders (orderOf n) c y → m ≡ exchangeTransition c x r
   unfolding exchangeTransition
   exchange-pending m n y h kept p =
-      let e : r ≡ pending (nextOrder n) (stepOf y) = sym is ∙ ap (resultIn x packet) h in
-      let k = subst (Kept x) h kept in
-      rw e (p ∙ ap (λ z. orders (nextOrder n) c z) (exchange-kept x y (k .0) (k .1) (k .2)))
+      let e : r ≡ pending (orderOf n) (stepOf y) = sym is ∙ ap (resultIn x packet) h in
+      let k = subst (SameCommand x) h kept in
+      rw e (p ∙ ap (λ z. orders (orderOf n) c z) (exchange-kept x y (k .0) (k .1) (k .2)))
 
   pub exchange-arrived : (m : Transitioned) → a ≡ Advanced.Arrived → m ≡ overTransition c x (replyTransition (replyOf (x .code) packet)) → m ≡ exchangeTransition c x r
   unfolding exchangeTransition
@@ -223,23 +245,23 @@ other : {p : ℕ} (n : ℕ) → p ≡ n → (k : ℕ) → eqb n k ≡ false → 
 other n h k q = ap (λ j. eqb j k) h ∙ q
 
 module _ (c : Call) (x : Exchange) (e : Event) (m : Transitioned) where
-  pub transition-exchange : c .phase ≡ 0 → m ≡ exchangeTransition c x (advance (stepOf x) e) → m ≡ transitionOf c x e
+  pub transition-exchange : c .phase ≡ exchangePhase → m ≡ exchangeTransition c x (advance (stepOf x) e) → m ≡ transitionOf c x e
   unfolding transitionOf
-  transition-exchange h p = at-true m _ _ _ (eq-eqb (c .phase) 0 h) p
+  transition-exchange h p = at-true m _ _ _ (eq-eqb (c .phase) exchangePhase h) p
 
-  pub transition-pause : c .phase ≡ 2 → m ≡ resetPauseTransition e → m ≡ transitionOf c x e
+  pub transition-pause : c .phase ≡ resetPausePhase → m ≡ resetPauseTransition e → m ≡ transitionOf c x e
   unfolding transitionOf
   transition-pause h p =
-      at-false m _ _ _ (other 2 h 0 refl) (at-false m _ _ _ (other 2 h 1 refl) (at-true m _ _ _ (eq-eqb (c .phase) 2 h) p))
+      at-false m _ _ _ (other 2 h 0 refl) (at-false m _ _ _ (other 2 h 1 refl) (at-true m _ _ _ (eq-eqb (c .phase) resetPausePhase h) p))
 
-  pub transition-reads : c .phase ≡ 4 → m ≡ openingReadsTransition c x e → m ≡ transitionOf c x e
+  pub transition-reads : c .phase ≡ openingReadsPhase → m ≡ openingReadsTransition c x e → m ≡ transitionOf c x e
   unfolding transitionOf
   transition-reads h p =
       at-false m _ _ _ (other 4 h 0 refl) (at-false m _ _ _ (other 4 h 1 refl) (at-false m _ _ _ (other 4 h 2 refl) (at-false m _ _ _ (other 4 h 3 refl)
-      (at-true m _ _ _ (eq-eqb (c .phase) 4 h) p))))
+      (at-true m _ _ _ (eq-eqb (c .phase) openingReadsPhase h) p))))
 
-  pub transition-awaited : c .phase ≡ 5 → m ≡ pauseTransition c e → m ≡ transitionOf c x e
+  pub transition-awaited : c .phase ≡ pausePhase → m ≡ pauseTransition c e → m ≡ transitionOf c x e
   unfolding transitionOf
   transition-awaited h p =
       at-false m _ _ _ (other 5 h 0 refl) (at-false m _ _ _ (other 5 h 1 refl) (at-false m _ _ _ (other 5 h 2 refl) (at-false m _ _ _ (other 5 h 3 refl)
-      (at-false m _ _ _ (other 5 h 4 refl) (at-true m _ _ _ (eq-eqb (c .phase) 5 h) p)))))
+      (at-false m _ _ _ (other 5 h 4 refl) (at-true m _ _ _ (eq-eqb (c .phase) pausePhase h) p)))))

@@ -23,17 +23,18 @@ use Rattle.calls.specs.Firsts.{startFor}
 use Rattle.engine.specs.Books.{Books, isInRange, byCaller, ended, booked}
 use Rattle.engine.specs.Booking.{ended-range}
 use Rattle.engine.specs.Laws.{valid-caller}
-use Rattle.engine.specs.Core.{Held, After, after, unchanged, idle, ordersOf, stageOf, endsOf, answersOf, followsOf, repliesOf, failsOf, transitionedOf, isLong, admittedOf, eventCore, openCore, startOn}
+use Rattle.engine.specs.Core.{Arrays, After, after, unchanged, idle, ordersOf, stageOf, endsOf, answersOf, followsOf, repliesOf, failsOf, transitionedOf, isLong, admittedOf, eventCore, openCore, startOn}
 use Rattle.engine.specs.Core.{isValid as validCore}
 use Rattle.engine.specs.Exchanges.{by-pick}
 use Rattle.engine.specs.Inputs.{Input, opens as opened, asks, tells, bufferOf, stepWith, afterInput}
 use Rattle.engine.specs.Transitions.{Transitioned, unfitting, orders, sends as sendsStage, resetDone, replies, refuses, fits, transitionOf, validCall}
-use Rattle.engine.specs.Sessions.{State, state, stateIn, valid, isValid, isFree, isAdmitted, bookedAfter, eventAfter, openAfter, startAfter, heldIn, sessionAfter}
+use Rattle.engine.specs.Sessions.{State, state, stateIn, valid, isValid, isFree, isAdmitted, bookedAfter, eventAfter, openAfter, startAfter, arraysIn, sessionAfter}
 use Rattle.engine.specs.declared.call.Call.{Call}
 use Rattle.engine.specs.declared.core.Core.{Core}
 use Rattle.engine.specs.declared.core.Output.{Output}
 use Rattle.engine.specs.declared.core.Output.the-variants.{Ack, Command, Read, Drain, Pause, Done, Type1, UidAndAts, Nothing, Failed, FailedAfter, Refused}
 use Rattle.engine.specs.declared.session.Session.{Session}
+use Rattle.calls.specs.Kinds.{noCallKind}
 
 -- a fault 1, a refusal at once 2, any other output 0
 abbrev class : Output → ℕ
@@ -55,7 +56,7 @@ other-class e h = h (ap class e)
 
 -- ---- the running call
 
-module _ (s : Core) (f : Held) (b : List ℕ) where
+module _ (s : Core) (f : Arrays) (b : List ℕ) where
   -- refused at once, nothing has changed; after a fault no call runs, and the buffer is the same
   record Keeps (a : After Core) : Type 0 where
     early : (r : Refusal) → a .output ≡ Refused r → a ≡ unchanged s f r b
@@ -74,13 +75,13 @@ module _ (s : Core) (f : Held) (b : List ℕ) where
     late = λ e. absurd (omega (arith, e, h));
   }
 
-  order : (t : Core) (g : Held) (o : Order) (c : Call) (x : Exchange) → Keeps (ordersOf t g o c x b)
+  order : (t : Core) (g : Arrays) (o : Order) (c : Call) (x : Exchange) → Keeps (ordersOf t g o c x b)
   order t g (write bytes) c x = goes-on _ refl
   order t g (read ms) c x = goes-on _ refl
   order t g drain c x = goes-on _ refl
   order t g (pause us) c x = goes-on _ refl
 
-  stage : (t : Core) (g : Held) (c : Call) → Keeps (stageOf t g c b)
+  stage : (t : Core) (g : Arrays) (c : Call) → Keeps (stageOf t g c b)
   unfolding stageOf
   stage t g c = goes-on _ refl
 
@@ -122,7 +123,7 @@ module _ (s : Core) (f : Held) (b : List ℕ) where
   unfolding eventCore admittedOf
   event-keeps e =
       let m = transitionOf (s .call) (s .exchange) e in
-      by-pick Keeps (eqb (s .call .kind) 0) _ _ (same OutOfTurn)
+      by-pick Keeps (eqb (s .call .kind) noCallKind) _ _ (same OutOfTurn)
       (by-pick Keeps (fits m) _ _
       (by-pick Keeps (ltb (length b) 1024) _ _ (same ShortBuffer) (by-pick Keeps (isLong e) _ _ (same OverLong) (move m)))
       (same OutOfTurn))
@@ -166,7 +167,7 @@ unfolding pick
 by-left P true x y h k = h
 by-left P false x y h k = k refl
 
-module _ (s : State) (f : Held) (b : List ℕ) where
+module _ (s : State) (f : Arrays) (b : List ℕ) where
   record Stays (a : After State) : Type 0 where
     early : (r : Refusal) → a .output ≡ Refused r → a ≡ unchanged s f r b
     late : class (a .output) ≡ 1 → (isFree (a .state) ≡ true) × (a .buffer ≡ b)
@@ -210,15 +211,15 @@ module _ (s : State) (f : Held) (b : List ℕ) where
   event-stays e =
       by-test Stays (isValid s) _ _ (λ valid. booked-stays _ _ _ (valid-caller s valid) valid (event-keeps (s .core) f b _)) (refuses-once OutOfTurn)
 
-all-stay : (s : State) (f : Held) (i : Input) → Stays s f (bufferOf i) (afterInput s f i)
+all-stay : (s : State) (f : Arrays) (i : Input) → Stays s f (bufferOf i) (afterInput s f i)
 all-stay s f (opened k mode b) = open-stays s f b k mode
 all-stay s f (asks k q b) = start-stays s f b k (startFor q)
 all-stay s f (tells e b) = event-stays s f b e
 
 -- ---- the session
 
-stays : (s : Session) (i : Input) → Stays (stateIn s) (heldIn s) (bufferOf i) (afterInput (stateIn s) (heldIn s) i)
-stays s i = all-stay (stateIn s) (heldIn s) i
+stays : (s : Session) (i : Input) → Stays (stateIn s) (arraysIn s) (bufferOf i) (afterInput (stateIn s) (arraysIn s) i)
+stays s i = all-stay (stateIn s) (arraysIn s) i
 
 pub refused-unchanged : (s : Session) (i : Input) (r : Refusal) → (stepWith s i) .output ≡ Refused r → numbered r .number ≤ 6
     → stepWith s i ≡ record { session = s; output = Refused r; buffer = bufferOf i }

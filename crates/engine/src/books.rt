@@ -1,11 +1,12 @@
 // The reader's books: what a session keeps beside its running call. They lie in two arrays, which are lent: three numbers, and the command
 // frames ordered since the last opening began, by caller.
 use super::core::Output;
+use super::core::PACKET_LIMIT;
 use framing::padded;
 ghost use mathlib.Core.List.{List};
 ghost use mathlib.Core.Path.{_≡_};
 ghost use Prim.Native.Nat.{ℕ, _≤_};
-ghost use Rattle.engine.specs.Books.{booksOf, inRange, noBooks, extraIn, oneMore, countedIn, ended, booked};
+ghost use Rattle.engine.specs.Books.{booksOf, inRange, noBooks, extraIn, oneMore, countedIn, byCaller, ended, booked};
 
 // The places of the three numbers: whether the reader is open, the mode that the last opening chose, whose call runs or ran last.
 pub const OPENED: usize = 0;
@@ -47,7 +48,7 @@ pub fn extra_zeros(mode: u8, packet: &[u8]) -> usize
     ensures { λ r. ⌜ r ≡ extraIn mode (now (packet .entry)) ⌝ }
 {
     if mode == PADDED {
-        if 1024 < packet.len() {
+        if PACKET_LIMIT < packet.len() {
             return 0;
         }
         padded::extra_zeros(packet)
@@ -81,10 +82,11 @@ fn count(frames: &mut [u32; 8], caller: u8)
     frames[at] = more;
 }
 
-// A call has ended: an opening leaves the reader open or not, any other call leaves it as it was.
-fn end(books: &mut [u8; 3], opening: bool, opened: u8)
-    ensures { λ _. ⌜ ((n : List ℕ) → booksOf (now (books .exit)) n ≡ ended (booksOf (now (books .entry)) n) opening opened) ⌝ }
+// A caller's call has ended: an opening leaves the reader open or not, any other call leaves it as it was.
+fn end(books: &mut [u8; 3], caller: u8, opening: bool, opened: u8)
+    ensures { λ _. ⌜ ((n : List ℕ) → booksOf (now (books .exit)) n ≡ ended (byCaller caller (booksOf (now (books .entry)) n)) opening opened) ⌝ }
 {
+    books[CALLER] = caller;
     if opening {
         books[OPENED] = opened;
     }
@@ -106,30 +108,12 @@ pub(crate) fn book(
             books[CALLER] = caller;
             count(frames, caller);
         }
-        Output::Done(_) => {
-            books[CALLER] = caller;
-            end(books, opening, OPEN);
-        }
-        Output::Type1(_) => {
-            books[CALLER] = caller;
-            end(books, opening, OPEN);
-        }
-        Output::UidAndAts(_, _, _) => {
-            books[CALLER] = caller;
-            end(books, opening, OPEN);
-        }
-        Output::Nothing => {
-            books[CALLER] = caller;
-            end(books, opening, CLOSED);
-        }
-        Output::Failed(_) => {
-            books[CALLER] = caller;
-            end(books, opening, CLOSED);
-        }
-        Output::FailedAfter(_, _) => {
-            books[CALLER] = caller;
-            end(books, opening, CLOSED);
-        }
+        Output::Done(_) => end(books, caller, opening, OPEN),
+        Output::Type1(_) => end(books, caller, opening, OPEN),
+        Output::UidAndAts(_, _, _) => end(books, caller, opening, OPEN),
+        Output::Nothing => end(books, caller, opening, CLOSED),
+        Output::Failed(_) => end(books, caller, opening, CLOSED),
+        Output::FailedAfter(_, _) => end(books, caller, opening, CLOSED),
         Output::Ack => books[CALLER] = caller,
         Output::Read(_) => books[CALLER] = caller,
         Output::Drain => books[CALLER] = caller,

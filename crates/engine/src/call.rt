@@ -3,13 +3,13 @@ use errors::Fault;
 use exchange::Advanced;
 use exchange::Event;
 use exchange::Exchange;
-use exchange::Next;
+use exchange::Order;
 ghost use mathlib.Core.List.{List};
 ghost use mathlib.Core.Path.{_≡_};
 ghost use Prim.Native.Nat.{ℕ};
 ghost use Rattle.errors.specs.declared.Fault.the-variants.{Transport};
 ghost use Rattle.exchange.specs.Exchange.{advance, onWrite, onPause};
-ghost use Rattle.exchange.specs.Steps.{eventOf, orderOf, stepOf};
+ghost use Rattle.exchange.specs.Steps.{eventOf, stepOf};
 ghost use Rattle.engine.specs.Transitions.{noCall, firstCall, validCall, fits, at, toStage, toCursor, transitionIn, transitionOf, overTransition, exchangeTransition, orders, resetAckTransition, resetPauseTransition, openingAckTransition, openingReadsTransition, pauseTransition, unfitting, refuses};
 
 // What runs: no call, the opening, a call of one command by the number of the rule for its response, or a discovery.
@@ -18,6 +18,9 @@ pub const NO_CALL: u8 = 0;
 pub const OPEN: u8 = 1;
 
 pub const LAST: u8 = 24;
+
+// The last stage of the call that has most, the opening.
+const LAST_STAGE: u8 = 9;
 
 // What a call waits for: its command's exchange, a reset's ACK or pause, the opening's ACK or reads, a pause.
 pub const EXCHANGE: u8 = 0;
@@ -32,6 +35,11 @@ pub const OPENING_READS: u8 = 4;
 
 pub const PAUSE: u8 = 5;
 
+// The pause behind a reset's ACK in µs, and the ms of an opening's reads.
+const RESET_PAUSE_TIME: u32 = 10000;
+
+const OPENING_READ_TIME: u32 = 10;
+
 // What runs, which of its commands is on or comes next, where it stands in a list of its own, and what is awaited. The cursor is the
 // call's: nothing here looks into it, and any byte is in its range.
 #[repr(C)]
@@ -42,23 +50,19 @@ pub struct Call {
     pub phase: u8,
 }
 
-// An order that writes no command.
-pub enum Order {
-    Ack,
-    Read(u32),
-    Drain,
-    Pause(u32),
+// How a command ends: a reset is done, the packet that ends its exchange is in, or it failed.
+pub enum End {
+    ResetDone,
+    Arrived,
+    Failed(Fault),
 }
 
-// What an event does to a call: it does not fit, an order follows, the command of the call's stage comes next, a reset is done, the packet
-// that ends a command's exchange is in, or the command failed.
+// What an event does to a call: it does not fit, an order follows, the command of the call's stage comes next, or the command ends.
 pub enum Transition {
     Unfit,
     Orders(Order, Call, Exchange),
     Sends(Call),
-    ResetDone,
-    Arrives,
-    Fails(Fault),
+    Ends(End),
 }
 
 // A write's event: what follows it, or the end with 7.
@@ -67,7 +71,7 @@ fn written(event: Event, next: Transition) -> Transition
 {
     match event {
         Event::Ok => next,
-        Event::Bad => Transition::Fails(Fault::Transport),
+        Event::Bad => Transition::Ends(End::Failed(Fault::Transport)),
         Event::Packet => Transition::Unfit,
         Event::Time => Transition::Unfit,
         Event::Fail => Transition::Unfit,
@@ -121,8 +125,8 @@ impl Call {
         ensures { λ r. ⌜ r ≡ validCall self ⌝ }
     {
         if self.kind <= LAST {
-            if self.stage <= 9 {
-                self.phase <= 5
+            if self.stage <= LAST_STAGE {
+                self.phase <= PAUSE
             } else {
                 false
             }
@@ -166,16 +170,6 @@ impl Call {
         }
     }
 
-    fn pending(self, next: Next, exchange: Exchange) -> Transition
-        ensures { λ r. ⌜ ((code : ℕ) (p : List ℕ) → transitionIn code p r ≡ orders (orderOf next) self exchange) ⌝ }
-    {
-        match next {
-            Next::WriteAck => Transition::Orders(Order::Ack, self, exchange),
-            Next::Read(ms) => Transition::Orders(Order::Read(ms), self, exchange),
-            Next::Drain => Transition::Orders(Order::Drain, self, exchange),
-        }
-    }
-
     // A command's exchange is over: behind a reset's follows ACK, whatever came of it.
     fn over(self, exchange: Exchange, next: Transition) -> Transition
         ensures { λ r. ⌜ ((p : List ℕ) → transitionIn (exchange .code) p r ≡ overTransition self exchange (transitionIn (exchange .code) p next)) ⌝ }
@@ -192,29 +186,37 @@ impl Call {
     {
         match exchange.advance(event, packet) {
             Advanced::Unfit => Transition::Unfit,
-            Advanced::Pending(next, x) => self.pending(next, x),
-            Advanced::Arrived => self.over(exchange, Transition::Arrives),
-            Advanced::Failed(fault) => self.over(exchange, Transition::Fails(fault)),
+            Advanced::Pending(order, x) => Transition::Orders(order, self, x),
+            Advanced::Arrived => self.over(exchange, Transition::Ends(End::Arrived)),
+            Advanced::Failed(fault) => self.over(exchange, Transition::Ends(End::Failed(fault))),
         }
     }
 
     fn on_reset_ack(self, exchange: Exchange, event: Event) -> Transition
         ensures { λ r. ⌜ ((code : ℕ) (p : List ℕ) → transitionIn code p r ≡ resetAckTransition self exchange (eventOf event p)) ⌝ }
     {
-        let next = Transition::Orders(Order::Pause(10000), self.at(RESET_PAUSE), exchange);
+        let next = Transition::Orders(
+            Order::Pause(RESET_PAUSE_TIME),
+            self.at(RESET_PAUSE),
+            exchange,
+        );
         written(event, next)
     }
 
     fn on_reset_pause(self, event: Event) -> Transition
         ensures { λ r. ⌜ ((code : ℕ) (p : List ℕ) → transitionIn code p r ≡ resetPauseTransition (eventOf event p)) ⌝ }
     {
-        slept(event, Transition::ResetDone)
+        slept(event, Transition::Ends(End::ResetDone))
     }
 
     fn on_opening_ack(self, exchange: Exchange, event: Event) -> Transition
         ensures { λ r. ⌜ ((code : ℕ) (p : List ℕ) → transitionIn code p r ≡ openingAckTransition self exchange (eventOf event p)) ⌝ }
     {
-        let next = Transition::Orders(Order::Read(10), self.at(OPENING_READS), exchange);
+        let next = Transition::Orders(
+            Order::Read(OPENING_READ_TIME),
+            self.at(OPENING_READS),
+            exchange,
+        );
         written(event, next)
     }
 
@@ -222,7 +224,7 @@ impl Call {
         ensures { λ r. ⌜ ((code : ℕ) (p : List ℕ) → transitionIn code p r ≡ openingReadsTransition self exchange (eventOf event p)) ⌝ }
     {
         match event {
-            Event::Packet => Transition::Orders(Order::Read(10), self, exchange),
+            Event::Packet => Transition::Orders(Order::Read(OPENING_READ_TIME), self, exchange),
             Event::Time => Transition::Sends(self.at(EXCHANGE)),
             Event::Fail => Transition::Sends(self.at(EXCHANGE)),
             Event::Ok => Transition::Unfit,
@@ -263,9 +265,7 @@ impl Transition {
             Transition::Unfit => false,
             Transition::Orders(_, _, _) => true,
             Transition::Sends(_) => true,
-            Transition::ResetDone => true,
-            Transition::Arrives => true,
-            Transition::Fails(_) => true,
+            Transition::Ends(_) => true,
         }
     }
 }

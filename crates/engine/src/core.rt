@@ -3,26 +3,34 @@ use super::call::Call;
 use super::call::NO_CALL;
 use super::call::OPEN;
 use super::call::OPENING_ACK;
-use super::call::Order;
 use super::call::Transition;
 use errors::Fault;
 use errors::Refusal;
 use exchange::Event;
 use exchange::Exchange;
+use exchange::Order;
 use framing::ACK_BYTES;
 use framing::Built;
 use framing::frame::build_command;
+use stages::put::DATA_LIMIT;
 use stages::start::Start;
 ghost use mathlib.Core.Bool.{true};
 ghost use mathlib.Core.List.{List};
 ghost use mathlib.Core.Path.{_≡_};
 ghost use Prim.Native.Nat.{ℕ, _≤_};
 ghost use lib.ListN.{length};
-ghost use Rattle.exchange.specs.Steps.{eventOf};
+ghost use Rattle.exchange.specs.Steps.{eventOf, orderOf};
 ghost use Rattle.stages.specs.Stages.{cmd};
 ghost use Rattle.stages.specs.Starts.{Starts, StartFits, Start as StartOf};
-ghost use Rattle.engine.specs.Transitions.{orderOf, transitionIn, packetLength, replyLength};
-ghost use Rattle.engine.specs.Core.{noCore, isValid, Held, held, running, unchanged, withFound, withCommand, progressed, ordersOf, sendsOf, stageOf, endsOf, transitionedOf, isLong, admittedOf, eventCore, openCore, startOn};
+ghost use Rattle.engine.specs.Transitions.{transitionIn, replyLength};
+ghost use Rattle.engine.specs.Core.{noCore, isValid, Arrays, arrays, running, unchanged, withFound, withCommand, progressed, ordersOf, sendsOf, stageOf, endsOf, transitionedOf, isLong, eventCore, openCore, startOn};
+
+// A buffer has so many bytes at least, a packet so many at most, and so have the found bytes.
+pub const BUFFER_NEED: usize = 1024;
+
+pub const PACKET_LIMIT: usize = 1024;
+
+pub const FOUND_LIMIT: usize = 1024;
 
 // How much of each array is in use, the exchange, and the call.
 #[repr(C)]
@@ -61,7 +69,7 @@ fn is_long(event: Event, packet: &[u8]) -> bool
     ensures { λ r. ⌜ r ≡ isLong (eventOf event (now (packet .entry))) ⌝ }
 {
     match event {
-        Event::Packet => 1024 < packet.len(),
+        Event::Packet => PACKET_LIMIT < packet.len(),
         Event::Ok => false,
         Event::Bad => false,
         Event::Time => false,
@@ -92,13 +100,13 @@ impl Core {
     {
         let exchange = self.exchange;
         let call = self.call;
-        if self.command > 512 {
+        if self.command > DATA_LIMIT {
             return false;
         }
-        if self.found > 1024 {
+        if self.found > FOUND_LIMIT {
             return false;
         }
-        if exchange.phase > 6 {
+        if exchange.phase > Exchange::DRAINING {
             return false;
         }
         call.is_valid()
@@ -150,7 +158,7 @@ impl Core {
         buffer: &mut [u8],
     ) -> Progress
         requires { ⌜ 1024 ≤ length (now buffer) ⌝ }
-        ensures { λ r. ⌜ ((f : Held) → progressed r f (now (buffer .exit)) ≡ ordersOf self f (orderOf order) call exchange (now (buffer .entry))) ⌝ }
+        ensures { λ r. ⌜ ((f : Arrays) → progressed r f (now (buffer .exit)) ≡ ordersOf self f (orderOf order) call exchange (now (buffer .entry))) ⌝ }
     {
         let core = self.running(call, exchange);
         match order {
@@ -184,7 +192,7 @@ impl Core {
         buffer: &mut [u8],
     ) -> Progress
         requires { ⌜ (length (now bytes) ≤ 512) × (1024 ≤ length (now buffer)) ⌝ }
-        ensures { λ r. ⌜ ((f : Held) → progressed r f (now (buffer .exit)) ≡ sendsOf self f call (cmd code clock (now (bytes .entry))) (now (buffer .entry))) ⌝ }
+        ensures { λ r. ⌜ ((f : Arrays) → progressed r f (now (buffer .exit)) ≡ sendsOf self f call (cmd code clock (now (bytes .entry))) (now (buffer .entry))) ⌝ }
     {
         match build_command(code, bytes, buffer) {
             Built::Frame(len) => {
@@ -199,7 +207,7 @@ impl Core {
     // The command of the call's stage is ordered, which may be the pending one.
     pub(crate) fn send(self, call: Call, command: &[u8], buffer: &mut [u8]) -> Progress
         requires { ⌜ (self .command ≤ 512) × (length (now command) ≡ 512) × (1024 ≤ length (now buffer)) ⌝ }
-        ensures { λ r. ⌜ ((f : List ℕ) → progressed r (held (now (command .entry)) f) (now (buffer .exit)) ≡ stageOf self (held (now (command .entry)) f) call (now (buffer .entry))) ⌝ }
+        ensures { λ r. ⌜ ((f : List ℕ) → progressed r (arrays (now (command .entry)) f) (now (buffer .exit)) ≡ stageOf self (arrays (now (command .entry)) f) call (now (buffer .entry))) ⌝ }
     {
         let n = self.command;
         let next = calls::command(call.kind, call.stage, call.cursor, &command[..n]);
@@ -214,7 +222,7 @@ impl Core {
 
     // The call ends.
     pub(crate) fn ended(self, output: Output) -> Progress
-        ensures { λ r. ⌜ ((f : Held) (b : List ℕ) → progressed r f b ≡ endsOf self f output b) ⌝ }
+        ensures { λ r. ⌜ ((f : Arrays) (b : List ℕ) → progressed r f b ≡ endsOf self f output b) ⌝ }
     {
         let exchange = self.exchange;
         let core = self.running(Call::none(), exchange);
@@ -223,7 +231,7 @@ impl Core {
 
     // Refused, and nothing changes.
     pub(crate) fn refused(self, refusal: Refusal) -> Progress
-        ensures { λ r. ⌜ ((f : Held) (b : List ℕ) → progressed r f b ≡ unchanged self f refusal b) ⌝ }
+        ensures { λ r. ⌜ ((f : Arrays) (b : List ℕ) → progressed r f b ≡ unchanged self f refusal b) ⌝ }
     {
         let output = Output::Refused(refusal);
         Progress { core: self, output }
@@ -238,7 +246,7 @@ impl Core {
         buffer: &mut [u8],
     ) -> Progress
         requires { ⌜ (replyLength (transitionIn (self .exchange .code) (now packet) transition) ≤ 1024) × (self .found ≤ 1024) × (self .command ≤ 512) × (length (now command) ≡ 512) × (length (now found) ≡ 1024) × (1024 ≤ length (now buffer)) ⌝ }
-        ensures { λ r. ⌜ progressed r (held (now (command .exit)) (now (found .exit))) (now (buffer .exit)) ≡ transitionedOf self (held (now (command .entry)) (now (found .entry))) (transitionIn (self .exchange .code) (now (packet .entry)) transition) (now (buffer .entry)) ⌝ }
+        ensures { λ r. ⌜ progressed r (arrays (now (command .exit)) (now (found .exit))) (now (buffer .exit)) ≡ transitionedOf self (arrays (now (command .entry)) (now (found .entry))) (transitionIn (self .exchange .code) (now (packet .entry)) transition) (now (buffer .entry)) ⌝ }
     {
         match transition {
             Transition::Unfit => self.refused(Refusal::OutOfTurn),
@@ -248,28 +256,34 @@ impl Core {
                 exchange,
                 buffer,
             ),
-            Transition::Sends(call) => self.send(call, command, buffer),
-            Transition::ResetDone => self.replied(&[], command, found, buffer),
-            Transition::Arrives => self.arrived(packet, command, found, buffer),
-            Transition::Fails(fault) => self.failed(fault, command, found, buffer),
+            Transition::Sends(call) => {
+                let next = self.send(call, command, buffer);
+                next
+            }
+            Transition::Ends(end) => self.replied(end, packet, command, found, buffer),
         }
     }
 
-    // An event that fits the order: short buffer and over-long packet are refused, then it is taken.
-    fn admitted(
+    // What the host returns for an order: it is refused where it does not fit the order, where the buffer is short or the packet over-long.
+    pub(crate) fn event(
         self,
-        transition: Transition,
         event: Event,
         packet: &[u8],
         command: &mut [u8],
         found: &mut [u8],
         buffer: &mut [u8],
     ) -> Progress
-        requires { ⌜ (replyLength (transitionIn (self .exchange .code) (now packet) transition) ≤ packetLength (eventOf event (now packet))) × (self .found ≤ 1024) × (self .command ≤ 512) × (length (now command) ≡ 512) × (length (now found) ≡ 1024) ⌝ }
-        ensures { λ r. ⌜ progressed r (held (now (command .exit)) (now (found .exit))) (now (buffer .exit)) ≡ admittedOf self (held (now (command .entry)) (now (found .entry))) (transitionIn (self .exchange .code) (now (packet .entry)) transition) (eventOf event (now (packet .entry))) (now (buffer .entry)) ⌝ }
+        requires { ⌜ (isValid self ≡ true) × (length (now command) ≡ 512) × (length (now found) ≡ 1024) ⌝ }
+        ensures { λ r. ⌜ progressed r (arrays (now (command .exit)) (now (found .exit))) (now (buffer .exit)) ≡ eventCore self (arrays (now (command .entry)) (now (found .entry))) (eventOf event (now (packet .entry))) (now (buffer .entry)) ⌝ }
     {
+        let call = self.call;
+        let exchange = self.exchange;
+        if call.kind == NO_CALL {
+            return self.refused(Refusal::OutOfTurn);
+        }
+        let transition = call.transition(exchange, event, packet);
         if transition.fits() {
-            if buffer.len() < 1024 {
+            if buffer.len() < BUFFER_NEED {
                 return self.refused(Refusal::ShortBuffer);
             }
             if is_long(event, packet) {
@@ -281,31 +295,10 @@ impl Core {
         }
     }
 
-    // What the host returns for an order.
-    pub(crate) fn event(
-        self,
-        event: Event,
-        packet: &[u8],
-        command: &mut [u8],
-        found: &mut [u8],
-        buffer: &mut [u8],
-    ) -> Progress
-        requires { ⌜ (isValid self ≡ true) × (length (now command) ≡ 512) × (length (now found) ≡ 1024) ⌝ }
-        ensures { λ r. ⌜ progressed r (held (now (command .exit)) (now (found .exit))) (now (buffer .exit)) ≡ eventCore self (held (now (command .entry)) (now (found .entry))) (eventOf event (now (packet .entry))) (now (buffer .entry)) ⌝ }
-    {
-        let call = self.call;
-        let exchange = self.exchange;
-        if call.kind == NO_CALL {
-            return self.refused(Refusal::OutOfTurn);
-        }
-        let transition = call.transition(exchange, event, packet);
-        self.admitted(transition, event, packet, command, found, buffer)
-    }
-
     // `Chipset::new` begins: ACK is written.
     pub(crate) fn open(self, buffer: &mut [u8]) -> Progress
         requires { ⌜ 1024 ≤ length (now buffer) ⌝ }
-        ensures { λ r. ⌜ ((f : Held) → progressed r f (now (buffer .exit)) ≡ openCore self f (now (buffer .entry))) ⌝ }
+        ensures { λ r. ⌜ ((f : Arrays) → progressed r f (now (buffer .exit)) ≡ openCore self f (now (buffer .entry))) ⌝ }
     {
         let exchange = self.exchange;
         let call = Call {
@@ -321,7 +314,7 @@ impl Core {
     // A call starts, whose bytes have been put by: it is refused, or its first command is ordered.
     pub(crate) fn start(self, start: Start, command: &[u8], buffer: &mut [u8]) -> Progress
         requires { ⌜ StartFits start × (length (now command) ≡ 512) × (1024 ≤ length (now buffer)) ⌝ }
-        ensures { λ r. ⌜ ((f c₀ : List ℕ) (s : StartOf) → Starts start c₀ (now (command .entry)) s → progressed r (held (now (command .entry)) f) (now (buffer .exit)) ≡ startOn self (held c₀ f) s (now (buffer .entry))) ⌝ }
+        ensures { λ r. ⌜ ((f c₀ : List ℕ) (s : StartOf) → Starts start c₀ (now (command .entry)) s → progressed r (arrays (now (command .entry)) f) (now (buffer .exit)) ≡ startOn self (arrays c₀ f) s (now (buffer .entry))) ⌝ }
     {
         match start {
             Start::Command(first) => {

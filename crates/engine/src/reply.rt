@@ -1,11 +1,11 @@
 // What follows the packet that ends a command's exchange: the answer of a call, or its next command.
 use super::call::Call;
-use super::call::Order;
+use super::call::End;
 use super::call::PAUSE;
 use super::core::Core;
 use super::core::Output;
 use super::core::Progress;
-use errors::Fault;
+use exchange::Order;
 use stages::Decision;
 use stages::Head;
 use stages::Layout;
@@ -14,12 +14,12 @@ ghost use mathlib.Core.List.{List, _++_};
 ghost use mathlib.Core.Path.{_≡_};
 ghost use Prim.Native.Nat.{ℕ, _+_, _≤_};
 ghost use lib.ListN.{length, take, drop};
-ghost use Rattle.exchange.specs.Packets.{replyOf};
 ghost use Rattle.stages.specs.Stages.{put as putBy};
 ghost use Rattle.stages.specs.Put.{put, Puts};
-ghost use Rattle.stages.specs.Decided.{headBytes, tailBytes, layoutBytes, Fitting, decisionIn, DecisionFits};
-ghost use Rattle.engine.specs.Transitions.{replyTransition, replyLength};
-ghost use Rattle.engine.specs.Core.{Held, held, progressed, keepsOf, followsOf, repliesOf, failsOf, transitionedOf};
+ghost use Rattle.stages.specs.Decided.{headBytes, tailBytes, layoutBytes, Fitting, decisionIn, DecisionFits, DecisionRefines};
+ghost use Rattle.engine.specs.Transitions.{endTransition, replyLength};
+ghost use Rattle.engine.specs.Ends.{payloadIn, replyIn, endReply, GoesOn};
+ghost use Rattle.engine.specs.Core.{Arrays, arrays, progressed, keepsOf, followsOf, replyDecision, transitionedOf};
 
 // Puts a layout behind the found bytes that it keeps, which stand at the target's start already.
 fn lay(layout: Layout, response: &[u8], target: &mut [u8]) -> usize
@@ -50,6 +50,42 @@ fn answer(layout: Layout, found: &[u8], response: &[u8], target: &mut [u8]) -> u
     lay(layout, response, target)
 }
 
+// What stands behind a payload's identifier and code.
+fn behind_code(payload: &[u8]) -> &[u8]
+    ensures { λ r. ⌜ now r ≡ drop 2 (now (payload .entry)) ⌝ }
+{
+    if payload.len() < 2 {
+        return &payload[0..0];
+    }
+    &payload[2..]
+}
+
+impl End {
+    // The payload of the response, where a packet is in and is one.
+    fn payload<'p>(self, code: u8, packet: &'p [u8]) -> &'p [u8]
+        ensures { λ r. ⌜ now r ≡ payloadIn code (now (packet .entry)) self ⌝ }
+    {
+        let End::Arrived = self else {
+            return &packet[0..0];
+        };
+        let served = [code];
+        exchange::response_payload(packet, &served)
+    }
+
+    // A packet without a response is a fault.
+    fn checked(self, packet: &[u8], payload: &[u8]) -> End
+        ensures { λ r. ⌜ ((code : ℕ) → now (payload .entry) ≡ payloadIn code (now (packet .entry)) self → endReply (drop 2 (now (payload .entry))) r ≡ replyIn code (now (packet .entry)) self) ⌝ }
+    {
+        let End::Arrived = self else {
+            return self;
+        };
+        if payload.len() == 0 {
+            return End::Failed(exchange::fault(packet));
+        }
+        self
+    }
+}
+
 impl Core {
     // Bytes are kept, and the command of a call's stage follows.
     fn kept(
@@ -62,7 +98,7 @@ impl Core {
         buffer: &mut [u8],
     ) -> Progress
         requires { ⌜ (length (now response) ≤ 1022) × (self .found ≤ 1024) × (self .command ≤ 512) × (length (now command) ≡ 512) × (length (now found) ≡ 1024) × (1024 ≤ length (now buffer)) × Fitting (take (self .found) (now found)) (now response) layout ⌝ }
-        ensures { λ r. ⌜ progressed r (held (now (command .entry)) (now (found .exit))) (now (buffer .exit)) ≡ keepsOf self (held (now (command .entry)) (now (found .entry))) call (layoutBytes (take (self .found) (now (found .entry))) (now (response .entry)) layout) (now (buffer .entry)) ⌝ }
+        ensures { λ r. ⌜ progressed r (arrays (now (command .entry)) (now (found .exit))) (now (buffer .exit)) ≡ keepsOf self (arrays (now (command .entry)) (now (found .entry))) call (layoutBytes (take (self .found) (now (found .entry))) (now (response .entry)) layout) (now (buffer .entry)) ⌝ }
     {
         let n = lay(layout, response, found);
         self.with_found(n).send(call, command, buffer)
@@ -71,13 +107,46 @@ impl Core {
     // Three bytes become the pending command, and the command of a stage follows.
     fn put_by(self, stage: u8, bytes: Head, command: &mut [u8], buffer: &mut [u8]) -> Progress
         requires { ⌜ (length (now command) ≡ 512) × (1024 ≤ length (now buffer)) ⌝ }
-        ensures { λ r. ⌜ ((f : List ℕ) → progressed r (held (now (command .exit)) f) (now (buffer .exit)) ≡ followsOf self (held (now (command .entry)) f) (putBy stage (headBytes bytes)) (now (buffer .entry))) ⌝ }
+        ensures { λ r. ⌜ ((f : List ℕ) → progressed r (arrays (now (command .exit)) f) (now (buffer .exit)) ≡ followsOf self (arrays (now (command .entry)) f) (putBy stage (headBytes bytes)) (now (buffer .entry))) ⌝ }
     {
         let call = self.call;
         let three = [bytes.0, bytes.1, bytes.2];
         bytes::copy(&three, command);
         self.with_command(3)
             .send(call.to_stage(stage), command, buffer)
+    }
+
+    // The call goes on. What ends it is not for here.
+    fn continued(
+        self,
+        decision: Decision,
+        response: &[u8],
+        command: &mut [u8],
+        found: &mut [u8],
+        buffer: &mut [u8],
+    ) -> Progress
+        requires { ⌜ (length (now response) ≤ 1022) × (self .found ≤ 1024) × (self .command ≤ 512) × (length (now command) ≡ 512) × (length (now found) ≡ 1024) × (1024 ≤ length (now buffer)) × DecisionFits (take (self .found) (now found)) (now response) decision ⌝ }
+        ensures { λ r. ⌜ (GoesOn decision → progressed r (arrays (now (command .exit)) (now (found .exit))) (now (buffer .exit)) ≡ followsOf self (arrays (now (command .entry)) (now (found .entry))) (decisionIn (take (self .found) (now (found .entry))) (now (response .entry)) decision) (now (buffer .entry))) ⌝ }
+    {
+        let call = self.call;
+        let exchange = self.exchange;
+        match decision {
+            Decision::Send(stage) => self.send(call.to_stage(stage), command, buffer),
+            Decision::Keep(stage, layout) => {
+                let next = call.to_stage(stage);
+                self.kept(next, layout, response, command, found, buffer)
+            }
+            Decision::Next(stage, cursor, layout) => {
+                let next = call.to_cursor(stage, cursor);
+                self.kept(next, layout, response, command, found, buffer)
+            }
+            Decision::Put(stage, bytes) => self.put_by(stage, bytes, command, buffer),
+            Decision::Pause(us, stage) => {
+                let next = call.to_stage(stage).at(PAUSE);
+                self.ordered(Order::Pause(us), next, exchange, buffer)
+            }
+            _ => self.ended(Output::Nothing),
+        }
     }
 
     // What a call decided.
@@ -90,36 +159,15 @@ impl Core {
         buffer: &mut [u8],
     ) -> Progress
         requires { ⌜ (length (now response) ≤ 1022) × (self .found ≤ 1024) × (self .command ≤ 512) × (length (now command) ≡ 512) × (length (now found) ≡ 1024) × (1024 ≤ length (now buffer)) × DecisionFits (take (self .found) (now found)) (now response) decision ⌝ }
-        ensures { λ r. ⌜ progressed r (held (now (command .exit)) (now (found .exit))) (now (buffer .exit)) ≡ followsOf self (held (now (command .entry)) (now (found .entry))) (decisionIn (take (self .found) (now (found .entry))) (now (response .entry)) decision) (now (buffer .entry)) ⌝ }
+        ensures { λ r. ⌜ progressed r (arrays (now (command .exit)) (now (found .exit))) (now (buffer .exit)) ≡ followsOf self (arrays (now (command .entry)) (now (found .entry))) (decisionIn (take (self .found) (now (found .entry))) (now (response .entry)) decision) (now (buffer .entry)) ⌝ }
     {
-        let call = self.call;
-        let exchange = self.exchange;
         let kept = self.found;
         match decision {
-            Decision::Send(stage) => self.send(call.to_stage(stage), command, buffer),
-            Decision::Keep(stage, layout) => self.kept(
-                call.to_stage(stage),
-                layout,
-                response,
-                command,
-                found,
-                buffer,
-            ),
-            Decision::Next(stage, cursor, layout) => self.kept(
-                call.to_cursor(stage, cursor),
-                layout,
-                response,
-                command,
-                found,
-                buffer,
-            ),
-            Decision::Put(stage, bytes) => self.put_by(stage, bytes, command, buffer),
-            Decision::Pause(us, stage) => self.ordered(
-                Order::Pause(us),
-                call.to_stage(stage).at(PAUSE),
-                exchange,
-                buffer,
-            ),
+            Decision::Part(start, len) => {
+                let end = start + len;
+                let len = append(&response[start..end], buffer, 0);
+                self.ended(Output::Done(len))
+            }
             Decision::Done(layout) => {
                 let len = answer(layout, &found[..kept], response, buffer);
                 self.ended(Output::Done(len))
@@ -135,76 +183,45 @@ impl Core {
             Decision::Nothing => self.ended(Output::Nothing),
             Decision::Refused(fault) => self.ended(Output::Failed(fault)),
             Decision::RefusedAfter(fault, n) => self.ended(Output::FailedAfter(fault, n)),
+            _ => {
+                let next = self.continued(decision, response, command, found, buffer);
+                next
+            }
         }
     }
 
-    // The response to the call's command is in, or its reset is done.
+    // What is decided upon a command's response, or upon its fault.
+    fn decided(self, end: End, response: &[u8], command: &[u8], found: &[u8]) -> Decision
+        requires { ⌜ (self .found ≤ 1024) × (self .command ≤ 512) × (length (now command) ≡ 512) × (length (now found) ≡ 1024) ⌝ }
+        ensures { λ r. ⌜ DecisionRefines (take (self .found) (now (found .entry))) (now (response .entry)) r (replyDecision self (arrays (now (command .entry)) (now (found .entry))) (endReply (now (response .entry)) end)) ⌝ }
+    {
+        let call = self.call;
+        let pending = &command[..self.command];
+        let kept = &found[..self.found];
+        match end {
+            End::Failed(fault) => {
+                calls::failed(call.kind, call.stage, call.cursor, pending, kept, fault)
+            }
+            _ => calls::decided(call.kind, call.stage, call.cursor, pending, kept, response),
+        }
+    }
+
+    // The call's command has ended.
     pub(crate) fn replied(
         self,
-        response: &[u8],
-        command: &mut [u8],
-        found: &mut [u8],
-        buffer: &mut [u8],
-    ) -> Progress
-        requires { ⌜ (length (now response) ≤ 1022) × (self .found ≤ 1024) × (self .command ≤ 512) × (length (now command) ≡ 512) × (length (now found) ≡ 1024) × (1024 ≤ length (now buffer)) ⌝ }
-        ensures { λ r. ⌜ progressed r (held (now (command .exit)) (now (found .exit))) (now (buffer .exit)) ≡ repliesOf self (held (now (command .entry)) (now (found .entry))) (now (response .entry)) (now (buffer .entry)) ⌝ }
-    {
-        let call = self.call;
-        let n = self.found;
-        let m = self.command;
-        let decision = calls::decided(
-            call.kind,
-            call.stage,
-            call.cursor,
-            &command[..m],
-            &found[..n],
-            response,
-        );
-        self.followed(decision, response, command, found, buffer)
-    }
-
-    // The call's command failed.
-    pub(crate) fn failed(
-        self,
-        fault: Fault,
-        command: &mut [u8],
-        found: &mut [u8],
-        buffer: &mut [u8],
-    ) -> Progress
-        requires { ⌜ (self .found ≤ 1024) × (self .command ≤ 512) × (length (now command) ≡ 512) × (length (now found) ≡ 1024) × (1024 ≤ length (now buffer)) ⌝ }
-        ensures { λ r. ⌜ progressed r (held (now (command .exit)) (now (found .exit))) (now (buffer .exit)) ≡ failsOf self (held (now (command .entry)) (now (found .entry))) fault (now (buffer .entry)) ⌝ }
-    {
-        let call = self.call;
-        let n = self.found;
-        let m = self.command;
-        let decision = calls::failed(
-            call.kind,
-            call.stage,
-            call.cursor,
-            &command[..m],
-            &found[..n],
-            fault,
-        );
-        self.followed(decision, &[], command, found, buffer)
-    }
-
-    // The packet that ends the exchange is in: its response, or its fault.
-    pub(crate) fn arrived(
-        self,
+        end: End,
         packet: &[u8],
         command: &mut [u8],
         found: &mut [u8],
         buffer: &mut [u8],
     ) -> Progress
-        requires { ⌜ (replyLength (replyTransition (replyOf (self .exchange .code) (now packet))) ≤ 1024) × (self .found ≤ 1024) × (self .command ≤ 512) × (length (now command) ≡ 512) × (length (now found) ≡ 1024) × (1024 ≤ length (now buffer)) ⌝ }
-        ensures { λ r. ⌜ progressed r (held (now (command .exit)) (now (found .exit))) (now (buffer .exit)) ≡ transitionedOf self (held (now (command .entry)) (now (found .entry))) (replyTransition (replyOf (self .exchange .code) (now (packet .entry)))) (now (buffer .entry)) ⌝ }
+        requires { ⌜ (replyLength (endTransition (self .exchange .code) (now packet) end) ≤ 1024) × (self .found ≤ 1024) × (self .command ≤ 512) × (length (now command) ≡ 512) × (length (now found) ≡ 1024) × (1024 ≤ length (now buffer)) ⌝ }
+        ensures { λ r. ⌜ progressed r (arrays (now (command .exit)) (now (found .exit))) (now (buffer .exit)) ≡ transitionedOf self (arrays (now (command .entry)) (now (found .entry))) (endTransition (self .exchange .code) (now (packet .entry)) end) (now (buffer .entry)) ⌝ }
     {
         let exchange = self.exchange;
-        let served = [exchange.code];
-        let payload = exchange::response_payload(packet, &served);
-        if payload.len() == 0 {
-            return self.failed(exchange::fault(packet), command, found, buffer);
-        }
-        self.replied(&payload[2..], command, found, buffer)
+        let payload = end.payload(exchange.code, packet);
+        let response = behind_code(payload);
+        let decision = self.decided(end.checked(packet, payload), response, command, found);
+        self.followed(decision, response, command, found, buffer)
     }
 }

@@ -5,6 +5,7 @@ use super::books::LAST_CALLER;
 use super::books::PADDED;
 use super::call::NO_CALL;
 use super::call::OPEN;
+use super::core::BUFFER_NEED;
 use super::core::Core;
 use super::core::Progress;
 use calls::start;
@@ -17,7 +18,7 @@ ghost use Prim.Native.Nat.{ℕ};
 ghost use lib.ListN.{length};
 ghost use Rattle.exchange.specs.Steps.{eventOf};
 ghost use Rattle.calls.specs.Numbers.{callOf};
-ghost use Rattle.engine.specs.Core.{Held, held};
+ghost use Rattle.engine.specs.Core.{Arrays, arrays};
 ghost use Rattle.engine.specs.Sessions.{stateOf, valid, free, admitted, effected, eventAfter, openAfter};
 ghost use Rattle.engine.specs.Inputs.{afterInput};
 ghost use Rattle.engine.specs.Numbers.{callInput};
@@ -68,7 +69,7 @@ pub(crate) fn event(
     buffer: &mut [u8],
 ) -> Progress
     requires { ⌜ (length (now command) ≡ 512) × (length (now found) ≡ 1024) ⌝ }
-    ensures { λ r. ⌜ effected r (now (books .exit)) (now (frames .exit)) (held (now (command .exit)) (now (found .exit))) (now (buffer .exit)) ≡ eventAfter (stateOf core (now (books .entry)) (now (frames .entry))) (held (now (command .entry)) (now (found .entry))) (eventOf event (now (packet .entry))) (now (buffer .entry)) ⌝ }
+    ensures { λ r. ⌜ effected r (now (books .exit)) (now (frames .exit)) (arrays (now (command .exit)) (now (found .exit))) (now (buffer .exit)) ≡ eventAfter (stateOf core (now (books .entry)) (now (frames .entry))) (arrays (now (command .entry)) (now (found .entry))) (eventOf event (now (packet .entry))) (now (buffer .entry)) ⌝ }
 {
     let mode = books[books::MODE];
     let caller = books[books::CALLER];
@@ -93,7 +94,7 @@ fn open(
     mode: u8,
     buffer: &mut [u8],
 ) -> Progress
-    ensures { λ r. ⌜ ((f : Held) → effected r (now (books .exit)) (now (frames .exit)) f (now (buffer .exit)) ≡ openAfter (stateOf core (now (books .entry)) (now (frames .entry))) f caller mode (now (buffer .entry))) ⌝ }
+    ensures { λ r. ⌜ ((f : Arrays) → effected r (now (books .exit)) (now (frames .exit)) f (now (buffer .exit)) ≡ openAfter (stateOf core (now (books .entry)) (now (frames .entry))) f caller mode (now (buffer .entry))) ⌝ }
 {
     if is_free(
         core,
@@ -101,7 +102,7 @@ fn open(
         books[books::MODE],
         books[books::CALLER],
     ) {
-        if buffer.len() < 1024 {
+        if buffer.len() < BUFFER_NEED {
             return core.refused(Refusal::ShortBuffer);
         }
         if caller > LAST_CALLER {
@@ -134,7 +135,7 @@ pub fn call(
     fourth: &[u8],
     buffer: &mut [u8],
 ) -> Progress
-    ensures { λ r. ⌜ ((f : List ℕ) → effected r (now (books .exit)) (now (frames .exit)) (held (now (command .exit)) f) (now (buffer .exit)) ≡ afterInput (stateOf core (now (books .entry)) (now (frames .entry))) (held (now (command .entry)) f) (callInput (numbers .caller) (callOf number numbers (now (first .entry)) (now (second .entry)) (now (third .entry)) (now (fourth .entry))) (now (buffer .entry)))) ⌝ }
+    ensures { λ r. ⌜ ((f : List ℕ) → effected r (now (books .exit)) (now (frames .exit)) (arrays (now (command .exit)) f) (now (buffer .exit)) ≡ afterInput (stateOf core (now (books .entry)) (now (frames .entry))) (arrays (now (command .entry)) f) (callInput (numbers .caller) (callOf number numbers (now (first .entry)) (now (second .entry)) (now (third .entry)) (now (fourth .entry))) (now (buffer .entry)))) ⌝ }
 {
     if number == start::OPEN {
         return open(core, frames, books, numbers.caller, numbers.x, buffer);
@@ -145,7 +146,7 @@ pub fn call(
         books[books::MODE],
         books[books::CALLER],
     ) {
-        if buffer.len() < 1024 {
+        if buffer.len() < BUFFER_NEED {
             return core.refused(Refusal::ShortBuffer);
         }
         if numbers.caller > LAST_CALLER {

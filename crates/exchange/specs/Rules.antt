@@ -9,8 +9,8 @@ use lib.ListN.{length}
 use Rattle.errors.specs.declared.Fault.{Fault}
 use Rattle.exchange.specs.Packets.{isEmpty, failed, replyOf}
 use Rattle.exchange.specs.Exchange.{Event, Step, pending, ended, unfit, ExchangeResult, advance}
-use Rattle.exchange.specs.Steps.{exchangeAt, stepOf, orderOf, resultIn, Kept, Follows}
-use Rattle.exchange.specs.declared.Next.{Next}
+use Rattle.exchange.specs.Steps.{exchangeAt, stepOf, orderOf, resultIn, SameCommand, Handled}
+use Rattle.exchange.specs.declared.Order.{Order as CodeOrder}
 use Rattle.exchange.specs.declared.Exchange.{Exchange}
 use Rattle.exchange.specs.declared.Advanced.{Advanced}
 use Rattle.exchange.specs.declared.Advanced.the-variants.{Unfit, Pending, Arrived, Failed}
@@ -35,29 +35,29 @@ not-empty (b ∷ p) h = refl
 
 -- what a handler's result is to follow
 module _ (x : Exchange) (packet : List ℕ) (r : Advanced) where
-  pub on-true : (a b : ExchangeResult) (t : Bool) → t ≡ true → Follows x packet a r → Follows x packet (cond t a b) r
+  pub on-true : (a b : ExchangeResult) (t : Bool) → t ≡ true → Handled x packet a r → Handled x packet (cond t a b) r
   on-true a b t h e = rw h e
 
-  pub on-false : (a b : ExchangeResult) (t : Bool) → t ≡ false → Follows x packet b r → Follows x packet (cond t a b) r
+  pub on-false : (a b : ExchangeResult) (t : Bool) → t ≡ false → Handled x packet b r → Handled x packet (cond t a b) r
   on-false a b t h e = rw h e
 
-  pub goes-on : (next : Next) (phase : ℕ) (to : ExchangeResult) → r ≡ Pending next (exchangeAt phase (x .code) (x .clock)) → phase ≤ 6
-      → pending (orderOf next) (stepOf (exchangeAt phase (x .code) (x .clock))) ≡ to → Follows x packet to r
+  pub goes-on : (next : CodeOrder) (phase : ℕ) (to : ExchangeResult) → r ≡ Pending next (exchangeAt phase (x .code) (x .clock)) → phase ≤ 6
+      → pending (orderOf next) (stepOf (exchangeAt phase (x .code) (x .clock))) ≡ to → Handled x packet to r
   goes-on next phase to e h q = rw e (record { result = q; kept = (h, refl, refl) })
 
-  pub fails : (fault : Fault) → r ≡ Failed fault → Follows x packet (ended (failed fault)) r
+  pub fails : (fault : Fault) → r ≡ Failed fault → Handled x packet (ended (failed fault)) r
   fails fault e = rw e (record { result = refl; kept = tt })
 
-  pub arrives : r ≡ Arrived → Follows x packet (ended (replyOf (x .code) packet)) r
+  pub arrives : r ≡ Arrived → Handled x packet (ended (replyOf (x .code) packet)) r
   arrives e = rw e (record { result = refl; kept = tt })
 
-pub stays : (x : Exchange) (packet : List ℕ) (to : ExchangeResult) → unfit ≡ to → Follows x packet to Unfit
+pub stays : (x : Exchange) (packet : List ℕ) (to : ExchangeResult) → unfit ≡ to → Handled x packet to Unfit
 stays x packet to e = record { result = e; kept = tt }
 
 -- a handler's promises are those of `advance` in the handler's phase
 pub in-phase : (x : Exchange) (k : ℕ) (event : Event) (packet : List ℕ) (r : Advanced) → x .phase ≡ k
-    → Follows x packet (advance (stepOf (exchangeAt k (x .code) (x .clock))) event) r
-    → (resultIn x packet r ≡ advance (stepOf x) event) × Kept x r
+    → Handled x packet (advance (stepOf (exchangeAt k (x .code) (x .clock))) event) r
+    → (resultIn x packet r ≡ advance (stepOf x) event) × SameCommand x r
 unfolding stepOf
 in-phase x k event packet r e f =
     let same : stepOf (exchangeAt k (x .code) (x .clock)) ≡ stepOf x = ap (λ (n : ℕ). stepOf (exchangeAt n (x .code) (x .clock))) (sym e) in

@@ -7,11 +7,11 @@ use lib.Dec.{eqb}
 use Rattle.errors.specs.declared.Fault.the-variants.{Transport, TimeOut}
 use Rattle.framing.specs.Frames.{ack}
 use Rattle.exchange.specs.Packets.{failed, replyOf}
-use Rattle.exchange.specs.Exchange.{Order, write, read, drain, Event as EventOf, ok, bad, pkt, time, fail, late, slept, unfit, pending, ended, Step, sending, reading, waiting, cancelling, rejecting, draining, ExchangeResult}
+use Rattle.exchange.specs.Exchange.{Order, write, read, drain, pause, Event as EventOf, ok, bad, pkt, time, fail, late, slept, unfit, pending, ended, Step, sending, reading, waiting, cancelling, rejecting, draining, ExchangeResult}
 use Rattle.exchange.specs.declared.Event.{Event}
 use Rattle.exchange.specs.declared.Event.the-variants.{Ok, Bad, Packet, Time, Fail, Late, Slept}
-use Rattle.exchange.specs.declared.Next.{Next}
-use Rattle.exchange.specs.declared.Next.the-variants.{WriteAck, Read, Drain}
+use Rattle.exchange.specs.declared.Order.{Order as CodeOrder}
+use Rattle.exchange.specs.declared.Order.the-variants.{Ack, Read, Drain, Pause}
 use Rattle.exchange.specs.declared.Exchange.{Exchange}
 use Rattle.exchange.specs.declared.Advanced.{Advanced}
 use Rattle.exchange.specs.declared.Advanced.the-variants.{Unfit, Pending, Arrived, Failed}
@@ -39,10 +39,11 @@ eventOf Fail packet = fail
 eventOf Late packet = late
 eventOf Slept packet = slept
 
-abbrev pub orderOf : Next → Order
-orderOf WriteAck = write ack
+abbrev pub orderOf : CodeOrder → Order
+orderOf Ack = write ack
 orderOf (Read ms) = read ms
 orderOf Drain = drain
+orderOf (Pause us) = pause us
 
 -- x is the exchange that the event met; step 5 follows a packet that has arrived
 abbrev pub resultIn : Exchange → List ℕ → Advanced → ExchangeResult
@@ -52,18 +53,18 @@ resultIn x packet Arrived = ended (replyOf (x .code) packet)
 resultIn x packet (Failed fault) = ended (failed fault)
 
 -- x goes on in one of the seven phases, with its code and its clock
-abbrev pub Kept : Exchange → Advanced → Type 0
-Kept x Unfit = Unit
-Kept x (Pending next y) = (y .phase ≤ 6) × (y .code ≡ x .code) × (y .clock ≡ x .clock)
-Kept x Arrived = Unit
-Kept x (Failed fault) = Unit
+abbrev pub SameCommand : Exchange → Advanced → Type 0
+SameCommand x Unfit = Unit
+SameCommand x (Pending next y) = (y .phase ≤ 6) × (y .code ≡ x .code) × (y .clock ≡ x .clock)
+SameCommand x Arrived = Unit
+SameCommand x (Failed fault) = Unit
 
 -- both promises of an event's handler
-pub record Follows (x : Exchange) (packet : List ℕ) (to : ExchangeResult) (r : Advanced) : Type 0 where
+pub record Handled (x : Exchange) (packet : List ℕ) (to : ExchangeResult) (r : Advanced) : Type 0 where
   pub result : resultIn x packet r ≡ to
-  pub kept : Kept x r
+  pub kept : SameCommand x r
 
 -- what these say once the variant is known
-pub kept-pending : (x : Exchange) (r : Advanced) → Kept x r → (next : Next) (y : Exchange) → r ≡ Pending next y
+pub same-command : (x : Exchange) (r : Advanced) → SameCommand x r → (next : CodeOrder) (y : Exchange) → r ≡ Pending next y
     → (y .phase ≤ 6) × (y .code ≡ x .code) × (y .clock ≡ x .clock)
-kept-pending x r kept next y e = rw e at kept
+same-command x r kept next y e = rw e at kept

@@ -9,7 +9,7 @@ ghost use Prim.Native.Nat.{ℕ};
 ghost use lib.ListN.{getD};
 ghost use Rattle.exchange.specs.Packets.{payloadReply};
 ghost use Rattle.exchange.specs.Exchange.{advance as advanceOf, sending, reading, waiting, cancelling, rejecting, draining, onPacket, onFirstPacket, onLaterPacket, onDrained};
-ghost use Rattle.exchange.specs.Steps.{exchangeAt, stepOf, eventOf, resultIn, Kept, Follows};
+ghost use Rattle.exchange.specs.Steps.{exchangeAt, stepOf, eventOf, resultIn, SameCommand, Handled};
 ghost use Rattle.exchange.specs.Places.{partAt, isResponse, responsePlace, frameLength, payloadFault, faultOf};
 
 // What the host returns. A packet's bytes are lent beside it.
@@ -23,11 +23,12 @@ pub enum Event {
     Slept,
 }
 
-// The order that follows inside an exchange; a read has its ms.
-pub enum Next {
-    WriteAck,
+// An order that writes no command; a read has its ms, a pause its µs. An exchange itself never pauses.
+pub enum Order {
+    Ack,
     Read(u32),
     Drain,
+    Pause(u32),
 }
 
 // An exchange: its phase, the command's code and the command's clock in ms.
@@ -41,7 +42,7 @@ pub struct Exchange {
 // What an event does: it does not fit, an order follows, the command's packet is in (step 5 is next), or the exchange has failed.
 pub enum Advanced {
     Unfit,
-    Pending(Next, Exchange),
+    Pending(Order, Exchange),
     Arrived,
     Failed(Fault),
 }
@@ -87,7 +88,7 @@ impl Exchange {
     // What an event does to the exchange. A fault of step 5 may be told as `Arrived` or as `Failed`: `resultIn` gives both the same meaning.
     pub fn advance(self, event: Event, packet: &[u8]) -> Advanced
         ensures { λ r. ⌜ resultIn self (now (packet .entry)) r ≡ advanceOf (stepOf self) (eventOf event (now (packet .entry))) ⌝ }
-        ensures { λ r. ⌜ Kept self r ⌝ }
+        ensures { λ r. ⌜ SameCommand self r ⌝ }
     {
         let phase = self.phase;
         match phase {
@@ -102,27 +103,27 @@ impl Exchange {
     }
 
     // An order follows, in a new phase.
-    fn pending(mut self, next: Next, phase: u8) -> Advanced
-        ensures { λ r. ⌜ r ≡ Advanced.Pending next (exchangeAt phase (self .code) (self .clock)) ⌝ }
+    fn pending(mut self, order: Order, phase: u8) -> Advanced
+        ensures { λ r. ⌜ r ≡ Advanced.Pending order (exchangeAt phase (self .code) (self .clock)) ⌝ }
     {
         self.phase = phase;
-        Advanced::Pending(next, self)
+        Advanced::Pending(order, self)
     }
 
     // Step 1.
     fn on_sent(self, event: Event) -> Advanced
-        ensures { λ r. ⌜ ((p : List ℕ) → Follows self p (advanceOf (sending (self .code) (self .clock)) (eventOf event p)) r) ⌝ }
+        ensures { λ r. ⌜ ((p : List ℕ) → Handled self p (advanceOf (sending (self .code) (self .clock)) (eventOf event p)) r) ⌝ }
     {
         match event {
-            Event::Ok => self.pending(Next::Read(FIRST_READ), Self::READING),
-            Event::Bad => self.pending(Next::WriteAck, Self::UNSENT),
+            Event::Ok => self.pending(Order::Read(FIRST_READ), Self::READING),
+            Event::Bad => self.pending(Order::Ack, Self::UNSENT),
             _ => Advanced::Unfit,
         }
     }
 
     // Step 2.
     fn on_first_read(self, event: Event, packet: &[u8]) -> Advanced
-        ensures { λ r. ⌜ Follows self (now (packet .entry)) (advanceOf (reading (self .code) (self .clock)) (eventOf event (now (packet .entry)))) r ⌝ }
+        ensures { λ r. ⌜ Handled self (now (packet .entry)) (advanceOf (reading (self .code) (self .clock)) (eventOf event (now (packet .entry)))) r ⌝ }
     {
         match event {
             Event::Packet => self.on_first_packet(packet),
@@ -134,7 +135,7 @@ impl Exchange {
 
     // Steps 2 and 3.
     fn on_first_packet(self, packet: &[u8]) -> Advanced
-        ensures { λ r. ⌜ Follows self (now (packet .entry)) (onFirstPacket (self .code) (self .clock) (now (packet .entry))) r ⌝ }
+        ensures { λ r. ⌜ Handled self (now (packet .entry)) (onFirstPacket (self .code) (self .clock) (now (packet .entry))) r ⌝ }
     {
         if packet.len() == 0 {
             return Advanced::Failed(Fault::TimeOut);
@@ -142,25 +143,25 @@ impl Exchange {
         if framing::has_sof(packet) {
             self.on_packet(packet)
         } else {
-            self.pending(Next::WriteAck, Self::REJECTING)
+            self.pending(Order::Ack, Self::REJECTING)
         }
     }
 
     // Step 4. The deadline, and no other failure, is answered with ACK.
     fn on_later_read(self, event: Event, packet: &[u8]) -> Advanced
-        ensures { λ r. ⌜ Follows self (now (packet .entry)) (advanceOf (waiting (self .code) (self .clock)) (eventOf event (now (packet .entry)))) r ⌝ }
+        ensures { λ r. ⌜ Handled self (now (packet .entry)) (advanceOf (waiting (self .code) (self .clock)) (eventOf event (now (packet .entry)))) r ⌝ }
     {
         match event {
             Event::Packet => self.on_later_packet(packet),
             Event::Time => Advanced::Failed(Fault::TimeOut), // no ACK
             Event::Fail => Advanced::Failed(Fault::Transport), // no ACK
-            Event::Late => self.pending(Next::WriteAck, Self::OVERDUE),
+            Event::Late => self.pending(Order::Ack, Self::OVERDUE),
             _ => Advanced::Unfit,
         }
     }
 
     fn on_later_packet(self, packet: &[u8]) -> Advanced
-        ensures { λ r. ⌜ Follows self (now (packet .entry)) (onLaterPacket (self .code) (self .clock) (now (packet .entry))) r ⌝ }
+        ensures { λ r. ⌜ Handled self (now (packet .entry)) (onLaterPacket (self .code) (self .clock) (now (packet .entry))) r ⌝ }
     {
         if packet.len() == 0 {
             return Advanced::Failed(Fault::TimeOut);
@@ -170,13 +171,13 @@ impl Exchange {
 
     // Steps 4 and 5: what follows an ACK in its packet is lost. A clock of 0 ms has passed at once.
     fn on_packet(self, packet: &[u8]) -> Advanced
-        ensures { λ r. ⌜ Follows self (now (packet .entry)) (onPacket (self .code) (self .clock) (now (packet .entry))) r ⌝ }
+        ensures { λ r. ⌜ Handled self (now (packet .entry)) (onPacket (self .code) (self .clock) (now (packet .entry))) r ⌝ }
     {
         if framing::starts_with(packet, &framing::ACK_BYTES) {
             if self.clock == 0 {
-                return self.pending(Next::WriteAck, Self::OVERDUE);
+                return self.pending(Order::Ack, Self::OVERDUE);
             }
-            self.pending(Next::Read(self.clock), Self::WAITING)
+            self.pending(Order::Read(self.clock), Self::WAITING)
         } else {
             Advanced::Arrived
         }
@@ -184,41 +185,41 @@ impl Exchange {
 
     // Step 3: ACK was written, or that failed.
     fn on_rejected(self, event: Event) -> Advanced
-        ensures { λ r. ⌜ ((p : List ℕ) → Follows self p (advanceOf rejecting (eventOf event p)) r) ⌝ }
+        ensures { λ r. ⌜ ((p : List ℕ) → Handled self p (advanceOf rejecting (eventOf event p)) r) ⌝ }
     {
         match event {
-            Event::Ok => self.pending(Next::Drain, Self::DRAINING),
-            Event::Bad => self.pending(Next::Drain, Self::DRAINING),
+            Event::Ok => self.pending(Order::Drain, Self::DRAINING),
+            Event::Bad => self.pending(Order::Drain, Self::DRAINING),
             _ => Advanced::Unfit,
         }
     }
 
     // Step 3: a drain ends at a time-out, an empty packet or its deadline.
     fn on_drain(self, event: Event, packet: &[u8]) -> Advanced
-        ensures { λ r. ⌜ Follows self (now (packet .entry)) (advanceOf draining (eventOf event (now (packet .entry)))) r ⌝ }
+        ensures { λ r. ⌜ Handled self (now (packet .entry)) (advanceOf draining (eventOf event (now (packet .entry)))) r ⌝ }
     {
         match event {
             Event::Packet => self.on_drained(packet),
             Event::Time => Advanced::Failed(Fault::FalseStart),
-            Event::Fail => self.pending(Next::Drain, Self::DRAINING),
+            Event::Fail => self.pending(Order::Drain, Self::DRAINING),
             Event::Late => Advanced::Failed(Fault::FalseStart),
             _ => Advanced::Unfit,
         }
     }
 
     fn on_drained(self, packet: &[u8]) -> Advanced
-        ensures { λ r. ⌜ Follows self (now (packet .entry)) (onDrained (now (packet .entry))) r ⌝ }
+        ensures { λ r. ⌜ Handled self (now (packet .entry)) (onDrained (now (packet .entry))) r ⌝ }
     {
         if packet.len() == 0 {
             return Advanced::Failed(Fault::FalseStart);
         }
-        self.pending(Next::Drain, Self::DRAINING)
+        self.pending(Order::Drain, Self::DRAINING)
     }
 }
 
 // Steps 1 and 4: ACK was written, or that failed.
 fn on_cancelled(event: Event, fault: Fault) -> Advanced
-    ensures { λ r. ⌜ ((x : Exchange) (p : List ℕ) → Follows x p (advanceOf (cancelling fault) (eventOf event p)) r) ⌝ }
+    ensures { λ r. ⌜ ((x : Exchange) (p : List ℕ) → Handled x p (advanceOf (cancelling fault) (eventOf event p)) r) ⌝ }
 {
     match event {
         Event::Ok => Advanced::Failed(fault),

@@ -11,7 +11,7 @@ pub enum Setting {
     Nothing,
 }
 
-pub fn numbered(number: u8) -> Setting
+pub fn by_number(number: u8) -> Setting
     ensures { λ r. ⌜ r ≡ settingOf number ⌝ }
 {
     match number {

@@ -1,6 +1,6 @@
 -- A `Session` in memory is its arrays and its state in memory, side by side, and back.
 --     Array₀, Array₁, Array₂, Array₃   an array in memory, at its place in the struct
---     Held             the state's cell, at its place in the struct
+--     Cell             the state's cell, at its place in the struct
 --     Back             what turns the fields in memory into the struct again (`Denote/Struct/Parts.antt`'s `PartsBack`)
 --     apart            the struct in memory is the arrays, the state's cell and `Back`, and the state is a value of its type
 --     together         and those, at any values, are the struct of them in memory
@@ -63,8 +63,8 @@ module _ (b o : ℕ) where
   abbrev pub Array₃ : List ℕ → Fml
   Array₃ xs = mem (Array u8 3) .lies xs b (o + 1568)
 
-  abbrev pub Held : Core → Fml
-  Held s = fat fullShare N′.mir b (o + 1576) (mN s)
+  abbrev pub Cell : Core → Fml
+  Cell s = fat fullShare N′.mir b (o + 1576) (mN s)
 
 module _ {M : Type 1} (𝓤 : URA M) (H : Heap 𝓤) (A : Atoms 𝓤) (b o : ℕ) where
   abbrev pub Back : SProp 𝓤
@@ -74,7 +74,7 @@ module _ {M : Type 1} (𝓤 : URA M) (H : Heap 𝓤) (A : Atoms 𝓤) (W : Given
   abbrev ⟦_⟧ : Fml → SProp 𝓤
   ⟦ P ⟧ = sem 𝓤 H A P
 
-  pub apart : (d : Session) → ent 𝓤 ⟦ mem T.the-row .lies d b o ⟧ (sep 𝓤 ⟦ Array₀ b o (d .command) ⟧ (sep 𝓤 ⟦ Array₁ b o (d .found) ⟧ (sep 𝓤 ⟦ Array₂ b o (d .frames) ⟧ (sep 𝓤 ⟦ Array₃ b o (d .books) ⟧ (guard 𝓤 (Fits (d .core)) (sep 𝓤 ⟦ Held b o (d .core) ⟧ (Back 𝓤 H A b o)))))))
+  pub apart : (d : Session) → ent 𝓤 ⟦ mem T.the-row .lies d b o ⟧ (sep 𝓤 ⟦ Array₀ b o (d .command) ⟧ (sep 𝓤 ⟦ Array₁ b o (d .found) ⟧ (sep 𝓤 ⟦ Array₂ b o (d .frames) ⟧ (sep 𝓤 ⟦ Array₃ b o (d .books) ⟧ (guard 𝓤 (Fits (d .core)) (sep 𝓤 ⟦ Cell b o (d .core) ⟧ (Back 𝓤 H A b o)))))))
   unfolding partOf
   apart d =
       qed W (‵ (mem T.the-row .lies d b o) ∷ []) ∵
@@ -84,13 +84,13 @@ module _ {M : Type 1} (𝓤 : URA M) (H : Heap 𝓤) (A : Atoms 𝓤) (W : Given
       rewrite ! 4 (λ (zs : List ℕ). ‵ (Array₀ b o zs)) (map-id (d .command)) refl $ rewrite ! 3 (λ (zs : List ℕ). ‵ (Array₁ b o zs)) (map-id (d .found)) refl $ rewrite ! 2 (λ (zs : List ℕ). ‵ (Array₂ b o zs)) (map-id (d .frames)) refl $ rewrite ! 1 (λ (zs : List ℕ). ‵ (Array₃ b o zs)) (map-id (d .books)) refl $
       -- the state's cell
       fpick ! (λ vs. fsplit ! $ spelt ! N.the-row (Is N.the-row) (shows 𝓤 H A N.the-row) (LL.vals N.the-type N′.the-laws) (LL.tells N.the-type N′.the-laws) fullShare (d .core) vs b (o + 1576) $
-      use1 W (‵ (Held b o (d .core))) (W .laws .raw-at fullShare N′.mir b (o + 1576) (mN (d .core))) $ move ! (1 ∷ []) $ peeks ! N.the-row (Is N.the-row) (shows 𝓤 H A N.the-row) (d .core) (mN (d .core) ∷ []) (λ is. drop ! $
+      use1 W (‵ (Cell b o (d .core))) (W .laws .raw-at fullShare N′.mir b (o + 1576) (mN (d .core))) $ move ! (1 ∷ []) $ peeks ! N.the-row (Is N.the-row) (shows 𝓤 H A N.the-row) (d .core) (mN (d .core) ∷ []) (λ is. drop ! $
       move ! (4 ∷ 3 ∷ 2 ∷ 1 ∷ []) $ frame ! $ frame ! $ frame ! $ frame ! $ check ! is $ done !))
 
-  pub together : (d : Session) → Fits (d .core) → ent 𝓤 (sep 𝓤 ⟦ Array₀ b o (d .command) ⟧ (sep 𝓤 ⟦ Array₁ b o (d .found) ⟧ (sep 𝓤 ⟦ Array₂ b o (d .frames) ⟧ (sep 𝓤 ⟦ Array₃ b o (d .books) ⟧ (sep 𝓤 ⟦ Held b o (d .core) ⟧ (Back 𝓤 H A b o)))))) ⟦ mem T.the-row .lies d b o ⟧
+  pub together : (d : Session) → Fits (d .core) → ent 𝓤 (sep 𝓤 ⟦ Array₀ b o (d .command) ⟧ (sep 𝓤 ⟦ Array₁ b o (d .found) ⟧ (sep 𝓤 ⟦ Array₂ b o (d .frames) ⟧ (sep 𝓤 ⟦ Array₃ b o (d .books) ⟧ (sep 𝓤 ⟦ Cell b o (d .core) ⟧ (Back 𝓤 H A b o)))))) ⟦ mem T.the-row .lies d b o ⟧
   unfolding partOf
   together d is =
-      qed W (‵ (Array₀ b o (d .command)) ∷ ‵ (Array₁ b o (d .found)) ∷ ‵ (Array₂ b o (d .frames)) ∷ ‵ (Array₃ b o (d .books)) ∷ ‵ (Held b o (d .core)) ∷ raw (Back 𝓤 H A b o) ∷ []) ∵
+      qed W (‵ (Array₀ b o (d .command)) ∷ ‵ (Array₁ b o (d .found)) ∷ ‵ (Array₂ b o (d .frames)) ∷ ‵ (Array₃ b o (d .books)) ∷ ‵ (Cell b o (d .core)) ∷ raw (Back 𝓤 H A b o) ∷ []) ∵
       rewrite ! 0 (λ (zs : List ℕ). ‵ (Array₀ b o zs)) (sym (map-id (d .command))) refl $ rewrite ! 1 (λ (zs : List ℕ). ‵ (Array₁ b o zs)) (sym (map-id (d .found))) refl $ rewrite ! 2 (λ (zs : List ℕ). ‵ (Array₂ b o zs)) (sym (map-id (d .frames))) refl $ rewrite ! 3 (λ (zs : List ℕ). ‵ (Array₃ b o zs)) (sym (map-id (d .books))) refl $
       owned ! N.the-row (Is N.the-row) (LL.makes N.the-type N′.the-plain 𝓤 H A) (d .core) (mN (d .core) ∷ []) is $ move ! (5 ∷ 0 ∷ []) $ use1 W (‵ (cellAt fullShare (N.the-row .mir) (mN (d .core) ∷ []) b (o + 1576))) (W .laws .at-raw fullShare N′.mir b (o + 1576) (mN (d .core))) $ fjoin ! $
       fpack ! (List Val) (λ us. fsep (cellAt fullShare (N.the-row .mir) us b (o + 1576)) (N.the-row .own (d .core) us)) (mN (d .core) ∷ []) $ nothing ! $ move ! (1 ∷ 0 ∷ []) $ fjoin ! $ move ! (4 ∷ 0 ∷ []) $ fjoin ! $ move ! (3 ∷ 0 ∷ []) $ fjoin ! $ move ! (2 ∷ 0 ∷ []) $ fjoin ! $ move ! (1 ∷ 0 ∷ []) $ fjoin ! $

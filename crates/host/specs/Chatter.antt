@@ -13,11 +13,11 @@ use Rattle.engine.specs.Follows.{engine}
 use Rattle.engine.specs.Chatter.{engine-chatter}
 use Rattle.engine.specs.declared.session.Session.{Session}
 use Rattle.host.specs.Entries.{HostEntry, inputOf, bufferIn}
-use Rattle.host.specs.Demand3.{inputs, sessionAfter, toldFor, same, MixedEntry, mixedInput, mixedBuffer}
+use Rattle.host.specs.Demand3.{inputs, sessionAfter, reportsFor, same, MixedEntry, mixedInput, mixedBuffer}
 
 module _ (E : Type 0) (input : E → Option Input) (buffer : E → List ℕ) where
   abbrev told : Session → List E → List (Meant.Output ℕ)
-  told s hs = toldFor E input buffer s hs
+  told s hs = reportsFor E input buffer s hs
 
   abbrev behind : Session → List E → Session
   behind s hs = sessionAfter E input buffer s hs

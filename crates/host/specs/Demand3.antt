@@ -21,9 +21,9 @@ withInput none is = is
 withInput (some i) is = i ∷ is
 
 -- the orders and answers that the outcomes and the buffers say, those of the engine's entries
-abbrev withTold : Option Input → Report → List (Given ℕ) → List (Given ℕ)
-withTold none r os = os
-withTold (some i) r os = outputIn (r .outcome) (r .buffer) ∷ os
+abbrev withReport : Option Input → Report → List (Given ℕ) → List (Given ℕ)
+withReport none r os = os
+withReport (some i) r os = outputIn (r .outcome) (r .buffer) ∷ os
 
 module _ (E : Type 0) (input : E → Option Input) (buffer : E → List ℕ) where
   -- the engine's entries; what has none is left out
@@ -39,18 +39,18 @@ module _ (E : Type 0) (input : E → Option Input) (buffer : E → List ℕ) whe
   sessionAfter s [] = s
   sessionAfter s (e ∷ es) = sessionAfter ((reportFor s e) .session) es
 
-  abbrev pub toldFor : Session → List E → List (Given ℕ)
-  toldFor s [] = []
-  toldFor s (e ∷ es) = withTold (input e) (reportFor s e) (toldFor ((reportFor s e) .session) es)
+  abbrev pub reportsFor : Session → List E → List (Given ℕ)
+  reportsFor s [] = []
+  reportsFor s (e ∷ es) = withReport (input e) (reportFor s e) (reportsFor ((reportFor s e) .session) es)
 
   -- the list does what the engine's does
   abbrev pub Same : Session → List E → Type 0
-  Same s es = (sessionAfter s es ≡ stateAfter engine s (inputs es)) × (toldFor s es ≡ givenOut engine s (inputs es))
+  Same s es = (sessionAfter s es ≡ stateAfter engine s (inputs es)) × (reportsFor s es ≡ givenOut engine s (inputs es))
 
   abbrev SameWith : Session → Option Input → Report → List E → Type 0
   SameWith s i r es =
       (sessionAfter (r .session) es ≡ stateAfter engine s (withInput i (inputs es)))
-      × (withTold i r (toldFor (r .session) es) ≡ givenOut engine s (withInput i (inputs es)))
+      × (withReport i r (reportsFor (r .session) es) ≡ givenOut engine s (withInput i (inputs es)))
 
   same-with : (s : Session) (i : Option Input) (b : List ℕ) (es : List E) → ((t : Session) → Same t es) → SameWith s i (reportWith s i b) es
   same-with s none b es f = f s
@@ -65,7 +65,7 @@ module _ (E : Type 0) (input : E → Option Input) (buffer : E → List ℕ) whe
 
   pub record ObeysFor (es : List E) : Type 0 where
     pub session : sessionAfter freshSession es ≡ stateAfter engine freshSession (inputs es)
-    pub told : toldFor freshSession es ≡ givenOut engine freshSession (inputs es)
+    pub told : reportsFor freshSession es ≡ givenOut engine freshSession (inputs es)
     pub demand : Obeys engine (inputs es)
 
   obeys-for : (es : List E) → ObeysFor es

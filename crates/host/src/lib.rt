@@ -1,12 +1,11 @@
 // The C interface of the session, as include/rcs956.h describes it: the session is updated in place.
 pub mod outcome;
-pub mod step;
 
 use calls::start::Numbers;
+use engine::by_number;
 use engine::session::Session;
+use engine::state;
 use outcome::Outcome;
-use step::call;
-use step::event;
 ghost use mathlib.Core.Path.{_≡_};
 ghost use Rattle.engine.specs.Sessions.{freshSession};
 ghost use Rattle.host.specs.Outcomes.{report};
@@ -35,7 +34,7 @@ pub extern "C" fn rcs956_call(
     ensures { λ r. ⌜ report (now (session .exit)) r (now (buffer .exit)) ≡ reportFor (now (session .entry)) (calling number numbers (now (first .entry)) (now (second .entry)) (now (third .entry)) (now (fourth .entry)) (now (buffer .entry))) ⌝ }
 {
     let core = session.core;
-    let step = call(
+    let progress = state::call(
         core,
         &mut session.command,
         &mut session.frames,
@@ -48,9 +47,9 @@ pub extern "C" fn rcs956_call(
         fourth,
         buffer,
     );
-    let after = step.core;
+    let after = progress.core;
     session.core = after;
-    step.outcome
+    Outcome::of(progress.output)
 }
 
 // An event, by its number, with a packet's bytes. What comes out is the same.
@@ -64,7 +63,7 @@ pub extern "C" fn rcs956_event(
     ensures { λ r. ⌜ report (now (session .exit)) r (now (buffer .exit)) ≡ reportFor (now (session .entry)) (telling number (now (packet .entry)) (now (buffer .entry))) ⌝ }
 {
     let core = session.core;
-    let step = event(
+    let progress = by_number::event(
         core,
         &mut session.command,
         &mut session.found,
@@ -74,7 +73,7 @@ pub extern "C" fn rcs956_event(
         packet,
         buffer,
     );
-    let after = step.core;
+    let after = progress.core;
     session.core = after;
-    step.outcome
+    Outcome::of(progress.output)
 }

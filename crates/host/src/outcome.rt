@@ -1,10 +1,9 @@
 // What the host is told, in numbers.
-use engine::core::Core;
 use engine::core::Output;
-use engine::core::Progress;
+use errors::Fault;
 use errors::Numbered;
 ghost use mathlib.Core.Path.{_≡_};
-ghost use Rattle.host.specs.Outcomes.{withBytes, withTime, refusedAs, listRefusedAs, withLengths, outcomeOf, hostStepOf};
+ghost use Rattle.host.specs.Outcomes.{withBytes, withTime, withLengths, withRefusal, outcomeOf};
 
 pub const WRITE: u8 = 0;
 
@@ -42,10 +41,11 @@ pub struct Outcome {
     pub len: usize,
 }
 
-// The running call's numbers after a call or an event, and what came out.
-pub struct HostStep {
-    pub core: Core,
-    pub outcome: Outcome,
+// A call that failed, or a list with so many codes finished: a fault's numbers are worked out at one place for both kinds.
+struct Failure {
+    kind: u8,
+    fault: Fault,
+    finished: u8,
 }
 
 impl Outcome {
@@ -97,27 +97,11 @@ impl Outcome {
         }
     }
 
-    fn refused(numbered: Numbered) -> Outcome
-        ensures { λ r. ⌜ r ≡ refusedAs numbered ⌝ }
+    fn refused(kind: u8, numbered: Numbered, finished: u8) -> Outcome
+        ensures { λ r. ⌜ r ≡ withRefusal kind numbered finished ⌝ }
     {
         Outcome {
-            kind: REFUSED,
-            refusal: numbered.number,
-            status: numbered.status,
-            status2: numbered.status2,
-            finished: 0,
-            uid: 0,
-            ats: 0,
-            time: 0,
-            len: 0,
-        }
-    }
-
-    fn list_refused(numbered: Numbered, finished: u8) -> Outcome
-        ensures { λ r. ⌜ r ≡ listRefusedAs numbered finished ⌝ }
-    {
-        Outcome {
-            kind: LIST_REFUSED,
+            kind,
             refusal: numbered.number,
             status: numbered.status,
             status2: numbered.status2,
@@ -132,35 +116,29 @@ impl Outcome {
     pub fn of(output: Output) -> Outcome
         ensures { λ r. ⌜ r ≡ outcomeOf output ⌝ }
     {
-        match output {
-            Output::Ack => Outcome::bytes(WRITE, 6),
-            Output::Command(len) => Outcome::bytes(WRITE, len),
-            Output::Read(ms) => Outcome::timed(READ, ms),
-            Output::Drain => Outcome::bytes(DRAIN, 0),
-            Output::Pause(us) => Outcome::timed(PAUSE, us),
-            Output::Done(len) => Outcome::bytes(DONE, len),
-            Output::Type1(len) => Outcome::bytes(TYPE1, len),
-            Output::UidAndAts(len, uid, ats) => Outcome::uid_and_ats(len, uid, ats),
-            Output::Nothing => Outcome::bytes(NONE, 0),
-            Output::Failed(fault) => Outcome::refused(fault.numbered()),
-            Output::FailedAfter(fault, finished) => Outcome::list_refused(
-                fault.numbered(),
+        let failure = match output {
+            Output::Ack => return Outcome::bytes(WRITE, 6),
+            Output::Command(len) => return Outcome::bytes(WRITE, len),
+            Output::Read(ms) => return Outcome::timed(READ, ms),
+            Output::Drain => return Outcome::bytes(DRAIN, 0),
+            Output::Pause(us) => return Outcome::timed(PAUSE, us),
+            Output::Done(len) => return Outcome::bytes(DONE, len),
+            Output::Type1(len) => return Outcome::bytes(TYPE1, len),
+            Output::UidAndAts(len, uid, ats) => return Outcome::uid_and_ats(len, uid, ats),
+            Output::Nothing => return Outcome::bytes(NONE, 0),
+            Output::Refused(refusal) => return Outcome::refused(REFUSED, refusal.numbered(), 0),
+            Output::Failed(fault) => Failure {
+                kind: REFUSED,
+                fault,
+                finished: 0,
+            },
+            Output::FailedAfter(fault, finished) => Failure {
+                kind: LIST_REFUSED,
+                fault,
                 finished,
-            ),
-            Output::Refused(refusal) => Outcome::refused(refusal.numbered()),
-        }
-    }
-}
-
-impl HostStep {
-    pub fn of(progress: Progress) -> HostStep
-        ensures { λ r. ⌜ r ≡ hostStepOf progress ⌝ }
-    {
-        let core = progress.core;
-        let output = progress.output;
-        HostStep {
-            core,
-            outcome: Outcome::of(output),
-        }
+            },
+        };
+        let fault = failure.fault;
+        Outcome::refused(failure.kind, fault.numbered(), failure.finished)
     }
 }

@@ -1,6 +1,6 @@
 -- A `Presence` in memory is its arrays and its state in memory, side by side, and back.
 --     Array₀, Array₁, Array₂   an array in memory, at its place in the struct
---     Held             the state's cell, at its place in the struct
+--     Cell             the state's cell, at its place in the struct
 --     Back             what turns the fields in memory into the struct again (`Denote/Struct/Parts.antt`'s `PartsBack`)
 --     apart            the struct in memory is the arrays, the state's cell and `Back`, and the state is a value of its type
 --     together         and those, at any values, are the struct of them in memory
@@ -60,8 +60,8 @@ module _ (b o : ℕ) where
   abbrev pub Array₂ : List ℕ → Fml
   Array₂ xs = mem (Array u8 1280) .lies xs b (o + 2560)
 
-  abbrev pub Held : State → Fml
-  Held s = fat fullShare N′.mir b (o + 3840) (mN s)
+  abbrev pub Cell : State → Fml
+  Cell s = fat fullShare N′.mir b (o + 3840) (mN s)
 
 module _ {M : Type 1} (𝓤 : URA M) (H : Heap 𝓤) (A : Atoms 𝓤) (b o : ℕ) where
   abbrev pub Back : SProp 𝓤
@@ -71,7 +71,7 @@ module _ {M : Type 1} (𝓤 : URA M) (H : Heap 𝓤) (A : Atoms 𝓤) (W : Given
   abbrev ⟦_⟧ : Fml → SProp 𝓤
   ⟦ P ⟧ = sem 𝓤 H A P
 
-  pub apart : (d : Presence) → ent 𝓤 ⟦ mem T.the-row .lies d b o ⟧ (sep 𝓤 ⟦ Array₀ b o (d .cards) ⟧ (sep 𝓤 ⟦ Array₁ b o (d .arrived) ⟧ (sep 𝓤 ⟦ Array₂ b o (d .departed) ⟧ (guard 𝓤 (Fits (d .state)) (sep 𝓤 ⟦ Held b o (d .state) ⟧ (Back 𝓤 H A b o))))))
+  pub apart : (d : Presence) → ent 𝓤 ⟦ mem T.the-row .lies d b o ⟧ (sep 𝓤 ⟦ Array₀ b o (d .cards) ⟧ (sep 𝓤 ⟦ Array₁ b o (d .arrived) ⟧ (sep 𝓤 ⟦ Array₂ b o (d .departed) ⟧ (guard 𝓤 (Fits (d .state)) (sep 𝓤 ⟦ Cell b o (d .state) ⟧ (Back 𝓤 H A b o))))))
   unfolding partOf
   apart d =
       qed W (‵ (mem T.the-row .lies d b o) ∷ []) ∵
@@ -81,13 +81,13 @@ module _ {M : Type 1} (𝓤 : URA M) (H : Heap 𝓤) (A : Atoms 𝓤) (W : Given
       rewrite ! 3 (λ (zs : List ℕ). ‵ (Array₀ b o zs)) (map-id (d .cards)) refl $ rewrite ! 2 (λ (zs : List ℕ). ‵ (Array₁ b o zs)) (map-id (d .arrived)) refl $ rewrite ! 1 (λ (zs : List ℕ). ‵ (Array₂ b o zs)) (map-id (d .departed)) refl $
       -- the state's cell
       fpick ! (λ vs. fsplit ! $ spelt ! N.the-row (Is N.the-row) (shows 𝓤 H A N.the-row) (LL.vals N.the-type N′.the-laws) (LL.tells N.the-type N′.the-laws) fullShare (d .state) vs b (o + 3840) $
-      use1 W (‵ (Held b o (d .state))) (W .laws .raw-at fullShare N′.mir b (o + 3840) (mN (d .state))) $ move ! (1 ∷ []) $ peeks ! N.the-row (Is N.the-row) (shows 𝓤 H A N.the-row) (d .state) (mN (d .state) ∷ []) (λ is. drop ! $
+      use1 W (‵ (Cell b o (d .state))) (W .laws .raw-at fullShare N′.mir b (o + 3840) (mN (d .state))) $ move ! (1 ∷ []) $ peeks ! N.the-row (Is N.the-row) (shows 𝓤 H A N.the-row) (d .state) (mN (d .state) ∷ []) (λ is. drop ! $
       move ! (3 ∷ 2 ∷ 1 ∷ []) $ frame ! $ frame ! $ frame ! $ check ! is $ done !))
 
-  pub together : (d : Presence) → Fits (d .state) → ent 𝓤 (sep 𝓤 ⟦ Array₀ b o (d .cards) ⟧ (sep 𝓤 ⟦ Array₁ b o (d .arrived) ⟧ (sep 𝓤 ⟦ Array₂ b o (d .departed) ⟧ (sep 𝓤 ⟦ Held b o (d .state) ⟧ (Back 𝓤 H A b o))))) ⟦ mem T.the-row .lies d b o ⟧
+  pub together : (d : Presence) → Fits (d .state) → ent 𝓤 (sep 𝓤 ⟦ Array₀ b o (d .cards) ⟧ (sep 𝓤 ⟦ Array₁ b o (d .arrived) ⟧ (sep 𝓤 ⟦ Array₂ b o (d .departed) ⟧ (sep 𝓤 ⟦ Cell b o (d .state) ⟧ (Back 𝓤 H A b o))))) ⟦ mem T.the-row .lies d b o ⟧
   unfolding partOf
   together d is =
-      qed W (‵ (Array₀ b o (d .cards)) ∷ ‵ (Array₁ b o (d .arrived)) ∷ ‵ (Array₂ b o (d .departed)) ∷ ‵ (Held b o (d .state)) ∷ raw (Back 𝓤 H A b o) ∷ []) ∵
+      qed W (‵ (Array₀ b o (d .cards)) ∷ ‵ (Array₁ b o (d .arrived)) ∷ ‵ (Array₂ b o (d .departed)) ∷ ‵ (Cell b o (d .state)) ∷ raw (Back 𝓤 H A b o) ∷ []) ∵
       rewrite ! 0 (λ (zs : List ℕ). ‵ (Array₀ b o zs)) (sym (map-id (d .cards))) refl $ rewrite ! 1 (λ (zs : List ℕ). ‵ (Array₁ b o zs)) (sym (map-id (d .arrived))) refl $ rewrite ! 2 (λ (zs : List ℕ). ‵ (Array₂ b o zs)) (sym (map-id (d .departed))) refl $
       owned ! N.the-row (Is N.the-row) (LL.makes N.the-type N′.the-plain 𝓤 H A) (d .state) (mN (d .state) ∷ []) is $ move ! (4 ∷ 0 ∷ []) $ use1 W (‵ (cellAt fullShare (N.the-row .mir) (mN (d .state) ∷ []) b (o + 3840))) (W .laws .at-raw fullShare N′.mir b (o + 3840) (mN (d .state))) $ fjoin ! $
       fpack ! (List Val) (λ us. fsep (cellAt fullShare (N.the-row .mir) us b (o + 3840)) (N.the-row .own (d .state) us)) (mN (d .state) ∷ []) $ nothing ! $ move ! (1 ∷ 0 ∷ []) $ fjoin ! $ move ! (3 ∷ 0 ∷ []) $ fjoin ! $ move ! (2 ∷ 0 ∷ []) $ fjoin ! $ move ! (1 ∷ 0 ∷ []) $ fjoin ! $

@@ -6,10 +6,11 @@ use Rattle.errors.specs.Refusals.{roundNumbered}
 use Rattle.presence_list.specs.declared.list.State.{State}
 use Rattle.presence_list.specs.declared.list.Presence.{Presence}
 use Rattle.presence_list.specs.declared.list.Round.{Round}
+use Rattle.presence_list.specs.declared.list.Step.{Step}
 use Rattle.presence_list.specs.declared.list.Answer.{Answer}
 use Rattle.presence_list.specs.declared.list.Answer.the-variants.{Accepted, Refused}
-use Rattle.presence_list.specs.Steps.{After, after, listed, roundOf}
-use Rattle.presence_host.specs.declared.step.Outcome.{Outcome}
+use Rattle.presence_list.specs.Steps.{After, after, listed, stepOf, roundOf}
+use Rattle.presence_host.specs.declared.outcome.Outcome.{Outcome}
 
 -- the list after a round, and what came out
 pub record Reported : Type 0 where
@@ -34,5 +35,8 @@ unfoldable pub reportFor : Presence → ℕ → Seq ℕ → Reported
 reportFor l n b = told (roundOf l n b)
 
 -- a round on a list's parts is the round by value
-pub told-as : (s : State) (c a d : Seq ℕ) (g : Answer) (o : Outcome) (x : After) → o ≡ outcomeOf g → after s c a d g ≡ x → report (joined c a d s) o ≡ told (listed x)
-told-as s c a d g o x p q = ap (report (joined c a d s)) p ∙ ap (λ (y : After). told (listed y)) q
+pub round-reported : (t : Outcome) (r : Step) (l : Presence) (n : ℕ) (b cards arrived departed : Seq ℕ)
+    → t ≡ outcomeOf (r .answer) → after (r .state) cards arrived departed (r .answer) ≡ stepOf (l .state) (l .cards) (l .arrived) (l .departed) n b
+    → report (joined cards arrived departed (r .state)) t ≡ reportFor l n b
+unfolding reportFor roundOf
+round-reported t r l n b cards arrived departed p q = ap (report (joined cards arrived departed (r .state))) p ∙ ap (λ (y : After). told (listed y)) q

@@ -1,9 +1,8 @@
 // The C interface of the list of present cards, as include/presence.h describes it: the list is updated in place.
-pub mod step;
+pub mod outcome;
 
+use outcome::Outcome;
 use presence_list::list::Presence;
-use step::Outcome;
-use step::round;
 ghost use mathlib.Core.Path.{_≡_};
 ghost use Rattle.presence_list.specs.Steps.{emptyList};
 ghost use Rattle.presence_host.specs.Outcomes.{report, reportFor};
@@ -22,8 +21,7 @@ pub extern "C" fn presence_round(list: &mut Presence, number: u32, records: &[u8
     ensures { λ r. ⌜ report (now (list .exit)) r ≡ reportFor (now (list .entry)) number (now (records .entry)) ⌝ }
 {
     let state = list.state;
-    let step = round(
-        state,
+    let step = state.round(
         &mut list.cards,
         &mut list.arrived,
         &mut list.departed,
@@ -32,5 +30,5 @@ pub extern "C" fn presence_round(list: &mut Presence, number: u32, records: &[u8
     );
     let after = step.state;
     list.state = after;
-    step.outcome
+    Outcome::of(step.answer)
 }

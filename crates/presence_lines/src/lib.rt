@@ -110,10 +110,7 @@ pub fn run() {
         let n = replied.len;
         let after = replied.list;
         list = after;
-        if n == 0 {
-            return;
-        }
-        if !io::write_all(libc::STDOUT_FILENO, &out[..n]) {
+        if !lines::write(&out, n) {
             return;
         }
         turns -= 1;

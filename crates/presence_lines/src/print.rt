@@ -1,56 +1,24 @@
-// What is printed for a round.
+// What is printed for a round. A text behind another has room, and the place behind it is given.
+use bench::hex;
+use bench::text;
 use errors::RoundRefusal;
 ghost use mathlib.Core.Path.{_≡_};
 ghost use Prim.Native.Nat.{_+_, _*_, _≤_, _<_};
 ghost use lib.ListN.{length};
 
-// Puts a text into the buffer from a place on, and gives the place behind it.
 fn put(text: &[u8], out: &mut [u8], at: usize) -> usize
     requires { ⌜ at + length (now text) ≤ length (now out) ⌝ }
     ensures { λ r. ⌜ r ≡ at + length (now (text .entry)) ⌝ }
 {
-    bytes::copy(text, &mut out[at..]);
-    at + text.len()
-}
-
-// A number in decimal digits.
-fn put_decimal(number: u64, out: &mut [u8], at: usize) -> usize
-    requires { ⌜ at + 20 ≤ length (now out) ⌝ }
-    ensures { λ r. ⌜ r ≤ at + 20 ⌝ }
-{
-    let mut digits = [0u8; 20];
-    let n = io::decimal(number, &mut digits);
-    put(&digits[..n], out, at)
-}
-
-// The upper-case digit of a value.
-fn digit(value: u8) -> u8
-    requires { ⌜ value < 16 ⌝ }
-{
-    if value < 10 {
-        b'0' + value
-    } else {
-        b'A' + (value - 10)
-    }
+    text::put(text, out, at)
 }
 
 // The bytes as HEX, `-` where there are none.
 fn put_hex(bytes: &[u8], out: &mut [u8], at: usize) -> usize
     requires { ⌜ (length (now bytes) ≤ 16) × (at + 33 ≤ length (now out)) ⌝ }
-    ensures { λ r. ⌜ (at ≤ r) × (r ≤ at + 32) ⌝ }
+    ensures { λ r. ⌜ (at ≤ r) × (r ≤ at + 33) ⌝ }
 {
-    let n = bytes.len();
-    if n == 0 {
-        return put(b"-", out, at);
-    }
-    let mut i = 0;
-    while i < n {
-        let byte = bytes[i];
-        out[at + 2 * i] = digit(byte / 16);
-        out[at + 2 * i + 1] = digit(byte % 16);
-        i += 1;
-    }
-    at + 2 * n
+    hex::put(bytes, out, at)
 }
 
 fn put_kind(kind: u8, out: &mut [u8], at: usize) -> usize
@@ -91,7 +59,7 @@ fn identifier_length(length: u8) -> usize
 // A card of the list as `KIND:HEX`, a space before it.
 fn put_card(cards: &[u8], i: usize, out: &mut [u8], at: usize) -> usize
     requires { ⌜ (i < 64) × (1280 ≤ length (now cards)) × (at + 38 ≤ length (now out)) ⌝ }
-    ensures { λ r. ⌜ (at ≤ r) × (r ≤ at + 37) ⌝ }
+    ensures { λ r. ⌜ (at ≤ r) × (r ≤ at + 38) ⌝ }
 {
     let start = 20 * i;
     let next = put_kind(cards[start], out, at);
@@ -103,8 +71,8 @@ fn put_card(cards: &[u8], i: usize, out: &mut [u8], at: usize) -> usize
 
 // The first cards of a list, each with a space before it.
 fn put_cards(cards: &[u8], count: usize, out: &mut [u8], at: usize) -> usize
-    requires { ⌜ (count ≤ 64) × (1280 ≤ length (now cards)) × (at + 37 * 64 + 1 ≤ length (now out)) ⌝ }
-    ensures { λ r. ⌜ (at ≤ r) × (r ≤ at + 37 * 64) ⌝ }
+    requires { ⌜ (count ≤ 64) × (1280 ≤ length (now cards)) × (at + 38 * 64 ≤ length (now out)) ⌝ }
+    ensures { λ r. ⌜ (at ≤ r) × (r ≤ at + 38 * 64) ⌝ }
 {
     let mut next = at;
     let mut i = 0;
@@ -117,8 +85,8 @@ fn put_cards(cards: &[u8], count: usize, out: &mut [u8], at: usize) -> usize
 
 // The same with each card's bitrate.
 fn put_present(cards: &[u8], count: usize, out: &mut [u8], at: usize) -> usize
-    requires { ⌜ (count ≤ 64) × (1280 ≤ length (now cards)) × (at + 42 * 64 + 1 ≤ length (now out)) ⌝ }
-    ensures { λ r. ⌜ (at ≤ r) × (r ≤ at + 42 * 64) ⌝ }
+    requires { ⌜ (count ≤ 64) × (1280 ≤ length (now cards)) × (at + 43 * 64 ≤ length (now out)) ⌝ }
+    ensures { λ r. ⌜ (at ≤ r) × (r ≤ at + 43 * 64) ⌝ }
 {
     let mut next = at;
     let mut i = 0;
@@ -136,7 +104,7 @@ pub(crate) fn put_refused(refusal: RoundRefusal, out: &mut [u8]) -> usize
 {
     let numbered = refusal.numbered();
     let at = put(b"refused ", out, 0);
-    put_decimal(numbered.number as u64, out, at)
+    text::put_decimal(numbered.number as u64, out, at)
 }
 
 // The arrivals, the departures and the list.

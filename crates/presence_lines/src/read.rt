@@ -62,50 +62,17 @@ fn read_number(word: &[u8]) -> Number {
     Number::Value(n as u32)
 }
 
-// A kind's place in the order A, Type 1, B, F, DEP; 5 where the word is none.
-fn kind(word: &[u8]) -> u8 {
-    if words::is(word, b"A") {
-        return 0;
+// The place of the word among the words of a text; how many they are where it is none of them.
+fn place(word: &[u8], text: &[u8]) -> usize {
+    let n = words::count(text);
+    let mut i = 0;
+    while i < n {
+        if words::is(word, words::word(text, i)) {
+            return i;
+        }
+        i += 1;
     }
-    if words::is(word, b"T1") {
-        return 1;
-    }
-    if words::is(word, b"B") {
-        return 2;
-    }
-    if words::is(word, b"F") {
-        return 3;
-    }
-    if words::is(word, b"DEP") {
-        return 4;
-    }
-    5
-}
-
-// A bitrate's place among those that there are; 7 where the word is none.
-fn bitrate(word: &[u8]) -> u8 {
-    if words::is(word, b"106A") {
-        return 0;
-    }
-    if words::is(word, b"212F") {
-        return 1;
-    }
-    if words::is(word, b"424F") {
-        return 2;
-    }
-    if words::is(word, b"106B") {
-        return 3;
-    }
-    if words::is(word, b"212B") {
-        return 4;
-    }
-    if words::is(word, b"424B") {
-        return 5;
-    }
-    if words::is(word, b"848B") {
-        return 6;
-    }
-    7
+    i
 }
 
 // Puts an identifier and its length into a record: of one that is too long for it the length alone, as 17. False where the word is no HEX, or
@@ -150,8 +117,8 @@ fn put_card(word: &[u8], records: &mut [u8], at: usize) -> bool
     if n <= second {
         return false;
     }
-    let kind = kind(&word[..first]);
-    let rate = bitrate(&word[second + 1..]);
+    let kind = place(&word[..first], b"A T1 B F DEP");
+    let rate = place(&word[second + 1..], b"106A 212F 424F 106B 212B 424B 848B");
     if 4 < kind {
         return false;
     }
@@ -160,8 +127,8 @@ fn put_card(word: &[u8], records: &mut [u8], at: usize) -> bool
     }
     let mut found = [0u8; 20];
     if put_identifier(&word[first + 1..second], &mut found) {
-        found[0] = kind;
-        found[18] = rate;
+        found[0] = kind as u8;
+        found[18] = rate as u8;
         bytes::copy(&found, &mut records[at..]);
         return true;
     }

@@ -1,25 +1,15 @@
--- The calls. A new one adds its constructor, its line in `requestStart` or `deviceStart`, its script, and its lines in
--- CallsSound and Own.
-use mathlib.Core.Bool.{Bool, true, false, cond, _&&_, _||_}
+-- The calls. A new command adds its constructor in `Request`, its code, its row and its place in `readerCalls`; a new discovery its constructor
+-- in `DeviceCall`, its line in `deviceLimit` and its place, and its lines in Starts, CallsSound and Own.
+use mathlib.Core.Bool.{Bool, true, false, cond}
 use mathlib.Core.List.{List, [], _∷_, _++_}
-use mathlib.Core.Option.{Option, none, some}
-use Prim.Native.Nat.{ℕ, _+_, _*_, _/_, _%_}
-use lib.Dec.{eqb, leb, ltb}
-use lib.ListN.{length, getD}
-use Rattle.errors.specs.declared.Refusal.{Refusal}
-use Rattle.errors.specs.declared.Refusal.the-variants.{OverLong, BadArgument, NotSendable, Bitrate as BadBitrate}
-use Rattle.framing.specs.Lists.{both}
-use Rattle.felica.specs.Packets.{requestFits, writeFits}
-use Rattle.targets.specs.Bitrates.{Choice, chosen, noCode, choiceOf}
-use Rattle.targets.specs.declared.Bitrate.{Bitrate}
-use Rattle.targets.specs.declared.Bitrate.the-variants.{B106A, B212F, B424F, B106B, B212B, B424B, B848B, Other}
-use Rattle.protocol.specs.Scripts.{Script, finish, reset, ifElse, done, nothing, Byte, own, byteAt, rest}
-use Rattle.protocol.specs.Chipset.{versionBytes, moreFlag, jumpData, initData}
-use Rattle.protocol.specs.Chipset as chipset
-use Rattle.protocol.specs.Device.{deviceNew}
-use Rattle.protocol.specs.Discovery.{cascaded, isType2, sensfReq}
-use Rattle.protocol.specs.Blocks.{readBlocks, writeBlocks}
-use Rattle.protocol.specs.Discovery as discovery
+use mathlib.Core.Option.{Option}
+use Prim.Native.Nat.{ℕ, _*_, _/_}
+use lib.Dec.{eqb}
+use lib.ListN.{length}
+use Rattle.protocol.specs.Names.{commandClock, registersClock, inListPassiveTargetClock, inJumpForDepClock, tgResponseToInitiatorClock}
+use Rattle.protocol.specs.Arguments.{word, activeByte, jumpData, initData, registers, initFits, flag, msOf, isLong}
+use Rattle.protocol.specs.Rules.{Rule, noBytes, allBytes, registersWritten, firstByte, listedTarget, exchangedData, thru, jump, status, initiatorCommand, targetStatus}
+use Rattle.protocol.specs.Rules as rules
 
 -- A command of chipset.rs with its arguments, in the order of the Rust's. Registers are the bytes of their words, as they are sent.
 pub data Request : Type 0 where
@@ -66,188 +56,121 @@ pub data Call : Type 0 where
   opening : ℕ → Call
   reader : ReaderCall → Call
 
--- what becomes of a call's arguments: a refusal at once (4, 5, 6, 3 in this order), or a script
-pub data Start : Type 0 where
-  refuses : Refusal → Start
-  starts : Script → Start
+-- ---- the commands
 
--- command data of at most 512 bytes, else 3
-abbrev pub dataLimit : ℕ
-dataLimit = 512
+-- the codes, by name (`cmd` of chipset.rs)
+abbrev pub getFirmwareVersionCode : ℕ
+getFirmwareVersionCode = 0x02
 
-abbrev pub limited : List ℕ → Script → Start
-limited bytes s = cond (ltb dataLimit (length bytes)) (refuses OverLong) (starts s)
+abbrev pub readRegisterCode : ℕ
+readRegisterCode = 0x06
 
--- what the Rust asserts, a mode that there is, and blocks that there is a request of, else 4
-abbrev pub asserted : Bool → Start → Start
-asserted holds s = cond holds s (refuses BadArgument)
+abbrev pub writeRegisterCode : ℕ
+writeRegisterCode = 0x08
 
--- whole words or triples, of at most 64 registers
-abbrev pub registers : ℕ → List ℕ → Bool
-registers size bytes = both (eqb (length bytes % size) 0) (leb (length bytes / size) 64)
+abbrev pub setParametersCode : ℕ
+setParametersCode = 0x12
 
--- 1 to 16 whole words
-abbrev pub systemCodesFit : List ℕ → Bool
-systemCodesFit words = both (eqb (length words % 2) 0) (both (leb 1 (length words / 2)) (leb (length words / 2) 16))
+abbrev pub resetModeCode : ℕ
+resetModeCode = 0x18
 
--- the numbers whose words these are
-abbrev pub wordsIn : List ℕ → List ℕ
-wordsIn [] = []
-wordsIn (high ∷ []) = []
-wordsIn (high ∷ low ∷ bytes) = (256 * high + low) ∷ wordsIn bytes
+abbrev pub rfConfigurationCode : ℕ
+rfConfigurationCode = 0x32
 
--- the lengths that tg_init_target asserts, and a mode of 0 or 2
-abbrev pub initFits : ℕ → List ℕ → List ℕ → List ℕ → Bool
-initFits mode mifare felica nfcid3t =
-    both (both (leb mode 2) (eqb (mode % 2) 0)) (both (eqb (length mifare) 6) (both (eqb (length felica) 18) (eqb (length nfcid3t) 10)))
+abbrev pub inDataExchangeCode : ℕ
+inDataExchangeCode = 0x40
 
-abbrev pub activeByte : Bool → ℕ
-activeByte active = cond active 1 0
+abbrev pub inCommunicateThruCode : ℕ
+inCommunicateThruCode = 0x42
 
--- an answer of no bytes, and one of all bytes of the response from a position on
-abbrev pub finished : Script
-finished = finish (done [])
+abbrev pub inListPassiveTargetCode : ℕ
+inListPassiveTargetCode = 0x4A
 
-abbrev pub answer : ℕ → List ℕ → Script
-answer p bytes = finish (done (rest 0 bytes p))
+abbrev pub inJumpForDepCode : ℕ
+inJumpForDepCode = 0x56
 
--- a rate as two bytes of the engine's own
-abbrev pub rateBytes : ℕ → List Byte
-rateBytes n = own (n / 256) ∷ own (n % 256) ∷ []
+abbrev pub tgGetInitiatorCommandCode : ℕ
+tgGetInitiatorCommandCode = 0x88
 
--- ---- bitrates: malformed, or not supported by the call, gives 5
+abbrev pub tgGetTargetStatusCode : ℕ
+tgGetTargetStatusCode = 0x8A
 
-abbrev pub onCode : Option ℕ → (ℕ → Start) → Start
-onCode none f = refuses BadBitrate
-onCode (some code) f = f code
+abbrev pub tgInitTargetCode : ℕ
+tgInitTargetCode = 0x8C
 
-abbrev pub withBitrate : Choice → (Bitrate → Start) → Start
-withBitrate (chosen b) f = f b
-withBitrate (noCode e) f = refuses BadBitrate
+abbrev pub tgResponseToInitiatorCode : ℕ
+tgResponseToInitiatorCode = 0x90
 
--- the code by which a call names the bitrate to the chip; 5 where it takes none
-abbrev pub codeFor : (Bitrate → Option ℕ) → List ℕ → (ℕ → Start) → Start
-codeFor takes text f = withBitrate (choiceOf text) (λ b. onCode (takes b) f)
+abbrev pub tgSetGeneralBytesCode : ℕ
+tgSetGeneralBytesCode = 0x92
 
-abbrev pub typeACode : Bitrate → Option ℕ
-typeACode B106A = some 0
-typeACode B212F = some 1
-typeACode B424F = some 2
-typeACode B106B = some 3
-typeACode B212B = none
-typeACode B424B = none
-typeACode B848B = none
-typeACode Other = none
+-- What a command is: what the Rust asserts, its code, its clock in ms, its data, and the rule by which its response is interpreted. reset_mode
+-- is another matter: its response is not looked at.
+pub data Row : Type 0 where
+  row : Bool → ℕ → ℕ → List ℕ → Rule → Row
+  resets : Row
 
--- the codes 6, 7 and 8 of the others are not supported
-abbrev pub typeBCode : Bitrate → Option ℕ
-typeBCode B106A = none
-typeBCode B212F = none
-typeBCode B424F = none
-typeBCode B106B = some 3
-typeBCode B212B = none
-typeBCode B424B = none
-typeBCode B848B = none
-typeBCode Other = none
+abbrev pub rowOf : Request → Row
+rowOf version = row true getFirmwareVersionCode commandClock [] rules.version
+rowOf resetMode = resets
+rowOf (setParameters flags) = row true setParametersCode commandClock (flags ∷ []) noBytes
+rowOf (rfConfiguration item bytes) = row true rfConfigurationCode commandClock (item ∷ bytes) noBytes
+rowOf rfFieldOff = row true rfConfigurationCode commandClock (0x01 ∷ 0x02 ∷ []) noBytes
+rowOf (readRegister addresses) = row (registers 2 addresses) readRegisterCode registersClock addresses allBytes
+rowOf (writeRegister values) = row (registers 3 values) writeRegisterCode registersClock values registersWritten
+rowOf (readSingleRegister address) = row true readRegisterCode registersClock (word address) firstByte
+rowOf (writeSingleRegister address value) = row true writeRegisterCode registersClock (word address ++ (value ∷ [])) registersWritten
+rowOf (inListPassiveTarget maxTg bitrate bytes) = row true inListPassiveTargetCode inListPassiveTargetClock (maxTg ∷ bitrate ∷ bytes) listedTarget
+rowOf (inDataExchange bytes ms) = row true inDataExchangeCode ms (0x01 ∷ bytes) exchangedData
+rowOf (inCommunicateThru bytes ms) = row true inCommunicateThruCode ms bytes thru
+rowOf (inJumpForDep active br passive nfcid3 gi) = row true inJumpForDepCode inJumpForDepClock (jumpData (activeByte active) br passive nfcid3 gi) jump
+rowOf (tgInitTarget mode mifare felica nfcid3t gt ms) =
+    row (initFits mode mifare felica nfcid3t) tgInitTargetCode ms (initData mode mifare felica nfcid3t gt) allBytes
+rowOf (tgSetGeneralBytes gb) = row true tgSetGeneralBytesCode commandClock gb status
+rowOf (tgGetInitiatorCommand ms) = row true tgGetInitiatorCommandCode ms [] initiatorCommand
+rowOf (tgResponseToInitiator bytes) = row true tgResponseToInitiatorCode tgResponseToInitiatorClock bytes status
+rowOf tgGetTargetStatus = row true tgGetTargetStatusCode commandClock [] targetStatus
 
-abbrev pub typeFCode : Bitrate → Option ℕ
-typeFCode B106A = none
-typeFCode B212F = some 1
-typeFCode B424F = some 2
-typeFCode B106B = none
-typeFCode B212B = none
-typeFCode B424B = none
-typeFCode B848B = none
-typeFCode Other = none
+-- ---- the calls by their numbers
 
-abbrev pub depCode : Bitrate → Option ℕ
-depCode B106A = some 0
-depCode B212F = some 1
-depCode B424F = some 2
-depCode B106B = none
-depCode B212B = none
-depCode B424B = none
-depCode B848B = none
-depCode Other = none
+-- with more ms than 65,535 there is no such call
+abbrev pub timed : Bool → ℕ → ReaderCall → ReaderCall
+timed given ms c = cond (isLong given ms) unknown c
 
-abbrev pub is106A : Bitrate → Bool
-is106A B106A = true
-is106A B212F = false
-is106A B424F = false
-is106A B106B = false
-is106A B212B = false
-is106A B424B = false
-is106A B848B = false
-is106A Other = false
+-- the calls of an open reader in the order of their numbers, from 1 on; their arguments are four numbers, ms, a word and two
+-- bytes, and four lists of bytes
+abbrev pub readerCalls : (ms word x y : ℕ) (first second third fourth : List ℕ) → List ReaderCall
+readerCalls ms word x y first second third fourth =
+    request version
+    ∷ request resetMode
+    ∷ request (setParameters x)
+    ∷ request (rfConfiguration x first)
+    ∷ request (readRegister first)
+    ∷ request (writeRegister first)
+    ∷ request (readSingleRegister word)
+    ∷ request (writeSingleRegister word x)
+    ∷ request (inListPassiveTarget x y first)
+    ∷ request (inDataExchange first ms)
+    ∷ request (inCommunicateThru first ms)
+    ∷ request (inJumpForDep (flag x) y first second third)
+    ∷ request (tgInitTarget x first second third fourth ms)
+    ∷ request (tgSetGeneralBytes first)
+    ∷ request (tgGetInitiatorCommand ms)
+    ∷ request (tgResponseToInitiator first)
+    ∷ request tgGetTargetStatus
+    ∷ request rfFieldOff
+    ∷ device (detectTypeA first second)
+    ∷ device (detectTypeB first second)
+    ∷ device (detectTypeF first word x y)
+    ∷ device (detectDep first second)
+    ∷ device (transceive first second (flag x) third (msOf (flag y) word))
+    ∷ device (pollTypeF first second)
+    ∷ device (detectTypeASplit first second)
+    ∷ timed (flag y) ms (device (readWithoutEncryption first word second (msOf (flag y) ms)))
+    ∷ timed (flag y) ms (device (writeWithoutEncryption first word second third (msOf (flag y) ms)))
+    ∷ []
 
--- ---- DEP and transceive
-
--- the first byte of SEL_RES
-abbrev pub type2SelRes : List ℕ → Bool
-type2SelRes [] = false
-type2SelRes (b ∷ bs) = isType2 b
-
--- Type 1 sends what starts with one of five bytes, else 6
-abbrev pub isSendable : List ℕ → Bool
-isSendable [] = false
-isSendable (b ∷ bs) = eqb b 0x00 || eqb b 0x01 || eqb b 0x1A || eqb b 0x53 || eqb b 0x72
-
-abbrev pub clockOf : Option ℕ → ℕ
-clockOf none = 1000 + 100
-clockOf (some ms) = ms + 100
-
--- RID_RES present means Type 1 at any bitrate
-abbrev pub transceiveStart : Bitrate → List ℕ → Bool → List ℕ → ℕ → Start
-transceiveStart rate selRes ridRes bytes ms =
-    cond ridRes
-    (cond (isSendable bytes) (limited (0x01 ∷ bytes) (discovery.transceiveType1 bytes ms)) (refuses NotSendable))
-    (limited bytes (ifElse (is106A rate && type2SelRes selRes) (discovery.transceiveType2 bytes ms) (discovery.transceiveThru bytes ms)))
-
-abbrev pub requestStart : Request → Start
-requestStart version = starts (chipset.getFirmwareVersion (λ ic ver rev. finish (done (versionBytes 0 ic ver rev))))
-requestStart resetMode = starts (reset finished)
-requestStart (setParameters flags) = starts (chipset.setParameters flags finished)
-requestStart (rfConfiguration item bytes) = limited (item ∷ bytes) (chipset.rfConfiguration item bytes finished)
-requestStart rfFieldOff = starts (chipset.rfFieldOff finished)
-requestStart (readRegister addresses) = asserted (registers 2 addresses) (starts (chipset.readRegister addresses (answer 0)))
-requestStart (writeRegister values) = asserted (registers 3 values) (starts (chipset.writeRegister values finished))
-requestStart (readSingleRegister address) = starts (chipset.readSingleRegister address (λ bs. finish (done (byteAt 0 bs 0 ∷ []))))
-requestStart (writeSingleRegister address value) = starts (chipset.writeSingleRegister address value finished)
-requestStart (inListPassiveTarget maxTg bitrate bytes) =
-    limited (maxTg ∷ bitrate ∷ bytes) (chipset.inListPassiveTarget maxTg bitrate bytes (finish nothing) (answer 2))
-requestStart (inDataExchange bytes ms) =
-    limited (0x01 ∷ bytes) (chipset.inDataExchange bytes ms (λ bs. finish (done (rest 0 bs 1 ++ (own (moreFlag bs) ∷ [])))))
-requestStart (inCommunicateThru bytes ms) = limited bytes (chipset.inCommunicateThru bytes ms (answer 1))
-requestStart (inJumpForDep active br passive nfcid3 gi) =
-    limited (jumpData (activeByte active) br passive nfcid3 gi) (chipset.inJumpForDep (activeByte active) br passive nfcid3 gi (answer 2))
-requestStart (tgInitTarget mode mifare felica nfcid3t gt ms) =
-    asserted (initFits mode mifare felica nfcid3t)
-    (limited (initData mode mifare felica nfcid3t gt) (chipset.tgInitTarget mode mifare felica nfcid3t gt ms (answer 0)))
-requestStart (tgSetGeneralBytes gb) = limited gb (chipset.tgSetGeneralBytes gb finished)
-requestStart (tgGetInitiatorCommand ms) = starts (chipset.tgGetInitiatorCommand ms (finish nothing) (answer 1))
-requestStart (tgResponseToInitiator bytes) = limited bytes (chipset.tgResponseToInitiator bytes finished)
-requestStart tgGetTargetStatus =
-    starts (chipset.tgGetTargetStatus (λ bs send receive. finish (done (byteAt 0 bs 0 ∷ (rateBytes send ++ rateBytes receive)))))
-
-abbrev pub deviceStart : DeviceCall → Start
-deviceStart (detectTypeA text uid) = codeFor typeACode text (λ code. limited (1 ∷ code ∷ cascaded uid) (discovery.detectTypeA code uid))
-deviceStart (detectTypeASplit text uid) = codeFor typeACode text (λ code. limited (1 ∷ code ∷ cascaded uid) (discovery.detectTypeASplit code uid))
-deviceStart (detectTypeB text sensbReq) = codeFor typeBCode text (λ code. starts (discovery.detectTypeB code (getD sensbReq 0 0)))
-deviceStart (detectTypeF text systemCode requestCode timeSlots) =
-    codeFor typeFCode text (λ code. starts (discovery.detectTypeF code (sensfReq systemCode requestCode timeSlots)))
-deviceStart (pollTypeF text words) =
-    asserted (systemCodesFit words) (codeFor typeFCode text (λ code. starts (discovery.pollTypeF code (wordsIn words))))
-deviceStart (detectDep text atrReq) =
-    asserted (both (leb 16 (length atrReq)) (leb (length atrReq) 64)) (codeFor depCode text (λ code. starts (discovery.detectDep code atrReq)))
-deviceStart (transceive text selRes ridRes bytes ms) = withBitrate (choiceOf text) (λ rate. transceiveStart rate selRes ridRes bytes (clockOf ms))
-deviceStart (readWithoutEncryption idm service blocks ms) = asserted (requestFits idm blocks) (starts (readBlocks idm service blocks (clockOf ms)))
-deviceStart (writeWithoutEncryption idm service blocks bytes ms) =
-    asserted (writeFits idm blocks bytes) (starts (writeBlocks idm service blocks bytes (clockOf ms)))
-
-abbrev pub readerStart : ReaderCall → Start
-readerStart (request r) = requestStart r
-readerStart (device d) = deviceStart d
-readerStart unknown = refuses BadArgument
+-- ---- an opening, and how many frames a call may order
 
 -- the modes of a session (document 02, N2): off, and padded, in which packets may have extra zeros before their start
 abbrev pub paddedMode : ℕ
@@ -255,10 +178,6 @@ paddedMode = 1
 
 abbrev pub isPaddedMode : ℕ → Bool
 isPaddedMode mode = eqb mode paddedMode
-
-abbrev pub startOf : Call → Start
-startOf (opening mode) = asserted (leb mode paddedMode) (starts deviceNew)
-startOf (reader c) = readerStart c
 
 -- the opening, whose script follows `Chipset::new`
 abbrev pub isOpening : Call → Bool

@@ -1,38 +1,40 @@
--- Every call's script is sound: a line for each call.
+-- Every call's script is sound: a line for each rule, which serves all commands of it, and for each other call.
 use mathlib.Core.Path.{_≡_, sym}
 use mathlib.Core.List.{List, []}
 use Prim.Native.Nat.{ℕ, _+_, _*_, _/_}
 use lib.Dec.{leb}
 use Rattle.protocol.specs.Discovery as discovery
-use Rattle.protocol.specs.Calls.{Request, version, resetMode, setParameters, rfConfiguration, rfFieldOff, readRegister, writeRegister, readSingleRegister, writeSingleRegister, inListPassiveTarget, inDataExchange, inCommunicateThru, inJumpForDep, tgInitTarget, tgSetGeneralBytes, tgGetInitiatorCommand, tgResponseToInitiator, tgGetTargetStatus}
+use Rattle.protocol.specs.Scripts.{ask}
+use Rattle.protocol.specs.Rules.{Rule, version, noBytes, allBytes, registersWritten, firstByte, listedTarget, exchangedData, thru, jump, status, initiatorCommand, targetStatus, ruleScript}
+use Rattle.protocol.specs.Calls.{Row, row, resets, rowOf, Call, opening, reader, request, device, unknown, limit, deviceLimit}
 use Rattle.protocol.specs.Calls.{DeviceCall, detectTypeA, detectTypeASplit, detectTypeB, detectTypeF, detectDep, transceive, pollTypeF, readWithoutEncryption, writeWithoutEncryption}
-use Rattle.protocol.specs.Calls.{Call, opening, reader, request, device, unknown, requestStart, deviceStart, startOf, limit, wordsIn, deviceLimit}
-use Rattle.protocol.specs.Own.{onlyCards, versionAndName, requestForm, deviceForm, formOf, no-codes, polledCodes}
+use Rattle.protocol.specs.Starts.{limited, rowStart, deviceStart, startOf}
+use Rattle.protocol.specs.Arguments.{wordsIn}
+use Rattle.protocol.specs.Own.{onlyCards, versionAndName, ruleForm, rowForm, deviceForm, formOf, no-codes, polledCodes}
 use Rattle.protocol.specs.Sound.{Within, Correct, Sound, sound-if, version-name, target-answer, correct-rules, sound-rules, no-bytes}
 use native.Mathlib.Omega.{arith}
 use lib.ListN.{length}
 use Rattle.protocol.specs.BlocksSound.{block-rules}
 use Rattle.protocol.specs.PollSound.{words-count, codes-within, codes-correct}
 
-request-sound : (r : Request) → Sound (requestForm r) (requestStart r) 4
-request-sound version = search sound-rules depth 60
-request-sound resetMode = search sound-rules depth 60
-request-sound (setParameters flags) = search sound-rules depth 60
-request-sound (rfConfiguration item bytes) = search sound-rules depth 60
-request-sound rfFieldOff = search sound-rules depth 60
-request-sound (readRegister addresses) = search sound-rules depth 60
-request-sound (writeRegister values) = search sound-rules depth 60
-request-sound (readSingleRegister address) = search sound-rules depth 60
-request-sound (writeSingleRegister address value) = search sound-rules depth 60
-request-sound (inListPassiveTarget maxTg bitrate bytes) = search sound-rules depth 60
-request-sound (inDataExchange bytes ms) = search sound-rules depth 60
-request-sound (inCommunicateThru bytes ms) = search sound-rules depth 60
-request-sound (inJumpForDep active br passive nfcid3 gi) = search sound-rules depth 60
-request-sound (tgInitTarget mode mifare felica nfcid3t gt ms) = search sound-rules depth 60
-request-sound (tgSetGeneralBytes gb) = search sound-rules depth 60
-request-sound (tgGetInitiatorCommand ms) = search sound-rules depth 60
-request-sound (tgResponseToInitiator bytes) = search sound-rules depth 60
-request-sound tgGetTargetStatus = search sound-rules depth 60
+-- a command, by its rule
+rule-sound : (code clock : ℕ) (bytes : List ℕ) (q : Rule) → Sound (ruleForm q) (limited bytes (ask code clock bytes (ruleScript q))) 4
+rule-sound code clock bytes version = search sound-rules depth 60
+rule-sound code clock bytes noBytes = search sound-rules depth 60
+rule-sound code clock bytes allBytes = search sound-rules depth 60
+rule-sound code clock bytes registersWritten = search sound-rules depth 60
+rule-sound code clock bytes firstByte = search sound-rules depth 60
+rule-sound code clock bytes listedTarget = search sound-rules depth 60
+rule-sound code clock bytes exchangedData = search sound-rules depth 60
+rule-sound code clock bytes thru = search sound-rules depth 60
+rule-sound code clock bytes jump = search sound-rules depth 60
+rule-sound code clock bytes status = search sound-rules depth 60
+rule-sound code clock bytes initiatorCommand = search sound-rules depth 60
+rule-sound code clock bytes targetStatus = search sound-rules depth 60
+
+row-sound : (w : Row) → Sound (rowForm w) (rowStart w) 4
+row-sound (row holds code clock bytes q) = sound-if (ruleForm q) holds _ _ 4 (rule-sound code clock bytes q) tt
+row-sound resets = search sound-rules depth 60
 
 typeA-sound : (code : ℕ) (uid : List ℕ) → Within (discovery.detectTypeA code uid) 4 × Correct onlyCards (discovery.detectTypeA code uid) []
 typeA-sound code uid = (search sound-rules depth 60, search correct-rules depth 60 fits 4000)
@@ -63,6 +65,6 @@ device-sound (writeWithoutEncryption idm service blocks bytes ms) = search (bloc
 pub sound : (c : Call) → Sound (formOf c) (startOf c) (limit c)
 sound (opening mode) =
     sound-if versionAndName (leb mode 1) _ _ 10 (search sound-rules depth 60, search (version-name, correct-rules) depth 60 fits 4000) tt
-sound (reader (request r)) = request-sound r
+sound (reader (request r)) = row-sound (rowOf r)
 sound (reader (device d)) = device-sound d
 sound (reader unknown) = search sound-rules depth 60

@@ -9,7 +9,8 @@ use Rattle.errors.specs.declared.Refusal.{Refusal}
 use Rattle.errors.specs.declared.Refusal.the-variants.{OutOfTurn, ShortBuffer, OverLong, BadArgument}
 use Rattle.exchange.specs.Exchange.{Order, write, read, drain, pause, Event, unfit, pending, ended}
 use Rattle.protocol.specs.Scripts.{Byte, Answer}
-use Rattle.protocol.specs.Calls.{Call, Start, refuses, starts, startOf, isOpening}
+use Rattle.protocol.specs.Calls.{Call, isOpening}
+use Rattle.protocol.specs.Starts.{Start, refuses, starts, startOf}
 use Rattle.protocol.specs.Session.{Phase, CallResult, progress, begin, Running, idle, busy, Books, lastCaller, admits, booksFor, bookOrder, bookAnswer, Session, seen, packetLimit, Entry, call, event, Output, orders, answers, rejects}
 use Rattle.protocol.specs.Session.{Outcome, unchanged, runs, ends, outcome, bufferNeed, packetLength, admitted, eventOutcome, started, callOutcome, after, given, step, outputs, sessionAfter}
 use Rattle.protocol.specs.Record.{Item, ordered, accepted, Record, Note, note, Observed, observed, addCall, addEvent, add, observe, linesOf, seenItem}

@@ -12,7 +12,8 @@ use lib.ListN.{length, getD}
 use Rattle.exchange.specs.Packets.{isAck}
 use Rattle.exchange.specs.Exchange.{Order, write, read, drain, pause, Event, unfit, pending, ended}
 use Rattle.protocol.specs.Scripts.{Byte, Answer}
-use Rattle.protocol.specs.Calls.{Call, opening, reader, Start, refuses, starts, startOf, isOpening}
+use Rattle.protocol.specs.Calls.{Call, opening, reader, isOpening}
+use Rattle.protocol.specs.Starts.{Start, refuses, starts, startOf}
 use Rattle.protocol.specs.Session.{CallResult, begin, progress, Running, idle, busy, Books, lastCaller, noCounts, admits, booksFor, ceiling, addFrame, counted, countedFor, Session, fresh, Entry, call, event}
 use Rattle.protocol.specs.Session.{Outcome, unchanged, runs, ends, outcome, bufferNeed, packetLimit, seen, packetLength, admitted, eventOutcome, started, callOutcome, outcomeOf, booksAfter, given, step, outputs, sessionAfter}
 use Rattle.protocol.specs.Record.{Item, ordered, accepted, Record, Note, note, Observed, observed, addCall, addEvent, add, observe, recordOf, linesOf, seenLines, oneIf, frames, framesBy}

@@ -9,8 +9,9 @@ use borrow.Author.Tests.{leb-true}
 use lib.Dec.{eqb, leb, ltb}
 use lib.ListN.{length, getD}
 use Rattle.exchange.specs.Exchange.{Event, unfit, pending, ended}
-use Rattle.protocol.specs.Scripts.{Byte, Answer}
-use Rattle.protocol.specs.Calls.{Call, Start, refuses, starts, startOf, isOpening}
+use Rattle.protocol.specs.Scripts.{Byte}
+use Rattle.protocol.specs.Calls.{Call, isOpening}
+use Rattle.protocol.specs.Starts.{Start, refuses, starts, startOf}
 use Rattle.protocol.specs.Session.{CallResult, begin, Running, idle, busy, Books, lastCaller, ceiling, admits, Session, fresh, Entry, call, event, Output, orders, answers, rejects}
 use Rattle.protocol.specs.Session.{Outcome, unchanged, runs, ends, outcome, bufferNeed, started, callOutcome, outcomeOf, given, step, outputs, sessionAfter}
 use Rattle.protocol.specs.Record.{Record, Note, Observed, observed, addCall, addEvent, add, observe, recordOf, linesOf, frames, framesSinceOpening, framesBy}

@@ -4,7 +4,9 @@ use mathlib.Core.List.{List, [], _∷_, _++_}
 use Prim.Native.Nat.{ℕ, _+_, _%_, _/_}
 use lib.Dec.{ltb}
 use Rattle.protocol.specs.Scripts.{Script, finish, reset, done, Byte, own}
-use Rattle.protocol.specs.Chipset.{getFirmwareVersion, versionBytes, setParameters, rfConfiguration, rfFieldOff, writeRegister, word}
+use Rattle.protocol.specs.Chipset.{getFirmwareVersion, setParameters, rfConfiguration, rfFieldOff, writeRegister}
+use Rattle.protocol.specs.Rules.{versionBytes}
+use Rattle.protocol.specs.Arguments.{word}
 use Rattle.protocol.specs.Names.{rfCfgRam07}
 
 -- a byte in lower-case hex, unpadded

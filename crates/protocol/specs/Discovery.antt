@@ -11,8 +11,10 @@ use Rattle.targets.specs.TypeA.{isTargetData}
 use Rattle.crc.specs.Crc.{typeA as crcA, checks}
 use Rattle.protocol.specs.Scripts.{Byte, own, behind, Answer, done, type1, uidAndAts, nothing, refused, refusedAfter}
 use Rattle.protocol.specs.Scripts.{Script, finish, command, fieldPause, refuse, either, ifElse, andThen, byteAt, part, rest}
-use Rattle.protocol.specs.Chipset.{word, readSingleRegister, writeSingleRegister, rfConfiguration, inListPassiveTarget, inDataExchange, inDataExchangeElse, inCommunicateThru, inCommunicateThruElse, inJumpForDepElse}
-use Rattle.protocol.specs.Names.{ciuFifoData, ciuMode, ciuRxMode, ciuTxControl, inCommunicateThruCode, readRegisterCode, registersClock, rfNotActivated, timeoutStatus, typeBClock}
+use Rattle.protocol.specs.Arguments.{word}
+use Rattle.protocol.specs.Chipset.{readSingleRegister, writeSingleRegister, rfConfiguration, inListPassiveTarget, inDataExchange, inDataExchangeElse, inCommunicateThru, inCommunicateThruElse, inJumpForDepElse}
+use Rattle.protocol.specs.Names.{ciuFifoData, ciuMode, ciuRxMode, ciuTxControl, registersClock, rfNotActivated, timeoutStatus, typeBClock}
+use Rattle.protocol.specs.Calls.{inCommunicateThruCode, readRegisterCode}
 
 -- ---- detect_type_a
 

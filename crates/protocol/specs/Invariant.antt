@@ -143,10 +143,10 @@ module _ (n : ℕ) (c : Call) where
     pub source : Sourced l responses
 
   -- of what an event, or the call's beginning, leads to
-  abbrev pub Kept : Record → List Item → CallResult → Type 0
-  Kept l xs unfit = Unit {0}
-  Kept l xs (pending x phase) = Invariant ((n, ordered x) ∷ l) (ordered x ∷ xs) phase
-  Kept l xs (ended a) = Ended l n c a
+  abbrev pub Preserved : Record → List Item → CallResult → Type 0
+  Preserved l xs unfit = Unit {0}
+  Preserved l xs (pending x phase) = Invariant ((n, ordered x) ∷ l) (ordered x ∷ xs) phase
+  Preserved l xs (ended a) = Ended l n c a
 
   -- ---- a new line
 
@@ -211,7 +211,7 @@ module _ (n : ℕ) (c : Call) where
   final-form l rs f (refusedAfter r j) h = tt
 
   pub closed : (l : Record) (xs : List Item) (rs : List (List ℕ)) (a : Answer Byte) → linesOf n l ≡ xs → frames xs ≤ limit c → events xs ≤ allowed c xs
-      → Final (formOf c) rs a → Sourced l rs → Kept l xs (ended a)
+      → Final (formOf c) rs a → Sourced l rs → Preserved l xs (ended a)
   closed l xs rs a e f g h s = record { framesWithin = rw e f; eventsWithin = rw e g; cardBytes = final-cards l rs s a h; form = final-form l rs s a h }
 
   -- ---- a script is entered after the responses rs
@@ -227,7 +227,7 @@ module _ (n : ℕ) (c : Call) where
         → LeftRest (formOf c) rest m rs
         → frames xs ≡ length rs
         → Sourced l rs
-        → Kept l xs (pending (write (commandFrame code bytes)) (exchange (sending code clock) rest))
+        → Preserved l xs (pending (write (commandFrame code bytes)) (exchange (sending code clock) rest))
     sent code clock bytes rest m b q w e f =
         let h : frames (ordered (write (commandFrame code bytes)) ∷ xs) ≡ suc (frames xs) = counts code bytes in
         record {
@@ -242,7 +242,7 @@ module _ (n : ℕ) (c : Call) where
         }
 
     pub entered : (s : Script) (m : ℕ) → events xs ≤ allowed c xs → frames xs + m ≤ limit c → Left (formOf c) s m rs → frames xs ≡ length rs → Sourced l rs
-        → Kept l xs (enter s)
+        → Preserved l xs (enter s)
     entered (finish a) m b q w e f = closed l xs rs a own-lines (omega arith) b (w .1) f
     entered (command code clock bytes k) zero b q w e f = absurd (w .0)
     entered (command code clock bytes k) (suc m) b q w e f =

@@ -1,11 +1,14 @@
 -- definitions: the exchange, the calls as scripts, the session
 pub mod Names
 pub mod Scripts
+pub mod Rules
+pub mod Arguments
+pub mod Calls
 pub mod Chipset
 pub mod Device
 pub mod Discovery
 pub mod Blocks
-pub mod Calls
+pub mod Starts
 pub mod Session
 -- definitions: the record, its counts, which bytes of an answer are no card bytes, and demand 3
 pub mod Record
@@ -30,7 +33,7 @@ pub mod PollRuns
 pub mod BlocksSound
 pub mod CallsSound
 pub mod Invariant
-pub mod Kept
+pub mod Preserved
 pub mod Seen
 pub mod Theorem
 pub mod Once

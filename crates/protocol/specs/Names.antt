@@ -1,51 +1,6 @@
--- Numbers of the manual and of the Rust by name: command codes (`cmd` of chipset.rs), clocks in ms, registers (`ciu`), status bytes (`err`),
--- pauses in µs. The code has them in chipset/src: cmd.rt, clock.rt, ciu.rt, err.rt.
+-- Numbers of the manual and of the Rust by name: clocks in ms, registers (`ciu` of chipset.rs), status bytes (`err`), pauses in µs. The code
+-- has them in chipset/src: clock.rt, ciu.rt, err.rt. The command codes stand in Calls.antt, each with its command.
 use Prim.Native.Nat.{ℕ}
-
-abbrev pub getFirmwareVersionCode : ℕ
-getFirmwareVersionCode = 0x02
-
-abbrev pub readRegisterCode : ℕ
-readRegisterCode = 0x06
-
-abbrev pub writeRegisterCode : ℕ
-writeRegisterCode = 0x08
-
-abbrev pub setParametersCode : ℕ
-setParametersCode = 0x12
-
-abbrev pub resetModeCode : ℕ
-resetModeCode = 0x18
-
-abbrev pub rfConfigurationCode : ℕ
-rfConfigurationCode = 0x32
-
-abbrev pub inDataExchangeCode : ℕ
-inDataExchangeCode = 0x40
-
-abbrev pub inCommunicateThruCode : ℕ
-inCommunicateThruCode = 0x42
-
-abbrev pub inListPassiveTargetCode : ℕ
-inListPassiveTargetCode = 0x4A
-
-abbrev pub inJumpForDepCode : ℕ
-inJumpForDepCode = 0x56
-
-abbrev pub tgGetInitiatorCommandCode : ℕ
-tgGetInitiatorCommandCode = 0x88
-
-abbrev pub tgGetTargetStatusCode : ℕ
-tgGetTargetStatusCode = 0x8A
-
-abbrev pub tgInitTargetCode : ℕ
-tgInitTargetCode = 0x8C
-
-abbrev pub tgResponseToInitiatorCode : ℕ
-tgResponseToInitiatorCode = 0x90
-
-abbrev pub tgSetGeneralBytesCode : ℕ
-tgSetGeneralBytesCode = 0x92
 
 abbrev pub commandClock : ℕ
 commandClock = 100

@@ -1,6 +1,6 @@
 -- Which bytes of an answer are the engine's own, and what they are worked out from. Document 01 names them: DEP's D5 01, the chip's
 -- name, the more flag and rates; document 02 the marks of a list of system codes, and two lengths
--- beside Type A's answer. All other bytes are card bytes. A new call adds its line.
+-- beside Type A's answer. All other bytes are card bytes. A new rule or discovery adds its line.
 use mathlib.Core.Path.{_≡_}
 use mathlib.Core.Bool.{Bool, cond}
 use mathlib.Core.List.{List, [], _∷_, _++_}
@@ -9,11 +9,10 @@ use lib.Dec.{eqb}
 use lib.ListN.{length, drop}
 use Rattle.targets.specs.TypeA.{TargetData}
 use Rattle.protocol.specs.Scripts.{Byte, own, card, Answer, done, type1, uidAndAts, nothing, refused, refusedAfter, byteAt, part, rest}
-use Rattle.protocol.specs.Chipset.{rate}
+use Rattle.protocol.specs.Rules.{Rule, version, noBytes, allBytes, registersWritten, firstByte, listedTarget, exchangedData, thru, jump, status, initiatorCommand, targetStatus, rate, rateBytes}
 use Rattle.protocol.specs.Device.{chipsetName}
-use Rattle.protocol.specs.Calls.{Request, version, resetMode, setParameters, rfConfiguration, rfFieldOff, readRegister, writeRegister, readSingleRegister, writeSingleRegister, inListPassiveTarget, inDataExchange, inCommunicateThru, inJumpForDep, tgInitTarget, tgSetGeneralBytes, tgGetInitiatorCommand, tgResponseToInitiator, tgGetTargetStatus}
+use Rattle.protocol.specs.Calls.{Request, Row, row, resets, rowOf, Call, opening, reader, request, device, unknown}
 use Rattle.protocol.specs.Calls.{DeviceCall, detectTypeA, detectTypeASplit, detectTypeB, detectTypeF, pollTypeF, detectDep, transceive, readWithoutEncryption, writeWithoutEncryption}
-use Rattle.protocol.specs.Calls.{Call, opening, reader, request, device, unknown, rateBytes}
 
 -- ---- the forms of an answer
 
@@ -116,25 +115,27 @@ Formed At f (refusedAfter r n) = Unit {0}
 
 -- ---- the form of each call's answer
 
+-- of a command, by its rule
+abbrev pub ruleForm : Rule → Form
+ruleForm version = onlyCards
+ruleForm noBytes = onlyCards
+ruleForm allBytes = onlyCards
+ruleForm registersWritten = onlyCards
+ruleForm firstByte = onlyCards
+ruleForm listedTarget = onlyCards
+ruleForm exchangedData = cardsAndFlag
+ruleForm thru = onlyCards
+ruleForm jump = onlyCards
+ruleForm status = onlyCards
+ruleForm initiatorCommand = onlyCards
+ruleForm targetStatus = cardAndRates
+
+abbrev pub rowForm : Row → Form
+rowForm (row holds code clock sent rule) = ruleForm rule
+rowForm resets = onlyCards
+
 abbrev pub requestForm : Request → Form
-requestForm version = onlyCards
-requestForm resetMode = onlyCards
-requestForm (setParameters flags) = onlyCards
-requestForm (rfConfiguration item settings) = onlyCards
-requestForm rfFieldOff = onlyCards
-requestForm (readRegister addresses) = onlyCards
-requestForm (writeRegister values) = onlyCards
-requestForm (readSingleRegister address) = onlyCards
-requestForm (writeSingleRegister address v) = onlyCards
-requestForm (inListPassiveTarget maxTg bitrate initiator) = onlyCards
-requestForm (inDataExchange sent ms) = cardsAndFlag
-requestForm (inCommunicateThru sent ms) = onlyCards
-requestForm (inJumpForDep active br passive nfcid3 gi) = onlyCards
-requestForm (tgInitTarget mode mifare felica nfcid3t gt ms) = onlyCards
-requestForm (tgSetGeneralBytes gb) = onlyCards
-requestForm (tgGetInitiatorCommand ms) = onlyCards
-requestForm (tgResponseToInitiator sent) = onlyCards
-requestForm tgGetTargetStatus = cardAndRates
+requestForm r = rowForm (rowOf r)
 
 abbrev pub deviceForm : DeviceCall → Form
 deviceForm (detectTypeA text uid) = onlyCards

@@ -17,11 +17,12 @@ use Rattle.exchange.specs.Packets.{commandFrame}
 use Rattle.exchange.specs.Exchange.{Order, write, Event, unfit, pending, ended}
 use Rattle.protocol.specs.Scripts.{Byte, behind, Answer, done, type1, uidAndAts, nothing, refused, refusedAfter}
 use Rattle.protocol.specs.Scripts.{Script, finish, command, reset, fieldPause}
-use Rattle.protocol.specs.Chipset.{word}
+use Rattle.protocol.specs.Arguments.{word, systemCodesFit, wordsIn}
 use Rattle.protocol.specs.Discovery.{codeEnd, sensfReq, pollCodes}
 use Rattle.protocol.specs.Discovery as discovery
 use Rattle.targets.specs.Bitrates.{Choice, chosen, noCode, choiceOf}
-use Rattle.protocol.specs.Calls.{Call, Start, refuses, starts, onCode, withBitrate, codeFor, typeFCode, reader, device, pollTypeF, systemCodesFit, wordsIn}
+use Rattle.protocol.specs.Calls.{Call, reader, device, pollTypeF}
+use Rattle.protocol.specs.Starts.{Start, refuses, starts, onCode, withBitrate, codeFor, typeFCode}
 use Rattle.protocol.specs.Session.{Phase, seen, lastCaller}
 use Rattle.protocol.specs.Session.{CallResult, enter, progress, idle, busy, Books, Session, call}
 use Rattle.protocol.specs.Session.{Outcome, unchanged, runs, ends, outcome, bufferNeed, packetLimit, packetLength, admitted, eventOutcome, bookOrder, outcomeOf, given, after}

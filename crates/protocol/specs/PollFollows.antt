@@ -4,7 +4,7 @@ use mathlib.Core.Bool.{true}
 use mathlib.Core.List.{List, map}
 use Prim.Native.Nat.{ℕ}
 use lib.ListN.{length}
-use Rattle.protocol.specs.Calls.{systemCodesFit, wordsIn}
+use Rattle.protocol.specs.Arguments.{systemCodesFit, wordsIn}
 use Rattle.protocol.specs.Session.{Books, Session, outputs, sessionAfter}
 use Rattle.protocol.specs.Follows.{plain, Machine, givenOut, stateAfter, entries, same-out, still-means}
 use Rattle.protocol.specs.PollList.{EventAndRoom, oneCall, singleCalls, run, Equal, idleWith}

@@ -10,7 +10,8 @@ use Rattle.errors.specs.declared.Refusal.{Refusal}
 use Rattle.exchange.specs.Exchange.{Event}
 use Rattle.protocol.specs.Scripts.{Byte, behind, Answer, done, type1, uidAndAts, nothing, refused, refusedAfter}
 use Rattle.protocol.specs.Discovery.{byNoCard, cardMet, noCardMet}
-use Rattle.protocol.specs.Calls.{Call, reader, device, detectTypeF, pollTypeF, wordsIn}
+use Rattle.protocol.specs.Calls.{Call, reader, device, detectTypeF, pollTypeF}
+use Rattle.protocol.specs.Arguments.{wordsIn}
 use Rattle.protocol.specs.Session.{Running, idle, busy, Books, Session, Entry, call, event, Output, orders, answers, rejects, step, outputs, sessionAfter}
 use Rattle.protocol.specs.Record.{Item, Record, Note, Observed, recordOf, linesOf, frames}
 

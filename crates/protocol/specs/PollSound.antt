@@ -11,7 +11,7 @@ use lib.ListN.{length, take, getD, getElem?}
 use Rattle.errors.specs.declared.Fault.{Fault}
 use Rattle.protocol.specs.Scripts.{Byte, own, card, behind, Answer, done, type1, uidAndAts, nothing, refused, refusedAfter}
 use Rattle.protocol.specs.Scripts.{Script, finish, command, reset, fieldPause, andThen, part, rest}
-use Rattle.protocol.specs.Calls.{wordsIn}
+use Rattle.protocol.specs.Arguments.{wordsIn}
 use Rattle.protocol.specs.Discovery.{sensfReq, poll, detectTypeF, byNoCard, cardMet, noCardMet, codeEnd, pollCodes}
 use Rattle.protocol.specs.Own.{Form, Polled, met, not-met, polledCodes}
 use Rattle.protocol.specs.Laws.{by-fault}

@@ -11,8 +11,8 @@ use Rattle.errors.specs.declared.Refusal.the-variants.{OutOfTurn, ShortBuffer, 
 use Rattle.framing.specs.Padded.{extraZeros}
 use Rattle.framing.specs.Unpadded.{unpadded-none}
 use Rattle.exchange.specs.Exchange.{Event, ok, bad, pkt, time, fail, late, slept, unfit, pending, ended}
-use Rattle.protocol.specs.Scripts.{Byte}
-use Rattle.protocol.specs.Calls.{Call, opening, reader, Start, refuses, starts, startOf, isOpening, readerStart}
+use Rattle.protocol.specs.Calls.{Call, opening, reader, isOpening}
+use Rattle.protocol.specs.Starts.{Start, refuses, starts, startOf, readerStart}
 use Rattle.protocol.specs.Session.{Phase, CallResult, enter, progress, Running, idle, busy, Books, lastCaller, admits, Session, fresh, packetLimit, seen, Entry, call, event, seenEntry, Output}
 use Rattle.protocol.specs.Session.{Outcome, unchanged, runs, ends, outcome, bufferNeed, withRoom, withCaller, packetLength, admitted, eventOutcome, started, callOutcome, outcomeOf, runningAfter, booksAfter, after, given, step, outputs, sessionAfter}
 use Rattle.protocol.specs.Laws.{split}

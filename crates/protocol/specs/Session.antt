@@ -13,7 +13,8 @@ use Rattle.exchange.specs.Packets.{commandFrame, resetCode, resetData, isAck, R
 use Rattle.exchange.specs.Exchange.{Order, write, read, drain, pause, Event, ok, bad, pkt, time, fail, late, slept}
 use Rattle.exchange.specs.Exchange.{Result, unfit, pending, ended, onWrite, onRead, onPause, Step, sending, advance, ExchangeResult}
 use Rattle.protocol.specs.Scripts.{Byte, Answer, done, type1, uidAndAts, nothing, refused, Script, finish, command, reset, fieldPause, refusedAfter}
-use Rattle.protocol.specs.Calls.{Call, opening, reader, Start, refuses, starts, startOf, isOpening, isPaddedMode}
+use Rattle.protocol.specs.Calls.{Call, opening, reader, isOpening, isPaddedMode}
+use Rattle.protocol.specs.Starts.{Start, refuses, starts, startOf}
 use Rattle.protocol.specs.Names.{fieldPauseTime, openingReadTime, resetPauseTime}
 
 -- ---- a running call

@@ -20,8 +20,8 @@ use Rattle.targets.specs.declared.Bitrate.{Bitrate}
 use Rattle.exchange.specs.Packets.{isEmpty, Reply, response, failed}
 use Rattle.protocol.specs.Scripts.{Byte, own, card, Answer, done, type1, uidAndAts, nothing, refused, refusedAfter}
 use Rattle.protocol.specs.Scripts.{Script, finish, command, reset, fieldPause, either, ifElse, byteAt, part, rest}
-use Rattle.protocol.specs.Calls.{Start, refuses, starts, onCode, withBitrate, rateBytes}
-use Rattle.protocol.specs.Chipset.{versionBytes, rate, sendIndex, receiveIndex}
+use Rattle.protocol.specs.Starts.{Start, refuses, starts, onCode, withBitrate}
+use Rattle.protocol.specs.Rules.{rateBytes, versionBytes, rate, sendIndex, receiveIndex}
 use Rattle.protocol.specs.Device.{hexDigit, hex, chipsetName}
 use Rattle.protocol.specs.Discovery.{byNoCard, cardA, uidLength, atsLength}
 use Rattle.protocol.specs.Own.{Cards, Owns, CardsAndFlag, CardAndRates, DepAndCards, Form, versionAndName, HasForm, Formed}

@@ -10,7 +10,8 @@ use lib.ListN.{length}
 use Rattle.framing.specs.Frames.{ack}
 use Rattle.exchange.specs.Exchange.{write, Event, unfit, pending, ended}
 use Rattle.protocol.specs.Scripts.{Byte, Answer, Script}
-use Rattle.protocol.specs.Calls.{Call, Start, refuses, starts, startOf, isOpening, limit}
+use Rattle.protocol.specs.Calls.{Call, isOpening, limit}
+use Rattle.protocol.specs.Starts.{Start, refuses, starts, startOf}
 use Rattle.protocol.specs.Session.{Phase, CallResult, begin, progress, Running, idle, busy, Books, lastCaller, admits, Session, fresh, Entry, call, event}
 use Rattle.protocol.specs.Session.{Outcome, outcome, bufferNeed, packetLimit, seen, seenEntry, withRoom, packetLength, admitted, eventOutcome, started, callOutcome, outcomeOf, runningAfter, given, step, outputs}
 use Rattle.protocol.specs.Record.{Item, ordered, accepted, Record, Note, Observed, observed, addCall, addEvent, add, observe, recordOf, linesOf, modeAt, asSeen, frames, allowed}
@@ -19,8 +20,8 @@ use Rattle.protocol.specs.Own.{formOf}
 use Rattle.protocol.specs.Sound.{Sound}
 use Rattle.protocol.specs.CallsSound.{sound}
 use Rattle.protocol.specs.Laws.{split, lines-own, lines-other}
-use Rattle.protocol.specs.Invariant.{phase-due, Left, Sourced, Invariant, Kept, later-card, later-sourced, form-by, bare, entered}
-use Rattle.protocol.specs.Kept.{KeptBy, kept}
+use Rattle.protocol.specs.Invariant.{phase-due, Left, Sourced, Invariant, Preserved, later-card, later-sourced, form-by, bare, entered}
+use Rattle.protocol.specs.Preserved.{KeptBy, kept}
 use Rattle.protocol.specs.Seen.{Unused, no-lines, more-unused, unused-seen, add-seen, mode-after, callerAt, caller-after}
 
 -- ---- lines of a later call
@@ -76,7 +77,7 @@ unused s w i = unused-seen (w .lines) (w .notes) _ (none-unused (s .running) _ (
 
 -- a call begins
 begun : (caller : ℕ) (l : Record) (ns : List Note) (c : Call) (r : CallResult) → Claims l ns → Unused l (length ns)
-    → Kept (length ns) c l [] r → AgreesAt (runningAfter idle (outcome c r)) (addCall caller c l ns (given (outcome c r)))
+    → Preserved (length ns) c l [] r → AgreesAt (runningAfter idle (outcome c r)) (addCall caller c l ns (given (outcome c r)))
 begun caller l ns c unfit h u q = (h, u)
 begun caller l ns c (pending x phase) h u q = (
   record { sameCall = refl; unanswered = refl; ownLines = ordered x ∷ []; invariant = q },
@@ -140,7 +141,7 @@ module _ (caller : ℕ) (l : Record) (ns : List Note) (c : Call) (i : Agrees idl
   no-line : linesOf (length ns) l ≡ []
   no-line = no-lines l (length ns) (length ns) (i .1) (omega arith)
 
-  begin-kept : (b : Bool) (s : Script) → isOpening c ≡ b → Left (formOf c) s (limit c) [] → Kept (length ns) c l [] (begin b s)
+  begin-kept : (b : Bool) (s : Script) → isOpening c ≡ b → Left (formOf c) s (limit c) [] → Preserved (length ns) c l [] (begin b s)
   begin-kept true s e h =
       let f : frames (ordered (write ack) ∷ []) ≡ 0 = bare (length ns) c [] in
       let a : 2 ≤ allowed c (ordered (write ack) ∷ []) = rw e (omega arith) in

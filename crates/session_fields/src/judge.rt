@@ -6,10 +6,11 @@ use errors::Numbered;
 
 const OUTCOMES: usize = 272;
 
-// The outcomes by number, then: a session out of range not refused with 1, a short buffer with an outcome but 1 and 2, a refusal 1 or 2
-// that changed the session, and more bytes told of than the buffer has.
+// The outcomes of events and of calls by number, then: a session out of range not refused with 1, a short buffer with an outcome but 1
+// and 2, a refusal 1 or 2 that changed the session, and more bytes told of than the buffer has.
 pub struct Tally {
-    counts: [u64; OUTCOMES],
+    events: [u64; OUTCOMES],
+    calls: [u64; OUTCOMES],
     unfit: u64,
     short: u64,
     changed: u64,
@@ -186,6 +187,20 @@ fn one_more(n: u64, more: bool) -> u64 {
     }
 }
 
+// One more of the kind, where it is counted.
+fn counted(counts: [u64; OUTCOMES], kind: usize, counts_here: bool) -> [u64; OUTCOMES] {
+    let mut counts = counts;
+    if kind < OUTCOMES {
+        counts[kind] = one_more(counts[kind], counts_here);
+    }
+    counts
+}
+
+// 1 where there is one.
+fn met(n: u64) -> u64 {
+    if n > 0 { 1 } else { 0 }
+}
+
 // Refused with 1 or 2.
 fn is_early(kind: usize) -> bool {
     if kind == 1 { true } else { kind == 2 }
@@ -232,7 +247,8 @@ fn refusals(counts: [u64; OUTCOMES]) {
 impl Tally {
     pub(crate) fn empty() -> Tally {
         Tally {
-            counts: [0; OUTCOMES],
+            events: [0; OUTCOMES],
+            calls: [0; OUTCOMES],
             unfit: 0,
             short: 0,
             changed: 0,
@@ -243,18 +259,20 @@ impl Tally {
     // Counts an outcome, and what is wrong with it.
     pub(crate) fn judged(
         self,
+        is_call: bool,
         before: Session,
         after: Session,
         output: Output,
         size: usize,
     ) -> Tally {
         let kind = kind(output);
-        let mut counts = self.counts;
-        if kind < OUTCOMES {
-            counts[kind] = std::num::wrapping_add_u64(counts[kind], 1);
-        }
+        let events = self.events;
+        let events = counted(events, kind, !is_call);
+        let calls = self.calls;
+        let calls = counted(calls, kind, is_call);
         Tally {
-            counts,
+            events,
+            calls,
             unfit: one_more(self.unfit, is_unfit(before, kind)),
             short: one_more(self.short, is_short(size, kind)),
             changed: one_more(self.changed, is_changed(before, after, kind)),
@@ -262,9 +280,11 @@ impl Tally {
         }
     }
 
-    // One line for each outcome, and one for each kind of violation.
+    // One line for each outcome of an event, with its count; of the calls, whose list grows, how many thousands were accepted and which
+    // refusals were met; and one for each kind of violation.
     pub(crate) fn print(self) {
-        let counts = self.counts;
+        let counts = self.events;
+        let calls = self.calls;
         line(b"write ", counts[256]);
         line(b"read ", counts[257]);
         line(b"drain ", counts[258]);
@@ -274,6 +294,13 @@ impl Tally {
         line(b"none ", counts[262]);
         line(b"done uid ats ", counts[263]);
         refusals(counts);
+        line(b"thousands of calls accepted ", calls[256] / 1000);
+        line(b"calls refused 1, met ", met(calls[1]));
+        line(b"calls refused 2, met ", met(calls[2]));
+        line(b"calls refused 3, met ", met(calls[3]));
+        line(b"calls refused 4, met ", met(calls[4]));
+        line(b"calls refused 5, met ", met(calls[5]));
+        line(b"calls refused 6, met ", met(calls[6]));
         line(b"out of range and not refused with 1: ", self.unfit);
         line(b"short buffer and not refused with 1 or 2: ", self.short);
         line(b"refused with 1 or 2 and changed: ", self.changed);

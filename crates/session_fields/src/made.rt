@@ -21,135 +21,57 @@ fn count(seed: u64, k: u64) -> usize {
     }
 }
 
-fn numbers(ms: u32, word: u16, x: u8, y: u8) -> Numbers {
+// The number of a call, at times the one behind the last.
+fn call_number(x: u64) -> u8 {
+    draw::byte(x % (start::LAST as u64 + 2))
+}
+
+// A call's arguments that are numbers: mostly ones that calls take.
+fn numbers(seed: u64) -> Numbers {
+    let x = draw::number(seed, 27);
+    let ms = if x % 8 == 0 { 100000 } else { 100 };
     Numbers {
         ms,
-        word,
-        x,
-        y,
-        caller: 0,
+        word: (x / 8 % 65536) as u16,
+        x: draw::byte(x / 16 % 3),
+        y: draw::byte(x / 64 % 2),
+        caller: draw::caller(draw::number(seed, 28)),
     }
 }
 
-// The number of a call of the chip itself.
-fn chip_number(k: u64) -> u8 {
-    match k % 10 {
-        0 => start::OPEN,
-        1 => start::GET_FIRMWARE_VERSION,
-        2 => start::RESET_MODE,
-        3 => start::SET_PARAMETERS,
-        4 => start::RF_CONFIGURATION,
-        5 => start::RF_FIELD_OFF,
-        6 => start::READ_REGISTER,
-        7 => start::WRITE_REGISTER,
-        8 => start::READ_SINGLE_REGISTER,
-        _ => start::WRITE_SINGLE_REGISTER,
-    }
-}
-
-fn chip(session: Session, seed: u64, bytes: &[u8], buffer: &mut [u8]) -> Step {
-    let number = chip_number(draw::number(seed, 21));
-    let rest = part(bytes, 0, count(seed, 20));
-    let none = part(bytes, 0, 0);
-    session.call(
-        number,
-        numbers(0, 25404, 1, 0),
-        rest,
-        none,
-        none,
-        none,
-        buffer,
-    )
-}
-
-// Calls of an initiator and of a target: their numbers follow each other.
-fn peer(session: Session, seed: u64, bytes: &[u8], buffer: &mut [u8]) -> Step {
-    let k = draw::number(seed, 21) % 9;
-    let number = std::num::wrapping_add_u8(start::IN_LIST_PASSIVE_TARGET, draw::byte(k));
-    let rest = part(bytes, 0, count(seed, 20));
-    let none = part(bytes, 0, 0);
-    let six = part(bytes, 0, 6);
-    let ten = part(bytes, 0, 10);
-    let eighteen = part(bytes, 0, 18);
-    match number {
-        start::IN_JUMP_FOR_DEP => {
-            session.call(number, numbers(0, 0, 0, 1), none, ten, rest, none, buffer)
-        }
-        start::TG_INIT_TARGET => {
-            session.call(
-                number,
-                numbers(100, 0, 0, 0),
-                six,
-                eighteen,
-                ten,
-                rest,
-                buffer,
-            )
-        }
-        _ => session.call(
-            number,
-            numbers(100, 0, 1, 0),
-            rest,
-            none,
-            none,
-            none,
-            buffer,
-        ),
-    }
-}
-
-// The number of a call of the device.
-fn device_number(k: u64) -> u8 {
-    match k {
-        1 => start::DETECT_TYPE_B,
-        2 => start::DETECT_TYPE_F,
-        3 => start::DETECT_DEP,
-        5..=6 => start::TRANSCEIVE,
-        7 => start::POLL_TYPE_F,
-        8 => start::DETECT_TYPE_A_SPLIT,
-        9 => start::READ_WITHOUT_ENCRYPTION,
-        10 => start::WRITE_WITHOUT_ENCRYPTION,
-        _ => start::DETECT_TYPE_A,
-    }
-}
-
-fn device(session: Session, seed: u64, bytes: &[u8], buffer: &mut [u8]) -> Step {
-    let k = draw::number(seed, 21) % 11;
-    let number = device_number(k);
+// A call whose strings are any bytes, those of a target's start, of a jump, or of FeliCa blocks.
+fn plain(session: Session, seed: u64, bytes: &[u8], buffer: &mut [u8]) -> Step {
+    let number = call_number(draw::number(seed, 21));
+    let numbers = numbers(seed);
     let rest = part(bytes, 0, count(seed, 20));
     let none = part(bytes, 0, 0);
     let one = part(bytes, 0, 1);
-    let zeros = numbers(0, 0, 0, 0);
-    let code = numbers(0, 65535, 0, 0);
-    let timed = numbers(0, 100, 1, 1);
-    match k {
-        0 => session.call(number, zeros, b"106A", rest, none, none, buffer),
-        1 => session.call(number, zeros, b"106B", rest, none, none, buffer),
-        2 => session.call(number, code, b"212F", none, none, none, buffer),
-        3 => session.call(number, zeros, b"424F", rest, none, none, buffer),
-        4 => session.call(number, zeros, b"848A", rest, none, none, buffer),
-        5 => session.call(number, zeros, b"106A", one, rest, none, buffer),
-        7 => session.call(number, zeros, b"212F", rest, none, none, buffer),
-        8 => session.call(number, zeros, b"106A", rest, none, none, buffer),
-        9 => session.call(
-            number,
-            code,
-            b"\x01\x02\x03\x04\x05\x06\x07\x08",
-            one,
-            none,
-            none,
-            buffer,
-        ),
-        10 => session.call(
-            number,
-            timed,
-            b"\x01\x02\x03\x04\x05\x06\x07\x08",
-            one,
-            part(bytes, 0, 16),
-            none,
-            buffer,
-        ),
-        _ => session.call(number, timed, b"106A", rest, rest, none, buffer),
+    let six = part(bytes, 0, 6);
+    let eight = part(bytes, 0, 8);
+    let ten = part(bytes, 0, 10);
+    let block = part(bytes, 0, 16);
+    let eighteen = part(bytes, 0, 18);
+    match draw::number(seed, 26) / 2 % 8 {
+        0 => session.call(number, numbers, six, eighteen, ten, rest, buffer),
+        1 => session.call(number, numbers, none, ten, rest, none, buffer),
+        2 => session.call(number, numbers, eight, one, block, none, buffer),
+        _ => session.call(number, numbers, rest, none, none, none, buffer),
+    }
+}
+
+// A call whose first string is a bitrate.
+fn at_bitrate(session: Session, seed: u64, bytes: &[u8], buffer: &mut [u8]) -> Step {
+    let number = call_number(draw::number(seed, 21));
+    let numbers = numbers(seed);
+    let rest = part(bytes, 0, count(seed, 20));
+    let none = part(bytes, 0, 0);
+    match draw::number(seed, 26) / 2 % 8 {
+        0 => session.call(number, numbers, b"848A", rest, rest, none, buffer),
+        1 => session.call(number, numbers, b"106B", rest, rest, none, buffer),
+        2 => session.call(number, numbers, b"106B", rest, rest, none, buffer),
+        3 => session.call(number, numbers, b"212F", rest, rest, none, buffer),
+        4 => session.call(number, numbers, b"424F", rest, rest, none, buffer),
+        _ => session.call(number, numbers, b"106A", rest, rest, none, buffer),
     }
 }
 
@@ -229,10 +151,10 @@ pub(crate) fn handed(session: Session, seed: u64, size: usize) -> Step {
     let start = before(size);
     let bytes = response(draw::byte(draw::number(seed, 25)), 5, 7);
     if draw::is_call(seed) {
-        match draw::number(seed, 26) % 3 {
-            0 => chip(session, seed, &bytes, &mut buffer[start..]),
-            1 => peer(session, seed, &bytes, &mut buffer[start..]),
-            _ => device(session, seed, &bytes, &mut buffer[start..]),
+        if draw::number(seed, 26) % 2 == 0 {
+            plain(session, seed, &bytes, &mut buffer[start..])
+        } else {
+            at_bitrate(session, seed, &bytes, &mut buffer[start..])
         }
     } else {
         event(session, seed, &mut buffer[start..])

@@ -14,7 +14,7 @@ fn turn(seed: u64, tally: Tally) -> Tally {
     let step = made::handed(session, seed, size);
     let output = step.output;
     let after = step.session;
-    tally.judged(session, after, output, size)
+    tally.judged(draw::is_call(seed), session, after, output, size)
 }
 
 fn main() {

@@ -57,7 +57,7 @@ fn print_first(text: &[u8]) {
 }
 
 impl Summary {
-    pub fn empty() -> Summary {
+    pub(crate) fn empty() -> Summary {
         Summary {
             lines: 0,
             bytes: 0,
@@ -66,7 +66,7 @@ impl Summary {
     }
 
     // Takes a block in, and prints its first line.
-    pub fn with(self, lines: usize, text: &[u8]) -> Summary {
+    pub(crate) fn with(self, lines: usize, text: &[u8]) -> Summary {
         print_first(text);
         Summary {
             lines: wrapping_add_u64(self.lines, lines as u64),
@@ -75,7 +75,7 @@ impl Summary {
         }
     }
 
-    pub fn print(self) {
+    pub(crate) fn print(self) {
         print_number(self.lines, b" lines, ");
         print_number(self.bytes, b" bytes, CRC-32 ");
         io::print_hex(libc::STDOUT_FILENO, wide(self.crc ^ ALL_ONES), 8);

@@ -9,7 +9,7 @@ use Rattle.stages.specs.Stages.{cmd, send, keep, next, put, pause, ends}
 use Rattle.stages.specs.Stages as stages
 use Rattle.stages.specs.declared.Command.{Command}
 use Rattle.stages.specs.declared.Decision.{Decision}
-use Rattle.stages.specs.declared.Decision.the-variants.{Send, Keep, Next, Put, Pause, Done, Type1, UidAndAts, Nothing, Refused, RefusedAfter}
+use Rattle.stages.specs.declared.Decision.the-variants.{Send, Keep, Next, Put, Pause, Done, Part, Type1, UidAndAts, Nothing, Refused, RefusedAfter}
 use Rattle.stages.specs.declared.Head.{Head}
 use Rattle.stages.specs.declared.Layout.{Layout}
 use Rattle.stages.specs.declared.Tail.{Tail}
@@ -45,6 +45,7 @@ decisionIn f b (Next n c l) = next n c (layoutBytes f b l)
 decisionIn f b (Put n h) = put n (headBytes h)
 decisionIn f b (Pause us n) = pause us n
 decisionIn f b (Done l) = ends (done (layoutBytes f b l))
+decisionIn f b (Part start n) = ends (done (take n (drop start b)))
 decisionIn f b (Type1 l) = ends (type1 (layoutBytes f b l))
 decisionIn f b (UidAndAts l uid ats) = ends (uidAndAts (layoutBytes f b l) uid ats)
 decisionIn f b Nothing = ends nothing
@@ -58,6 +59,7 @@ DecisionFits f b (Next n c l) = Fitting f b l
 DecisionFits f b (Put n h) = Unit
 DecisionFits f b (Pause us n) = Unit
 DecisionFits f b (Done l) = Fitting f b l
+DecisionFits f b (Part start n) = start + n ≤ length b
 DecisionFits f b (Type1 l) = Fitting f b l
 DecisionFits f b (UidAndAts l uid ats) = Fitting f b l
 DecisionFits f b Nothing = Unit
@@ -65,17 +67,17 @@ DecisionFits f b (Refused fault) = Unit
 DecisionFits f b (RefusedAfter fault n) = Unit
 
 -- both
-pub record Decides (f b : List ℕ) (r : Decision) (d : stages.Decision) : Type 0 where
+pub record DecisionRefines (f b : List ℕ) (r : Decision) (d : stages.Decision) : Type 0 where
   pub is : decisionIn f b r ≡ d
   pub fits : DecisionFits f b r
 
 -- whatever the found bytes are
-pub record Comes (b : List ℕ) (r : Decision) (a : Answer ℕ) : Type 0 where
-  pub decides : (f : List ℕ) → Decides f b r (ends a)
+pub record AnswerRefines (b : List ℕ) (r : Decision) (a : Answer ℕ) : Type 0 where
+  pub decides : (f : List ℕ) → DecisionRefines f b r (ends a)
 
 -- whatever the bytes are
 abbrev pub Always : Decision → stages.Decision → Type 0
-Always r d = (f b : List ℕ) → Decides f b r d
+Always r d = (f b : List ℕ) → DecisionRefines f b r d
 
 -- a command, where `pending` is the pending one
 abbrev pub commandIn : Command → List ℕ → stages.Command

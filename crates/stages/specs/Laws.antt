@@ -14,10 +14,10 @@ use Rattle.errors.specs.declared.Fault.the-variants.{Status}
 use Rattle.protocol.specs.Scripts.{Answer, done, type1, uidAndAts, nothing, refused, refusedAfter}
 use Rattle.stages.specs.Stages.{send, keep, next, put, pause, ends, refuse}
 use Rattle.stages.specs.Stages as stages
-use Rattle.stages.specs.Decided.{headBytes, tailBytes, Lays, Decides, Comes, Sends, Commands}
+use Rattle.stages.specs.Decided.{headBytes, tailBytes, Lays, DecisionRefines, AnswerRefines, Sends, Commands}
 use Rattle.stages.specs.declared.Command.{Command}
 use Rattle.stages.specs.declared.Decision.{Decision}
-use Rattle.stages.specs.declared.Decision.the-variants.{Send, Keep, Next, Put, Pause, Done, Type1, UidAndAts, Nothing, Refused, RefusedAfter}
+use Rattle.stages.specs.declared.Decision.the-variants.{Send, Keep, Next, Put, Pause, Done, Part, Type1, UidAndAts, Nothing, Refused, RefusedAfter}
 use Rattle.stages.specs.declared.Head.{Head}
 use Rattle.stages.specs.declared.Layout.{Layout}
 use Rattle.stages.specs.declared.Tail.{Tail}
@@ -72,62 +72,67 @@ module _ (f b : List ℕ) (h : Head) (t : Tail) where
         fits = record { kept = p; head = omega arith; part = q; tail = omega arith; room = λ u v. omega arith };
       }
 
--- the response from a place on
-pub lays-rest : (f b : List ℕ) (r : Layout) (s : ℕ) → s ≤ length b → Lays f b r (take (length b - s) (drop s b)) → Lays f b r (drop s b)
-lays-rest f b r s h e =
-    let l : length (drop s b) ≤ length b - s = rw (length-drop s b) (omega arith) in
-    rw (take-all (length b - s) (drop s b) l) at e
-
-pub lays-none : (f b : List ℕ) (r : Layout) (s : ℕ) → length b < s → Lays f b r [] → Lays f b r (drop s b)
-lays-none f b r s h e = let z : drop s b ≡ [] = drop-of-length-le b {i = s} (omega arith) in rw z e
-
 pub lays-found : (f b : List ℕ) (r : Layout) → Lays f b r (take (length f) f ++ []) → Lays f b r f
 lays-found f b r e = rw (append-nil (take (length f) f), take-length f) at e
 
 -- ---- a decision follows the tests of its definition
 
 module _ (f b : List ℕ) (r : Decision) (x y : stages.Decision) (t : Bool) where
-  pub decides-true : t ≡ true → Decides f b r x → Decides f b r (pick t x y)
+  pub decision-true : t ≡ true → DecisionRefines f b r x → DecisionRefines f b r (pick t x y)
   unfolding pick
-  decides-true h e = rw h e
+  decision-true h e = rw h e
 
-  pub decides-false : t ≡ false → Decides f b r y → Decides f b r (pick t x y)
+  pub decision-false : t ≡ false → DecisionRefines f b r y → DecisionRefines f b r (pick t x y)
   unfolding pick
-  decides-false h e = rw h e
+  decision-false h e = rw h e
 
 module _ (f b : List ℕ) where
-  pub decides-send : (n : ℕ) → Decides f b (Send n) (send n)
-  decides-send n = record { is = refl; fits = tt }
+  pub decision-send : (n : ℕ) → DecisionRefines f b (Send n) (send n)
+  decision-send n = record { is = refl; fits = tt }
 
-  pub decides-keep : (n : ℕ) (l : Layout) (bytes : List ℕ) → Lays f b l bytes → Decides f b (Keep n l) (keep n bytes)
-  decides-keep n l bytes h = record { is = ap (keep n) (h .is); fits = h .fits }
+  pub decision-keep : (n : ℕ) (l : Layout) (bytes : List ℕ) → Lays f b l bytes → DecisionRefines f b (Keep n l) (keep n bytes)
+  decision-keep n l bytes h = record { is = ap (keep n) (h .is); fits = h .fits }
 
-  pub decides-next : (n c : ℕ) (l : Layout) (bytes : List ℕ) → Lays f b l bytes → Decides f b (Next n c l) (next n c bytes)
-  decides-next n c l bytes h = record { is = ap (next n c) (h .is); fits = h .fits }
+  pub decision-next : (n c : ℕ) (l : Layout) (bytes : List ℕ) → Lays f b l bytes → DecisionRefines f b (Next n c l) (next n c bytes)
+  decision-next n c l bytes h = record { is = ap (next n c) (h .is); fits = h .fits }
 
-  pub decides-put : (n : ℕ) (h : Head) → Decides f b (Put n h) (put n (headBytes h))
-  decides-put n h = record { is = refl; fits = tt }
+  pub decision-put : (n : ℕ) (h : Head) → DecisionRefines f b (Put n h) (put n (headBytes h))
+  decision-put n h = record { is = refl; fits = tt }
 
-  pub decides-pause : (us n : ℕ) → Decides f b (Pause us n) (pause us n)
-  decides-pause us n = record { is = refl; fits = tt }
+  pub decision-pause : (us n : ℕ) → DecisionRefines f b (Pause us n) (pause us n)
+  decision-pause us n = record { is = refl; fits = tt }
 
-  pub decides-done : (l : Layout) (bytes : List ℕ) → Lays f b l bytes → Decides f b (Done l) (ends (done bytes))
-  decides-done l bytes h = record { is = ap (λ x. ends (done x)) (h .is); fits = h .fits }
+  pub decision-done : (l : Layout) (bytes : List ℕ) → Lays f b l bytes → DecisionRefines f b (Done l) (ends (done bytes))
+  decision-done l bytes h = record { is = ap (λ x. ends (done x)) (h .is); fits = h .fits }
 
-  pub decides-type1 : (l : Layout) (bytes : List ℕ) → Lays f b l bytes → Decides f b (Type1 l) (ends (type1 bytes))
-  decides-type1 l bytes h = record { is = ap (λ x. ends (type1 x)) (h .is); fits = h .fits }
+  pub decision-part : (s n : ℕ) → s + n ≤ length b → DecisionRefines f b (Part s n) (ends (done (take n (drop s b))))
+  decision-part s n h = record { is = refl; fits = h }
 
-  pub decides-uid-and-ats : (l : Layout) (bytes : List ℕ) (uid ats : ℕ) → Lays f b l bytes → Decides f b (UidAndAts l uid ats) (ends (uidAndAts bytes uid ats))
-  decides-uid-and-ats l bytes uid ats h = record { is = ap (λ x. ends (uidAndAts x uid ats)) (h .is); fits = h .fits }
+  -- of the response from a place on, and of one that ends before it
+  pub decision-rest : (s n : ℕ) → s ≤ length b → n ≡ length b - s → DecisionRefines f b (Part s n) (ends (done (drop s b)))
+  decision-rest s n h e =
+      let all : take n (drop s b) ≡ drop s b = take-all n (drop s b) (rw (length-drop s b) (omega arith)) in
+      record { is = ap (λ x. ends (done x)) all; fits = omega arith }
 
-  pub decides-nothing : Decides f b Nothing (ends nothing)
-  decides-nothing = record { is = refl; fits = tt }
+  pub decision-none : (s : ℕ) → length b < s → DecisionRefines f b (Part 0 0) (ends (done (drop s b)))
+  decision-none s h =
+      let z : drop s b ≡ [] = drop-of-length-le b {i = s} (omega arith) in
+      record { is = ap (λ x. ends (done x)) (sym z); fits = omega arith }
 
-  pub decides-refused : (x : Fault) → Decides f b (Refused x) (refuse x)
-  decides-refused x = record { is = refl; fits = tt }
+  pub decision-type1 : (l : Layout) (bytes : List ℕ) → Lays f b l bytes → DecisionRefines f b (Type1 l) (ends (type1 bytes))
+  decision-type1 l bytes h = record { is = ap (λ x. ends (type1 x)) (h .is); fits = h .fits }
 
-  pub decides-after : (x : Fault) (n : ℕ) → Decides f b (RefusedAfter x n) (ends (refusedAfter x n))
-  decides-after x n = record { is = refl; fits = tt }
+  pub decision-uid-and-ats : (l : Layout) (bytes : List ℕ) (uid ats : ℕ) → Lays f b l bytes → DecisionRefines f b (UidAndAts l uid ats) (ends (uidAndAts bytes uid ats))
+  decision-uid-and-ats l bytes uid ats h = record { is = ap (λ x. ends (uidAndAts x uid ats)) (h .is); fits = h .fits }
+
+  pub decision-nothing : DecisionRefines f b Nothing (ends nothing)
+  decision-nothing = record { is = refl; fits = tt }
+
+  pub decision-refused : (x : Fault) → DecisionRefines f b (Refused x) (refuse x)
+  decision-refused x = record { is = refl; fits = tt }
+
+  pub decision-after : (x : Fault) (n : ℕ) → DecisionRefines f b (RefusedAfter x n) (ends (refusedAfter x n))
+  decision-after x n = record { is = refl; fits = tt }
 
 -- a test on a number that a call answered
 pub is-eqb : (r x k : ℕ) → r ≡ x → r ≡ k → eqb x k ≡ true
@@ -138,33 +143,33 @@ not-eqb r x k e f = ne-eqb x k (λ g. f (e ∙ g))
 
 pub ruleset tests = (is-eqb, not-eqb, eq-eqb, ne-eqb, lt-ltb, le-ltb)
 
-pub ruleset decided = (decides-true, decides-false, decides-send, decides-pause, decides-nothing, decides-refused, tests)
+pub ruleset decided = (decision-true, decision-false, decision-send, decision-pause, decision-nothing, decision-refused, tests)
 
 -- ---- the same of the answer to a call of one command
 
 module _ (b : List ℕ) (r : Decision) (x y : Answer ℕ) (t : Bool) where
-  pub comes-true : t ≡ true → Comes b r x → Comes b r (pick t x y)
+  pub answer-true : t ≡ true → AnswerRefines b r x → AnswerRefines b r (pick t x y)
   unfolding pick
-  comes-true h e = rw h e
+  answer-true h e = rw h e
 
-  pub comes-false : t ≡ false → Comes b r y → Comes b r (pick t x y)
+  pub answer-false : t ≡ false → AnswerRefines b r y → AnswerRefines b r (pick t x y)
   unfolding pick
-  comes-false h e = rw h e
+  answer-false h e = rw h e
 
 module _ (b : List ℕ) where
-  pub comes-nothing : Comes b Nothing nothing
-  comes-nothing = record { decides = λ f. decides-nothing f b }
+  pub answer-nothing : AnswerRefines b Nothing nothing
+  answer-nothing = record { decides = λ f. decision-nothing f b }
 
-  pub comes-refused : (x : Fault) → Comes b (Refused x) (refused x)
-  comes-refused x = record { decides = λ f. decides-refused f b x }
+  pub answer-refused : (x : Fault) → AnswerRefines b (Refused x) (refused x)
+  answer-refused x = record { decides = λ f. decision-refused f b x }
 
-  pub comes-status : (s x : ℕ) → s ≡ x → Comes b (Refused (Status s)) (refused (Status x))
-  comes-status s x e = record { decides = λ f. record { is = ap (λ y. refuse (Status y)) e; fits = tt } }
+  pub answer-status : (s x : ℕ) → s ≡ x → AnswerRefines b (Refused (Status s)) (refused (Status x))
+  answer-status s x e = record { decides = λ f. record { is = ap (λ y. refuse (Status y)) e; fits = tt } }
 
-  pub comes-done : (l : Layout) (bytes : List ℕ) → ((f : List ℕ) → Lays f b l bytes) → Comes b (Done l) (done bytes)
-  comes-done l bytes h = record { decides = λ f. decides-done f b l bytes (h f) }
+  pub answer-done : (l : Layout) (bytes : List ℕ) → ((f : List ℕ) → Lays f b l bytes) → AnswerRefines b (Done l) (done bytes)
+  answer-done l bytes h = record { decides = λ f. decision-done f b l bytes (h f) }
 
-pub ruleset verdicts = (comes-true, comes-false, comes-nothing, comes-refused, comes-status, tests)
+pub ruleset answers-by-tests = (answer-true, answer-false, answer-nothing, answer-refused, answer-status, tests)
 
 -- ---- commands
 

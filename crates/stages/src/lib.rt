@@ -81,8 +81,8 @@ pub struct Layout {
 
 // What follows a reply or a failure: the command of a stage; the same, with bytes that become the found bytes; the same with another
 // cursor, the second number; the command of a stage with three bytes that become the pending command; a pause in µs, and then the
-// command of a stage; or the end of the call. With Type A's bytes the lengths of the UID and the ATS among them may be given, and a
-// list's refusal says how many of its codes were finished.
+// command of a stage; or the end of the call. `Part` is the answer of a part of the response, by its start and its length. With Type A's
+// bytes the lengths of the UID and the ATS among them may be given, and a list's refusal says how many of its codes were finished.
 pub enum Decision {
     Send(u8),
     Keep(u8, Layout),
@@ -90,6 +90,7 @@ pub enum Decision {
     Put(u8, Head),
     Pause(u32, u8),
     Done(Layout),
+    Part(usize, usize),
     Type1(Layout),
     UidAndAts(Layout, u8, u8),
     Nothing,
@@ -117,17 +118,6 @@ impl Layout {
             len,
             tail: Tail(0, 0, 0, 0, 0, 0, 0, 0, 0, 0, 0, 0),
             tail_len: 0,
-        }
-    }
-
-    // The response from a place on, or nothing of it.
-    pub fn rest(response: &[u8], start: usize) -> Layout
-        ensures { λ r. ⌜ ((f : List ℕ) → Lays f (now (response .entry)) r (drop start (now (response .entry)))) ⌝ }
-    {
-        if start <= response.len() {
-            Layout::part(start, response.len() - start)
-        } else {
-            Layout::part(0, 0)
         }
     }
 

@@ -4,19 +4,8 @@ use borrow.Author.Needs.{needs}
 use Rattle.acceptance.proofs.build.Statement.{statement}
 use Rattle.acceptance.proofs.build.Tie as tie
 
-returns : tie.Need-returns
-unfolding bytesOf
-returns c = rw (c .before .before .before .before .before .enum-told .given .1) (c .before .before .build .ensures)
-
-returns-2 : tie.Need-returns-2
-unfolding bytesOf
-returns-2 c = rw (c .before .before .before .before .before .before .payload .given .1) (c .before .before .build2 .ensures)
-
-returns-3 : tie.Need-returns-3
-unfolding bytesOf
-returns-3 c = rw (c .before .before .before .before .before .before .payload2 .given .1) (c .before .before .build3 .ensures)
-
 pub build-spec : {M : Type 1} → statement M
+unfolding bytesOf
 build-spec =
     tie.close
     (tie.spec
@@ -30,8 +19,8 @@ build-spec =
     (λ c. search needs)
     (λ c κs. search needs)
     (λ c. search needs)
-    returns
+    (λ c. rw (c .before .before .before .before .before .enum-told .given .1) (c .before .before .build .ensures))
     (λ c. search needs)
-    returns-2
+    (λ c. rw (c .before .before .before .before .before .before .payload .given .1) (c .before .before .build2 .ensures))
     (λ c. search needs)
-    returns-3)
+    (λ c. rw (c .before .before .before .before .before .before .payload2 .given .1) (c .before .before .build3 .ensures)))

@@ -7,9 +7,6 @@ use lib.Seq.{length-take-le, take-all}
 use Rattle.bench_input.proofs.part.Statement.{statement}
 use Rattle.bench_input.proofs.part.Tie as tie
 
-slice-aggregate-rest : tie.Need-slice-aggregate-rest
-slice-aggregate-rest c = sym (length-take-le _ _ (omega arith))
-
 returns-2 : tie.Need-returns-2
 returns-2 c =
     let start = c .before .before .before in
@@ -17,4 +14,10 @@ returns-2 c =
 
 pub part-spec : {M : Type 1} → statement M
 part-spec =
-    tie.close (tie.spec slice-aggregate-rest (λ c κs. search needs) (λ c κs. search needs) (λ c. search needs) returns-2)
+    tie.close
+    (tie.spec
+    (λ c. sym (length-take-le _ _ (omega arith)))
+    (λ c κs. search needs)
+    (λ c κs. search needs)
+    (λ c. search needs)
+    returns-2)

@@ -11,17 +11,16 @@ use Rattle.bench_input.specs.Readings.{texts}
 use Rattle.bench_input.proofs.read.Statement.{statement}
 use Rattle.bench_input.proofs.read.Tie as tie
 
-returns : tie.Need-returns
-unfolding inputOf
-returns c = record { says = at-true _ _ _ _ (lt-ltb _ _ (c .if1 .taken)) refl; stands = tt }
-
 by-table-requires : tie.Need-by-table-requires
 unfolding ahead wordsOf pick digitOf digitsOf texts table
 by-table-requires c κs = (refl, c .before .before .if1 .left, search needs)
 
-returns-2 : tie.Need-returns-2
-unfolding inputOf
-returns-2 c = record { says = at-false _ _ _ _ (le-ltb _ _ (c .before .before .before .if1 .left)) (c .by-table .ensures .says); stands = c .by-table .ensures .stands }
-
 pub read-spec : {M : Type 1} → statement M
-read-spec = tie.close (tie.spec returns (λ c. search needs) by-table-requires returns-2)
+unfolding inputOf
+read-spec =
+    tie.close
+    (tie.spec
+    (λ c. record { says = at-true _ _ _ _ (lt-ltb _ _ (c .if1 .taken)) refl; stands = tt })
+    (λ c. search needs)
+    by-table-requires
+    (λ c. record { says = at-false _ _ _ _ (le-ltb _ _ (c .before .before .before .if1 .left)) (c .by-table .ensures .says); stands = c .by-table .ensures .stands }))

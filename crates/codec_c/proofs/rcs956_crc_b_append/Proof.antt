@@ -4,12 +4,6 @@ use Rattle.codec_c.proofs.Laws.{appended, not-appended}
 use Rattle.codec_c.proofs.rcs956_crc_b_append.Statement.{statement}
 use Rattle.codec_c.proofs.rcs956_crc_b_append.Tie as tie
 
-returns : tie.Need-returns
-returns c = search (appended, needs)
-
-returns-2 : tie.Need-returns-2
-returns-2 c = search (not-appended, needs)
-
 pub rcs956-crc-b-append-spec : {M : Type 1} → statement M
 rcs956-crc-b-append-spec =
     tie.close
@@ -19,6 +13,6 @@ rcs956-crc-b-append-spec =
     (λ c. search needs)
     (λ c κs. search needs)
     (λ c. search needs)
-    returns
+    (λ c. search (appended, needs))
     (λ c. search needs)
-    returns-2)
+    (λ c. search (not-appended, needs)))

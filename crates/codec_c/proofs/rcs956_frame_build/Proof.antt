@@ -4,15 +4,6 @@ use Rattle.codec_c.proofs.Laws.{no-setting, was-built, not-built}
 use Rattle.codec_c.proofs.rcs956_frame_build.Statement.{statement}
 use Rattle.codec_c.proofs.rcs956_frame_build.Tie as tie
 
-returns : tie.Need-returns
-returns c = search (no-setting, needs)
-
-returns-2 : tie.Need-returns-2
-returns-2 c = search (was-built, needs)
-
-returns-3 : tie.Need-returns-3
-returns-3 c = search (not-built, needs)
-
 pub rcs956-frame-build-spec : {M : Type 1} → statement M
 rcs956-frame-build-spec =
     tie.close
@@ -21,12 +12,12 @@ rcs956-frame-build-spec =
     (λ c. search needs)
     (λ c. search needs)
     (λ c κs. search needs)
-    returns
+    (λ c. search (no-setting, needs))
     (λ c κs. search needs)
     (λ c. search needs)
     (λ c. search needs)
     (λ c κs. search needs)
     (λ c. search needs)
-    returns-2
+    (λ c. search (was-built, needs))
     (λ c. search needs)
-    returns-3)
+    (λ c. search (not-built, needs)))

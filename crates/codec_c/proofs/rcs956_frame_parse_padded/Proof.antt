@@ -4,12 +4,6 @@ use Rattle.codec_c.proofs.Laws.{not-padded, was-padded}
 use Rattle.codec_c.proofs.rcs956_frame_parse_padded.Statement.{statement}
 use Rattle.codec_c.proofs.rcs956_frame_parse_padded.Tie as tie
 
-returns : tie.Need-returns
-returns c = search (not-padded, needs)
-
-returns-2 : tie.Need-returns-2
-returns-2 c = search (was-padded, needs)
-
 pub rcs956-frame-parse-padded-spec : {M : Type 1} → statement M
 rcs956-frame-parse-padded-spec =
     tie.close
@@ -18,7 +12,7 @@ rcs956-frame-parse-padded-spec =
     (λ c. search needs)
     (λ c. search needs)
     (λ c κs. search needs)
-    returns
+    (λ c. search (not-padded, needs))
     (λ c κs. search needs)
     (λ c κs. search needs)
-    returns-2)
+    (λ c. search (was-padded, needs)))

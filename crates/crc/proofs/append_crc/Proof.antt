@@ -7,12 +7,6 @@ use Rattle.crc.proofs.Ends.{no-room, written}
 use Rattle.crc.proofs.append_crc.Statement.{statement}
 use Rattle.crc.proofs.append_crc.Tie as tie
 
-returns : tie.Need-returns
-returns c = no-room _ _ _ (c .if1 .taken)
-
-slice-write-out-2 : tie.Need-slice-write-out-2
-slice-write-out-2 c = simp length-set (omega arith)
-
 returns-2 : tie.Need-returns-2
 returns-2 c =
     let x = c .before .before .before .before .calculate-crc in
@@ -23,14 +17,14 @@ append-crc-spec =
     tie.close
     (tie.spec
     (λ c. search needs)
-    returns
+    (λ c. no-room _ _ _ (c .if1 .taken))
     (λ c κs. search needs)
     (λ c κs. search needs)
     (λ c. search needs)
     (λ c. search needs)
     (λ c. search needs)
     (λ c. search needs)
-    slice-write-out-2
+    (λ c. simp length-set (omega arith))
     (λ c. search needs)
     (λ c. search needs)
     returns-2)

@@ -21,27 +21,6 @@ loop-holds : tie.Need-loop-holds Inv-loop μ-loop
 unfolding tabled bitsIn bits bitIn polynomial
 loop-holds c = (zero-le, refl, record { whole = refl; rule = refl })
 
-shared-slice-read-low : tie.Need-shared-slice-read-low Inv-loop μ-loop
-shared-slice-read-low c = search needs
-
-cast-low : tie.Need-cast-low Inv-loop μ-loop
-cast-low c = omega (arith, c .shared-slice-known .given (c .before .before .loop .i))
-
-cast-register : tie.Need-cast-register Inv-loop μ-loop
-cast-register c = omega arith
-
-mul-register : tie.Need-mul-register Inv-loop μ-loop
-mul-register c = omega arith
-
-array-read-register : tie.Need-array-read-register Inv-loop μ-loop
-array-read-register c = omega arith
-
-add-i : tie.Need-add-i Inv-loop μ-loop
-add-i c = search needs
-
-loop-less : tie.Need-loop-less Inv-loop μ-loop
-loop-less c = search needs
-
 loop-again : tie.Need-loop-again Inv-loop μ-loop
 loop-again c =
     let head = c .before .before in
@@ -59,28 +38,21 @@ end c =
     let h : length (c .before .before .args .«data» .now) ≤ c .before .loop .i = omega arith in
     rw (drop-of-length-le _ h) at (c .before .loop .inv .1)
 
-returns : tie.Need-returns Inv-loop μ-loop
-unfolding crcOf result
-returns c = rw (c .if1 .taken) (ap (λ (x : ℕ). 0xFFFF - x) (end (c .before)))
-
-returns-2 : tie.Need-returns-2 Inv-loop μ-loop
-unfolding crcOf result
-returns-2 c = rw (c .if1 .left) (end (c .before))
-
 pub calculate-crc-spec : {M : Type 1} → statement M
+unfolding crcOf result
 calculate-crc-spec =
     tie.close
     (tie.spec
     Inv-loop
     μ-loop
     loop-holds
-    shared-slice-read-low
-    cast-low
-    cast-register
-    mul-register
-    array-read-register
-    add-i
-    loop-less
+    (λ c. search needs)
+    (λ c. omega (arith, c .shared-slice-known .given (c .before .before .loop .i)))
+    (λ c. omega arith)
+    (λ c. omega arith)
+    (λ c. omega arith)
+    (λ c. search needs)
+    (λ c. search needs)
     loop-again
-    returns
-    returns-2)
+    (λ c. rw (c .if1 .taken) (ap (λ (x : ℕ). 0xFFFF - x) (end (c .before))))
+    (λ c. rw (c .if1 .left) (end (c .before))))

@@ -9,9 +9,6 @@ use Rattle.crc.proofs.Ends.{short, compared}
 use Rattle.crc.proofs.verify_crc.Statement.{statement}
 use Rattle.crc.proofs.verify_crc.Tie as tie
 
-returns : tie.Need-returns
-returns c = short _ _ (c .if1 .taken)
-
 slice-aggregate-calculate-crc : tie.Need-slice-aggregate-calculate-crc
 slice-aggregate-calculate-crc c =
     let s = c .before .before .before .args .«data» .now in
@@ -31,7 +28,7 @@ pub verify-crc-spec : {M : Type 1} → statement M
 verify-crc-spec =
     tie.close
     (tie.spec
-    returns
+    (λ c. short _ _ (c .if1 .taken))
     (λ c. search needs)
     slice-aggregate-calculate-crc
     (λ c κs. search needs)

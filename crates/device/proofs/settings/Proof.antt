@@ -6,22 +6,6 @@ use Rattle.device.specs.Opening.{settingsCommand}
 use Rattle.device.proofs.settings.Statement.{statement}
 use Rattle.device.proofs.settings.Tie as tie
 
-returns : tie.Need-returns
-unfolding settingsCommand pick
-returns c = rw (c .before .match .keys1) (c .configured .ensures (omega arith))
-
-returns-2 : tie.Need-returns-2
-unfolding settingsCommand pick
-returns-2 c = rw (c .before .match .keys2) (c .configured2 .ensures (omega arith))
-
-returns-3 : tie.Need-returns-3
-unfolding settingsCommand pick
-returns-3 c = rw (c .before .match .keys3) (c .with .ensures (omega arith))
-
-returns-4 : tie.Need-returns-4
-unfolding settingsCommand pick
-returns-4 c = rw (c .before .match .keys4) (c .reset-mode-command .ensures)
-
 returns-5 : tie.Need-returns-5
 unfolding settingsCommand pick
 returns-5 c =
@@ -30,6 +14,7 @@ returns-5 c =
     record { is = λ pending. rw (ne-eqb _ 5 (r .0 .0 .0 .1), ne-eqb _ 6 (r .0 .0 .1), ne-eqb _ 7 (r .0 .1), ne-eqb _ 8 (r .1)) (e .is pending); fits = e .fits }
 
 pub settings-spec : {M : Type 1} → statement M
+unfolding pick settingsCommand
 settings-spec =
     tie.close
     (tie.spec
@@ -38,8 +23,8 @@ settings-spec =
     (λ c κs. search needs)
     (λ c κs. search needs)
     (λ c κs. search needs)
-    returns
-    returns-2
-    returns-3
-    returns-4
+    (λ c. rw (c .before .match .keys1) (c .configured .ensures (omega arith)))
+    (λ c. rw (c .before .match .keys2) (c .configured2 .ensures (omega arith)))
+    (λ c. rw (c .before .match .keys3) (c .with .ensures (omega arith)))
+    (λ c. rw (c .before .match .keys4) (c .reset-mode-command .ensures))
     returns-5)

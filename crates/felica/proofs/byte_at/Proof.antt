@@ -4,8 +4,5 @@ use borrow.Author.Needs.{needs}
 use Rattle.felica.proofs.byte_at.Statement.{statement}
 use Rattle.felica.proofs.byte_at.Tie as tie
 
-returns-2 : tie.Need-returns-2
-returns-2 c = search (byte-behind, needs)
-
 pub byte-at-spec : {M : Type 1} → statement M
-byte-at-spec = tie.close (tie.spec (λ c. search needs) (λ c. search needs) returns-2)
+byte-at-spec = tie.close (tie.spec (λ c. search needs) (λ c. search needs) (λ c. search (byte-behind, needs)))

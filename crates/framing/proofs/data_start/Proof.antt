@@ -6,14 +6,6 @@ use borrow.Author.Needs.{needs}
 use Rattle.framing.proofs.data_start.Statement.{statement}
 use Rattle.framing.proofs.data_start.Tie as tie
 
-returns : tie.Need-returns
-unfolding startOf
-returns c = rw (c .enum-told .given .1)
-
-returns-2 : tie.Need-returns-2
-unfolding startOf
-returns-2 c = rw (c .enum-told2 .given .1)
-
 returns-3 : tie.Need-returns-3
 unfolding startOf pick
 returns-3 c = rw (c .before .enum-told3 .given .1, lt-ltb _ _ (c .if1 .taken))
@@ -23,5 +15,14 @@ unfolding startOf pick
 returns-4 c = rw (c .before .enum-told3 .given .1, le-ltb _ _ (c .if1 .left))
 
 pub data-start-spec : {M : Type 1} → statement M
+unfolding startOf
 data-start-spec =
-    tie.close (tie.spec (λ c. search needs) (λ c. search needs) (λ c. search needs) returns returns-2 returns-3 returns-4)
+    tie.close
+    (tie.spec
+    (λ c. search needs)
+    (λ c. search needs)
+    (λ c. search needs)
+    (λ c. rw (c .enum-told .given .1))
+    (λ c. rw (c .enum-told2 .given .1))
+    returns-3
+    returns-4)

@@ -6,12 +6,6 @@ use borrow.Author.Needs.{needs}
 use Rattle.framing.proofs.enclose.Statement.{statement}
 use Rattle.framing.proofs.enclose.Tie as tie
 
-slice-write-buffer-2 : tie.Need-slice-write-buffer-2
-slice-write-buffer-2 c = simp length-set (omega arith)
-
-returns : tie.Need-returns
-returns c = search (enclose-done, needs) depth 6
-
 pub enclose-spec : {M : Type 1} → statement M
 enclose-spec =
     tie.close
@@ -25,6 +19,6 @@ enclose-spec =
     (λ c κs. search needs)
     (λ c. search needs)
     (λ c. search needs)
-    slice-write-buffer-2
+    (λ c. simp length-set (omega arith))
     (λ c. search needs)
-    returns)
+    (λ c. search (enclose-done, needs) depth 6))

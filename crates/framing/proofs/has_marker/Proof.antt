@@ -6,17 +6,13 @@ use borrow.Author.Needs.{needs}
 use Rattle.framing.proofs.has_marker.Statement.{statement}
 use Rattle.framing.proofs.has_marker.Tie as tie
 
-returns : tie.Need-returns
-returns c = search (marker-short, needs)
-
-returns-2 : tie.Need-returns-2
-unfolding hasMarker
-returns-2 c = search (steps, needs) depth 8
-
-returns-3 : tie.Need-returns-3
-unfolding hasMarker
-returns-3 c = search (steps, needs) depth 8
-
 pub has-marker-spec : {M : Type 1} → statement M
+unfolding hasMarker
 has-marker-spec =
-    tie.close (tie.spec returns (λ c. search needs) (λ c. search needs) returns-2 returns-3)
+    tie.close
+    (tie.spec
+    (λ c. search (marker-short, needs))
+    (λ c. search needs)
+    (λ c. search needs)
+    (λ c. search (steps, needs) depth 8)
+    (λ c. search (steps, needs) depth 8))

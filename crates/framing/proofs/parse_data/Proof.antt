@@ -6,19 +6,18 @@ use borrow.Author.Needs.{needs}
 use Rattle.framing.proofs.parse_data.Statement.{statement}
 use Rattle.framing.proofs.parse_data.Tie as tie
 
-parse-extended-requires : tie.Need-parse-extended-requires
-parse-extended-requires c κs = (c .before .before .before .pre, search (told, needs))
-
 returns : tie.Need-returns
 returns c =
     let p = c .before .before .before .before .args .packet .now in
     let bytes : Bytes p = λ k. c .before .before .before .shared-slice-known .given k .fits in
     search (data-extended, told, needs) depth 6
 
-returns-2 : tie.Need-returns-2
-returns-2 c = search (data-normal, told, needs) depth 6
-
 pub parse-data-spec : {M : Type 1} → statement M
 parse-data-spec =
     tie.close
-    (tie.spec (λ c κs. search needs) parse-extended-requires (λ c κs. search needs) returns returns-2)
+    (tie.spec
+    (λ c κs. search needs)
+    (λ c κs. (c .before .before .before .pre, search (told, needs)))
+    (λ c κs. search needs)
+    returns
+    (λ c. search (data-normal, told, needs) depth 6))

@@ -5,9 +5,6 @@ use borrow.Author.Needs.{needs}
 use Rattle.framing.proofs.parse_extended.Statement.{statement}
 use Rattle.framing.proofs.parse_extended.Tie as tie
 
-returns : tie.Need-returns
-returns c = search (extended-too-short, needs)
-
 returns-2 : tie.Need-returns-2
 returns-2 c =
     let p = c .before .before .before .before .before .before .before .args .packet .now in
@@ -24,7 +21,7 @@ pub parse-extended-spec : {M : Type 1} → statement M
 parse-extended-spec =
     tie.close
     (tie.spec
-    returns
+    (λ c. search (extended-too-short, needs))
     (λ c. search needs)
     (λ c. search needs)
     (λ c κs. search needs)

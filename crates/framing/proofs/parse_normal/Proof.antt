@@ -5,9 +5,6 @@ use borrow.Author.Needs.{needs}
 use Rattle.framing.proofs.parse_normal.Statement.{statement}
 use Rattle.framing.proofs.parse_normal.Tie as tie
 
-returns : tie.Need-returns
-returns c = search (normal-too-short, needs)
-
 returns-2 : tie.Need-returns-2
 returns-2 c =
     let p = c .before .before .before .before .before .before .args .packet .now in
@@ -24,7 +21,7 @@ pub parse-normal-spec : {M : Type 1} → statement M
 parse-normal-spec =
     tie.close
     (tie.spec
-    returns
+    (λ c. search (normal-too-short, needs))
     (λ c. search needs)
     (λ c κs. search needs)
     (λ c κs. search needs)

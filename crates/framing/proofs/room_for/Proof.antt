@@ -5,20 +5,11 @@ use borrow.Author.Needs.{needs}
 use Rattle.framing.proofs.room_for.Statement.{statement}
 use Rattle.framing.proofs.room_for.Tie as tie
 
-returns : tie.Need-returns
-returns c = search (place-long, needs) depth 6
-
 add-if2 : tie.Need-add-if2
 add-if2 c = omega (arith, start-most (c .before .before .before .before .args .format .length) (c .before .before .before .before .args .n), longest-most (c .before .before .before .before .args .format .length))
 
 add-if2-2 : tie.Need-add-if2-2
 add-if2-2 c = omega (arith, start-most (c .before .before .before .before .args .format .length) (c .before .before .before .before .args .n), longest-most (c .before .before .before .before .args .format .length))
-
-returns-2 : tie.Need-returns-2
-returns-2 c = search (place-short, needs) depth 6
-
-returns-3 : tie.Need-returns-3
-returns-3 c = search (place-at, needs) depth 6
 
 pub room-for-spec : {M : Type 1} → statement M
 room-for-spec =
@@ -26,9 +17,9 @@ room-for-spec =
     (tie.spec
     (λ c κs. search needs)
     (λ c κs. search needs)
-    returns
+    (λ c. search (place-long, needs) depth 6)
     (λ c κs. search needs)
     add-if2
     add-if2-2
-    returns-2
-    returns-3)
+    (λ c. search (place-short, needs) depth 6)
+    (λ c. search (place-at, needs) depth 6))

@@ -14,45 +14,18 @@ Inv-loop packet prefix i₀ i = (i ≤ length prefix) × (starts prefix packet �
 abbrev μ-loop : tie.MeasureT-loop
 μ-loop packet prefix i₀ i = length prefix - i
 
-loop-holds : tie.Need-loop-holds Inv-loop μ-loop
-loop-holds c = search needs
-
-returns : tie.Need-returns Inv-loop μ-loop
-returns c = search (starts-short, needs)
-
-shared-slice-read-if2 : tie.Need-shared-slice-read-if2 Inv-loop μ-loop
-shared-slice-read-if2 c = search needs
-
-shared-slice-read-if2-2 : tie.Need-shared-slice-read-if2-2 Inv-loop μ-loop
-shared-slice-read-if2-2 c = search needs
-
-returns-2 : tie.Need-returns-2 Inv-loop μ-loop
-returns-2 c = search (starts-differ, needs)
-
-add-i : tie.Need-add-i Inv-loop μ-loop
-add-i c = search needs
-
-loop-less : tie.Need-loop-less Inv-loop μ-loop
-loop-less c = search needs
-
-loop-again : tie.Need-loop-again Inv-loop μ-loop
-loop-again c = (search needs, search (starts-agree, needs))
-
-returns-3 : tie.Need-returns-3 Inv-loop μ-loop
-returns-3 c = search (starts-done, needs)
-
 pub starts-with-spec : {M : Type 1} → statement M
 starts-with-spec =
     tie.close
     (tie.spec
     Inv-loop
     μ-loop
-    loop-holds
-    returns
-    shared-slice-read-if2
-    shared-slice-read-if2-2
-    returns-2
-    add-i
-    loop-less
-    loop-again
-    returns-3)
+    (λ c. search needs)
+    (λ c. search (starts-short, needs))
+    (λ c. search needs)
+    (λ c. search needs)
+    (λ c. search (starts-differ, needs))
+    (λ c. search needs)
+    (λ c. search needs)
+    (λ c. (search needs, search (starts-agree, needs)))
+    (λ c. search (starts-done, needs)))

@@ -6,9 +6,6 @@ use borrow.Author.Needs.{needs}
 use Rattle.presence_lines.proofs.reply.Statement.{statement}
 use Rattle.presence_lines.proofs.reply.Tie as tie
 
-slice-aggregate-answer : tie.Need-slice-aggregate-answer
-slice-aggregate-answer c = let e = rw (c .before .before .told .given .1) at (c .before .before .before .before .before .before .before .pre .0) in sym (length-take-le _ _ e)
-
 answer-requires : tie.Need-answer-requires
 answer-requires c κs =
     let p = c .before .before .before .before .before .before .before .before .before .pre in
@@ -20,7 +17,7 @@ reply-spec =
     tie.close
     (tie.spec
     (λ c. search needs)
-    slice-aggregate-answer
+    (λ c. let e = rw (c .before .before .told .given .1) at (c .before .before .before .before .before .before .before .pre .0) in sym (length-take-le _ _ e))
     answer-requires
     (λ c κs. search needs)
     (λ c. search needs)

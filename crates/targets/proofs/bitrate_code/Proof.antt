@@ -8,35 +8,14 @@ use Rattle.targets.proofs.Laws.{number, other, same-number}
 use Rattle.targets.proofs.bitrate_code.Statement.{statement}
 use Rattle.targets.proofs.bitrate_code.Tie as tie
 
-returns : tie.Need-returns
-returns c = same-number _ _ _ 49 48 54 (c .before .before .pre) (omega arith) (c .before .match .keys1) _ _ (unfold codeOf same in rw (c .match2 .keys1))
-
-returns-2 : tie.Need-returns-2
-returns-2 c = same-number _ _ _ 49 48 54 (c .before .before .pre) (omega arith) (c .before .match .keys1) _ _ (unfold codeOf same in rw (c .match2 .keys2))
-
 returns-3 : tie.Need-returns-3
 returns-3 c = same-number _ _ _ 49 48 54 (c .before .before .pre) (omega arith) (c .before .match .keys1) _ _ (unfold codeOf same in rw (ne-eqb _ 65 (c .match2 .rest .0 .1), ne-eqb _ 66 (c .match2 .rest .1)))
-
-returns-4 : tie.Need-returns-4
-returns-4 c = same-number _ _ _ 50 49 50 (c .before .before .pre) (omega arith) (c .before .match .keys2) _ _ (unfold codeOf same in rw (c .match3 .keys1))
-
-returns-5 : tie.Need-returns-5
-returns-5 c = same-number _ _ _ 50 49 50 (c .before .before .pre) (omega arith) (c .before .match .keys2) _ _ (unfold codeOf same in rw (c .match3 .keys2))
 
 returns-6 : tie.Need-returns-6
 returns-6 c = same-number _ _ _ 50 49 50 (c .before .before .pre) (omega arith) (c .before .match .keys2) _ _ (unfold codeOf same in rw (ne-eqb _ 66 (c .match3 .rest .0 .1), ne-eqb _ 70 (c .match3 .rest .1)))
 
-returns-7 : tie.Need-returns-7
-returns-7 c = same-number _ _ _ 52 50 52 (c .before .before .pre) (omega arith) (c .before .match .keys3) _ _ (unfold codeOf same in rw (c .match4 .keys1))
-
-returns-8 : tie.Need-returns-8
-returns-8 c = same-number _ _ _ 52 50 52 (c .before .before .pre) (omega arith) (c .before .match .keys3) _ _ (unfold codeOf same in rw (c .match4 .keys2))
-
 returns-9 : tie.Need-returns-9
 returns-9 c = same-number _ _ _ 52 50 52 (c .before .before .pre) (omega arith) (c .before .match .keys3) _ _ (unfold codeOf same in rw (ne-eqb _ 66 (c .match4 .rest .0 .1), ne-eqb _ 70 (c .match4 .rest .1)))
-
-returns-10 : tie.Need-returns-10
-returns-10 c = same-number _ _ _ 56 52 56 (c .before .before .pre) (omega arith) (c .before .match .keys4) _ _ (unfold codeOf same in rw (c .match5 .keys1))
 
 returns-11 : tie.Need-returns-11
 returns-11 c = same-number _ _ _ 56 52 56 (c .before .before .pre) (omega arith) (c .before .match .keys4) _ _ (unfold codeOf same in rw (ne-eqb _ 66 (c .match5 .rest .1)))
@@ -60,15 +39,15 @@ bitrate-code-spec =
     (λ c. search needs)
     (λ c. search needs)
     (λ c. search needs)
-    returns
-    returns-2
+    (λ c. same-number _ _ _ 49 48 54 (c .before .before .pre) (omega arith) (c .before .match .keys1) _ _ (unfold codeOf same in rw (c .match2 .keys1)))
+    (λ c. same-number _ _ _ 49 48 54 (c .before .before .pre) (omega arith) (c .before .match .keys1) _ _ (unfold codeOf same in rw (c .match2 .keys2)))
     returns-3
-    returns-4
-    returns-5
+    (λ c. same-number _ _ _ 50 49 50 (c .before .before .pre) (omega arith) (c .before .match .keys2) _ _ (unfold codeOf same in rw (c .match3 .keys1)))
+    (λ c. same-number _ _ _ 50 49 50 (c .before .before .pre) (omega arith) (c .before .match .keys2) _ _ (unfold codeOf same in rw (c .match3 .keys2)))
     returns-6
-    returns-7
-    returns-8
+    (λ c. same-number _ _ _ 52 50 52 (c .before .before .pre) (omega arith) (c .before .match .keys3) _ _ (unfold codeOf same in rw (c .match4 .keys1)))
+    (λ c. same-number _ _ _ 52 50 52 (c .before .before .pre) (omega arith) (c .before .match .keys3) _ _ (unfold codeOf same in rw (c .match4 .keys2)))
     returns-9
-    returns-10
+    (λ c. same-number _ _ _ 56 52 56 (c .before .before .pre) (omega arith) (c .before .match .keys4) _ _ (unfold codeOf same in rw (c .match5 .keys1)))
     returns-11
     returns-12)

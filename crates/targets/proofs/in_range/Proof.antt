@@ -4,13 +4,10 @@ use Rattle.targets.specs.Form.{inRange}
 use Rattle.targets.proofs.in_range.Statement.{statement}
 use Rattle.targets.proofs.in_range.Tie as tie
 
-returns : tie.Need-returns
-unfolding inRange
-returns c = rw (le-leb _ _ (c .if1 .taken))
-
-returns-2 : tie.Need-returns-2
-unfolding inRange
-returns-2 c = rw (lt-leb _ _ (c .if1 .left))
-
 pub in-range-spec : {M : Type 1} → statement M
-in-range-spec = tie.close (tie.spec returns returns-2)
+unfolding inRange
+in-range-spec =
+    tie.close
+    (tie.spec
+    (λ c. rw (le-leb _ _ (c .if1 .taken)))
+    (λ c. rw (lt-leb _ _ (c .if1 .left))))

@@ -15,57 +15,21 @@ Inv-loop text last i₀ i = (i ≤ last) × (last ≤ length text) × (isRate te
 abbrev μ-loop : tie.MeasureT-loop
 μ-loop text last i₀ i = last - i
 
-returns : tie.Need-returns Inv-loop μ-loop
-returns c = search (rate-short, needs)
-
-sub-last : tie.Need-sub-last Inv-loop μ-loop
-sub-last c = search needs
-
-loop-holds : tie.Need-loop-holds Inv-loop μ-loop
-loop-holds c = search (rate-start, needs)
-
-shared-slice-read-in-range : tie.Need-shared-slice-read-in-range Inv-loop μ-loop
-shared-slice-read-in-range c = search needs
-
-in-range-requires : tie.Need-in-range-requires Inv-loop μ-loop
-in-range-requires c κs = search needs
-
-returns-2 : tie.Need-returns-2 Inv-loop μ-loop
-returns-2 c = search (digits-stop, not-true, needs)
-
-add-i : tie.Need-add-i Inv-loop μ-loop
-add-i c = search needs
-
-loop-less : tie.Need-loop-less Inv-loop μ-loop
-loop-less c = search needs
-
-loop-again : tie.Need-loop-again Inv-loop μ-loop
-loop-again c = search (digits-more, not-false, needs)
-
-shared-slice-read-in-range-2 : tie.Need-shared-slice-read-in-range-2 Inv-loop μ-loop
-shared-slice-read-in-range-2 c = search needs
-
-in-range-requires-2 : tie.Need-in-range-requires-2 Inv-loop μ-loop
-in-range-requires-2 c κs = search needs
-
-returns-3 : tie.Need-returns-3 Inv-loop μ-loop
-returns-3 c = search (digits-end, needs)
-
 pub is-valid-bitrate-spec : {M : Type 1} → statement M
 is-valid-bitrate-spec =
     tie.close
     (tie.spec
     Inv-loop
     μ-loop
-    returns
-    sub-last
-    loop-holds
-    shared-slice-read-in-range
-    in-range-requires
-    returns-2
-    add-i
-    loop-less
-    loop-again
-    shared-slice-read-in-range-2
-    in-range-requires-2
-    returns-3)
+    (λ c. search (rate-short, needs))
+    (λ c. search needs)
+    (λ c. search (rate-start, needs))
+    (λ c. search needs)
+    (λ c κs. search needs)
+    (λ c. search (digits-stop, not-true, needs))
+    (λ c. search needs)
+    (λ c. search needs)
+    (λ c. search (digits-more, not-false, needs))
+    (λ c. search needs)
+    (λ c κs. search needs)
+    (λ c. search (digits-end, needs)))

@@ -63,6 +63,23 @@ impl<'a> Arguments<'a> {
         Arguments { numbers: Numbers { y, ..self.numbers }, ..self }
     }
 
+    fn second(self, second: &'a [u8]) -> Self {
+        Arguments { second, ..self }
+    }
+
+    fn third(self, third: &'a [u8]) -> Self {
+        Arguments { third, ..self }
+    }
+
+    fn fourth(self, fourth: &'a [u8]) -> Self {
+        Arguments { fourth, ..self }
+    }
+
+    /// The ms of a FeliCa call, where they are given.
+    fn waiting(self, ms: Option<u16>) -> Self {
+        ms.map_or(self, |ms| self.ms(ms.into()).y(1))
+    }
+
     /// The same as a call of this caller.
     pub fn by(self, caller: u8) -> Self {
         Arguments { numbers: Numbers { caller, ..self.numbers }, ..self }
@@ -82,40 +99,39 @@ impl<'a> Call<'a> {
             Call::WriteRegister { registers } => Arguments::with(6, registers),
             Call::ReadSingleRegister { address } => Arguments::of(7).word(address),
             Call::WriteSingleRegister { address, value } => Arguments::of(8).word(address).x(value),
-            Call::InListPassiveTarget { max_tg, bitrate, initiator } => Arguments::with(9, initiator).x(max_tg).y(bitrate),
+            Call::InListPassiveTarget { max_tg, bitrate, initiator } => {
+                Arguments::with(9, initiator).x(max_tg).y(bitrate)
+            }
             Call::InDataExchange { data, ms } => Arguments::with(10, data).ms(ms),
             Call::InCommunicateThru { data, ms } => Arguments::with(11, data).ms(ms),
             Call::InJumpForDep { active, br, passive, nfcid3, gi } => {
-                Arguments { second: nfcid3, third: gi, ..Arguments::with(12, passive) }.x(active as u8).y(br)
+                Arguments::with(12, passive).second(nfcid3).third(gi).x(active as u8).y(br)
             }
             Call::TgInitTarget { mode, mifare, felica, nfcid3t, gt, ms } => {
-                Arguments { second: felica, third: nfcid3t, fourth: gt, ..Arguments::with(13, mifare) }.x(mode).ms(ms)
+                Arguments::with(13, mifare).second(felica).third(nfcid3t).fourth(gt).x(mode).ms(ms)
             }
             Call::TgSetGeneralBytes { data } => Arguments::with(14, data),
             Call::TgGetInitiatorCommand { ms } => Arguments::of(15).ms(ms),
             Call::TgResponseToInitiator { data } => Arguments::with(16, data),
             Call::TgGetTargetStatus => Arguments::of(17),
             Call::RfFieldOff => Arguments::of(18),
-            Call::DetectTypeA { bitrate, uid, split } => {
-                Arguments { second: uid, ..Arguments::with(if split { 25 } else { 19 }, bitrate) }
-            }
-            Call::DetectTypeB { bitrate, sensb_req } => Arguments { second: sensb_req, ..Arguments::with(20, bitrate) },
+            Call::DetectTypeA { bitrate, uid, split: false } => Arguments::with(19, bitrate).second(uid),
+            Call::DetectTypeA { bitrate, uid, split: true } => Arguments::with(25, bitrate).second(uid),
+            Call::DetectTypeB { bitrate, sensb_req } => Arguments::with(20, bitrate).second(sensb_req),
             Call::DetectTypeF { bitrate, system_code, request_code, time_slots } => {
                 Arguments::with(21, bitrate).word(system_code).x(request_code).y(time_slots)
             }
-            Call::DetectDep { bitrate, atr_req } => Arguments { second: atr_req, ..Arguments::with(22, bitrate) },
+            Call::DetectDep { bitrate, atr_req } => Arguments::with(22, bitrate).second(atr_req),
             Call::Transceive { bitrate, sel_res, rid_res, data, ms } => {
-                let given = Arguments { second: sel_res, third: data, ..Arguments::with(23, bitrate) }.x(rid_res as u8);
+                let given = Arguments::with(23, bitrate).second(sel_res).third(data).x(rid_res as u8);
                 ms.map_or(given, |ms| given.word(ms).y(1))
             }
-            Call::PollTypeF { bitrate, codes } => Arguments { second: codes, ..Arguments::with(24, bitrate) },
+            Call::PollTypeF { bitrate, codes } => Arguments::with(24, bitrate).second(codes),
             Call::ReadWithoutEncryption { idm, service, blocks, ms } => {
-                let asked = Arguments { second: blocks, ..Arguments::with(26, idm) }.word(service);
-                ms.map_or(asked, |ms| asked.ms(ms.into()).y(1))
+                Arguments::with(26, idm).second(blocks).word(service).waiting(ms)
             }
             Call::WriteWithoutEncryption { idm, service, blocks, data, ms } => {
-                let asked = Arguments { second: blocks, third: data, ..Arguments::with(27, idm) }.word(service);
-                ms.map_or(asked, |ms| asked.ms(ms.into()).y(1))
+                Arguments::with(27, idm).second(blocks).third(data).word(service).waiting(ms)
             }
         }
     }

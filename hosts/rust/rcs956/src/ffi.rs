@@ -2,7 +2,10 @@
 
 use crate::raw::{Arguments, Numbers, Outcome, RawSession};
 
-const _: () = assert!(size_of::<RawSession>() == 1608 && size_of::<Outcome>() == 24 && size_of::<Numbers>() == 12, "the archive is for 64 bits");
+const _: () = assert!(
+    size_of::<RawSession>() == 1608 && size_of::<Outcome>() == 24 && size_of::<Numbers>() == 12,
+    "the archive is for 64 bits"
+);
 
 unsafe extern "C" {
     safe fn rcs956_fresh() -> RawSession;

@@ -26,7 +26,10 @@ pub enum Step<'r> {
     /// Refusals 1 to 6 changed nothing: an order that was due still is, see [`Reader::due`]. Others ended the call.
     Refused(Refusal),
     /// A refusal above 6 ended a list; so many of its codes were finished.
-    ListRefused { refusal: Refusal, finished: u8 },
+    ListRefused {
+        refusal: Refusal,
+        finished: u8,
+    },
 }
 
 /// The bytes of an answer.
@@ -304,8 +307,14 @@ impl<'r> Pause<'r> {
 impl Step<'_> {
     /// The outcome and its bytes.
     fn outcome(&self) -> (Outcome, &[u8]) {
-        let end = |kind| Outcome { kind, refusal: 0, status: 0, status2: 0, finished: 0, uid: 0, ats: 0, time: 0, len: 0 };
-        let refused = |why: &Refusal, kind| Outcome { refusal: why.number(), status: why.status(), status2: why.status2(), ..end(kind) };
+        let end =
+            |kind| Outcome { kind, refusal: 0, status: 0, status2: 0, finished: 0, uid: 0, ats: 0, time: 0, len: 0 };
+        let refused = |why: &Refusal, kind| Outcome {
+            refusal: why.number(),
+            status: why.status(),
+            status2: why.status2(),
+            ..end(kind)
+        };
         match self {
             Step::Write(order) => (order.0.outcome, order.bytes()),
             Step::Read(order) => (order.0.outcome, &[]),

@@ -64,7 +64,16 @@ fn layout() {
 
 #[test]
 fn fresh_is_zeroed() {
-    assert_eq!(raw::fresh(), RawSession { command: [0; 512], found: [0; 1024], frames: [0; CALLERS], books: Books::default(), core: Core::default() });
+    assert_eq!(
+        raw::fresh(),
+        RawSession {
+            command: [0; 512],
+            found: [0; 1024],
+            frames: [0; CALLERS],
+            books: Books::default(),
+            core: Core::default()
+        }
+    );
 }
 
 #[test]
@@ -144,7 +153,10 @@ fn refusals_by_number() {
     assert_eq!(Step::Refused(Refusal::CardStatus(0xFF, 0xA1)).to_string(), "refused 20 FFA1");
     assert_eq!(Step::Refused(Refusal::Status(0xFE)).to_string(), "refused 15 FE");
     assert_eq!(Step::ListRefused { refusal: Refusal::TimeOut, finished: 0 }.to_string(), "refused 8 finished 0");
-    assert_eq!(Step::ListRefused { refusal: Refusal::Status(0xFE), finished: 16 }.to_string(), "refused 15 FE finished 16");
+    assert_eq!(
+        Step::ListRefused { refusal: Refusal::Status(0xFE), finished: 16 }.to_string(),
+        "refused 15 FE finished 16"
+    );
 }
 
 #[test]
@@ -167,7 +179,17 @@ fn session_with(opened: u8, frames: u32) -> RawSession {
 }
 
 fn refused(number: u8) -> Outcome {
-    Outcome { kind: raw::kind::REFUSED, refusal: number, status: 0, status2: 0, finished: 0, uid: 0, ats: 0, time: 0, len: 0 }
+    Outcome {
+        kind: raw::kind::REFUSED,
+        refusal: number,
+        status: 0,
+        status2: 0,
+        finished: 0,
+        uid: 0,
+        ats: 0,
+        time: 0,
+        len: 0,
+    }
 }
 
 #[test]
@@ -188,7 +210,10 @@ fn opened_out_of_range() {
         assert_eq!(session, session_with(opened, 77));
         // The opening waits for its ACK to be written.
         let mut session = raw::fresh();
-        assert_eq!(raw::call(&mut session, &Call::Open { padded: false }.arguments(), &mut [0; 1024]).kind, raw::kind::WRITE);
+        assert_eq!(
+            raw::call(&mut session, &Call::Open { padded: false }.arguments(), &mut [0; 1024]).kind,
+            raw::kind::WRITE
+        );
         session.books.opened = opened;
         let before = session.clone();
         assert_eq!(raw::event(&mut session, raw::event::OK, &[], &mut [0; 1024]), refused(1));
@@ -211,7 +236,10 @@ fn opening_chooses_the_mode() {
 fn no_such_mode() {
     for mode in 2..=255 {
         let mut session = session_with(1, 77);
-        let opening = Arguments { numbers: Numbers { x: mode, ..Numbers::default() }, ..Call::Open { padded: false }.arguments() };
+        let opening = Arguments {
+            numbers: Numbers { x: mode, ..Numbers::default() },
+            ..Call::Open { padded: false }.arguments()
+        };
         assert_eq!(raw::call(&mut session, &opening, &mut [0; 1024]), refused(4));
         assert_eq!(session, session_with(1, 77));
         session.books.mode = mode;
@@ -238,7 +266,10 @@ fn no_such_caller() {
     for caller in 8..=255 {
         let mut session = session_with(1, 77);
         assert_eq!(raw::call(&mut session, &Call::Version.arguments().by(caller), &mut [0; 1024]), refused(4));
-        assert_eq!(raw::call(&mut session, &Call::Open { padded: false }.arguments().by(caller), &mut [0; 1024]), refused(4));
+        assert_eq!(
+            raw::call(&mut session, &Call::Open { padded: false }.arguments().by(caller), &mut [0; 1024]),
+            refused(4)
+        );
         assert_eq!(session, session_with(1, 77));
         session.books.caller = caller;
         let before = session.clone();
@@ -252,11 +283,17 @@ fn frames_by_caller() {
     let mut session = session_with(1, 0);
     let mut due = [0; CALLERS];
     for caller in [3, 7, 3] {
-        assert_eq!(raw::call(&mut session, &Call::Version.arguments().by(caller), &mut [0; 1024]).kind, raw::kind::WRITE);
+        assert_eq!(
+            raw::call(&mut session, &Call::Version.arguments().by(caller), &mut [0; 1024]).kind,
+            raw::kind::WRITE
+        );
         due[usize::from(caller)] += 1;
         assert_eq!((session.books.caller, session.frames), (caller, due));
         session.core.call = Default::default();
     }
-    assert_eq!(raw::call(&mut session, &Call::Open { padded: true }.arguments().by(5), &mut [0; 1024]).kind, raw::kind::WRITE);
+    assert_eq!(
+        raw::call(&mut session, &Call::Open { padded: true }.arguments().by(5), &mut [0; 1024]).kind,
+        raw::kind::WRITE
+    );
     assert_eq!((&session.books, session.frames), (&Books { mode: 1, caller: 5, ..Books::default() }, [0; CALLERS]));
 }

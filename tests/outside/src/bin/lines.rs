@@ -101,6 +101,13 @@ impl<'a> Words<'a> {
                 request_code: self.byte(3)?,
                 time_slots: self.byte(4)?,
             },
+            _ => return self.exchange(),
+        })
+    }
+
+    /// FeliCa blocks and polls, DEP, and an exchange with a card.
+    fn exchange(&self) -> Option<Call<'_>> {
+        Some(match (self.words[0], self.words.len()) {
             (b"read_without_encryption", 5) => Call::ReadWithoutEncryption {
                 idm: self.hex(1)?,
                 service: self.word(2)?,

@@ -275,7 +275,8 @@ fn case(seed: u64, number: u64, tally: &mut Tally) -> bool {
         if !faults.is_empty() {
             println!(
                 "case {number} of seed {seed}, step {step}: {faults:?}\n{outcome:?}\n{:?}\n{:?}",
-                (&before.core, &before.books), (&session.core, &session.books)
+                (&before.core, &before.books),
+                (&session.core, &session.books)
             );
             return false;
         }

@@ -8,12 +8,12 @@ use Rattle.acceptance.proofs.Entry.frame.Tie as tie
 
 returns : tie.Need-returns
 returns c =
-    let s = sym (c .before .before .before .before .before .format .given .1) ∙ c .before .before .before .before .before .before .before .numbered .ensures in
+    let s = sym (c .before .before .before .before .before .format .given .1) ∙ c .before .before .before .before .before .before .before .by-number .ensures in
     built-format _ _ _ _ s (c .before .before .build .ensures)
 
 returns-2 : tie.Need-returns-2
 unfolding outcome
-returns-2 c = built-none _ _ (sym (c .enum-told .given .1) ∙ c .before .before .numbered .ensures)
+returns-2 c = built-none _ _ (sym (c .enum-told .given .1) ∙ c .before .before .by-number .ensures)
 
 pub frame-spec : {M : Type 1} → statement M
 frame-spec =

@@ -6,9 +6,6 @@ use borrow.Author.Needs.{needs}
 use Rattle.acceptance.proofs.Entry.next.Statement.{statement}
 use Rattle.acceptance.proofs.Entry.next.Tie as tie
 
-returns : tie.Need-returns
-returns c = step-refused _ (c .if1 .taken)
-
 returns-2 : tie.Need-returns-2
 returns-2 c =
     let behind = c .before .before .before .payload-behind .ensures in
@@ -28,7 +25,7 @@ pub next-spec : {M : Type 1} → statement M
 next-spec =
     tie.close
     (tie.spec
-    returns
+    (λ c. step-refused _ (c .if1 .taken))
     (λ c κs. search needs)
     (λ c. search needs)
     (λ c. search needs)

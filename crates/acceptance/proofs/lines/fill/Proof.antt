@@ -17,19 +17,10 @@ Inv-loop out₀ len₀ count₀ step₀ out len count step = (length out ≡ len
 abbrev μ-loop : tie.MeasureT-loop
 μ-loop out₀ len₀ count₀ step₀ out len count step = 2 * (length out₀ - len) + onEntry step
 
-loop-holds : tie.Need-loop-holds Inv-loop μ-loop
-loop-holds c = (search needs, filling-start _ _)
-
-sub-loop : tie.Need-sub-loop Inv-loop μ-loop
-sub-loop c = let f = c .loop .inv .1 in omega arith
-
 returns : tie.Need-returns Inv-loop μ-loop
 returns c =
     let none = no-entry (c .before .before .loop .step) (c .match .keys2) in
     filling-end _ _ _ _ (c .before .before .loop .inv .1) (λ h. omega arith)
-
-put-line-requires : tie.Need-put-line-requires Inv-loop μ-loop
-put-line-requires c κs = let f = c .before .before .before .before .before .loop .inv .1 in omega arith
 
 add-count : tie.Need-add-count Inv-loop μ-loop
 add-count c =
@@ -65,12 +56,12 @@ fill-spec =
     (tie.spec
     Inv-loop
     μ-loop
-    loop-holds
-    sub-loop
+    (λ c. (search needs, filling-start _ _))
+    (λ c. let f = c .loop .inv .1 in omega arith)
     (λ c. search needs)
     (λ c. search needs)
     returns
-    put-line-requires
+    (λ c κs. let f = c .before .before .before .before .before .loop .inv .1 in omega arith)
     (λ c κs. search needs)
     add-count
     loop-less

@@ -18,20 +18,11 @@ Inv-loop bytes out₀ at digits i₀ out i = (i ≤ length bytes) × (length out
 abbrev μ-loop : tie.MeasureT-loop
 μ-loop bytes out₀ at digits i₀ out i = length bytes - i
 
-loop-holds : tie.Need-loop-holds Inv-loop μ-loop
-loop-holds c = (search needs, search needs, search (paste-none, needs))
-
-slice-write-out-2 : tie.Need-slice-write-out-2 Inv-loop μ-loop
-slice-write-out-2 c = simp length-set (omega arith)
-
 loop-again : tie.Need-loop-again Inv-loop μ-loop
 loop-again c =
     let h = c .before .high .ensures in
     let l = c .low .ensures in
     (search needs, search needs, digits-turn _ _ _ _ _ _ _ (c .before .before .before .before .loop .inv .2) (search needs) (search needs) (table-digit _ _ (h .0) (h .1)) (table-digit _ _ (l .0) (l .1)))
-
-returns : tie.Need-returns Inv-loop μ-loop
-returns c = search (digits-done, needs)
 
 pub put-digits-spec : {M : Type 1} → statement M
 put-digits-spec =
@@ -39,7 +30,7 @@ put-digits-spec =
     (tie.spec
     Inv-loop
     μ-loop
-    loop-holds
+    (λ c. (search needs, search needs, search (paste-none, needs)))
     (λ c. search needs)
     (λ c κs. search needs)
     (λ c. search needs)
@@ -51,9 +42,9 @@ put-digits-spec =
     (λ c. search needs)
     (λ c. search needs)
     (λ c. search needs)
-    slice-write-out-2
+    (λ c. simp length-set (omega arith))
     (λ c. search needs)
     (λ c. search needs)
     loop-again
     (λ c. search needs)
-    returns)
+    (λ c. search (digits-done, needs)))

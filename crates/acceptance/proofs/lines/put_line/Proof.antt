@@ -6,9 +6,6 @@ use borrow.Author.Needs.{needs}
 use Rattle.acceptance.proofs.lines.put_line.Statement.{statement}
 use Rattle.acceptance.proofs.lines.put_line.Tie as tie
 
-returns : tie.Need-returns
-returns c = no-line _ _ _ (unframed _ _ _ _ (search needs) (c .before .before .before .frame2 .ensures) _ (c .enum-told .given .1))
-
 array-share-prefix-frame : tie.Need-array-share-prefix-frame
 array-share-prefix-frame c =
     let f = framed _ _ _ _ (search needs) (c .before .before .before .before .frame2 .ensures) _ (c .before .n .given .1) in
@@ -57,7 +54,7 @@ put-line-spec =
     (λ c κs. search needs)
     (λ c. search needs)
     (λ c. search needs)
-    returns
+    (λ c. no-line _ _ _ (unframed _ _ _ _ (search needs) (c .before .before .before .frame2 .ensures) _ (c .enum-told .given .1)))
     array-share-prefix-frame
     slice-aggregate-put-digits
     put-digits-requires

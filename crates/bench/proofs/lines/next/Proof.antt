@@ -7,15 +7,6 @@ use borrow.Author.Needs.{needs}
 use Rattle.bench.proofs.lines.next.Statement.{statement}
 use Rattle.bench.proofs.lines.next.Tie as tie
 
-sub-part : tie.Need-sub-part
-sub-part c = search (held-order, needs)
-
-part-part-start : tie.Need-part-part-start
-part-part-start c = search (held-order, needs)
-
-part-part-end : tie.Need-part-part-end
-part-part-end c = search (held-inside, needs)
-
 returns : tie.Need-returns
 returns c =
     let rest = c .before .before .before .before .before .before .before .before .before .before .before .within in
@@ -38,9 +29,9 @@ next-spec =
     tie.close
     (tie.spec
     (λ c κs. search needs)
-    sub-part
-    part-part-start
-    part-part-end
+    (λ c. search (held-order, needs))
+    (λ c. search (held-order, needs))
+    (λ c. search (held-inside, needs))
     (λ c κs. search needs)
     (λ c. search needs)
     (λ c κs. search needs)

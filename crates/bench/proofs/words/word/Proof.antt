@@ -4,10 +4,13 @@ use borrow.Author.Needs.{needs}
 use Rattle.bench.proofs.words.word.Statement.{statement}
 use Rattle.bench.proofs.words.word.Tie as tie
 
-returns : tie.Need-returns
-returns c = c .before .end .ensures .2 ∙ c .before .before .start .ensures .1
-
 pub word-spec : {M : Type 1} → statement M
 word-spec =
     tie.close
-    (tie.spec (λ c κs. search needs) (λ c κs. search needs) (λ c. search needs) (λ c. search needs) (λ c. search needs) returns)
+    (tie.spec
+    (λ c κs. search needs)
+    (λ c κs. search needs)
+    (λ c. search needs)
+    (λ c. search needs)
+    (λ c. search needs)
+    (λ c. c .before .end .ensures .2 ∙ c .before .before .start .ensures .1))

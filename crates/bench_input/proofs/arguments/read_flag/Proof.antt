@@ -8,18 +8,14 @@ use Rattle.bench_input.proofs.ArgumentLaws.{byte-value, byte-none}
 use Rattle.bench_input.proofs.arguments.read_flag.Statement.{statement}
 use Rattle.bench_input.proofs.arguments.read_flag.Tie as tie
 
-returns : tie.Need-returns
-unfolding flagArg
-returns c = λ f. byte-none _ _ _ (c .before .before .read-byte .ensures) (c .enum-told .given .1)
-
-returns-2 : tie.Need-returns-2
-unfolding flagArg
-returns-2 c = λ f. byte-value _ _ _ (c .before .before .before .before .read-byte .ensures) _ _ (c .before .before .flag .given .1) (at-true _ _ _ _ (lt-ltb _ _ (c .if1 .taken)) refl)
-
-returns-3 : tie.Need-returns-3
-unfolding flagArg
-returns-3 c = λ f. byte-value _ _ _ (c .before .before .before .before .read-byte .ensures) _ _ (c .before .before .flag .given .1) (at-false _ _ _ _ (le-ltb _ _ (c .if1 .left)) refl)
-
 pub read-flag-spec : {M : Type 1} → statement M
+unfolding flagArg
 read-flag-spec =
-    tie.close (tie.spec (λ c κs. search needs) (λ c. search needs) (λ c. search needs) returns returns-2 returns-3)
+    tie.close
+    (tie.spec
+    (λ c κs. search needs)
+    (λ c. search needs)
+    (λ c. search needs)
+    (λ c. λ f. byte-none _ _ _ (c .before .before .read-byte .ensures) (c .enum-told .given .1))
+    (λ c. λ f. byte-value _ _ _ (c .before .before .before .before .read-byte .ensures) _ _ (c .before .before .flag .given .1) (at-true _ _ _ _ (lt-ltb _ _ (c .if1 .taken)) refl))
+    (λ c. λ f. byte-value _ _ _ (c .before .before .before .before .read-byte .ensures) _ _ (c .before .before .flag .given .1) (at-false _ _ _ _ (le-ltb _ _ (c .if1 .left)) refl)))

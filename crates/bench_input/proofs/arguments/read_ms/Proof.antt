@@ -15,33 +15,12 @@ Inv-loop line k word n₀ i₀ n i = (i ≤ length word) × (numberFrom 0 word �
 abbrev μ-loop : tie.MeasureT-loop
 μ-loop line k word n₀ i₀ n i = length word - i
 
-word-requires : tie.Need-word-requires Inv-loop μ-loop
-word-requires c κs = search needs
-
-returns : tie.Need-returns Inv-loop μ-loop
-returns c = λ f. ms-empty _ _ (c .before .word .ensures) f (c .if1 .taken)
-
-loop-holds : tie.Need-loop-holds Inv-loop μ-loop
-loop-holds c = search needs
-
-shared-slice-read-digit : tie.Need-shared-slice-read-digit Inv-loop μ-loop
-shared-slice-read-digit c = search needs
-
-digit-requires : tie.Need-digit-requires Inv-loop μ-loop
-digit-requires c κs = search needs
-
 returns-2 : tie.Need-returns-2 Inv-loop μ-loop
 returns-2 c = λ f.
     let at-loop = c .before .before .before .before in
     let at-word = at-loop .before .before in
     ms-unread _ _ (at-word .word .ensures) f
     (ms-bad _ 0 _ _ (search needs) (c .before .digit .ensures) (at-loop .loop .inv .2) (c .if2 .taken))
-
-mul-n : tie.Need-mul-n Inv-loop μ-loop
-mul-n c = search needs
-
-add-n : tie.Need-add-n Inv-loop μ-loop
-add-n c = search needs
 
 returns-3 : tie.Need-returns-3 Inv-loop μ-loop
 returns-3 c = λ f.
@@ -51,20 +30,11 @@ returns-3 c = λ f.
     ms-unread _ _ (at-word .word .ensures) f
     (ms-over _ _ _ _ (search needs) (at-digit .digit .ensures) (at-loop .loop .inv .1) (c .if3 .taken))
 
-add-i : tie.Need-add-i Inv-loop μ-loop
-add-i c = search needs
-
-loop-less : tie.Need-loop-less Inv-loop μ-loop
-loop-less c = search needs
-
 loop-again : tie.Need-loop-again Inv-loop μ-loop
 loop-again c =
     let at-digit = c .before .before in
     let at-loop = at-digit .before .before .before in
     (search needs, ms-number _ _ _ _ (search needs) (at-digit .digit .ensures) (at-loop .loop .inv .1), ms-digits _ 0 _ _ (search needs) (at-digit .digit .ensures) (at-loop .loop .inv .2) (c .before .if2 .left), c .if3 .left)
-
-cast-t14 : tie.Need-cast-t14 Inv-loop μ-loop
-cast-t14 c = search needs
 
 returns-4 : tie.Need-returns-4 Inv-loop μ-loop
 returns-4 c = λ f.
@@ -78,17 +48,17 @@ read-ms-spec =
     (tie.spec
     Inv-loop
     μ-loop
-    word-requires
-    returns
-    loop-holds
-    shared-slice-read-digit
-    digit-requires
+    (λ c κs. search needs)
+    (λ c. λ f. ms-empty _ _ (c .before .word .ensures) f (c .if1 .taken))
+    (λ c. search needs)
+    (λ c. search needs)
+    (λ c κs. search needs)
     returns-2
-    mul-n
-    add-n
+    (λ c. search needs)
+    (λ c. search needs)
     returns-3
-    add-i
-    loop-less
+    (λ c. search needs)
+    (λ c. search needs)
     loop-again
-    cast-t14
+    (λ c. search needs)
     returns-4)

@@ -7,13 +7,12 @@ use Rattle.bench_input.specs.Arguments.{nameArg}
 use Rattle.bench_input.proofs.arguments.read_name.Statement.{statement}
 use Rattle.bench_input.proofs.arguments.read_name.Tie as tie
 
-returns : tie.Need-returns
-unfolding nameArg
-returns c = λ f. at-true _ _ _ _ (sym (c .before .is .ensures ∙ ap (same _) (c .before .before .word .ensures)) ∙ c .if1 .taken) refl
-
-returns-2 : tie.Need-returns-2
-unfolding nameArg
-returns-2 c = λ f. at-false _ _ _ _ (sym (c .before .is .ensures ∙ ap (same _) (c .before .before .word .ensures)) ∙ c .if1 .left) refl
-
 pub read-name-spec : {M : Type 1} → statement M
-read-name-spec = tie.close (tie.spec (λ c κs. search needs) (λ c κs. search needs) returns returns-2)
+unfolding nameArg
+read-name-spec =
+    tie.close
+    (tie.spec
+    (λ c κs. search needs)
+    (λ c κs. search needs)
+    (λ c. λ f. at-true _ _ _ _ (sym (c .before .is .ensures ∙ ap (same _) (c .before .before .word .ensures)) ∙ c .if1 .taken) refl)
+    (λ c. λ f. at-false _ _ _ _ (sym (c .before .is .ensures ∙ ap (same _) (c .before .before .word .ensures)) ∙ c .if1 .left) refl))

@@ -7,9 +7,6 @@ use Rattle.bench_input.proofs.ReadLaws.{text-empty, text-dash, text-roo
 use Rattle.bench_input.proofs.arguments.read_text.Statement.{statement}
 use Rattle.bench_input.proofs.arguments.read_text.Tie as tie
 
-returns : tie.Need-returns
-returns c = (λ f. text-empty _ _ (c .before .word .ensures) f (c .if1 .taken), tt)
-
 returns-2 : tie.Need-returns-2
 returns-2 c =
     let at-if1 = c .before .before .before in
@@ -47,7 +44,7 @@ read-text-spec =
     tie.close
     (tie.spec
     (λ c κs. search needs)
-    returns
+    (λ c. (λ f. text-empty _ _ (c .before .word .ensures) f (c .if1 .taken), tt))
     (λ c. search needs)
     (λ c κs. search needs)
     returns-2

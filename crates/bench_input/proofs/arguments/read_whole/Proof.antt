@@ -16,9 +16,6 @@ returns : tie.Need-returns
 unfolding wholeArg
 returns c = (λ f. hex-none _ _ _ _ (c .before .before .before .before .read-hex .ensures .0) _ _ (c .enum-told .given .1), tt)
 
-sub-if1 : tie.Need-sub-if1
-sub-if1 c = let b = behind-at _ _ _ _ _ _ (c .before .before .before .before .before .read-hex .ensures .1) (c .before .end .given .1) in search needs
-
 returns-2 : tie.Need-returns-2
 unfolding wholeArg
 returns-2 c =
@@ -45,7 +42,7 @@ read-whole-spec =
     (λ c. search needs)
     (λ c. search needs)
     returns
-    sub-if1
+    (λ c. let b = behind-at _ _ _ _ _ _ (c .before .before .before .before .before .read-hex .ensures .1) (c .before .end .given .1) in search needs)
     (λ c. search needs)
     (λ c. search needs)
     returns-2

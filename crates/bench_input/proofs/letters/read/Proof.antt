@@ -13,29 +13,14 @@ Inv-loop line letters bytes₀ taken₀ k₀ bytes taken k = Begun line letters 
 abbrev μ-loop : tie.MeasureT-loop
 μ-loop line letters bytes₀ taken₀ k₀ bytes taken k = length letters - k
 
-loop-holds : tie.Need-loop-holds Inv-loop μ-loop
-loop-holds c = begin _ _ _ (c .before .before .before .pre .1)
-
-shared-slice-read-argument : tie.Need-shared-slice-read-argument Inv-loop μ-loop
-shared-slice-read-argument c = search needs
-
-add-argument : tie.Need-add-argument Inv-loop μ-loop
-add-argument c = search needs
-
 argument-requires : tie.Need-argument-requires Inv-loop μ-loop
 argument-requires c κs =
     let at-loop = c .before .before .before in
     let start = at-loop .before .before .before .before in
     (at-loop .loop .inv .held, next-fits _ _ _ _ _ _ (at-loop .loop .inv) (start .pre .2) (c .before .before .loop-test .taken) (start .pre .0))
 
-enum-known-next : tie.Need-enum-known-next Inv-loop μ-loop
-enum-known-next c = search needs
-
 enum-told : tie.Need-enum-told Inv-loop μ-loop
 enum-told c = search needs
-
-same-length : tie.Need-same-length Inv-loop μ-loop
-same-length c = search needs
 
 returns : tie.Need-returns Inv-loop μ-loop
 returns c =
@@ -44,12 +29,6 @@ returns c =
     let start = at-loop .before .before .before .before in
     (next-none _ _ _ _ _ _ (at-loop .loop .inv) (start .pre .2) (at-argument .before .before .before .loop-test .taken) _ _ (at-argument .argument .ensures) (c .enum-told .given .1), tt)
 
-add-k : tie.Need-add-k Inv-loop μ-loop
-add-k c = search needs
-
-loop-less : tie.Need-loop-less Inv-loop μ-loop
-loop-less c = search needs
-
 loop-again : tie.Need-loop-again Inv-loop μ-loop
 loop-again c =
     let at-next = c .before in
@@ -57,9 +36,6 @@ loop-again c =
     let at-loop = at-argument .before .before .before .before in
     let start = at-loop .before .before .before .before in
     next-begun _ _ _ _ _ _ (at-loop .loop .inv) (start .pre .2) (at-argument .before .before .before .loop-test .taken) _ _ (at-argument .argument .ensures) (search needs) _ (at-next .next .given .1)
-
-same-length-2 : tie.Need-same-length-2 Inv-loop μ-loop
-same-length-2 c = search needs
 
 returns-2 : tie.Need-returns-2 Inv-loop μ-loop
 returns-2 c =
@@ -74,16 +50,16 @@ read-spec =
     (tie.spec
     Inv-loop
     μ-loop
-    loop-holds
-    shared-slice-read-argument
-    add-argument
+    (λ c. begin _ _ _ (c .before .before .before .pre .1))
+    (λ c. search needs)
+    (λ c. search needs)
     argument-requires
-    enum-known-next
+    (λ c. search needs)
     enum-told
-    same-length
+    (λ c. search needs)
     returns
-    add-k
-    loop-less
+    (λ c. search needs)
+    (λ c. search needs)
     loop-again
-    same-length-2
+    (λ c. search needs)
     returns-2)

@@ -8,31 +8,12 @@ use Rattle.bench_input.specs.Letters.{stringArg}
 use Rattle.bench_input.proofs.letters.string.Statement.{statement}
 use Rattle.bench_input.proofs.letters.string.Tie as tie
 
-returns : tie.Need-returns
-unfolding stringArg pick
-returns c = (λ f. rw (c .before .before .before .before .match .keys1) (c .before .before .read-hex .ensures .0 f), c .before .before .read-hex .ensures .1)
-
-returns-2 : tie.Need-returns-2
-unfolding stringArg pick
-returns-2 c = (λ f. rw (c .before .before .before .before .match .keys2) (c .before .before .read-hex-or-none .ensures .0 f), c .before .before .read-hex-or-none .ensures .1)
-
-returns-3 : tie.Need-returns-3
-unfolding stringArg pick
-returns-3 c = (λ f. rw (c .before .before .before .before .match .keys3) (c .before .before .read-text .ensures .0 f), c .before .before .read-text .ensures .1)
-
-returns-4 : tie.Need-returns-4
-unfolding stringArg pick
-returns-4 c = (λ f. rw (c .before .before .before .before .match .keys4) (c .before .before .read-whole .ensures .0 f), c .before .before .read-whole .ensures .1)
-
-returns-5 : tie.Need-returns-5
-unfolding stringArg pick
-returns-5 c = (λ f. rw (c .before .before .before .before .match .keys5) (c .before .before .read-whole2 .ensures .0 f), c .before .before .read-whole2 .ensures .1)
-
 returns-6 : tie.Need-returns-6
 unfolding stringArg
 returns-6 c = (λ f. let r = c .match .rest in at-false _ _ _ _ (ne-eqb _ _ (r .0 .0 .0 .0 .1)) (at-false _ _ _ _ (ne-eqb _ _ (r .0 .0 .0 .1)) (at-false _ _ _ _ (ne-eqb _ _ (r .0 .0 .1)) (at-false _ _ _ _ (ne-eqb _ _ (r .0 .1)) (at-false _ _ _ _ (ne-eqb _ _ (r .1)) refl)))), tt)
 
 pub string-spec : {M : Type 1} → statement M
+unfolding stringArg pick
 string-spec =
     tie.close
     (tie.spec
@@ -42,13 +23,13 @@ string-spec =
     (λ c κs. search needs)
     (λ c κs. search needs)
     (λ c. search needs)
-    returns
+    (λ c. (λ f. rw (c .before .before .before .before .match .keys1) (c .before .before .read-hex .ensures .0 f), c .before .before .read-hex .ensures .1))
     (λ c. search needs)
-    returns-2
+    (λ c. (λ f. rw (c .before .before .before .before .match .keys2) (c .before .before .read-hex-or-none .ensures .0 f), c .before .before .read-hex-or-none .ensures .1))
     (λ c. search needs)
-    returns-3
+    (λ c. (λ f. rw (c .before .before .before .before .match .keys3) (c .before .before .read-text .ensures .0 f), c .before .before .read-text .ensures .1))
     (λ c. search needs)
-    returns-4
+    (λ c. (λ f. rw (c .before .before .before .before .match .keys4) (c .before .before .read-whole .ensures .0 f), c .before .before .read-whole .ensures .1))
     (λ c. search needs)
-    returns-5
+    (λ c. (λ f. rw (c .before .before .before .before .match .keys5) (c .before .before .read-whole2 .ensures .0 f), c .before .before .read-whole2 .ensures .1))
     returns-6)

@@ -3,11 +3,11 @@ use borrow.Author.Needs.{needs}
 use Rattle.bench_input.proofs.letters.with_ms.Statement.{statement}
 use Rattle.bench_input.proofs.letters.with_ms.Tie as tie
 
-returns : tie.Need-returns
-returns c = λ f. rw (c .enum-told .given .1)
-
-returns-2 : tie.Need-returns-2
-returns-2 c = λ f. rw (c .before .value .given .1)
-
 pub with-ms-spec : {M : Type 1} → statement M
-with-ms-spec = tie.close (tie.spec (λ c. search needs) (λ c. search needs) returns returns-2)
+with-ms-spec =
+    tie.close
+    (tie.spec
+    (λ c. search needs)
+    (λ c. search needs)
+    (λ c. λ f. rw (c .enum-told .given .1))
+    (λ c. λ f. rw (c .before .value .given .1)))

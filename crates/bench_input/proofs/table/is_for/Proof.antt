@@ -13,15 +13,6 @@ use Rattle.bench_input.proofs.TableLaws.{table-short, word-at, name-at}
 use Rattle.bench_input.proofs.table.is_for.Statement.{statement}
 use Rattle.bench_input.proofs.table.is_for.Tie as tie
 
-mul-word : tie.Need-mul-word
-mul-word c = let e = table-short in search needs
-
-mul-word-2 : tie.Need-mul-word-2
-mul-word-2 c = let e = table-short in search needs
-
-add-word : tie.Need-add-word
-add-word c = let e = table-short in search needs
-
 returns : tie.Need-returns
 unfolding isFor
 returns c =
@@ -43,11 +34,11 @@ pub is-for-spec : {M : Type 1} → statement M
 is-for-spec =
     tie.close
     (tie.spec
-    mul-word
+    (λ c. let e = table-short in search needs)
     (λ c κs. search needs)
     (λ c κs. search needs)
-    mul-word-2
-    add-word
+    (λ c. let e = table-short in search needs)
+    (λ c. let e = table-short in search needs)
     (λ c κs. search needs)
     (λ c. search needs)
     returns

@@ -15,18 +15,6 @@ Inv-loop table line name n rows i₀ i = (i ≤ rows) × (rowFor tableOf name n 
 abbrev μ-loop : tie.MeasureT-loop
 μ-loop table line name n rows i₀ i = rows - i
 
-word-requires : tie.Need-word-requires Inv-loop μ-loop
-word-requires c κs = search needs
-
-count-requires : tie.Need-count-requires Inv-loop μ-loop
-count-requires c κs = search needs
-
-count-requires-2 : tie.Need-count-requires-2 Inv-loop μ-loop
-count-requires-2 c κs = search needs
-
-loop-holds : tie.Need-loop-holds Inv-loop μ-loop
-loop-holds c = (omega arith, refl)
-
 is-for-requires : tie.Need-is-for-requires Inv-loop μ-loop
 is-for-requires c κs =
     let at-count2 = c .before .before .count2 in
@@ -43,12 +31,6 @@ returns c =
     let start = at-count .before .before .before .before in
     let rows = rows-count _ (start .pre) _ (at-count2 .count2 .ensures) in
     (row-is _ _ _ (omega arith) (sym (at-is-for .is-for .ensures) ∙ c .if1 .taken) (at-loop .loop .inv .1) ∙ ap₂ (rowFor tableOf) (at-count .before .word .ensures) (at-count .count .ensures), omega arith)
-
-add-i : tie.Need-add-i Inv-loop μ-loop
-add-i c = search needs
-
-loop-less : tie.Need-loop-less Inv-loop μ-loop
-loop-less c = search needs
 
 loop-again : tie.Need-loop-again Inv-loop μ-loop
 loop-again c =
@@ -74,13 +56,13 @@ row-spec =
     (tie.spec
     Inv-loop
     μ-loop
-    word-requires
-    count-requires
-    count-requires-2
-    loop-holds
+    (λ c κs. search needs)
+    (λ c κs. search needs)
+    (λ c κs. search needs)
+    (λ c. (omega arith, refl))
     is-for-requires
     returns
-    add-i
-    loop-less
+    (λ c. search needs)
+    (λ c. search needs)
     loop-again
     returns-2)

@@ -28,15 +28,15 @@ returns-6 : tie.Need-returns-6
 unfolding callOf startFor deviceFirst
 returns-6 c = λ fourth. rw (c .before .before .match .keys6) (c .poll-type-f .ensures)
 
-on-blocks-requires : tie.Need-on-blocks-requires
-on-blocks-requires c κs = let r = c .before .match .rest in beyond 25 _ (beyond 24 _ (beyond 23 _ (beyond 22 _ (beyond 21 _ (beyond 20 _ (beyond 19 _ (c .before .before .before .before .before .pre) (r .0 .0 .0 .0 .0 .0 .1)) (r .0 .0 .0 .0 .0 .1)) (r .0 .0 .0 .0 .1)) (r .0 .0 .0 .1)) (r .0 .0 .1)) (r .0 .1)) (r .1)
+later-requires : tie.Need-later-requires
+later-requires c κs = let r = c .before .match .rest in beyond 25 _ (beyond 24 _ (beyond 23 _ (beyond 22 _ (beyond 21 _ (beyond 20 _ (beyond 19 _ (c .before .before .before .before .before .pre) (r .0 .0 .0 .0 .0 .0 .1)) (r .0 .0 .0 .0 .0 .1)) (r .0 .0 .0 .0 .1)) (r .0 .0 .0 .1)) (r .0 .0 .1)) (r .0 .1)) (r .1)
 
 returns-7 : tie.Need-returns-7
 unfolding callOf startFor deviceFirst
 returns-7 c = λ fourth. rw (c .before .before .match .keys7) (c .detect-type-a-split .ensures)
 
 returns-8 : tie.Need-returns-8
-returns-8 c = λ fourth. c .on-blocks .ensures fourth
+returns-8 c = λ fourth. c .later .ensures fourth
 
 pub on-device-spec : {M : Type 1} → statement M
 on-device-spec =
@@ -52,7 +52,7 @@ on-device-spec =
     (λ c κs. search needs)
     (λ c κs. search needs)
     (λ c κs. search needs)
-    on-blocks-requires
+    later-requires
     returns
     returns-2
     returns-3

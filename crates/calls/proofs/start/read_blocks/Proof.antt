@@ -1,6 +1,6 @@
 -- `calls::start::read_blocks` meets its contract.
 use Rattle.protocol.specs.Calls.{device, readWithoutEncryption}
-use Rattle.calls.specs.Numbers.{flag, msOf}
+use Rattle.protocol.specs.Arguments.{flag, msOf}
 use Rattle.calls.specs.BlockStarts.{long-refused, read-started}
 use borrow.Author.Needs.{needs}
 use Rattle.calls.proofs.start.read_blocks.Statement.{statement}

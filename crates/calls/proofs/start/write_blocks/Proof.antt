@@ -1,6 +1,6 @@
 -- `calls::start::write_blocks` meets its contract.
 use Rattle.protocol.specs.Calls.{device, writeWithoutEncryption}
-use Rattle.calls.specs.Numbers.{flag, msOf}
+use Rattle.protocol.specs.Arguments.{flag, msOf}
 use Rattle.calls.specs.BlockStarts.{long-refused, write-started}
 use borrow.Author.Needs.{needs}
 use Rattle.calls.proofs.start.write_blocks.Statement.{statement}

@@ -1,15 +1,12 @@
-use native.Mathlib.Omega.{arith}
+use Rattle.errors.specs.Choice.{pick}
+use Rattle.stages.specs.Starts.{asserted}
 use Rattle.chipset.specs.Commands.{firstOf}
-use Rattle.stages.specs.Starts.{short-command}
 use borrow.Author.Needs.{needs}
 use Rattle.chipset.proofs.general.get_firmware_version.Statement.{statement}
 use Rattle.chipset.proofs.general.get_firmware_version.Tie as tie
 
-returns : tie.Need-returns
-unfolding firstOf
-returns c = short-command _ _ _ _ _ (omega arith) (c .command .ensures _ _ _ (c .before .put-two .ensures))
-
 pub get-firmware-version-spec : {M : Type 1} → statement M
+unfolding asserted firstOf pick
 get-firmware-version-spec =
     tie.close
     (tie.spec
@@ -17,4 +14,4 @@ get-firmware-version-spec =
     (λ c. search needs)
     (λ c κs. search needs)
     (λ c κs. search needs)
-    returns)
+    (λ c. c .command .ensures _ _ _ (c .before .put-two .ensures)))

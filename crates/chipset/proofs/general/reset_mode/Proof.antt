@@ -5,11 +5,8 @@ use borrow.Author.Needs.{needs}
 use Rattle.chipset.proofs.general.reset_mode.Statement.{statement}
 use Rattle.chipset.proofs.general.reset_mode.Tie as tie
 
-returns : tie.Need-returns
-unfolding firstOf
-returns c = short-staged _ _ _ _ _ (omega arith) (c .staged .ensures _ _ _ (c .before .put-two .ensures))
-
 pub reset-mode-spec : {M : Type 1} → statement M
+unfolding firstOf
 reset-mode-spec =
     tie.close
     (tie.spec
@@ -17,4 +14,4 @@ reset-mode-spec =
     (λ c. search needs)
     (λ c κs. search needs)
     (λ c κs. search needs)
-    returns)
+    (λ c. short-staged _ _ _ _ _ (omega arith) (c .staged .ensures _ _ _ (c .before .put-two .ensures))))

@@ -4,8 +4,5 @@ use borrow.Author.Needs.{needs}
 use Rattle.chipset.proofs.general.reset_mode_command.Statement.{statement}
 use Rattle.chipset.proofs.general.reset_mode_command.Tie as tie
 
-returns : tie.Need-returns
-returns c = c .with .ensures (omega arith)
-
 pub reset-mode-command-spec : {M : Type 1} → statement M
-reset-mode-command-spec = tie.close (tie.spec (λ c κs. search needs) returns)
+reset-mode-command-spec = tie.close (tie.spec (λ c κs. search needs) (λ c. c .with .ensures (omega arith)))

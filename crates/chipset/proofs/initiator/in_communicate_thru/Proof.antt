@@ -1,12 +1,11 @@
+use Rattle.errors.specs.Choice.{pick}
+use Rattle.stages.specs.Starts.{asserted}
 use Rattle.chipset.specs.Commands.{firstOf}
 use borrow.Author.Needs.{needs}
 use Rattle.chipset.proofs.initiator.in_communicate_thru.Statement.{statement}
 use Rattle.chipset.proofs.initiator.in_communicate_thru.Tie as tie
 
-returns : tie.Need-returns
-unfolding firstOf
-returns c = c .command .ensures _ _ _ (c .before .put-two .ensures)
-
 pub in-communicate-thru-spec : {M : Type 1} → statement M
+unfolding asserted firstOf pick
 in-communicate-thru-spec =
-    tie.close (tie.spec (λ c. search needs) (λ c κs. search needs) (λ c κs. search needs) returns)
+    tie.close (tie.spec (λ c. search needs) (λ c κs. search needs) (λ c κs. search needs) (λ c. c .command .ensures _ _ _ (c .before .put-two .ensures)))

@@ -2,7 +2,7 @@
 use Prim.Native.Nat.{_-_, _≤_}
 use mathlib.Core.Path.{_≡_}
 use lib.ListN.{length, drop}
-use Rattle.protocol.specs.Chipset.{anyNonzero}
+use Rattle.protocol.specs.Rules.{anyNonzero}
 use Rattle.chipset.specs.Laws.{nonzero-here, nonzero-next, nonzero-end}
 use borrow.Author.Needs.{needs}
 use Rattle.chipset.proofs.registers.any_nonzero.Statement.{statement}

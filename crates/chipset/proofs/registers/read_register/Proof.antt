@@ -2,21 +2,17 @@ use mathlib.Core.Path.{sym, _∙_}
 use Rattle.chipset.specs.Commands.{firstOf}
 use Rattle.framing.specs.Rules.{told}
 use mathlib.Core.List.{append-nil}
-use Rattle.stages.specs.Starts.{asserted, starts-true, starts-false, short-command, same-command}
-use Rattle.chipset.specs.Laws.{few-words}
+use Rattle.stages.specs.Starts.{asserted, starts-true, starts-false, same-command}
 use borrow.Author.Needs.{needs}
 use Rattle.chipset.proofs.registers.read_register.Statement.{statement}
 use Rattle.chipset.proofs.registers.read_register.Tie as tie
 
 returns : tie.Need-returns
 unfolding firstOf asserted
-returns c = let fits = sym (c .before .before .before .before .before .whole-registers .ensures) ∙ c .before .before .before .before .if1 .taken in let l = c .before .before .before .before .before .before .before .args .addresses .now in starts-true _ _ _ _ _ _ fits (short-command _ _ _ _ _ (few-words l fits) (same-command _ _ _ _ _ _ _ _ (append-nil l) (c .command .ensures _ _ _ (c .before .put-two .ensures))))
-
-returns-2 : tie.Need-returns-2
-unfolding firstOf asserted
-returns-2 c = starts-false _ _ _ _ _ _ (search (told, needs)) (c .refused .ensures _)
+returns c = let fits = sym (c .before .before .before .before .before .whole-registers .ensures) ∙ c .before .before .before .before .if1 .taken in let l = c .before .before .before .before .before .before .before .args .addresses .now in starts-true _ _ _ _ _ _ fits (same-command _ _ _ _ _ _ _ _ (append-nil l) (c .command .ensures _ _ _ (c .before .put-two .ensures)))
 
 pub read-register-spec : {M : Type 1} → statement M
+unfolding asserted firstOf
 read-register-spec =
     tie.close
     (tie.spec
@@ -26,4 +22,4 @@ read-register-spec =
     (λ c κs. search needs)
     (λ c κs. search needs)
     returns
-    returns-2)
+    (λ c. starts-false _ _ _ _ _ _ (search (told, needs)) (c .refused .ensures _)))

@@ -4,11 +4,5 @@ use borrow.Author.Needs.{needs}
 use Rattle.chipset.proofs.registers.whole_registers.Statement.{statement}
 use Rattle.chipset.proofs.registers.whole_registers.Tie as tie
 
-returns : tie.Need-returns
-returns c = search (steps, needs) depth 8
-
-returns-2 : tie.Need-returns-2
-returns-2 c = search (steps, needs) depth 8
-
 pub whole-registers-spec : {M : Type 1} → statement M
-whole-registers-spec = tie.close (tie.spec (λ c. search needs) (λ c. search needs) returns returns-2)
+whole-registers-spec = tie.close (tie.spec (λ c. search needs) (λ c. search needs) (λ c. search (steps, needs) depth 8) (λ c. search (steps, needs) depth 8))

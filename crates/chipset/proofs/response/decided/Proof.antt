@@ -7,30 +7,6 @@ use borrow.Author.Needs.{needs}
 use Rattle.chipset.proofs.response.decided.Statement.{statement}
 use Rattle.chipset.proofs.response.decided.Tie as tie
 
-returns : tie.Need-returns
-unfolding answerOf pick
-returns c = rw (c .before .match .keys1) (c .get-firmware-version-response .ensures)
-
-returns-2 : tie.Need-returns-2
-unfolding answerOf pick
-returns-2 c = rw (c .before .match .keys2) (c .from .ensures)
-
-returns-3 : tie.Need-returns-3
-unfolding answerOf pick
-returns-3 c = rw (c .before .match .keys3) (c .write-register-response .ensures)
-
-returns-4 : tie.Need-returns-4
-unfolding answerOf pick
-returns-4 c = rw (c .before .match .keys4) (c .read-single-register-response .ensures)
-
-returns-5 : tie.Need-returns-5
-unfolding answerOf pick
-returns-5 c = rw (c .before .match .keys5) (c .in-list-passive-target-response .ensures)
-
-returns-6 : tie.Need-returns-6
-unfolding answerOf pick
-returns-6 c = rw (c .before .match .keys6) (c .in-data-exchange-response .ensures)
-
 returns-7 : tie.Need-returns-7
 unfolding answerOf laterAnswer pick
 returns-7 c =
@@ -38,6 +14,7 @@ returns-7 c =
     rw (ne-eqb _ 2 (r .0 .0 .0 .0 .0 .1), ne-eqb _ 5 (r .0 .0 .0 .0 .1), ne-eqb _ 6 (r .0 .0 .0 .1), ne-eqb _ 7 (r .0 .0 .1), ne-eqb _ 8 (r .0 .1), ne-eqb _ 9 (r .1)) (c .decided-by-status .ensures)
 
 pub decided-spec : {M : Type 1} → statement M
+unfolding answerOf pick
 decided-spec =
     tie.close
     (tie.spec
@@ -48,10 +25,10 @@ decided-spec =
     (λ c κs. search needs)
     (λ c κs. search needs)
     (λ c κs. search needs)
-    returns
-    returns-2
-    returns-3
-    returns-4
-    returns-5
-    returns-6
+    (λ c. rw (c .before .match .keys1) (c .get-firmware-version-response .ensures))
+    (λ c. rw (c .before .match .keys2) (c .from .ensures))
+    (λ c. rw (c .before .match .keys3) (c .write-register-response .ensures))
+    (λ c. rw (c .before .match .keys4) (c .read-single-register-response .ensures))
+    (λ c. rw (c .before .match .keys5) (c .in-list-passive-target-response .ensures))
+    (λ c. rw (c .before .match .keys6) (c .in-data-exchange-response .ensures))
     returns-7)

@@ -3,14 +3,5 @@ use borrow.Author.Tests.{eq-eqb, ne-eqb}
 use Rattle.chipset.proofs.target.rate.Statement.{statement}
 use Rattle.chipset.proofs.target.rate.Tie as tie
 
-returns : tie.Need-returns
-returns c = rw (eq-eqb _ _ (c .if1 .taken))
-
-returns-2 : tie.Need-returns-2
-returns-2 c = rw (c .if2 .taken)
-
-returns-3 : tie.Need-returns-3
-returns-3 c = rw (ne-eqb _ _ (c .before .if1 .left), ne-eqb _ _ (c .if2 .left))
-
 pub rate-spec : {M : Type 1} → statement M
-rate-spec = tie.close (tie.spec returns returns-2 returns-3)
+rate-spec = tie.close (tie.spec (λ c. rw (eq-eqb _ _ (c .if1 .taken))) (λ c. rw (c .if2 .taken)) (λ c. rw (ne-eqb _ _ (c .before .if1 .left), ne-eqb _ _ (c .if2 .left))))

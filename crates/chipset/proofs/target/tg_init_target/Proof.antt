@@ -5,15 +5,8 @@ use borrow.Author.Needs.{needs}
 use Rattle.chipset.proofs.target.tg_init_target.Statement.{statement}
 use Rattle.chipset.proofs.target.tg_init_target.Tie as tie
 
-returns : tie.Need-returns
-unfolding firstOf asserted
-returns c = starts-true _ _ _ _ _ _ (search (told, needs)) (c .command .ensures _ _ _ (c .before .put-all .ensures))
-
-returns-2 : tie.Need-returns-2
-unfolding firstOf asserted
-returns-2 c = starts-false _ _ _ _ _ _ (search (told, needs)) (c .refused .ensures _)
-
 pub tg-init-target-spec : {M : Type 1} → statement M
+unfolding asserted firstOf
 tg-init-target-spec =
     tie.close
     (tie.spec
@@ -22,5 +15,5 @@ tg-init-target-spec =
     (λ c κs. search needs)
     (λ c κs. search needs)
     (λ c κs. search needs)
-    returns
-    returns-2)
+    (λ c. starts-true _ _ _ _ _ _ (search (told, needs)) (c .command .ensures _ _ _ (c .before .put-all .ensures)))
+    (λ c. starts-false _ _ _ _ _ _ (search (told, needs)) (c .refused .ensures _)))

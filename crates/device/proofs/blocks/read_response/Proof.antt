@@ -1,7 +1,7 @@
 -- `device::blocks::read_response` meets its contract.
 use Rattle.chipset.specs.Responses.{withStatus}
 use Rattle.chipset.specs.Laws.{has-first}
-use Rattle.stages.specs.Laws.{verdicts, comes-true}
+use Rattle.stages.specs.Laws.{answers-by-tests, answer-true}
 use Rattle.device.specs.Blocks.{readAnswer, comes-read}
 use borrow.Author.Needs.{needs}
 use Rattle.device.proofs.blocks.read_response.Statement.{statement}
@@ -15,11 +15,11 @@ part-check-read-start c = search (has-first, needs)
 
 returns : tie.Need-returns
 unfolding readAnswer withStatus
-returns c = comes-true _ _ _ _ _ (search (verdicts, needs)) (comes-read (c .before .before .before .before .before .before .before .args .pending .now) _ _ _ (search (has-first, needs)) (c .before .check-read .ensures) (c .if-good .ensures))
+returns c = answer-true _ _ _ _ _ (search (answers-by-tests, needs)) (comes-read (c .before .before .before .before .before .before .before .args .pending .now) _ _ _ (search (has-first, needs)) (c .before .check-read .ensures) (c .if-good .ensures))
 
 returns-2 : tie.Need-returns-2
 unfolding readAnswer withStatus
-returns-2 c = search (verdicts, needs) depth 8
+returns-2 c = search (answers-by-tests, needs) depth 8
 
 pub read-response-spec : {M : Type 1} → statement M
 read-response-spec =

@@ -1,7 +1,7 @@
 -- `device::blocks::write_response` meets its contract.
 use Rattle.chipset.specs.Responses.{withStatus}
 use Rattle.chipset.specs.Laws.{has-first}
-use Rattle.stages.specs.Laws.{verdicts, comes-true}
+use Rattle.stages.specs.Laws.{answers-by-tests, answer-true}
 use Rattle.device.specs.Blocks.{writeAnswer, comes-written}
 use borrow.Author.Needs.{needs}
 use Rattle.device.proofs.blocks.write_response.Statement.{statement}
@@ -15,11 +15,11 @@ part-check-write-start c = search (has-first, needs)
 
 returns : tie.Need-returns
 unfolding writeAnswer withStatus
-returns c = comes-true _ _ _ _ _ (search (verdicts, needs)) (comes-written (c .before .before .before .before .before .before .before .args .pending .now) _ _ _ (search (has-first, needs)) (c .before .check-write .ensures) (c .if-good .ensures))
+returns c = answer-true _ _ _ _ _ (search (answers-by-tests, needs)) (comes-written (c .before .before .before .before .before .before .before .args .pending .now) _ _ _ (search (has-first, needs)) (c .before .check-write .ensures) (c .if-good .ensures))
 
 returns-2 : tie.Need-returns-2
 unfolding writeAnswer withStatus
-returns-2 c = search (verdicts, needs) depth 8
+returns-2 c = search (answers-by-tests, needs) depth 8
 
 pub write-response-spec : {M : Type 1} → statement M
 write-response-spec =

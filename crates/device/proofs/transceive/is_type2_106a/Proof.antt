@@ -4,11 +4,5 @@ use borrow.Author.Needs.{needs}
 use Rattle.device.proofs.transceive.is_type2_106a.Statement.{statement}
 use Rattle.device.proofs.transceive.is_type2_106a.Tie as tie
 
-returns : tie.Need-returns
-returns c = rw (c .before .enum-told .given .1) (c .is-type2 .ensures)
-
-returns-2 : tie.Need-returns-2
-returns-2 c = not-106a (c .before .before .args .bitrate) _ (c .match .keys2)
-
 pub is-type2-106a-spec : {M : Type 1} → statement M
-is-type2-106a-spec = tie.close (tie.spec (λ c. search needs) (λ c κs. search needs) returns returns-2)
+is-type2-106a-spec = tie.close (tie.spec (λ c. search needs) (λ c κs. search needs) (λ c. rw (c .before .enum-told .given .1) (c .is-type2 .ensures)) (λ c. not-106a (c .before .before .args .bitrate) _ (c .match .keys2)))

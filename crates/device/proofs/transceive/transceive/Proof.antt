@@ -4,10 +4,6 @@ use borrow.Author.Needs.{needs}
 use Rattle.device.proofs.transceive.transceive.Statement.{statement}
 use Rattle.device.proofs.transceive.transceive.Tie as tie
 
-returns : tie.Need-returns
-unfolding transceiveFirst
-returns c = rate-refused _ _ _ _ _ _ (c .before .before .before .code .ensures) _ (c .before .enum-told .given .1) (c .refused .ensures _)
-
 returns-2 : tie.Need-returns-2
 unfolding transceiveFirst
 returns-2 c = rate-chosen _ _ _ _ _ _ (c .before .before .before .before .before .before .before .code .ensures) _ (c .before .before .before .before .before .rate .given .1) (as-type1 _ _ _ _ _ _ _ _ (c .before .before .before .clock .ensures) _ (c .before .before .if1 .taken) (c .type1 .ensures))
@@ -17,6 +13,7 @@ unfolding transceiveFirst
 returns-3 c = rate-chosen _ _ _ _ _ _ (c .before .before .before .before .before .before .before .code .ensures) _ (c .before .before .before .before .before .rate .given .1) (as-thru _ _ _ _ _ _ _ _ (c .before .before .before .clock .ensures) _ (c .before .before .if1 .left) (c .thru .ensures))
 
 pub transceive-spec : {M : Type 1} → statement M
+unfolding transceiveFirst
 transceive-spec =
     tie.close
     (tie.spec
@@ -24,7 +21,7 @@ transceive-spec =
     (λ c. search needs)
     (λ c. search needs)
     (λ c κs. search needs)
-    returns
+    (λ c. rate-refused _ _ _ _ _ _ (c .before .before .before .code .ensures) _ (c .before .enum-told .given .1) (c .refused .ensures _))
     (λ c κs. search needs)
     (λ c κs. search needs)
     (λ c κs. search needs)

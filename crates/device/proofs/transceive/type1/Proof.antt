@@ -9,11 +9,8 @@ returns : tie.Need-returns
 unfolding type1First
 returns c = starts-true _ _ _ _ _ _ (sym (c .before .before .before .before .before .is-sendable .ensures) ∙ c .before .before .before .before .if1 .taken) (c .command .ensures _ _ _ (c .before .put-two .ensures))
 
-returns-2 : tie.Need-returns-2
-unfolding type1First
-returns-2 c = starts-false _ _ _ _ _ _ (sym (c .before .before .is-sendable .ensures) ∙ c .before .if1 .left) (c .refused .ensures _)
-
 pub type1-spec : {M : Type 1} → statement M
+unfolding type1First
 type1-spec =
     tie.close
     (tie.spec
@@ -23,4 +20,4 @@ type1-spec =
     (λ c κs. search needs)
     (λ c κs. search needs)
     returns
-    returns-2)
+    (λ c. starts-false _ _ _ _ _ _ (sym (c .before .before .is-sendable .ensures) ∙ c .before .if1 .left) (c .refused .ensures _)))

@@ -2,7 +2,7 @@
 use native.Mathlib.Omega.{arith}
 use Rattle.chipset.specs.Responses.{withStatus}
 use Rattle.device.specs.Transceive.{type2Answer}
-use Rattle.stages.specs.Laws.{verdicts, comes-true}
+use Rattle.stages.specs.Laws.{answers-by-tests, answer-true}
 use Rattle.chipset.specs.Laws.{has-first}
 use Rattle.device.specs.Transceive.{check-told}
 use borrow.Author.Needs.{needs}
@@ -15,21 +15,21 @@ from-requires c κs = search (has-first, needs)
 returns : tie.Need-returns
 unfolding type2Answer withStatus
 returns c =
-    comes-true _ _ _ _ _ (search (verdicts, needs))
-    (comes-true _ _ _ _ _ (search (verdicts, needs))
-    (comes-true _ _ _ _ _ (search (check-told, needs)) (c .part .ensures _ (omega arith))))
+    answer-true _ _ _ _ _ (search (answers-by-tests, needs))
+    (answer-true _ _ _ _ _ (search (answers-by-tests, needs))
+    (answer-true _ _ _ _ _ (search (check-told, needs)) (c .part .ensures _ (omega arith))))
 
 returns-2 : tie.Need-returns-2
 unfolding type2Answer withStatus
-returns-2 c = search (check-told, verdicts, needs) depth 10
+returns-2 c = search (check-told, answers-by-tests, needs) depth 10
 
 returns-3 : tie.Need-returns-3
 unfolding type2Answer withStatus
-returns-3 c = search (verdicts, needs) depth 8
+returns-3 c = search (answers-by-tests, needs) depth 8
 
 returns-4 : tie.Need-returns-4
 unfolding type2Answer withStatus
-returns-4 c = search (verdicts, needs) depth 8
+returns-4 c = search (answers-by-tests, needs) depth 8
 
 pub type2-response-spec : {M : Type 1} → statement M
 type2-response-spec =

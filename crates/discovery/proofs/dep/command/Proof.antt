@@ -6,25 +6,18 @@ use borrow.Author.Needs.{needs}
 use Rattle.discovery.proofs.dep.command.Statement.{statement}
 use Rattle.discovery.proofs.dep.command.Tie as tie
 
-returns : tie.Need-returns
-unfolding depCommand pick
-returns c = rw (c .before .match .keys1) (c .with .ensures (omega arith))
-
-returns-2 : tie.Need-returns-2
-unfolding depCommand pick
-returns-2 c = rw (c .before .match .keys2) (c .pending .ensures)
-
 returns-3 : tie.Need-returns-3
 unfolding depCommand pick
 returns-3 c = let r = c .before .match .rest in let e = c .write-single-register-command .ensures in record { is = λ pending. rw (ne-eqb _ 0 (r .0 .1), ne-eqb _ 1 (r .1)) (e .is pending); fits = e .fits }
 
 pub command-spec : {M : Type 1} → statement M
+unfolding depCommand pick
 command-spec =
     tie.close
     (tie.spec
     (λ c κs. search needs)
     (λ c κs. search needs)
     (λ c κs. search needs)
-    returns
-    returns-2
+    (λ c. rw (c .before .match .keys1) (c .with .ensures (omega arith)))
+    (λ c. rw (c .before .match .keys2) (c .pending .ensures))
     returns-3)

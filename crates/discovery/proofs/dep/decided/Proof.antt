@@ -2,19 +2,11 @@
 use Rattle.errors.specs.Choice.{pick}
 use Rattle.discovery.specs.Decisions.{depDecision}
 use Rattle.discovery.specs.Decisions.{jumpedTo}
-use Rattle.stages.specs.Laws.{decides-send}
+use Rattle.stages.specs.Laws.{decision-send}
 use borrow.Author.Tests.{ne-eqb}
 use borrow.Author.Needs.{needs}
 use Rattle.discovery.proofs.dep.decided.Statement.{statement}
 use Rattle.discovery.proofs.dep.decided.Tie as tie
-
-returns : tie.Need-returns
-unfolding depDecision jumpedTo pick
-returns c = rw (c .match .keys1) (decides-send _ _ _)
-
-returns-2 : tie.Need-returns-2
-unfolding depDecision jumpedTo pick
-returns-2 c = rw (c .before .match .keys2) (c .jumped .ensures _)
 
 returns-3 : tie.Need-returns-3
 unfolding depDecision jumpedTo pick
@@ -23,4 +15,5 @@ returns-3 c =
     rw (ne-eqb _ 0 (r .0 .1), ne-eqb _ 1 (r .1)) (c .found-written .ensures)
 
 pub decided-spec : {M : Type 1} → statement M
-decided-spec = tie.close (tie.spec (λ c κs. search needs) (λ c κs. search needs) returns returns-2 returns-3)
+unfolding depDecision jumpedTo pick
+decided-spec = tie.close (tie.spec (λ c κs. search needs) (λ c κs. search needs) (λ c. rw (c .match .keys1) (decision-send _ _ _)) (λ c. rw (c .before .match .keys2) (c .jumped .ensures _)) returns-3)

@@ -6,14 +6,6 @@ use borrow.Author.Needs.{needs}
 use Rattle.discovery.proofs.dep.detect_dep.Statement.{statement}
 use Rattle.discovery.proofs.dep.detect_dep.Tie as tie
 
-returns : tie.Need-returns
-unfolding depAsserted asserted codeFor
-returns c = starts-false _ _ _ _ _ _ (search (under-16, needs)) (c .refused .ensures _)
-
-returns-2 : tie.Need-returns-2
-unfolding depAsserted asserted codeFor
-returns-2 c = starts-false _ _ _ _ _ _ (search (over-64, needs)) (c .refused2 .ensures _)
-
 returns-3 : tie.Need-returns-3
 unfolding depAsserted asserted codeFor
 returns-3 c = starts-true _ _ _ _ _ _ (search (from-16-to-64, needs)) (rate-refused _ _ _ _ _ _ (c .before .before .before .code .ensures) _ (c .before .enum-told .given .1) (c .refused3 .ensures _))
@@ -27,13 +19,14 @@ unfolding depAsserted asserted codeFor
 returns-5 c = starts-true _ _ _ _ _ _ (search (from-16-to-64, needs)) (rate-chosen _ _ _ _ _ _ (c .before .before .before .before .before .before .before .before .before .code .ensures) _ (c .before .before .before .before .before .before .before .rate .given .1) (supported _ _ _ _ _ _ (c .before .before .before .before .before .dep-code .ensures) _ (c .before .before .before .code2 .given .1) (c .jump .ensures)))
 
 pub detect-dep-spec : {M : Type 1} → statement M
+unfolding asserted codeFor depAsserted
 detect-dep-spec =
     tie.close
     (tie.spec
     (λ c κs. search needs)
-    returns
+    (λ c. starts-false _ _ _ _ _ _ (search (under-16, needs)) (c .refused .ensures _))
     (λ c κs. search needs)
-    returns-2
+    (λ c. starts-false _ _ _ _ _ _ (search (over-64, needs)) (c .refused2 .ensures _))
     (λ c κs. search needs)
     (λ c. search needs)
     (λ c. search needs)

@@ -6,14 +6,5 @@ use borrow.Author.Needs.{needs}
 use Rattle.discovery.proofs.poll_type_f.kept.Statement.{statement}
 use Rattle.discovery.proofs.poll_type_f.kept.Tie as tie
 
-returns : tie.Need-returns
-returns c = (none-yet _ _ (c .if1 .taken), omega arith, omega arith)
-
-returns-2 : tie.Need-returns-2
-returns-2 c = (take-length _ ∙ all-found _ _ (c .before .if1 .left) (omega arith), omega arith, omega arith)
-
-returns-3 : tie.Need-returns-3
-returns-3 c = (most-found _ _ (c .before .if1 .left), omega arith, omega arith)
-
 pub kept-spec : {M : Type 1} → statement M
-kept-spec = tie.close (tie.spec returns returns-2 returns-3)
+kept-spec = tie.close (tie.spec (λ c. (none-yet _ _ (c .if1 .taken), omega arith, omega arith)) (λ c. (take-length _ ∙ all-found _ _ (c .before .if1 .left) (omega arith), omega arith, omega arith)) (λ c. (most-found _ _ (c .before .if1 .left), omega arith, omega arith)))

@@ -32,11 +32,8 @@ returns-3 c =
     (supported _ _ _ _ _ _ (c .before .before .before .before .before .before .before .type-f-code .ensures) _ (c .before .before .before .before .before .code2 .given .1)
     (short-staged _ _ _ _ _ (omega (arith, list-few (at-code .before .before .before .before .before .args .codes .now) fits)) (c .staged .ensures _ _ _ (c .before .put-two .ensures)))))
 
-returns-4 : tie.Need-returns-4
-unfolding pollAsserted asserted
-returns-4 c = starts-false _ _ _ _ _ _ (sym (c .before .before .is-list .ensures) ∙ c .before .if1 .left) (c .refused3 .ensures _)
-
 pub poll-type-f-spec : {M : Type 1} → statement M
+unfolding asserted pollAsserted
 poll-type-f-spec =
     tie.close
     (tie.spec
@@ -56,4 +53,4 @@ poll-type-f-spec =
     (λ c κs. search needs)
     (λ c κs. search needs)
     returns-3
-    returns-4)
+    (λ c. starts-false _ _ _ _ _ _ (sym (c .before .before .is-list .ensures) ∙ c .before .if1 .left) (c .refused3 .ensures _)))

@@ -4,9 +4,6 @@ use borrow.Author.Needs.{needs}
 use Rattle.discovery.proofs.rates.dep_code.Statement.{statement}
 use Rattle.discovery.proofs.rates.dep_code.Tie as tie
 
-returns-4 : tie.Need-returns-4
-returns-4 c = no-dep (c .before .args .bitrate) (c .match .keys4)
-
 pub dep-code-spec : {M : Type 1} → statement M
 dep-code-spec =
-    tie.close (tie.spec (λ c. search needs) (λ c. search needs) (λ c. search needs) (λ c. search needs) (λ c. search needs) (λ c. search needs) returns-4)
+    tie.close (tie.spec (λ c. search needs) (λ c. search needs) (λ c. search needs) (λ c. search needs) (λ c. search needs) (λ c. search needs) (λ c. no-dep (c .before .args .bitrate) (c .match .keys4)))

@@ -4,9 +4,6 @@ use borrow.Author.Needs.{needs}
 use Rattle.discovery.proofs.rates.type_a_code.Statement.{statement}
 use Rattle.discovery.proofs.rates.type_a_code.Tie as tie
 
-returns-5 : tie.Need-returns-5
-returns-5 c = no-type-a (c .before .args .bitrate) (c .match .keys5)
-
 pub type-a-code-spec : {M : Type 1} → statement M
 type-a-code-spec =
     tie.close
@@ -19,4 +16,4 @@ type-a-code-spec =
     (λ c. search needs)
     (λ c. search needs)
     (λ c. search needs)
-    returns-5)
+    (λ c. no-type-a (c .before .args .bitrate) (c .match .keys5)))

@@ -4,8 +4,5 @@ use borrow.Author.Needs.{needs}
 use Rattle.discovery.proofs.rates.type_b_code.Statement.{statement}
 use Rattle.discovery.proofs.rates.type_b_code.Tie as tie
 
-returns-2 : tie.Need-returns-2
-returns-2 c = no-type-b (c .before .args .bitrate) (c .match .keys2)
-
 pub type-b-code-spec : {M : Type 1} → statement M
-type-b-code-spec = tie.close (tie.spec (λ c. search needs) (λ c. search needs) returns-2)
+type-b-code-spec = tie.close (tie.spec (λ c. search needs) (λ c. search needs) (λ c. no-type-b (c .before .args .bitrate) (c .match .keys2)))

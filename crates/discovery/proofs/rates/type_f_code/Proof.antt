@@ -4,8 +4,5 @@ use borrow.Author.Needs.{needs}
 use Rattle.discovery.proofs.rates.type_f_code.Statement.{statement}
 use Rattle.discovery.proofs.rates.type_f_code.Tie as tie
 
-returns-3 : tie.Need-returns-3
-returns-3 c = no-type-f (c .before .args .bitrate) (c .match .keys3)
-
 pub type-f-code-spec : {M : Type 1} → statement M
-type-f-code-spec = tie.close (tie.spec (λ c. search needs) (λ c. search needs) (λ c. search needs) (λ c. search needs) returns-3)
+type-f-code-spec = tie.close (tie.spec (λ c. search needs) (λ c. search needs) (λ c. search needs) (λ c. search needs) (λ c. no-type-f (c .before .args .bitrate) (c .match .keys3)))

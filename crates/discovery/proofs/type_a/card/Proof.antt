@@ -3,9 +3,6 @@ use borrow.Author.Needs.{needs}
 use Rattle.discovery.proofs.type_a.card.Statement.{statement}
 use Rattle.discovery.proofs.type_a.card.Tie as tie
 
-returns : tie.Need-returns
-returns c = λ f. c .headed .ensures f (omega arith) (omega arith) (omega arith)
-
 pub card-spec : {M : Type 1} → statement M
 card-spec =
     tie.close
@@ -14,4 +11,4 @@ card-spec =
     (λ c. search needs)
     (λ c. search needs)
     (λ c κs. search needs)
-    returns)
+    (λ c. λ f. c .headed .ensures f (omega arith) (omega arith) (omega arith)))

@@ -6,31 +6,12 @@ use borrow.Author.Needs.{needs}
 use Rattle.discovery.proofs.type_a.command.Statement.{statement}
 use Rattle.discovery.proofs.type_a.command.Tie as tie
 
-returns : tie.Need-returns
-unfolding typeACommand pick
-returns c = rw (c .before .match .keys1) (c .pending .ensures)
-
-returns-2 : tie.Need-returns-2
-unfolding typeACommand pick
-returns-2 c = rw (c .before .match .keys2) (c .read-single-register-command .ensures)
-
-returns-3 : tie.Need-returns-3
-unfolding typeACommand pick
-returns-3 c = rw (c .before .match .keys3) (c .with .ensures (omega arith))
-
-returns-4 : tie.Need-returns-4
-unfolding typeACommand pick
-returns-4 c = rw (c .before .match .keys4) (c .with2 .ensures (omega arith))
-
-returns-5 : tie.Need-returns-5
-unfolding typeACommand pick
-returns-5 c = rw (c .before .match .keys5) (c .read-single-register-command2 .ensures)
-
 returns-6 : tie.Need-returns-6
 unfolding typeACommand pick
 returns-6 c = let r = c .before .match .rest in let e = c .pending2 .ensures in record { is = λ pending. rw (ne-eqb _ 0 (r .0 .0 .0 .0 .1), ne-eqb _ 1 (r .0 .0 .0 .1), ne-eqb _ 2 (r .0 .0 .1), ne-eqb _ 3 (r .0 .1), ne-eqb _ 4 (r .1)) (e .is pending); fits = e .fits }
 
 pub command-spec : {M : Type 1} → statement M
+unfolding pick typeACommand
 command-spec =
     tie.close
     (tie.spec
@@ -40,9 +21,9 @@ command-spec =
     (λ c κs. search needs)
     (λ c κs. search needs)
     (λ c κs. search needs)
-    returns
-    returns-2
-    returns-3
-    returns-4
-    returns-5
+    (λ c. rw (c .before .match .keys1) (c .pending .ensures))
+    (λ c. rw (c .before .match .keys2) (c .read-single-register-command .ensures))
+    (λ c. rw (c .before .match .keys3) (c .with .ensures (omega arith)))
+    (λ c. rw (c .before .match .keys4) (c .with2 .ensures (omega arith)))
+    (λ c. rw (c .before .match .keys5) (c .read-single-register-command2 .ensures))
     returns-6)

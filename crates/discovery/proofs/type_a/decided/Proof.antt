@@ -7,26 +7,6 @@ use borrow.Author.Needs.{needs}
 use Rattle.discovery.proofs.type_a.decided.Statement.{statement}
 use Rattle.discovery.proofs.type_a.decided.Tie as tie
 
-returns : tie.Need-returns
-unfolding typeADecision fifoRead rxModeRead pick
-returns c = rw (c .before .match .keys1) (c .listed-a .ensures _)
-
-returns-2 : tie.Need-returns-2
-unfolding typeADecision fifoRead rxModeRead pick
-returns-2 c = rw (c .before .match .keys2) (c .fifo .ensures _)
-
-returns-3 : tie.Need-returns-3
-unfolding typeADecision fifoRead rxModeRead pick
-returns-3 c = rw (c .before .match .keys3) (c .listed-type1 .ensures _)
-
-returns-4 : tie.Need-returns-4
-unfolding typeADecision fifoRead rxModeRead pick
-returns-4 c = rw (c .before .match .keys4) (c .rid .ensures)
-
-returns-5 : tie.Need-returns-5
-unfolding typeADecision fifoRead rxModeRead pick
-returns-5 c = rw (c .before .match .keys5) (c .rx-mode .ensures _)
-
 returns-6 : tie.Need-returns-6
 unfolding typeADecision fifoRead rxModeRead pick
 returns-6 c =
@@ -34,6 +14,7 @@ returns-6 c =
     rw (ne-eqb _ 0 (r .0 .0 .0 .0 .1), ne-eqb _ 1 (r .0 .0 .0 .1), ne-eqb _ 2 (r .0 .0 .1), ne-eqb _ 3 (r .0 .1), ne-eqb _ 4 (r .1)) (c .found-written .ensures)
 
 pub decided-spec : {M : Type 1} → statement M
+unfolding fifoRead pick rxModeRead typeADecision
 decided-spec =
     tie.close
     (tie.spec
@@ -43,9 +24,9 @@ decided-spec =
     (λ c κs. search needs)
     (λ c κs. search needs)
     (λ c κs. search needs)
-    returns
-    returns-2
-    returns-3
-    returns-4
-    returns-5
+    (λ c. rw (c .before .match .keys1) (c .listed-a .ensures _))
+    (λ c. rw (c .before .match .keys2) (c .fifo .ensures _))
+    (λ c. rw (c .before .match .keys3) (c .listed-type1 .ensures _))
+    (λ c. rw (c .before .match .keys4) (c .rid .ensures))
+    (λ c. rw (c .before .match .keys5) (c .rx-mode .ensures _))
     returns-6)

@@ -4,12 +4,6 @@ use borrow.Author.Needs.{needs}
 use Rattle.discovery.proofs.type_a.sens_res.Statement.{statement}
 use Rattle.discovery.proofs.type_a.sens_res.Tie as tie
 
-returns : tie.Need-returns
-returns c = λ f. lays-no-sens-res f _ _ (omega arith) (c .part .ensures f _ (omega arith))
-
-returns-2 : tie.Need-returns-2
-returns-2 c = λ f. lays-sens-res f _ _ (omega arith) (c .headed .ensures f (omega arith) (omega arith) (omega arith))
-
 pub sens-res-spec : {M : Type 1} → statement M
 sens-res-spec =
     tie.close
@@ -18,5 +12,5 @@ sens-res-spec =
     (λ c. search needs)
     (λ c. search needs)
     (λ c κs. search needs)
-    returns
-    returns-2)
+    (λ c. λ f. lays-no-sens-res f _ _ (omega arith) (c .part .ensures f _ (omega arith)))
+    (λ c. λ f. lays-sens-res f _ _ (omega arith) (c .headed .ensures f (omega arith) (omega arith) (omega arith))))

@@ -6,14 +6,6 @@ use Rattle.discovery.specs.Decisions.{splitDecision}
 use Rattle.discovery.proofs.type_a_split.decided.Statement.{statement}
 use Rattle.discovery.proofs.type_a_split.decided.Tie as tie
 
-returns : tie.Need-returns
-unfolding splitDecision pick
-returns c = rw (c .before .match .keys1) (c .listed .ensures _)
-
-returns-2 : tie.Need-returns-2
-unfolding splitDecision pick
-returns-2 c = rw (c .before .match .keys2) (c .written .ensures)
-
 returns-3 : tie.Need-returns-3
 unfolding splitDecision pick
 returns-3 c =
@@ -21,5 +13,6 @@ returns-3 c =
     rw (ne-eqb _ 0 (r .0 .1), ne-eqb _ 5 (r .1)) (c .decided .ensures)
 
 pub decided-spec : {M : Type 1} → statement M
+unfolding pick splitDecision
 decided-spec =
-    tie.close (tie.spec (λ c κs. search needs) (λ c κs. search needs) (λ c κs. search needs) returns returns-2 returns-3)
+    tie.close (tie.spec (λ c κs. search needs) (λ c κs. search needs) (λ c κs. search needs) (λ c. rw (c .before .match .keys1) (c .listed .ensures _)) (λ c. rw (c .before .match .keys2) (c .written .ensures)) returns-3)

@@ -7,10 +7,6 @@ use borrow.Author.Needs.{needs}
 use Rattle.discovery.proofs.type_b.detect_type_b.Statement.{statement}
 use Rattle.discovery.proofs.type_b.detect_type_b.Tie as tie
 
-returns : tie.Need-returns
-unfolding codeFor typeBFirst
-returns c = rate-refused _ _ _ _ _ _ (c .before .before .before .code .ensures) _ (c .before .enum-told .given .1) (c .refused .ensures _)
-
 returns-2 : tie.Need-returns-2
 unfolding codeFor typeBFirst
 returns-2 c = rate-chosen _ _ _ _ _ _ (c .before .before .before .before .before .before .before .code .ensures) _ (c .before .before .before .before .before .rate .given .1) (not-supported _ _ _ _ _ _ (c .before .before .before .type-b-code .ensures) (c .before .enum-told2 .given .1) (c .refused2 .ensures _))
@@ -20,6 +16,7 @@ unfolding codeFor typeBFirst
 returns-3 c = rate-chosen _ _ _ _ _ _ (c .before .before .before .before .before .before .before .before .before .before .before .before .before .code .ensures) _ (c .before .before .before .before .before .before .before .before .before .before .before .rate .given .1) (supported _ _ _ _ _ _ (c .before .before .before .before .before .before .before .before .before .type-b-code .ensures) _ (c .before .before .before .before .before .before .before .code2 .given .1) (same-afi _ _ _ _ _ _ (c .before .before .before .before .before .byte-or .ensures) (short-staged _ _ _ _ _ (omega arith) (c .staged .ensures _ _ _ (c .before .put-two .ensures)))))
 
 pub detect-type-b-spec : {M : Type 1} → statement M
+unfolding codeFor typeBFirst
 detect-type-b-spec =
     tie.close
     (tie.spec
@@ -27,7 +24,7 @@ detect-type-b-spec =
     (λ c. search needs)
     (λ c. search needs)
     (λ c κs. search needs)
-    returns
+    (λ c. rate-refused _ _ _ _ _ _ (c .before .before .before .code .ensures) _ (c .before .enum-told .given .1) (c .refused .ensures _))
     (λ c κs. search needs)
     (λ c. search needs)
     (λ c. search needs)

@@ -2,19 +2,11 @@
 use Rattle.errors.specs.Choice.{pick}
 use Rattle.discovery.specs.Decisions.{typeFDecision}
 use Rattle.discovery.specs.Decisions.{txControlRead}
-use Rattle.stages.specs.Laws.{decides-pause}
+use Rattle.stages.specs.Laws.{decision-pause}
 use borrow.Author.Tests.{ne-eqb}
 use borrow.Author.Needs.{needs}
 use Rattle.discovery.proofs.type_f.decided.Statement.{statement}
 use Rattle.discovery.proofs.type_f.decided.Tie as tie
-
-returns : tie.Need-returns
-unfolding typeFDecision txControlRead pick
-returns c = λ f. rw (c .before .match .keys1) (c .tx-control .ensures _)
-
-returns-2 : tie.Need-returns-2
-unfolding typeFDecision txControlRead pick
-returns-2 c = λ f. rw (c .match .keys2) (decides-pause _ _ _ _)
 
 returns-3 : tie.Need-returns-3
 unfolding typeFDecision txControlRead pick
@@ -23,4 +15,5 @@ returns-3 c = λ f.
     rw (ne-eqb _ 0 (r .0 .1), ne-eqb _ 1 (r .1)) (c .polled .ensures _)
 
 pub decided-spec : {M : Type 1} → statement M
-decided-spec = tie.close (tie.spec (λ c κs. search needs) (λ c κs. search needs) returns returns-2 returns-3)
+unfolding pick txControlRead typeFDecision
+decided-spec = tie.close (tie.spec (λ c κs. search needs) (λ c κs. search needs) (λ c. λ f. rw (c .before .match .keys1) (c .tx-control .ensures _)) (λ c. λ f. rw (c .match .keys2) (decision-pause _ _ _ _)) returns-3)

@@ -2,7 +2,7 @@
 use native.Mathlib.Omega.{arith}
 use Rattle.stages.specs.Stages.{withLength}
 use Rattle.discovery.specs.Decisions.{polled}
-use Rattle.stages.specs.Laws.{decided, decides-false, decides-done}
+use Rattle.stages.specs.Laws.{decided, decision-false}
 use Rattle.discovery.specs.Laws.{short-either, not-short}
 use borrow.Author.Needs.{needs}
 use Rattle.discovery.proofs.type_f.polled.Statement.{statement}
@@ -14,11 +14,11 @@ returns c = λ f. search (decided, needs) depth 8
 
 returns-2 : tie.Need-returns-2
 unfolding polled
-returns-2 c = λ f. decides-false _ _ _ _ _ _ (search (decided, needs)) (short-either _ _ _ _ (omega arith))
+returns-2 c = λ f. decision-false _ _ _ _ _ _ (search (decided, needs)) (short-either _ _ _ _ (omega arith))
 
 returns-3 : tie.Need-returns-3
 unfolding polled withLength
-returns-3 c = λ f. decides-false _ _ _ _ _ _ (search (decided, needs)) (decides-false _ _ _ _ _ _ (search (not-short, needs)) (decides-false _ _ _ _ _ _ (search (decided, needs)) (decides-done _ _ _ _ (c .rest .ensures f))))
+returns-3 c = λ f. decision-false _ _ _ _ _ _ (search (decided, needs)) (decision-false _ _ _ _ _ _ (search (not-short, needs)) (decision-false _ _ _ _ _ _ (search (decided, needs)) (c .from .ensures .decides f)))
 
 pub polled-spec : {M : Type 1} → statement M
 polled-spec = tie.close (tie.spec (λ c κs. search needs) returns (λ c κs. search needs) returns-2 returns-3)

@@ -2,9 +2,6 @@ use borrow.Author.Needs.{needs}
 use Rattle.engine.proofs.books.count.Statement.{statement}
 use Rattle.engine.proofs.books.count.Tie as tie
 
-returns : tie.Need-returns
-returns c = rw (c .one-more .ensures)
-
 pub count-spec : {M : Type 1} → statement M
 count-spec =
     tie.close
@@ -14,4 +11,4 @@ count-spec =
     (λ c κs. search needs)
     (λ c. search needs)
     (λ c. search needs)
-    returns)
+    (λ c. rw (c .one-more .ensures)))

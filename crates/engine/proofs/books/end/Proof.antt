@@ -5,18 +5,12 @@ use Rattle.engine.specs.Books.{ended}
 use Rattle.engine.proofs.books.end.Statement.{statement}
 use Rattle.engine.proofs.books.end.Tie as tie
 
-returns : tie.Need-returns
-unfolding ended
-returns c = λ n. at-true _ _ _ _ (c .if1 .taken) refl
-
-returns-2 : tie.Need-returns-2
-unfolding ended
-returns-2 c = λ n. at-false _ _ _ _ (c .if1 .left) refl
-
 pub end-spec : {M : Type 1} → statement M
+unfolding ended
 end-spec =
     tie.close
     (tie.spec
     (λ c. search needs)
-    returns
-    returns-2)
+    (λ c. search needs)
+    (λ c. λ n. at-true _ _ _ _ (c .if1 .taken) refl)
+    (λ c. λ n. at-false _ _ _ _ (c .if1 .left) refl))

@@ -9,9 +9,6 @@ use Rattle.engine.specs.Numbers.{reader-input, opening-input}
 use Rattle.engine.proofs.state.call.Statement.{statement}
 use Rattle.engine.proofs.state.call.Tie as tie
 
-returns : tie.Need-returns
-returns c = λ f. c .before .before .«open» .ensures _ ∙ opening-input _ _ _ _ _ _ _ _ _ (c .before .before .before .before .before .before .if1 .taken)
-
 returns-2 : tie.Need-returns-2
 unfolding startAfter
 returns-2 c = λ f.
@@ -26,9 +23,6 @@ returns-3 c = λ f.
     (at-false _ _ _ _ (le-ltb _ _ (c .before .before .before .if3 .left))
     (at-true _ _ _ _ (lt-ltb _ _ (c .before .if4 .taken)) (ap (withBooks _ _) (c .refused2 .ensures _ _))))
     ∙ reader-input _ _ _ _ _ _ _ _ _ (c .before .before .before .before .before .before .before .before .before .if1 .left)
-
-start-requires-2 : tie.Need-start-requires-2
-start-requires-2 c κs = (starts-fit (c .before .before .before .start .ensures), search needs, search needs)
 
 returns-4 : tie.Need-returns-4
 unfolding startAfter
@@ -51,7 +45,7 @@ call-spec =
     (tie.spec
     (λ c κs. search needs)
     (λ c. search needs)
-    returns
+    (λ c. λ f. c .before .before .«open» .ensures _ ∙ opening-input _ _ _ _ _ _ _ _ _ (c .before .before .before .before .before .before .if1 .taken))
     (λ c. search needs)
     (λ c. search needs)
     (λ c. search needs)
@@ -61,7 +55,7 @@ call-spec =
     (λ c κs. search needs)
     returns-3
     (λ c κs. search needs)
-    start-requires-2
+    (λ c κs. (starts-fit (c .before .before .before .start .ensures), search needs, search needs))
     (λ c κs. search needs)
     (λ c κs. search needs)
     (λ c. search needs)

@@ -4,16 +4,10 @@ use Rattle.framing.specs.Rules.{both-true, both-false}
 use Rattle.engine.proofs.state.is_free.Statement.{statement}
 use Rattle.engine.proofs.state.is_free.Tie as tie
 
-returns : tie.Need-returns
-returns c = both-true _ _ _ (sym (c .before .before .is-valid .ensures) ∙ c .before .if1 .taken) refl
-
-returns-2 : tie.Need-returns-2
-returns-2 c = both-false _ _ (sym (c .before .is-valid .ensures) ∙ c .if1 .left)
-
 pub is-free-spec : {M : Type 1} → statement M
 is-free-spec =
     tie.close
     (tie.spec
     (λ c κs. search needs)
-    returns
-    returns-2)
+    (λ c. both-true _ _ _ (sym (c .before .before .is-valid .ensures) ∙ c .before .if1 .taken) refl)
+    (λ c. both-false _ _ (sym (c .before .is-valid .ensures) ∙ c .if1 .left)))

@@ -5,19 +5,12 @@ use Rattle.engine.specs.Sessions.{valid}
 use Rattle.engine.proofs.state.is_valid.Statement.{statement}
 use Rattle.engine.proofs.state.is_valid.Tie as tie
 
-returns : tie.Need-returns
-unfolding valid
-returns c = both-true _ _ _ (sym (c .before .before .is-valid .ensures) ∙ c .before .if1 .taken) (c .is-in-range .ensures)
-
-returns-2 : tie.Need-returns-2
-unfolding valid
-returns-2 c = both-false _ _ (sym (c .before .is-valid .ensures) ∙ c .if1 .left)
-
 pub is-valid-spec : {M : Type 1} → statement M
+unfolding valid
 is-valid-spec =
     tie.close
     (tie.spec
     (λ c κs. search needs)
     (λ c κs. search needs)
-    returns
-    returns-2)
+    (λ c. both-true _ _ _ (sym (c .before .before .is-valid .ensures) ∙ c .before .if1 .taken) (c .is-in-range .ensures))
+    (λ c. both-false _ _ (sym (c .before .is-valid .ensures) ∙ c .if1 .left)))

@@ -38,11 +38,8 @@ returns-4 c = λ f.
     (at-false _ _ _ _ (le-ltb _ _ (c .before .before .before .before .before .before .before .before .before .before .if4 .left))
     (booked-after _ _ _ _ _ _ (c .book .ensures) f _ ∙ ap₂ (bookedAfter _ true) (c .before .before .before .begin .ensures) (c .before .before .before .before .before .before .before .before .«open» .ensures f)))))
 
-returns-5 : tie.Need-returns-5
-unfolding openAfter
-returns-5 c = λ f. at-false _ _ _ _ (sym (c .before .before .is-free .ensures) ∙ c .before .if1 .left) (ap (withBooks _ _) (c .refused4 .ensures f _))
-
 pub open-spec : {M : Type 1} → statement M
+unfolding openAfter
 open-spec =
     tie.close
     (tie.spec
@@ -62,4 +59,4 @@ open-spec =
     (λ c κs. search needs)
     (λ c. search needs)
     returns-4
-    returns-5)
+    (λ c. λ f. at-false _ _ _ _ (sym (c .before .before .is-free .ensures) ∙ c .before .if1 .left) (ap (withBooks _ _) (c .refused4 .ensures f _))))

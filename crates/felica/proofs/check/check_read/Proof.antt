@@ -4,10 +4,12 @@ use borrow.Author.Needs.{needs}
 use Rattle.felica.proofs.check.check_read.Statement.{statement}
 use Rattle.felica.proofs.check.check_read.Tie as tie
 
-returns : tie.Need-returns
-returns c = search (read-checked, needs)
-
 pub check-read-spec : {M : Type 1} → statement M
 check-read-spec =
     tie.close
-    (tie.spec (λ c κs. search needs) (λ c κs. search needs) (λ c κs. search needs) (λ c κs. search needs) returns)
+    (tie.spec
+    (λ c κs. search needs)
+    (λ c κs. search needs)
+    (λ c κs. search needs)
+    (λ c κs. search needs)
+    (λ c. search (read-checked, needs)))

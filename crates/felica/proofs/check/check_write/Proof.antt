@@ -4,8 +4,5 @@ use borrow.Author.Needs.{needs}
 use Rattle.felica.proofs.check.check_write.Statement.{statement}
 use Rattle.felica.proofs.check.check_write.Tie as tie
 
-returns : tie.Need-returns
-returns c = search (write-checked, needs)
-
 pub check-write-spec : {M : Type 1} → statement M
-check-write-spec = tie.close (tie.spec (λ c κs. search needs) (λ c κs. search needs) returns)
+check-write-spec = tie.close (tie.spec (λ c κs. search needs) (λ c κs. search needs) (λ c. search (write-checked, needs)))

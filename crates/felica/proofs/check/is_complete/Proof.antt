@@ -6,22 +6,14 @@ use borrow.Author.Needs.{needs}
 use Rattle.felica.proofs.check.is_complete.Statement.{statement}
 use Rattle.felica.proofs.check.is_complete.Tie as tie
 
-returns : tie.Need-returns
-unfolding isComplete
-returns c = search (tests, needs) depth 10
-
-returns-2 : tie.Need-returns-2
-unfolding isComplete
-returns-2 c = search (not-length, needs)
-
-returns-3 : tie.Need-returns-3
-unfolding isComplete
-returns-3 c = search (tests, needs) depth 10
-
-returns-4 : tie.Need-returns-4
-unfolding isComplete
-returns-4 c = search (tests, needs) depth 10
-
 pub is-complete-spec : {M : Type 1} → statement M
+unfolding isComplete
 is-complete-spec =
-    tie.close (tie.spec returns (λ c κs. search needs) returns-2 (λ c κs. search needs) returns-3 returns-4)
+    tie.close
+    (tie.spec
+    (λ c. search (tests, needs) depth 10)
+    (λ c κs. search needs)
+    (λ c. search (not-length, needs))
+    (λ c κs. search needs)
+    (λ c. search (tests, needs) depth 10)
+    (λ c. search (tests, needs) depth 10))

@@ -6,13 +6,9 @@ use borrow.Author.Needs.{needs}
 use Rattle.felica.proofs.check.is_from.Statement.{statement}
 use Rattle.felica.proofs.check.is_from.Tie as tie
 
-returns : tie.Need-returns
-returns c = search (told-from, needs)
-
 returns-2 : tie.Need-returns-2
 unfolding isFrom
 returns-2 c = search (tests, needs) depth 10
 
 pub is-from-spec : {M : Type 1} → statement M
-is-from-spec =
-    tie.close (tie.spec (λ c κs. search needs) (λ c κs. search needs) (λ c κs. search needs) returns returns-2)
+is-from-spec = tie.close (tie.spec (λ c κs. search needs) (λ c κs. search needs) (λ c κs. search needs) (λ c. search (told-from, needs)) returns-2)

@@ -4,12 +4,6 @@ use borrow.Author.Needs.{needs}
 use Rattle.felica.proofs.reply.blocks_read.Statement.{statement}
 use Rattle.felica.proofs.reply.blocks_read.Tie as tie
 
-returns : tie.Need-returns
-returns c = search (nothing-left, needs)
-
-returns-2 : tie.Need-returns-2
-returns-2 c = search (rest-cut, needs)
-
 pub blocks-read-spec : {M : Type 1} → statement M
 blocks-read-spec =
     tie.close
@@ -17,8 +11,8 @@ blocks-read-spec =
     (λ c. search needs)
     (λ c. search needs)
     (λ c. search needs)
-    returns
+    (λ c. search (nothing-left, needs))
     (λ c. search needs)
     (λ c. search needs)
     (λ c. search needs)
-    returns-2)
+    (λ c. search (rest-cut, needs)))

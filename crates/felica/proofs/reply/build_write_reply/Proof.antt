@@ -5,12 +5,9 @@ use borrow.Author.Needs.{needs}
 use Rattle.felica.proofs.reply.build_write_reply.Statement.{statement}
 use Rattle.felica.proofs.reply.build_write_reply.Tie as tie
 
-returns : tie.Need-returns
-returns c = search (as-built, needs)
-
 returns-2 : tie.Need-returns-2
 unfolding outcome
 returns-2 c = search (as-refused, needs)
 
 pub build-write-reply-spec : {M : Type 1} → statement M
-build-write-reply-spec = tie.close (tie.spec (λ c κs. search needs) (λ c. search needs) returns returns-2)
+build-write-reply-spec = tie.close (tie.spec (λ c κs. search needs) (λ c. search needs) (λ c. search (as-built, needs)) returns-2)

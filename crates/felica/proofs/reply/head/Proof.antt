@@ -4,9 +4,6 @@ use borrow.Author.Needs.{needs}
 use Rattle.felica.proofs.reply.head.Statement.{statement}
 use Rattle.felica.proofs.reply.head.Tie as tie
 
-returns : tie.Need-returns
-returns c = search (head-laid, needs)
-
 pub head-spec : {M : Type 1} → statement M
 head-spec =
     tie.close
@@ -19,4 +16,4 @@ head-spec =
     (λ c. search needs)
     (λ c. search needs)
     (λ c. search needs)
-    returns)
+    (λ c. search (head-laid, needs)))

@@ -6,18 +6,13 @@ use borrow.Author.Needs.{needs}
 use Rattle.felica.proofs.reply.is_reply.Statement.{statement}
 use Rattle.felica.proofs.reply.is_reply.Tie as tie
 
-returns : tie.Need-returns
-unfolding isReply
-returns c = search (tests, needs) depth 10
-
-returns-2 : tie.Need-returns-2
-unfolding isReply
-returns-2 c = search (not-length, needs)
-
-returns-3 : tie.Need-returns-3
-unfolding isReply
-returns-3 c = search (told-is, tests, needs) depth 10
-
 pub is-reply-spec : {M : Type 1} → statement M
+unfolding isReply
 is-reply-spec =
-    tie.close (tie.spec returns (λ c κs. search needs) returns-2 (λ c κs. search needs) returns-3)
+    tie.close
+    (tie.spec
+    (λ c. search (tests, needs) depth 10)
+    (λ c κs. search needs)
+    (λ c. search (not-length, needs))
+    (λ c κs. search needs)
+    (λ c. search (told-is, tests, needs) depth 10))

@@ -4,9 +4,6 @@ use borrow.Author.Needs.{needs}
 use Rattle.felica.proofs.request.asked_for.Statement.{statement}
 use Rattle.felica.proofs.request.asked_for.Tie as tie
 
-returns : tie.Need-returns
-returns c = search (asked-of, needs)
-
 pub asked-for-spec : {M : Type 1} → statement M
 asked-for-spec =
     tie.close
@@ -22,4 +19,4 @@ asked-for-spec =
     (λ c. search needs)
     (λ c. search needs)
     (λ c κs. search needs)
-    returns)
+    (λ c. search (asked-of, needs)))

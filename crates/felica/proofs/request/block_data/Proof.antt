@@ -4,12 +4,6 @@ use borrow.Author.Needs.{needs}
 use Rattle.felica.proofs.request.block_data.Statement.{statement}
 use Rattle.felica.proofs.request.block_data.Tie as tie
 
-returns : tie.Need-returns
-returns c = search (nothing-left, needs)
-
-returns-2 : tie.Need-returns-2
-returns-2 c = search (rest-cut, needs)
-
 pub block-data-spec : {M : Type 1} → statement M
 block-data-spec =
     tie.close
@@ -19,8 +13,8 @@ block-data-spec =
     (λ c. search needs)
     (λ c. search needs)
     (λ c. search needs)
-    returns
+    (λ c. search (nothing-left, needs))
     (λ c. search needs)
     (λ c. search needs)
     (λ c. search needs)
-    returns-2)
+    (λ c. search (rest-cut, needs)))

@@ -6,12 +6,6 @@ use borrow.Author.Needs.{needs}
 use Rattle.felica.proofs.request.build_read_request.Statement.{statement}
 use Rattle.felica.proofs.request.build_read_request.Tie as tie
 
-put-request-requires : tie.Need-put-request-requires
-put-request-requires c κs = (search (fits-idm, needs), search (fits-few, needs), search needs)
-
-returns : tie.Need-returns
-returns c = search (built, needs)
-
 returns-2 : tie.Need-returns-2
 unfolding outcome
 returns-2 c = search (not-built, needs)
@@ -22,7 +16,7 @@ build-read-request-spec =
     (tie.spec
     (λ c κs. search needs)
     (λ c. search needs)
-    put-request-requires
+    (λ c κs. (search (fits-idm, needs), search (fits-few, needs), search needs))
     (λ c. search needs)
-    returns
+    (λ c. search (built, needs))
     returns-2)

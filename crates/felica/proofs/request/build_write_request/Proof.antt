@@ -6,16 +6,16 @@ use borrow.Author.Needs.{needs}
 use Rattle.felica.proofs.request.build_write_request.Statement.{statement}
 use Rattle.felica.proofs.request.build_write_request.Tie as tie
 
-put-request-requires : tie.Need-put-request-requires
-put-request-requires c κs = (search (write-idm, needs), search (write-few, needs), search (write-few-bytes, needs))
-
-returns : tie.Need-returns
-returns c = search (built, needs)
-
 returns-2 : tie.Need-returns-2
 unfolding outcome
 returns-2 c = search (not-built, needs)
 
 pub build-write-request-spec : {M : Type 1} → statement M
 build-write-request-spec =
-    tie.close (tie.spec (λ c κs. search needs) put-request-requires (λ c. search needs) returns returns-2)
+    tie.close
+    (tie.spec
+    (λ c κs. search needs)
+    (λ c κs. (search (write-idm, needs), search (write-few, needs), search (write-few-bytes, needs)))
+    (λ c. search needs)
+    (λ c. search (built, needs))
+    returns-2)

@@ -4,15 +4,6 @@ use borrow.Author.Needs.{needs}
 use Rattle.felica.proofs.request.put_list.Statement.{statement}
 use Rattle.felica.proofs.request.put_list.Tie as tie
 
-slice-aggregate-put : tie.Need-slice-aggregate-put
-slice-aggregate-put c = search (taken-eight, needs)
-
-put-requires : tie.Need-put-requires
-put-requires c κs = search (list-room, needs)
-
-returns : tie.Need-returns
-returns c = search (list-put, needs)
-
 pub put-list-spec : {M : Type 1} → statement M
 put-list-spec =
     tie.close
@@ -23,7 +14,7 @@ put-list-spec =
     (λ c κs. search needs)
     (λ c. search needs)
     (λ c. search needs)
-    slice-aggregate-put
-    put-requires
+    (λ c. search (taken-eight, needs))
+    (λ c κs. search (list-room, needs))
     (λ c. search needs)
-    returns)
+    (λ c. search (list-put, needs)))

@@ -69,9 +69,6 @@ add-t14 c =
     let k = fits (c .before .before .before .before .before .before .before .before .before) in
     omega arith
 
-same-length : tie.Need-same-length
-same-length c = c .before .before .enclose .kept .1 .1 .0 ∙ (c .before .before .before .before .before .buffer .given .1 ∙ simp length-set)
-
 returns : tie.Need-returns
 unfolding outcome
 returns c = command-placed _ _ _ _ _ _ _ _ (placed (c .before .before .before .before .before .before .before .before .before)) (c .before .before .before .before .before .before .copy .ensures .1) (c .before .before .enclose .ensures)
@@ -102,6 +99,6 @@ build-command-spec =
     add-t12
     add-t14
     (λ c. search needs)
-    same-length
+    (λ c. c .before .before .enclose .kept .1 .1 .0 ∙ (c .before .before .before .before .before .buffer .given .1 ∙ simp length-set))
     returns
     returns-2)

@@ -7,7 +7,7 @@ use Rattle.presence_lines.proofs.print.put_present.Statement.{statement
 use Rattle.presence_lines.proofs.print.put_present.Tie as tie
 
 abbrev Inv-loop : tie.InvT-loop
-Inv-loop cards count out₀ at next₀ i₀ out next i = (i ≤ count) × (at ≤ next) × (next ≤ at + 42 * i) × (length out ≡ length out₀)
+Inv-loop cards count out₀ at next₀ i₀ out next i = (i ≤ count) × (at ≤ next) × (next ≤ at + 43 * i) × (length out ≡ length out₀)
 
 abbrev μ-loop : tie.MeasureT-loop
 μ-loop cards count out₀ at next₀ i₀ out next i = count - i

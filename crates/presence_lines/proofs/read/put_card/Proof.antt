@@ -8,15 +8,9 @@ use borrow.Author.Needs.{needs}
 use Rattle.presence_lines.proofs.read.put_card.Statement.{statement}
 use Rattle.presence_lines.proofs.read.put_card.Tie as tie
 
-returns : tie.Need-returns
-returns c = λ e. (let z : _≡_ {A = ℕ} 0 1 = cc in absurd (omega arith))
-
-slice-aggregate-kind : tie.Need-slice-aggregate-kind
-slice-aggregate-kind c = sym (length-take-le (c .before .before .before .before .find .result) (c .before .before .before .before .before .before .before .before .args .word .now) (omega arith))
-
 copy-requires : tie.Need-copy-requires
 copy-requires c κs =
-    let a = c .before .before .before .before .before .before .before .before .before .before .before .before .before .before .before .before .before .before .before .before .args in
+    let a = c .before .before .before .before .before .before .before .before .before .before .before .before .before .before .before .before .before .before .before .before .before .before .args in
     let r = a .records .now in
     let l = length-take-le (length r - a .at) (drop (a .at) r) (rw (length-drop (a .at) r) (omega arith)) in
     let k = c .before .before .before .before .put-identifier .kept .1 .0 in
@@ -26,17 +20,13 @@ pub put-card-spec : {M : Type 1} → statement M
 put-card-spec =
     tie.close
     (tie.spec
-    returns
+    (λ c. λ e. (let z : _≡_ {A = ℕ} 0 1 = cc in absurd (omega arith)))
     (λ c κs. search needs)
     (λ c. search needs)
     (λ c. search needs)
     (λ c κs. search needs)
     (λ c. search needs)
-    slice-aggregate-kind
-    (λ c κs. search needs)
-    (λ c. search needs)
-    (λ c. search needs)
-    (λ c. search needs)
+    (λ c. sym (length-take-le (c .before .before .before .before .find .result) (c .before .before .before .before .before .before .before .before .args .word .now) (omega arith)))
     (λ c. search needs)
     (λ c κs. search needs)
     (λ c. search needs)
@@ -44,9 +34,17 @@ put-card-spec =
     (λ c. search needs)
     (λ c. search needs)
     (λ c. search needs)
+    (λ c κs. search needs)
+    (λ c. search needs)
+    (λ c. search needs)
+    (λ c. search needs)
+    (λ c. search needs)
+    (λ c. search needs)
     (λ c. search needs)
     (λ c. search needs)
     (λ c κs. search needs)
+    (λ c. search needs)
+    (λ c. search needs)
     (λ c. search needs)
     (λ c. search needs)
     (λ c. search needs)

@@ -6,19 +6,13 @@ use borrow.Author.Needs.{needs}
 use Rattle.presence_lines.proofs.read.read_line.Statement.{statement}
 use Rattle.presence_lines.proofs.read.read_line.Tie as tie
 
-slice-aggregate-is : tie.Need-slice-aggregate-is
-slice-aggregate-is c = sym (length-take-le (c .before .before .find .result) (c .before .before .before .before .before .args .line .now) (omega arith))
-
-returns-4 : tie.Need-returns-4
-returns-4 c = rw (c .before .len .given .1) at (c .before .before .before .before .before .put-cards .ensures)
-
 pub read-line-spec : {M : Type 1} → statement M
 read-line-spec =
     tie.close
     (tie.spec
     (λ c κs. search needs)
     (λ c. search needs)
-    slice-aggregate-is
+    (λ c. sym (length-take-le (c .before .before .find .result) (c .before .before .before .before .before .args .line .now) (omega arith)))
     (λ c. search needs)
     (λ c κs. search needs)
     (λ c. search needs)
@@ -37,5 +31,5 @@ read-line-spec =
     (λ c. search needs)
     (λ c. search needs)
     (λ c. search needs)
-    returns-4
+    (λ c. rw (c .before .len .given .1) at (c .before .before .before .before .before .put-cards .ensures))
     (λ c. search needs))

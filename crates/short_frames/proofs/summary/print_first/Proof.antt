@@ -5,15 +5,12 @@ use borrow.Author.Needs.{needs}
 use Rattle.short_frames.proofs.summary.print_first.Statement.{statement}
 use Rattle.short_frames.proofs.summary.print_first.Tie as tie
 
-slice-aggregate-print : tie.Need-slice-aggregate-print
-slice-aggregate-print c = sym (length-take-le _ _ (search needs))
-
 pub print-first-spec : {M : Type 1} → statement M
 print-first-spec =
     tie.close
     (tie.spec
     (λ c κs. search needs)
-    slice-aggregate-print
+    (λ c. sym (length-take-le _ _ (search needs)))
     (λ c κs. search needs)
     (λ c. search needs)
     (λ c κs. search needs)

@@ -3,9 +3,6 @@ use Rattle.errors.specs.Choice.{pick}
 use Rattle.stages.proofs.Command.with.Statement.{statement}
 use Rattle.stages.proofs.Command.with.Tie as tie
 
-returns : tie.Need-returns
-unfolding pick
-returns c = λ h. record { is = λ pending. refl; fits = h }
-
 pub with-spec : {M : Type 1} → statement M
-with-spec = tie.close (tie.spec returns)
+unfolding pick
+with-spec = tie.close (tie.spec (λ c. λ h. record { is = λ pending. refl; fits = h }))

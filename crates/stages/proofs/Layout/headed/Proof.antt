@@ -5,11 +5,5 @@ use borrow.Author.Needs.{needs}
 use Rattle.stages.proofs.Layout.headed.Statement.{statement}
 use Rattle.stages.proofs.Layout.headed.Tie as tie
 
-returns : tie.Need-returns
-returns c = λ f p q r. lays-headed f _ _ _ _ _ _ p q r refl
-
-returns-2 : tie.Need-returns-2
-returns-2 c = λ f p q r. absurd (omega arith)
-
 pub headed-spec : {M : Type 1} → statement M
-headed-spec = tie.close (tie.spec (λ c. search needs) returns returns-2)
+headed-spec = tie.close (tie.spec (λ c. search needs) (λ c. λ f p q r. lays-headed f _ _ _ _ _ _ p q r refl) (λ c. λ f p q r. absurd (omega arith)))

@@ -3,8 +3,5 @@ use borrow.Author.Needs.{needs}
 use Rattle.stages.proofs.Layout.part.Statement.{statement}
 use Rattle.stages.proofs.Layout.part.Tie as tie
 
-returns : tie.Need-returns
-returns c = λ f b h. lays-part f b _ _ _ _ h
-
 pub part-spec : {M : Type 1} → statement M
-part-spec = tie.close (tie.spec returns)
+part-spec = tie.close (tie.spec (λ c. λ f b h. lays-part f b _ _ _ _ h))

@@ -3,8 +3,5 @@ use borrow.Author.Needs.{needs}
 use Rattle.stages.proofs.Layout.tailed.Statement.{statement}
 use Rattle.stages.proofs.Layout.tailed.Tie as tie
 
-returns : tie.Need-returns
-returns c = λ f b p q r. lays-tailed f b _ _ _ _ _ p q r
-
 pub tailed-spec : {M : Type 1} → statement M
-tailed-spec = tie.close (tie.spec returns)
+tailed-spec = tie.close (tie.spec (λ c. λ f b p q r. lays-tailed f b _ _ _ _ _ p q r))

@@ -1,15 +1,13 @@
+use mathlib.Core.Path.{refl}
 use borrow.Author.Needs.{needs}
 use Rattle.engine.specs.Transitions.{exchange-unfit, exchange-pending, exchange-arrived, exchange-failed}
 use Rattle.engine.proofs.call.Call.on_exchange.Statement.{statement}
 use Rattle.engine.proofs.call.Call.on_exchange.Tie as tie
 
-returns : tie.Need-returns
-returns c = exchange-unfit _ _ _ _ _ (c .before .before .advance .ensures .0) (c .enum-told .given .1)
-
 returns-2 : tie.Need-returns-2
 returns-2 c =
-    let a = c .before .before .before .before .advance in
-    exchange-pending _ _ _ _ _ (a .ensures .0) _ _ _ (c .before .before .next .given .1) (a .ensures .1) (c .pending .ensures _ _)
+    let a = c .before .before .before .advance in
+    exchange-pending _ _ _ _ _ (a .ensures .0) _ _ _ (c .before .order .given .1) (a .ensures .1) refl
 
 returns-3 : tie.Need-returns-3
 returns-3 c =
@@ -28,12 +26,11 @@ on-exchange-spec =
     (λ c κs. search needs)
     (λ c. search needs)
     (λ c. search needs)
-    (λ c κs. search needs)
     (λ c. search needs)
     (λ c κs. search needs)
     (λ c. search needs)
     (λ c κs. search needs)
-    returns
+    (λ c. exchange-unfit _ _ _ _ _ (c .before .before .advance .ensures .0) (c .enum-told .given .1))
     returns-2
     returns-3
     returns-4)

@@ -3,8 +3,5 @@ use borrow.Author.Needs.{needs}
 use Rattle.engine.proofs.call.Call.on_opening_ack.Statement.{statement}
 use Rattle.engine.proofs.call.Call.on_opening_ack.Tie as tie
 
-returns : tie.Need-returns
-returns c = λ code p. rw (← c .before .at .ensures) (c .written .ensures code p)
-
 pub on-opening-ack-spec : {M : Type 1} → statement M
-on-opening-ack-spec = tie.close (tie.spec (λ c κs. search needs) (λ c κs. search needs) returns)
+on-opening-ack-spec = tie.close (tie.spec (λ c κs. search needs) (λ c κs. search needs) (λ c. λ code p. rw (← c .before .at .ensures) (c .written .ensures code p)))

@@ -3,8 +3,5 @@ use borrow.Author.Needs.{needs}
 use Rattle.engine.proofs.call.Call.on_reset_pause.Statement.{statement}
 use Rattle.engine.proofs.call.Call.on_reset_pause.Tie as tie
 
-returns : tie.Need-returns
-returns c = λ code p. c .slept .ensures code p
-
 pub on-reset-pause-spec : {M : Type 1} → statement M
-on-reset-pause-spec = tie.close (tie.spec (λ c κs. search needs) returns)
+on-reset-pause-spec = tie.close (tie.spec (λ c κs. search needs) (λ c. λ code p. c .slept .ensures code p))

@@ -3,7 +3,7 @@ use Prim.Native.Nat.{_≤_}
 use native.Mathlib.Omega.{arith}
 use lib.ListN.{length, take, length-take}
 use Rattle.engine.specs.declared.core.Core.{Core}
-use Rattle.engine.specs.Core.{held, stageOf, withFound}
+use Rattle.engine.specs.Core.{arrays, stageOf, withFound}
 use Rattle.stages.specs.Put.{puts-found}
 use borrow.Author.Needs.{needs}
 use Rattle.engine.proofs.core.Core.kept.Statement.{statement}
@@ -24,7 +24,7 @@ returns c =
     let a = c .before .before .before .before .before .before .before .before .before .before .before .before .before .args in
     let h = c .before .before .before .before .before .before .before .lay .ensures (take (a .self .found) (a .found .now)) (a .found .now) (puts-found (a .found .now) (a .self .found) (a .layout .kept) (c .before .before .before .before .before .before .before .before .before .before .before .before .before .pre .6 .kept)) in
     c .before .before .send .ensures _
-    ∙ (λ i. stageOf ((c .before .before .before .before .with-found .ensures ∙ ap (withFound (a .self)) (h .count)) i) (held (a .command .now) (h .is i)) (a .call) (a .buffer .now))
+    ∙ (λ i. stageOf ((c .before .before .before .before .with-found .ensures ∙ ap (withFound (a .self)) (h .count)) i) (arrays (a .command .now) (h .is i)) (a .call) (a .buffer .now))
 
 pub kept-spec : {M : Type 1} → statement M
 kept-spec =

@@ -5,15 +5,6 @@ use Rattle.engine.proofs.core.Core.ordered.Tie as tie
 returns : tie.Need-returns
 returns c = λ f. rw (c .before .before .before .before .before .enum-told .given .1, c .before .before .before .before .before .before .before .running .ensures, c .before .before .copy .ensures .1)
 
-returns-2 : tie.Need-returns-2
-returns-2 c = λ f. rw (c .before .order .given .1, c .before .before .before .running .ensures)
-
-returns-3 : tie.Need-returns-3
-returns-3 c = λ f. rw (c .enum-told2 .given .1, c .before .before .running .ensures)
-
-returns-4 : tie.Need-returns-4
-returns-4 c = λ f. rw (c .before .order2 .given .1, c .before .before .before .running .ensures)
-
 pub ordered-spec : {M : Type 1} → statement M
 ordered-spec =
     tie.close
@@ -27,6 +18,6 @@ ordered-spec =
     (λ c. search needs)
     (λ c. search needs)
     returns
-    returns-2
-    returns-3
-    returns-4)
+    (λ c. λ f. rw (c .before .order .given .1, c .before .before .before .running .ensures))
+    (λ c. λ f. rw (c .enum-told2 .given .1, c .before .before .running .ensures))
+    (λ c. λ f. rw (c .before .order2 .given .1, c .before .before .before .running .ensures)))

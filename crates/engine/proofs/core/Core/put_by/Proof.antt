@@ -3,28 +3,25 @@ use Prim.Native.Nat.{_≤_}
 use native.Mathlib.Omega.{arith}
 use Rattle.stages.specs.Decided.{headBytes}
 use Rattle.engine.specs.declared.core.Core.{Core}
-use Rattle.engine.specs.Core.{held, stageOf, followsOf}
+use Rattle.engine.specs.Core.{arrays, stageOf, followsOf}
 use Rattle.stages.specs.Put.{copied-start}
 use borrow.Author.Needs.{needs}
 use Rattle.engine.proofs.core.Core.put_by.Statement.{statement}
 use Rattle.engine.proofs.core.Core.put_by.Tie as tie
-
-copy-requires : tie.Need-copy-requires
-copy-requires c κs = omega (arith, c .before .before .before .before .before .pre .0)
 
 send-requires : tie.Need-send-requires
 send-requires c κs = (subst (λ (s : Core). s .command ≤ 512) (sym (c .before .before .before .with-command .ensures)) (omega arith), search needs, c .before .before .before .before .before .before .before .before .before .before .before .before .pre .1)
 
 returns : tie.Need-returns
 unfolding followsOf
-returns c = λ f. let a = c .before .before .before .before .before .before .before .before .before .before .before .before .before .before .before .args in let e = c .before .before .before .before .before .before .before .before .before .copy .ensures in c .before .before .send .ensures f ∙ (λ i. stageOf (c .before .before .before .before .before .before .with-command .ensures i) (held (copied-start (headBytes (a .bytes)) (a .command .now) _ (e .1) i) f) (c .before .before .before .before .before .to-stage .ensures i) (a .buffer .now))
+returns c = λ f. let a = c .before .before .before .before .before .before .before .before .before .before .before .before .before .before .before .args in let e = c .before .before .before .before .before .before .before .before .before .copy .ensures in c .before .before .send .ensures f ∙ (λ i. stageOf (c .before .before .before .before .before .before .with-command .ensures i) (arrays (copied-start (headBytes (a .bytes)) (a .command .now) _ (e .1) i) f) (c .before .before .before .before .before .to-stage .ensures i) (a .buffer .now))
 
 pub put-by-spec : {M : Type 1} → statement M
 put-by-spec =
     tie.close
     (tie.spec
     (λ c. search needs)
-    copy-requires
+    (λ c κs. omega (arith, c .before .before .before .before .before .pre .0))
     (λ c κs. search needs)
     (λ c κs. search needs)
     send-requires

@@ -5,7 +5,7 @@ use lib.ListN.{length, take, length-take}
 use lib.Seq.{length-take-le}
 use Rattle.errors.specs.Choice.{pick}
 use Rattle.stages.specs.Stages.{cmd}
-use Rattle.engine.specs.Core.{held, sendsOf, stageOf}
+use Rattle.engine.specs.Core.{arrays, sendsOf, stageOf}
 use borrow.Author.Needs.{needs}
 use Rattle.engine.proofs.core.Core.send.Statement.{statement}
 use Rattle.engine.proofs.core.Core.send.Tie as tie
@@ -34,8 +34,8 @@ returns c = λ f.
     let a = c .before .before .before .before .before .before .before .before .before .before .args in
     let p = c .before .before .before .before .before .before .command .result in
     let later = take (a .self .command) (a .command .now) in
-    c .before .before .sent .ensures (held (a .command .now) f)
-    ∙ ap (λ m. sendsOf (a .self) (held (a .command .now) f) (a .call) m (a .buffer .now))
+    c .before .before .sent .ensures (arrays (a .command .now) f)
+    ∙ ap (λ m. sendsOf (a .self) (arrays (a .command .now) f) (a .call) m (a .buffer .now))
     (sym (ap (λ t. cmd (p .code) (p .clock) (pick t later (take (p .len) (p .bytes)))) (c .before .before .before .before .before .if1 .taken)) ∙ c .before .before .before .before .before .before .command .ensures .is)
 
 returns-2 : tie.Need-returns-2
@@ -44,8 +44,8 @@ returns-2 c = λ f.
     let a = c .before .before .before .before .before .before .before .before .before .before .before .args in
     let p = c .before .before .before .before .before .before .before .command .result in
     let later = take (a .self .command) (a .command .now) in
-    c .before .before .sent2 .ensures (held (a .command .now) f)
-    ∙ ap (λ m. sendsOf (a .self) (held (a .command .now) f) (a .call) m (a .buffer .now))
+    c .before .before .sent2 .ensures (arrays (a .command .now) f)
+    ∙ ap (λ m. sendsOf (a .self) (arrays (a .command .now) f) (a .call) m (a .buffer .now))
     (sym (ap (λ t. cmd (p .code) (p .clock) (pick t later (take (p .len) (p .bytes)))) (c .before .before .before .before .before .before .if1 .left)) ∙ c .before .before .before .before .before .before .before .command .ensures .is)
 
 pub send-spec : {M : Type 1} → statement M

@@ -7,7 +7,7 @@ use Rattle.stages.specs.Put.{put, take-put}
 use Rattle.stages.specs.Stages.{cmd}
 use Rattle.stages.specs.Starts.{Starts, StartFits, commanded, as-staged, at-once}
 use Rattle.engine.specs.declared.core.Core.{Core}
-use Rattle.engine.specs.Core.{held, withCommand, sendsOf, stageOf, unchanged, startOn}
+use Rattle.engine.specs.Core.{arrays, withCommand, sendsOf, stageOf, unchanged, startOn}
 use Rattle.engine.specs.Transitions.{firstCall}
 use borrow.Author.Needs.{needs}
 use Rattle.engine.proofs.core.Core.start.Statement.{statement}
@@ -30,7 +30,7 @@ returns c = λ f k s h.
     let part : take (c .before .before .before .before .before .before .before .before .start .given .0 .0 .len) (a .command .now) ≡ r .bytes = ap₂ take (r .puts .count) (r .puts .is) ∙ take-put (r .bytes) k in
     rw (r .is)
     (c .before .before .sent .ensures _
-    ∙ (λ i. sendsOf ((c .before .before .before .before .before .before .with-command .ensures ∙ ap (withCommand (a .self)) (r .puts .count)) i) (held (r .puts .is i) f) (c .before .before .before .before .before .first .ensures i) (cmd (c .before .before .before .before .before .before .before .before .start .given .0 .0 .code) (c .before .before .before .before .before .before .before .before .start .given .0 .0 .clock) (part i)) (a .buffer .now)))
+    ∙ (λ i. sendsOf ((c .before .before .before .before .before .before .with-command .ensures ∙ ap (withCommand (a .self)) (r .puts .count)) i) (arrays (r .puts .is i) f) (c .before .before .before .before .before .first .ensures i) (cmd (c .before .before .before .before .before .before .before .before .start .given .0 .0 .code) (c .before .before .before .before .before .before .before .before .start .given .0 .0 .clock) (part i)) (a .buffer .now)))
 
 returns-2 : tie.Need-returns-2
 unfolding startOn
@@ -39,14 +39,14 @@ returns-2 c = λ f k s h.
     let r = as-staged (subst (λ x. Starts x k (a .command .now) s) (c .before .before .before .before .before .before .before .start2 .given .1) h) in
     rw (r .is)
     (c .before .before .send .ensures f
-    ∙ (λ i. stageOf ((c .before .before .before .before .before .with-command2 .ensures ∙ ap (withCommand (a .self)) (r .puts .count)) i) (held (r .puts .is i) f) (c .before .before .before .before .first2 .ensures i) (a .buffer .now)))
+    ∙ (λ i. stageOf ((c .before .before .before .before .before .with-command2 .ensures ∙ ap (withCommand (a .self)) (r .puts .count)) i) (arrays (r .puts .is i) f) (c .before .before .before .before .first2 .ensures i) (a .buffer .now)))
 
 returns-3 : tie.Need-returns-3
 unfolding startOn
 returns-3 c = λ f k s h.
     let a = c .before .before .before .before .before .before .args in
     let r = at-once (subst (λ x. Starts x k (a .command .now) s) (c .before .before .start3 .given .1) h) in
-    rw (r .is) (c .refused .ensures _ _ ∙ ap (λ x. unchanged (a .self) (held x f) (c .before .before .start3 .given .0 .0) (a .buffer .now)) (r .same))
+    rw (r .is) (c .refused .ensures _ _ ∙ ap (λ x. unchanged (a .self) (arrays x f) (c .before .before .start3 .given .0 .0) (a .buffer .now)) (r .same))
 
 pub start-spec : {M : Type 1} → statement M
 start-spec =

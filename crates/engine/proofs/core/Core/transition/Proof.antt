@@ -1,6 +1,6 @@
+-- `engine::core::Core::transition` meets its contract.
 use mathlib.Core.Path.{subst}
 use Prim.Native.Nat.{_≤_}
-use native.Mathlib.Omega.{arith}
 use Rattle.engine.specs.Core.{transitionedOf}
 use Rattle.engine.specs.Transitions.{transitionIn, replyLength}
 use borrow.Author.Needs.{needs}
@@ -11,16 +11,13 @@ ordered-requires : tie.Need-ordered-requires
 ordered-requires c κs = c .before .before .before .before .before .before .before .before .pre .5
 
 send-requires : tie.Need-send-requires
-send-requires c κs = (c .before .before .before .before .before .before .before .before .before .pre .2, c .before .before .before .before .before .before .before .before .before .pre .3, c .before .before .before .before .before .before .before .before .before .pre .5)
+send-requires c κs = let p = c .before .before .before .before .before .before .before .before .before .pre in (p .2, p .3, p .5)
 
 replied-requires : tie.Need-replied-requires
-replied-requires c κs = (omega arith, c .before .before .before .before .before .before .before .before .before .before .pre .1, c .before .before .before .before .before .before .before .before .before .before .pre .2, c .before .before .before .before .before .before .before .before .before .before .pre .3, c .before .before .before .before .before .before .before .before .before .before .pre .4, c .before .before .before .before .before .before .before .before .before .before .pre .5)
-
-arrived-requires : tie.Need-arrived-requires
-arrived-requires c κs = let p = c .before .before .before .before .before .before .before .before .before .pre in let a = c .before .before .before .before .before .before .before .before .before .args in let n = subst (λ m. replyLength (transitionIn (a .self .exchange .code) (a .packet .now) m) ≤ 1024) (c .before .before .before .enum-told3 .given .1) (p .0) in (n, p .1, p .2, p .3, p .4, p .5)
-
-failed-requires : tie.Need-failed-requires
-failed-requires c κs = (c .before .before .before .before .before .before .before .before .before .before .pre .1, c .before .before .before .before .before .before .before .before .before .before .pre .2, c .before .before .before .before .before .before .before .before .before .before .pre .3, c .before .before .before .before .before .before .before .before .before .before .pre .4, c .before .before .before .before .before .before .before .before .before .before .pre .5)
+replied-requires c κs =
+    let a = c .before .before .before .before .before .before .before .before .before .before .args in
+    let p = c .before .before .before .before .before .before .before .before .before .before .pre in
+    (subst (λ m. replyLength (transitionIn (a .self .exchange .code) (a .packet .now) m) ≤ 1024) (c .before .before .before .before .transition3 .given .1) (p .0), p .1, p .2, p .3, p .4, p .5)
 
 returns : tie.Need-returns
 unfolding transitionedOf
@@ -35,15 +32,7 @@ unfolding transitionedOf
 returns-3 c = rw (c .before .before .before .before .before .before .transition2 .given .1) (c .before .before .send .ensures _)
 
 returns-4 : tie.Need-returns-4
-unfolding transitionedOf
-returns-4 c = rw (c .before .before .before .before .before .before .before .before .before .before .before .enum-told2 .given .1) (c .before .before .before .before .before .before .replied .ensures)
-
-returns-5 : tie.Need-returns-5
-returns-5 c = rw (c .before .before .before .before .before .before .before .before .before .before .enum-told3 .given .1) (c .before .before .before .before .before .before .arrived .ensures)
-
-returns-6 : tie.Need-returns-6
-unfolding transitionedOf
-returns-6 c = rw (c .before .before .before .before .before .before .before .before .before .before .before .transition3 .given .1) (c .before .before .before .before .before .before .failed .ensures)
+returns-4 c = rw (c .before .before .before .before .before .before .before .before .before .before .before .transition3 .given .1) (c .before .before .before .before .before .before .replied .ensures)
 
 pub transition-spec : {M : Type 1} → statement M
 transition-spec =
@@ -56,12 +45,7 @@ transition-spec =
     (λ c. search needs)
     send-requires
     (λ c. search needs)
-    (λ c. search needs)
     replied-requires
-    (λ c. search needs)
-    arrived-requires
-    (λ c. search needs)
-    failed-requires
     returns
     (λ c. search needs)
     returns-2
@@ -71,12 +55,4 @@ transition-spec =
     (λ c. search needs)
     (λ c. search needs)
     (λ c. search needs)
-    returns-4
-    (λ c. search needs)
-    (λ c. search needs)
-    (λ c. search needs)
-    returns-5
-    (λ c. search needs)
-    (λ c. search needs)
-    (λ c. search needs)
-    returns-6)
+    returns-4)

@@ -4,8 +4,5 @@ use Rattle.engine.specs.Sessions.{sessionAfter}
 use Rattle.engine.proofs.session.Session.call.Statement.{statement}
 use Rattle.engine.proofs.session.Session.call.Tie as tie
 
-returns : tie.Need-returns
-returns c = ap sessionAfter (c .before .before .before .call .ensures _)
-
 pub call-spec : {M : Type 1} → statement M
-call-spec = tie.close (tie.spec (λ c κs. search needs) (λ c. search needs) returns)
+call-spec = tie.close (tie.spec (λ c κs. search needs) (λ c. search needs) (λ c. ap sessionAfter (c .before .before .before .call .ensures _)))

@@ -1,0 +1,4 @@
+mod AnswerLaws
+mod BlockLaws
+mod CodecLaws
+mod FrameLaws

@@ -1,0 +1,19 @@
+-- `five_words` meets its contract.
+use Rattle.framing.specs.Rules.{told}
+use Rattle.bench.specs.TextLaws.{when-true, when-false}
+use borrow.Author.Needs.{needs}
+use Rattle.bench_codec.proofs.five_words.Statement.{statement}
+use Rattle.bench_codec.proofs.five_words.Tie as tie
+
+pub five-words-spec : {M : Type 1} → statement M
+five-words-spec =
+    tie.close
+    (tie.spec
+    (λ c. search needs)
+    (λ c κs. search needs)
+    (λ c κs. search needs)
+    (λ c. search needs)
+    (λ c. search (when-true, when-false, told, needs) depth 14)
+    (λ c κs. search needs)
+    (λ c. search needs)
+    (λ c. search (when-true, when-false, told, needs) depth 14))

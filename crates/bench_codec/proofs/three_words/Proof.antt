@@ -1,0 +1,38 @@
+-- `three_words` meets its contract.
+use Rattle.framing.specs.Rules.{told}
+use Rattle.bench.specs.TextLaws.{when-true, when-false}
+use Rattle.bench_codec.proofs.CodecLaws.{no-setting, some-setting, read-refused, read-format, read-fits, read-part}
+use borrow.Author.Needs.{needs}
+use Rattle.bench_codec.proofs.three_words.Statement.{statement}
+use Rattle.bench_codec.proofs.three_words.Tie as tie
+
+pub three-words-spec : {M : Type 1} → statement M
+three-words-spec =
+    tie.close
+    (tie.spec
+    (λ c. search needs)
+    (λ c κs. search needs)
+    (λ c. search needs)
+    (λ c. search needs)
+    (λ c κs. search needs)
+    (λ c. search needs)
+    (λ c. search (when-true, told, needs))
+    (λ c κs. search needs)
+    (λ c. search needs)
+    (λ c. search needs)
+    (λ c κs. search needs)
+    (λ c. search needs)
+    (λ c. search (when-false, told, no-setting, needs) depth 8)
+    (λ c κs. search needs)
+    (λ c. search needs)
+    (λ c κs. search needs)
+    (λ c. search needs)
+    (λ c. search needs)
+    (λ c κs. search needs)
+    (λ c. search needs)
+    (λ c. search (when-false, told, some-setting, read-refused, needs) depth 10)
+    (λ c. search (read-fits, needs))
+    (λ c. search (read-part, needs))
+    (λ c κs. search needs)
+    (λ c. search needs)
+    (λ c. search (when-false, told, some-setting, read-format, needs) depth 10))

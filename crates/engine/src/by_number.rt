@@ -1,0 +1,52 @@
+// Events by their numbers, for a host: the running call's numbers go by value, and the session's arrays are lent.
+use super::core::Core;
+use super::core::Progress;
+use super::state;
+use errors::Refusal;
+use exchange::Event;
+ghost use mathlib.Core.List.{List};
+ghost use mathlib.Core.Path.{_≡_};
+ghost use Prim.Native.Nat.{ℕ};
+ghost use Rattle.engine.specs.Core.{arrays};
+ghost use Rattle.engine.specs.Sessions.{stateOf, effected};
+ghost use Rattle.engine.specs.Numbers.{eventBy, knownIn, afterEventNumber};
+
+// The event of a number, where it has one.
+pub enum Known {
+    Is(Event),
+    Not,
+}
+
+pub fn event_by(number: u8) -> Known
+    ensures { λ r. ⌜ ((packet : List ℕ) → knownIn r packet ≡ eventBy number packet) ⌝ }
+{
+    match number {
+        0 => Known::Is(Event::Ok),
+        1 => Known::Is(Event::Bad),
+        2 => Known::Is(Event::Packet),
+        3 => Known::Is(Event::Time),
+        4 => Known::Is(Event::Fail),
+        5 => Known::Is(Event::Late),
+        6 => Known::Is(Event::Slept),
+        _ => Known::Not,
+    }
+}
+
+// An event. One with a number that has none fits no order.
+pub fn event(
+    core: Core,
+    command: &mut [u8; 512],
+    found: &mut [u8; 1024],
+    frames: &mut [u32; 8],
+    books: &mut [u8; 3],
+    number: u8,
+    packet: &[u8],
+    buffer: &mut [u8],
+) -> Progress
+    ensures { λ r. ⌜ effected r (now (books .exit)) (now (frames .exit)) (arrays (now (command .exit)) (now (found .exit))) (now (buffer .exit)) ≡ afterEventNumber (stateOf core (now (books .entry)) (now (frames .entry))) (arrays (now (command .entry)) (now (found .entry))) (eventBy number (now (packet .entry))) (now (buffer .entry)) ⌝ }
+{
+    let Known::Is(event) = event_by(number) else {
+        return core.refused(Refusal::OutOfTurn);
+    };
+    state::event(core, command, found, frames, books, event, packet, buffer)
+}
