@@ -79,7 +79,7 @@ fn main() {
 
     let archives =
         fs::canonicalize("../target/staticlib").expect("`rt staticlib` of both crates comes first");
-    for name in ["libcodec_c.a", "libhost.a"] {
+    for name in ["libcodec_c.a", "libsession_c.a"] {
         println!("cargo::rerun-if-changed={}", archives.join(name).display());
     }
     println!("cargo::rustc-link-search=native={}", archives.display());

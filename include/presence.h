@@ -1,8 +1,8 @@
 /*
  * The list of present cards, for C and C++: document 02's N9.
  *
- * The functions stand in libpresence_host.a, which `rt staticlib presence_host` proves and writes to target/staticlib/, for x86-64 Linux. Their
- * contracts are those of crates/presence_host/src/lib.rt.
+ * The functions stand in libpresence_c.a, which `rt staticlib presence_c` proves and writes to target/staticlib/, for x86-64 Linux. Their
+ * contracts are those of crates/presence_c/src/lib.rt.
  *
  * A round of discovery hands in its number and the cards found. Who was seen in the last accepted round or the one before it is present. A card
  * is its kind and identifier; of several records of a card the latest counts, of two in one round the later. The list, the arrivals and the

@@ -105,27 +105,32 @@ def edges():
         for m in (0, 1, 4, 5):  # another count, with the asked blocks and with its own
             yield 6, IDM, 0x000B, 0, nums, b"", b"\0" + good[:12] + bytes([m]) + data
             yield 6, IDM, 0x000B, 0, nums, b"", b"\0" + reply(7, IDM, b"\0\0", bytes([m]) + block(2, m))
-    for code, whole in ((6, read_reply(IDM, b"\0\0", block(3))), (8, reply(9, IDM, b"\0\0"))):
-        data = block(4) if code == 8 else b""
-        ask = lambda r: (code, IDM, 0xFFFF, None, b"\xFF", data, r)
-        for n in (0, 1, 11, 12, 13, 28, 29, 30):
-            cut = (whole + bytes(40))[:n]
-            yield ask(b"\0" + cut)
-            yield ask(b"\0" + bytes([n]) + cut[1:] if n else b"\0")
-        for flags in ("0000", "00FF", "01A8", "FFA1", "0100", "FF00", "80A6"):
-            flags = bytes.fromhex(flags)
-            for tail in (b"", b"\x01", b"\x01" + block(5), whole[12:]):
-                r = reply(code + 1, IDM, flags, tail)
-                yield ask(b"\0" + r)
-                yield ask(b"\0" + r[:1] + bytes([code]) + r[2:])  # another code
-                for k in range(8):  # another IDm, byte by byte
-                    yield ask(b"\0" + r[:2 + k] + bytes([r[2 + k] ^ 1]) + r[3 + k:])
-                yield ask(b"\0" + bytes([r[0] ^ 1]) + r[1:])  # length one off
-                yield ask(b"\0" + bytes([r[0] ^ 1, 0]) + r[2:])  # length and code: 16 comes first
-                yield ask(b"\0" + r[:1] + b"\0" + r[2:])  # code and flags: 21 comes first
-        for status in (b"", b"\x01", b"\x7F", b"\xFF", b"\x40"):
-            yield ask(status + whole if status else b"")
+    yield from edges_of_reply(6, b"", read_reply(IDM, b"\0\0", block(3)))
+    yield from edges_of_reply(8, block(4), reply(9, IDM, b"\0\0"))
     yield from edges_of_arguments()
+
+def edges_of_reply(code, data, whole):
+    """Calls of one block whose reply is not the whole one: other lengths, flags and statuses."""
+    ask = lambda r: (code, IDM, 0xFFFF, None, b"\xFF", data, r)
+    for n in (0, 1, 11, 12, 13, 28, 29, 30):
+        cut = (whole + bytes(40))[:n]
+        yield ask(b"\0" + cut)
+        yield ask(b"\0" + bytes([n]) + cut[1:] if n else b"\0")
+    for flags in ("0000", "00FF", "01A8", "FFA1", "0100", "FF00", "80A6"):
+        for tail in (b"", b"\x01", b"\x01" + block(5), whole[12:]):
+            yield from map(ask, other_bytes(code, reply(code + 1, IDM, bytes.fromhex(flags), tail)))
+    for status in (b"", b"\x01", b"\x7F", b"\xFF", b"\x40"):
+        yield ask(status + whole if status else b"")
+
+def other_bytes(code, r):
+    """The response with the reply r, and with another byte in it, or two."""
+    yield b"\0" + r
+    yield b"\0" + r[:1] + bytes([code]) + r[2:]  # another code
+    for k in range(8):  # another IDm, byte by byte
+        yield b"\0" + r[:2 + k] + bytes([r[2 + k] ^ 1]) + r[3 + k:]
+    yield b"\0" + bytes([r[0] ^ 1]) + r[1:]  # length one off
+    yield b"\0" + bytes([r[0] ^ 1, 0]) + r[2:]  # length and code: 16 comes first
+    yield b"\0" + r[:1] + b"\0" + r[2:]  # code and flags: 21 comes first
 
 def edges_of_arguments():
     """Calls of another number of blocks, of other data and of another IDm."""

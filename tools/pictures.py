@@ -68,7 +68,7 @@ def read(path):
 # ---- layers
 
 # Folders that use the archive of a crate.
-USERS = {"hosts/": ["host"], "tests/outside/": ["host"], "benchmarks/": ["host", "codec_c"], "tests/c/": ["codec_c"]}
+USERS = {"hosts/": ["session_c"], "tests/outside/": ["session_c"], "benchmarks/": ["session_c", "codec_c"], "tests/c/": ["codec_c"]}
 KINDS = {"code": "#dbe9f6", "definitions and proofs": "#f6ecd2", "archive for C": "#d9efdc", "program": "#ece3f3",
          "folder, no crate": "white"}
 ROW, HIGH, GAP = 74, 30, 26
@@ -242,7 +242,7 @@ EXCHANGE_MOVES = [
     ("WAITING", "WAITING", "ACK-led packet"), ("WAITING", "OVERDUE", "late"), ("REJECTING", "DRAINING", "ok, bad"),
     ("DRAINING", "DRAINING", "packet, fail"),
 ]
-# The same of a call. Kinds of calls are constants too, and no phases.
+# The same of a call. Kinds of calls and the last stage are constants too, and no phases.
 CALL_CARDS = {
     "OPENING_ACK": (0, 592, "write ACK", ["bad: 7"]),
     "OPENING_READS": (0, 752, "read 10", []),
@@ -257,7 +257,7 @@ CALL_MOVES = [
     ("PAUSE", "EXCHANGE", "slept"), ("EXCHANGE", "RESET_ACK", "end of a reset"), ("RESET_ACK", "RESET_PAUSE", "ok"),
     ("RESET_PAUSE", "EXCHANGE", "slept, opening"),
 ]
-CALL_KINDS = {"NO_CALL", "OPEN", "LAST"}
+CALL_KINDS = {"NO_CALL", "OPEN", "LAST", "LAST_STAGE"}
 
 
 def constants(path, wanted, others=frozenset(), within=""):

@@ -55,73 +55,89 @@ def chip_of(fuzz, rng):
     return Chip(rng)
 
 
-def next_line(fuzz, rng, chip, stray, requests, order, opened, padded):
-    """Out of turn now and then, else what happens to the order, or a call."""
-    if rng.chance(stray):
-        return fuzz.out_of_turn(rng)
-    if order:
-        text = chip.event(order)
-        return with_zeros(rng, text, padded) if "N2" in requests else text
-    open_line = rng.choice((b"open", b"open padded") if "N2" in requests else (b"open",))
-    return rng.choice((b"version", b"version", open_line)) if opened else rng.choice((open_line, open_line, open_line, b"version"))
+class Script:
+    """A script and the oracle's output as they grow: as fuzz.session_case, with more openings and more that goes wrong in them."""
 
+    def __init__(self, fuzz, rng, count, requests):
+        self.fuzz, self.rng, self.count, self.requests = fuzz, rng, count, requests
+        self.chip = chip_of(fuzz, rng)
+        self.noise = rng.choice((0, 0.05, 0.1, 0.2, 0.4, 0.8))  # how often a command goes wrong
+        self.stray = rng.choice((0, 0, 0.01, 0.05, 0.2))        # how often a line is out of turn
+        self.clean = rng.choice((1, 0.9, 0.6, 0.3))             # how many openings go well
+        self.calls = rng.randint(1, 8)
+        self.lines, self.output, self.order, self.call = [], [], None, None
+        self.opened, self.padded, self.frames, self.reads = False, False, 0, 0
 
-def begin(rng, chip, call, noise, clean):
-    """How much goes wrong in a call."""
-    good = rng.chance(clean)
-    chip.good = call == "open"
-    chip.odd = 0 if good else rng.choice((0, 0.05, 0.2))
-    chip.noise = noise if call != "open" else 0 if good else noise / rng.choice((1, 3, 10))
+    def next_line(self):
+        """Out of turn now and then, else what happens to the order, or a call."""
+        rng, n2 = self.rng, "N2" in self.requests
+        if rng.chance(self.stray):
+            return self.fuzz.out_of_turn(rng)
+        if self.order:
+            text = self.chip.event(self.order)
+            return with_zeros(rng, text, self.padded) if n2 else text
+        open_line = rng.choice((b"open", b"open padded") if n2 else (b"open",))
+        return rng.choice((b"version", b"version", open_line)) if self.opened else rng.choice((open_line, open_line, open_line, b"version"))
 
+    def begin(self, word, text):
+        """A call begins: how much goes wrong in it."""
+        rng, chip, is_open = self.rng, self.chip, word == "open"
+        self.call, self.frames = word, 0
+        self.padded = text == b"open padded" if is_open else self.padded
+        self.calls -= 1
+        good = rng.chance(self.clean)
+        chip.good = is_open
+        chip.odd = 0 if good else rng.choice((0, 0.05, 0.2))
+        chip.noise = self.noise if not is_open else 0 if good else self.noise / rng.choice((1, 3, 10))
 
-def ordered(fuzz, chip, answer, reads):
-    """The reads since the last frame, and whether the order is a frame."""
-    if not answer.startswith(b"write"):
-        return reads + 1, False
-    chip.written(bytes.fromhex(answer[6:].decode()))
-    return (-1000, False) if answer == fuzz.WRITE_ACK else (0, True)
+    def ordered(self, answer):
+        """An order: the reads since the last frame, and the frames."""
+        self.order = answer
+        if not answer.startswith(b"write"):
+            self.reads += 1
+            return
+        self.chip.written(bytes.fromhex(answer[6:].decode()))
+        ack = answer == self.fuzz.WRITE_ACK
+        self.reads = -1000 if ack else 0
+        self.frames += not ack
+
+    def end(self, answer):
+        """The call ends."""
+        self.count.add(self.call, self.fuzz.outcome(answer), self.frames)
+        self.order = None
+        self.opened = answer.startswith(b"done") if self.call == "open" else self.opened
+
+    def accepted(self, text, answer):
+        """Whether a line is accepted; counts it."""
+        word, outcome = text.split(b" ")[0].decode("latin1"), self.fuzz.outcome(answer)
+        if self.order is None and answer.startswith(self.fuzz.ORDERS):
+            self.begin(word, text)
+            return True
+        if self.order is None:                              # refused at once
+            self.count.add(word if word in self.fuzz.CALLS else "(idle)", outcome)
+            self.calls -= self.rng.chance(0.5)
+            return False
+        pending = answer in (b"refused 1", b"refused 3", b"refused 4")
+        where = "(" + self.fuzz.place(self.order, self.reads) + ")"
+        self.count.add(where, outcome if pending else text.decode() if text == b"pkt -" else word)
+        return not pending
+
+    def add(self, text, answer):
+        self.lines.append(text)
+        self.output.append(answer)
+        if self.accepted(text, answer):
+            (self.ordered if answer.startswith(self.fuzz.ORDERS) else self.end)(answer)
 
 
 def script_of(fuzz, seed, index, count, requests=()):
-    """One script and the oracle's output: as fuzz.session_case, with more openings and more that goes wrong in them."""
-    rng = fuzz.case_rng(seed, index, "session of two calls")
-    chip = chip_of(fuzz, rng)
-    noise = rng.choice((0, 0.05, 0.1, 0.2, 0.4, 0.8))       # how often a command goes wrong
-    stray = rng.choice((0, 0, 0.01, 0.05, 0.2))             # how often a line is out of turn
-    clean = rng.choice((1, 0.9, 0.6, 0.3))                  # how many openings go well
-    calls = rng.randint(1, 8)
+    """One script and the oracle's output."""
+    script = Script(fuzz, fuzz.case_rng(seed, index, "session of two calls"), count, requests)
     talk = fuzz.Talk([os.environ["ORACLE"]])
-    script, output, order, call, opened, padded, frames, reads = [], [], None, None, False, False, 0, 0
-    while len(script) < 600 and (calls > 0 or order):
-        text = next_line(fuzz, rng, chip, stray, requests, order, opened, padded)
-        answer = talk.say(text)
-        script.append(text)
-        output.append(answer)
-        word = text.split(b" ")[0].decode("latin1")
-        if order is None:
-            if not answer.startswith(fuzz.ORDERS):          # refused at once
-                count.add(word if word in fuzz.CALLS else "(idle)", fuzz.outcome(answer))
-                calls -= rng.chance(0.5)
-                continue
-            call, frames = word, 0
-            padded = text == b"open padded" if word == "open" else padded
-            calls -= 1
-            begin(rng, chip, call, noise, clean)
-        elif answer in (b"refused 1", b"refused 3", b"refused 4"):
-            count.add("(" + fuzz.place(order, reads) + ")", fuzz.outcome(answer))
-            continue                                        # the order is still pending
-        else:
-            count.add("(" + fuzz.place(order, reads) + ")", text.decode() if text == b"pkt -" else word)
-        if answer.startswith(fuzz.ORDERS):
-            order = answer
-            reads, frame = ordered(fuzz, chip, answer, reads)
-            frames += frame
-        else:
-            count.add(call, fuzz.outcome(answer), frames)
-            order = None
-            opened = answer.startswith(b"done") if call == "open" else opened
+    while len(script.lines) < 600 and (script.calls > 0 or script.order):
+        text = script.next_line()
+        script.add(text, talk.say(text))
     talk.close()
-    return script, output
+    return script.lines, script.output
 
 
 def line_by_line(fuzz, command, script):
@@ -140,8 +156,8 @@ def one_case(job):
     else:
         script, output = fuzz.make("session", requests)(args.seed, index, coverage=count)
     run = line_by_line if index % 10 == 9 else lambda fuzz, command, script: fuzz.run(command, script)
-    told = run(fuzz, [args.program], script)
-    differs = diff.first_difference(output, told) is not None
+    printed = run(fuzz, [args.program], script)
+    differs = diff.first_difference(output, printed) is not None
     return index, len(script), script if differs else None, dict(count.counts), dict(count.ends)
 
 

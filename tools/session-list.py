@@ -69,20 +69,20 @@ def kinds(fuzz, order, place, call, path, text, answer):
     if word in EVENTS and fuzz.outcome(answer) != "refused 4":
         event = text if text == b"pkt -" else word
     is_order = answer.startswith(fuzz.ORDERS)
-    told = answer.split(b" ")[0] if is_order else fuzz.outcome(answer)
-    yield ("order", order.split(b" ")[0], word, told)
-    yield ("place", place, event, told)
+    result = answer.split(b" ")[0] if is_order else fuzz.outcome(answer)
+    yield ("order", order.split(b" ")[0], word, result)
+    yield ("place", place, event, result)
     if is_order or order and answer in STAYS:
         return
     if answer.startswith(b"refused 15"):
         yield ("status", answer)
     if name.decode("latin1") in fuzz.CALLS:
-        yield ("call", name, told)
-        yield ("frames", name, len(path), told)
-        yield ("path", name, path, told)
-        yield ("given", *shape(call), told)
+        yield ("call", name, result)
+        yield ("frames", name, len(path), result)
+        yield ("path", name, path, result)
+        yield ("given", *shape(call), result)
         if order:
-            yield ("ended", name, place, event, told)
+            yield ("ended", name, place, event, result)
 
 
 class Piece:
@@ -172,7 +172,7 @@ def tell(fuzz, script, answers):
         if not answer.startswith(fuzz.ORDERS) and not (order and answer in STAYS):
             calls[call.split(b" ")[0].decode("latin1")][fuzz.outcome(answer)] += 1
     for name in fuzz.CALLS:
-        print(f"{name}: " + ", ".join(f"{told} {n}" for told, n in sorted(calls[name].items())))
+        print(f"{name}: " + ", ".join(f"{result} {n}" for result, n in sorted(calls[name].items())))
     print("refusals: " + ", ".join(f"{k} {refusals[k]} times" for k in sorted(refusals)) + f"; 15 with {len(statuses)} statuses")
     missing = [name for name in fuzz.CALLS if not calls[name]] + [k for k in range(1, 20) if k != 2 and not refusals[k]]
     print(f"missing: {missing}" if missing else "every call, and every refusal but 2")

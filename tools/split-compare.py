@@ -47,8 +47,8 @@ def target(r):
     n = r.choice((4, 7, 10)) if r.chance(0.8) else r.choice((0, 1, 3, 5, 6, 8, 9, 11, 12, 255, r.randrange(256)))
     uid = r.randbytes(n if r.chance(0.85) else max(0, n + r.choice((-1, 1, -2, -n))))
     size = r.choice((0, 0, 1, 2, 5, 17, 20, r.randint(1, 30), r.choice((100, 241, 255, 256, 257))))
-    told = size if r.chance(0.75) else size + r.choice((-1, 1, 2, -size, r.randrange(256)))
-    ats = bytes([told % 256]) + r.randbytes(size - 1) if size else b""
+    length = size if r.chance(0.75) else size + r.choice((-1, 1, 2, -size, r.randrange(256)))
+    ats = bytes([length % 256]) + r.randbytes(size - 1) if size else b""
     data = r.randbytes(2) + bytes([r.choice((0x00, 0x08, 0x18, 0x20, 0x28, 0x40, 0x60, r.randrange(256))), n]) + uid + ats
     return data if r.chance(0.97) else data[:r.randint(0, 5)]
 
@@ -58,9 +58,9 @@ def one_case(job):
     fuzz, diff = imports(args.folder)
     count = fuzz.Coverage()
     script, output = fuzz.session_case(args.seed, index, coverage=count)
-    told = fuzz.run([args.program], script)
+    printed = fuzz.run([args.program], script)
     ends = collections.Counter(end(line) for line in output)
-    return index, len(script), ends, script if diff.first_difference(output, told) is not None else None
+    return index, len(script), ends, script if diff.first_difference(output, printed) is not None else None
 
 
 def end(line):

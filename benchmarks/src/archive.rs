@@ -31,7 +31,7 @@ unsafe extern "C" {
     ) -> u8;
 }
 
-#[link(name = "host", kind = "static")]
+#[link(name = "session_c", kind = "static")]
 unsafe extern "C" {
     pub fn rcs956_fresh() -> Session;
     pub fn rcs956_event(

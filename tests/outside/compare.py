@@ -62,18 +62,18 @@ def one_case(job):
     else:
         script, output = fuzz.make("session", requests)(args.seed, index)
     command = [args.program, "--frames"]
-    told = base.line_by_line(fuzz, command, script) if index % 10 == 9 else fuzz.run(command, script)
+    printed = base.line_by_line(fuzz, command, script) if index % 10 == 9 else fuzz.run(command, script)
     expected = counted(fuzz, script, output)
     top = max((int(n) for line in expected for n in line.split()[-CALLERS:]), default=0)
-    return index, len(script), top, None if told == expected else (script, expected, told)
+    return index, len(script), top, None if printed == expected else (script, expected, printed)
 
 
-def report(index, script, expected, told):
+def report(index, script, expected, printed):
     """The lines up to the first difference."""
-    told = told + [b"(nothing)"] * (len(expected) - len(told))
-    at = next((k for k, line in enumerate(expected) if line != told[k]), len(expected) - 1)
+    printed = printed + [b"(nothing)"] * (len(expected) - len(printed))
+    at = next((k for k, line in enumerate(expected) if line != printed[k]), len(expected) - 1)
     print(f"DIFFERENCE in case {index}, line {at + 1} of {len(script)}")
-    for text, left, right in list(zip(script, expected, told))[max(0, at - 12):at + 1]:
+    for text, left, right in list(zip(script, expected, printed))[max(0, at - 12):at + 1]:
         print("  in    ", text[:120], "\n  oracle", left[:120], "\n  lines ", right[:120])
 
 

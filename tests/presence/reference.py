@@ -81,5 +81,5 @@ if __name__ == "__main__":
     lines = text.split(b"\n")
     if lines[-1] == b"":
         lines.pop()
-    for told in answers(lines):
-        sys.stdout.buffer.write(told + b"\n")
+    for printed in answers(lines):
+        sys.stdout.buffer.write(printed + b"\n")

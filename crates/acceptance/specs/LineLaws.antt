@@ -13,7 +13,7 @@ use borrow.Author.Tests.{le-ltb, eqb-false}
 use Rattle.errors.specs.Refusals.{answered, refused, plain}
 use Rattle.errors.specs.declared.Refusal.{Refusal}
 use Rattle.errors.specs.Choice.{pick}
-use Rattle.framing.specs.Build.{Left, outcome, left, limitOf, putFrame, buildOf}
+use Rattle.framing.specs.Build.{Left, returned, left, limitOf, putFrame, buildOf}
 use Rattle.framing.specs.Enclose.{length-frame, start-most}
 use Rattle.framing.specs.Frames.{longest, frameOf}
 use Rattle.framing.specs.Settings.{formatOf, settingOf}
@@ -114,23 +114,23 @@ pub record Framed (fs : List (List ℕ)) (n : ℕ) (fr : List ℕ) : Type 0 wher
   pub whole : length (take n fr) ≡ n
 
 module _ (p : List ℕ) (short : length p ≤ 2) (b fr : List ℕ) (twelve : length b ≡ 12) (r : Built) where
-  abbrev Told : Setting → Type 0
-  Told s = left (outcome r) fr ≡ bySetting (λ f. buildOf f p b) (left (refused (plain 1)) b) s
+  abbrev Builds : Setting → Type 0
+  Builds s = left (returned r) fr ≡ bySetting (λ f. buildOf f p b) (left (refused (plain 1)) b) s
 
   abbrev frames : Setting → List (List ℕ)
   frames s = bySetting (λ f. frameOf (f .length) p ∷ []) [] s
 
-  told-frame : (n : ℕ) → r ≡ Frame n → (k : ℕ) → Told (settingOf k) → Framed (frames (settingOf k)) n fr
-  unfolding outcome
-  told-frame n q = by-number (λ s. Told s → Framed (frames s) n fr) some none
+  known-frame : (n : ℕ) → r ≡ Frame n → (k : ℕ) → Builds (settingOf k) → Framed (frames (settingOf k)) n fr
+  unfolding returned
+  known-frame n q = by-number (λ s. Builds s → Framed (frames s) n fr) some none
     where
-      none : Told Nothing → Framed (frames Nothing) n fr
-      none t = let z : _≡_ {A = ℕ} 0 1 = cc (ap (λ l. l .told) t, ap outcome q) in absurd (omega arith)
+      none : Builds Nothing → Framed (frames Nothing) n fr
+      none t = let z : _≡_ {A = ℕ} 0 1 = cc (ap (λ l. l .result) t, ap returned q) in absurd (omega arith)
 
-      some : (e : LengthEncoding) (d : ErrorDetection) → Told (Format (formatOf e d)) → Framed (frames (Format (formatOf e d))) n fr
+      some : (e : LengthEncoding) (d : ErrorDetection) → Builds (Format (formatOf e d)) → Framed (frames (Format (formatOf e d))) n fr
       some e d t =
           let put = t ∙ short-put e d p short b (omega arith) in
-          let len : n ≡ length (frameOf e p) = cc (ap (λ l. l .told) put, ap outcome q) in
+          let len : n ≡ length (frameOf e p) = cc (ap (λ l. l .result) put, ap returned q) in
           let at : take n fr ≡ frameOf e p = ap₂ take len (ap (λ l. l .buffer) put) ∙ take-at (frameOf e p) (drop (length (frameOf e p)) b) (length (frameOf e p)) refl in
           record {
             frame = ap (λ x. x ∷ []) (sym at);
@@ -139,24 +139,24 @@ module _ (p : List ℕ) (short : length p ≤ 2) (b fr : List ℕ) (twelve : len
             whole = ap length at ∙ sym len;
           }
 
-  told-none : (x : Refusal) → r ≡ Refused x → (k : ℕ) → Told (settingOf k) → frames (settingOf k) ≡ []
-  unfolding outcome
-  told-none x q = by-number (λ s. Told s → frames s ≡ []) some (λ t. refl)
+  known-none : (x : Refusal) → r ≡ Refused x → (k : ℕ) → Builds (settingOf k) → frames (settingOf k) ≡ []
+  unfolding returned
+  known-none x q = by-number (λ s. Builds s → frames s ≡ []) some (λ t. refl)
     where
-      some : (e : LengthEncoding) (d : ErrorDetection) → Told (Format (formatOf e d)) → frames (Format (formatOf e d)) ≡ []
+      some : (e : LengthEncoding) (d : ErrorDetection) → Builds (Format (formatOf e d)) → frames (Format (formatOf e d)) ≡ []
       some e d t =
           let put = t ∙ short-put e d p short b (omega arith) in
-          let z : _≡_ {A = ℕ} 0 1 = cc (ap (λ l. l .told) put, ap outcome q) in
+          let z : _≡_ {A = ℕ} 0 1 = cc (ap (λ l. l .result) put, ap returned q) in
           absurd (omega arith)
 
-module _ (e : Entry) (b fr : List ℕ) (r : Built) (twelve : length b ≡ 12) (told : left (outcome r) fr ≡ builtOf e b) where
+module _ (e : Entry) (b fr : List ℕ) (r : Built) (twelve : length b ≡ 12) (known : left (returned r) fr ≡ builtOf e b) where
   pub framed : (n : ℕ) → r ≡ Frame n → Framed (frameAt e) n fr
   unfolding frameAt builtOf
-  framed n q = told-frame (bytesOf (e .payload)) (short-payload (e .payload)) b fr twelve r n q (e .setting) told
+  framed n q = known-frame (bytesOf (e .payload)) (short-payload (e .payload)) b fr twelve r n q (e .setting) known
 
   pub unframed : (x : Refusal) → r ≡ Refused x → frameAt e ≡ []
   unfolding frameAt builtOf
-  unframed x q = told-none (bytesOf (e .payload)) (short-payload (e .payload)) b fr twelve r x q (e .setting) told
+  unframed x q = known-none (bytesOf (e .payload)) (short-payload (e .payload)) b fr twelve r x q (e .setting) known
 
 pub placed-none : (at : ℕ) (out : List ℕ) → placed at out ≡ placedAt at [] out
 unfolding over

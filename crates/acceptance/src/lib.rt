@@ -9,7 +9,7 @@ use framing::settings;
 use framing::settings::Setting;
 ghost use mathlib.Core.Path.{_≡_};
 ghost use Prim.Native.Nat.{suc, _<_};
-ghost use Rattle.framing.specs.Build.{outcome, left, buildOf};
+ghost use Rattle.framing.specs.Build.{returned, left, buildOf};
 ghost use Rattle.acceptance.specs.Order.{bytesOf, payloads, numberOf, firstOf, followingAt, stepOf};
 ghost use Rattle.acceptance.specs.Steps.{builtOf};
 
@@ -66,7 +66,7 @@ fn payload_behind(payload: Payload) -> Following
 
 // Writes the payload's frame at the buffer's start.
 fn build(format: FrameFormat, payload: Payload, buffer: &mut [u8]) -> Built
-    ensures { λ r. ⌜ left (outcome r) (now (buffer .exit)) ≡ buildOf format (bytesOf payload) (now (buffer .entry)) ⌝ }
+    ensures { λ r. ⌜ left (returned r) (now (buffer .exit)) ≡ buildOf format (bytesOf payload) (now (buffer .entry)) ⌝ }
 {
     match payload {
         Payload::Empty => framing::build(format, &[], buffer),
@@ -111,7 +111,7 @@ impl Entry {
 
     // Writes the entry's frame at the buffer's start; the rest of the buffer keeps its bytes.
     pub fn frame(self, buffer: &mut [u8]) -> Built
-        ensures { λ r. ⌜ left (outcome r) (now (buffer .exit)) ≡ builtOf self (now (buffer .entry)) ⌝ }
+        ensures { λ r. ⌜ left (returned r) (now (buffer .exit)) ≡ builtOf self (now (buffer .entry)) ⌝ }
     {
         let payload = self.payload;
         match settings::by_number(self.setting) {

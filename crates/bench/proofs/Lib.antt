@@ -1,1 +1,2 @@
 mod NextLaws
+mod NumberLaws

@@ -14,7 +14,7 @@ use Rattle.errors.specs.Refusals.{answered, refused, plain}
 use Rattle.errors.specs.Choice.{pick}
 use Rattle.errors.specs.declared.Refusal.{Refusal}
 use Rattle.framing.specs.Lists.{both, same}
-use Rattle.bench.specs.Texts.{outcome, over, left, putOf, Placed, placed, putAt}
+use Rattle.bench.specs.Texts.{returned, over, left, putOf, Placed, placed, putAt}
 use Rattle.bench.specs.TextLaws.{paste-step, paste-all, put-short, put-done, put-none, put-there}
 use Rattle.bench.specs.declared.Put.{Put}
 use Rattle.bench.specs.declared.Put.the-variants.{Bytes, Refused}
@@ -165,24 +165,24 @@ module _ (b out : List ℕ) (at : ℕ) (some : length b ≡ 0 → ⊥) where
       ap₂ placed (ap (λ k. at + k) (sym length-some)) (e ∙ ap (λ t. over at t out) (sym (hex-some b some))) ∙ put-there (hexOf b) out at (omega (arith, length-some))
 
 -- the answers of `read`, by what it tested
-module _ (w b : List ℕ) (r : Bool) (told : r ≡ isHex w) where
+module _ (w b : List ℕ) (r : Bool) (known : r ≡ isHex w) where
   pub read-bad : r ≡ false → left (refused (plain 4)) b ≡ readOf w b
   unfolding readOf pick
-  read-bad t = rw (sym told ∙ t)
+  read-bad t = rw (sym known ∙ t)
 
   pub read-short : r ≡ true → length b < length w / 2 → left (refused (plain 2)) b ≡ readOf w b
   unfolding readOf pick
-  read-short t h = rw (sym told ∙ t) (put-short (pairsOf w) b (length w / 2) (sym (length-pairs w)) h)
+  read-short t h = rw (sym known ∙ t) (put-short (pairsOf w) b (length w / 2) (sym (length-pairs w)) h)
 
   pub read-done : (o : List ℕ) → r ≡ true → length w / 2 ≤ length b → o ≡ over 0 (pairsOf w) b → left (answered (length w / 2)) o ≡ readOf w b
   unfolding readOf pick
   read-done o t h e =
       let n = length-pairs w in
       let f : length w / 2 ≡ 0 + length (pairsOf w) = omega arith in
-      rw (sym told ∙ t) (put-done (pairsOf w) b (length w / 2) (sym n) (length w / 2) o h (ap₂ placed f e))
+      rw (sym known ∙ t) (put-done (pairsOf w) b (length w / 2) (sym n) (length w / 2) o h (ap₂ placed f e))
 
   pub may-read : r ≡ true → isHex w ≡ true
-  may-read t = sym told ∙ t
+  may-read t = sym known ∙ t
 
 pub hex-short : (b : List ℕ) → length (hexOf b) ≤ 2 * length b + 1
 unfolding hexOf
@@ -190,39 +190,39 @@ hex-short [] = omega arith
 hex-short (x ∷ b) = omega (arith, length-digits (x ∷ b))
 
 -- a word that was read into a buffer with room for its bytes
-module _ (w b o : List ℕ) (r : Put) (room : length w / 2 ≤ length b) (told : left (outcome r) o ≡ readOf w b) where
-  read-by : (t : Bool) → isHex w ≡ t → left (outcome r) o ≡ pick t (left (answered (length (pairsOf w))) (over 0 (pairsOf w) b)) (left (refused (plain 4)) b)
+module _ (w b o : List ℕ) (r : Put) (room : length w / 2 ≤ length b) (known : left (returned r) o ≡ readOf w b) where
+  read-by : (t : Bool) → isHex w ≡ t → left (returned r) o ≡ pick t (left (answered (length (pairsOf w))) (over 0 (pairsOf w) b)) (left (refused (plain 4)) b)
   unfolding readOf putOf pick
-  read-by true h = told ∙ rw (h, le-ltb (length b) (length (pairsOf w)) (omega (arith, length-pairs w)))
-  read-by false h = told ∙ rw h
+  read-by true h = known ∙ rw (h, le-ltb (length b) (length (pairsOf w)) (omega (arith, length-pairs w)))
+  read-by false h = known ∙ rw h
 
   module _ (n : ℕ) (q : r ≡ Bytes n) where
     pub was-read : isHex w ≡ true
-    unfolding outcome pick
+    unfolding returned pick
     was-read = go (isHex w) refl
       where
         go : (t : Bool) → isHex w ≡ t → t ≡ true
         go true h = refl
         go false h =
-            let z : _≡_ {A = ℕ} 0 1 = cc (ap (λ l. l .told) (read-by false h), ap outcome q) in
+            let z : _≡_ {A = ℕ} 0 1 = cc (ap (λ l. l .result) (read-by false h), ap returned q) in
             absurd (omega arith)
 
     pub read-count : n ≡ length (pairsOf w)
-    unfolding outcome pick
-    read-count = cc (ap (λ l. l .told) (read-by true was-read), ap outcome q)
+    unfolding returned pick
+    read-count = cc (ap (λ l. l .result) (read-by true was-read), ap returned q)
 
     pub read-into : o ≡ over 0 (pairsOf w) b
     unfolding pick
     read-into = ap (λ l. l .buffer) (read-by true was-read)
 
   pub not-read : (e : Refusal) → r ≡ Refused e → isHex w ≡ false
-  unfolding outcome pick
+  unfolding returned pick
   not-read e q = go (isHex w) refl
     where
       go : (t : Bool) → isHex w ≡ t → t ≡ false
       go false h = refl
       go true h =
-          let z : _≡_ {A = ℕ} 0 1 = cc (ap (λ l. l .told) (read-by true h), ap outcome q) in
+          let z : _≡_ {A = ℕ} 0 1 = cc (ap (λ l. l .result) (read-by true h), ap returned q) in
           absurd (omega arith)
 
   pub not-put : (e : Refusal) → r ≡ Refused e → o ≡ b

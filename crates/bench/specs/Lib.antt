@@ -1,5 +1,6 @@
 pub mod Texts
 pub mod Hex
+pub mod Numbers
 pub mod Words
 pub mod Lines
 pub mod TextLaws

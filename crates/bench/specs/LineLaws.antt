@@ -1,4 +1,4 @@
--- Laws of a line that is put together from parts: its first line feed, its buffer, what is told of it and what is held.
+-- Laws of a line that is put together from parts: its first line feed, its buffer, the line that is given and what is unread.
 use mathlib.Core.Path.{_≡_, refl, sym, ap, ap₂, _∙_}
 use mathlib.Core.Bool.{Bool, true, false}
 use mathlib.Core.List.{List, [], _∷_, _++_, append-assoc, append-nil}
@@ -13,11 +13,11 @@ use lib.Seq.{slice, take-nil, take-all, take-length, length-take-le, take-append
 use Rattle.errors.specs.Choice.{pick}
 use Rattle.bytes.specs.Bytes.{indexOf, indexAfter}
 use Rattle.bytes.specs.Bytes as bytes
-use Rattle.bench.specs.Lines.{feed, beforeFeed, NoFeed, begin, Counted, Begun, toldOf, endOf, heldOf, heldIn, nothing, Gave, lastOf, lengthOf}
+use Rattle.bench.specs.Lines.{feed, beforeFeed, NoFeed, begin, Counted, Begun, lineOf, endOf, unreadOf, unreadIn, nothing, NextLine, lastOf}
 use Rattle.bench.specs.declared.lines.Given.{Given}
-use Rattle.bench.specs.declared.lines.Held.{Held}
+use Rattle.bench.specs.declared.lines.Unread.{Unread}
 use Rattle.bench.specs.declared.lines.Line.{Line}
-use Rattle.bench.specs.declared.lines.Line.the-variants.{Text, OverLong, End}
+use Rattle.bench.specs.declared.lines.Line.the-variants.{End}
 use Rattle.bench.specs.Texts.{over, placed, placedAt, putAt}
 use Rattle.bench.specs.TextLaws.{over-over, put-there}
 
@@ -139,13 +139,13 @@ module _ (t l p m : List ℕ) (n : ℕ) (b : Begun t l n m) where
         put = ap (λ x. x .buffer) there ∙ put-part p h (omega arith);
       }
 
--- what is told of a line
+-- the line that is given
 module _ (t l m : List ℕ) (n : ℕ) (b : Begun t l n m) where
-  pub told-begun : toldOf n m ≡ toldOf (length t) l
-  unfolding toldOf pick
-  told-begun = go (b .count)
+  pub line-begun : lineOf n m ≡ lineOf (length t) l
+  unfolding lineOf pick
+  line-begun = go (b .count)
     where
-      go : Counted n (length t) (length l) → toldOf n m ≡ toldOf (length t) l
+      go : Counted n (length t) (length l) → lineOf n m ≡ lineOf (length t) l
       go (inl e) = rw (same-room t l [] m n b, e .0)
       go (inr e) = rw (same-room t l [] m n b, lt-ltb (length l) n (omega arith), lt-ltb (length l) (length t) (e .1))
 
@@ -154,47 +154,23 @@ module _ (t l m : List ℕ) (n : ℕ) (b : Begun t l n m) where
   end-begun = go (b .count)
     where
       go : Counted n (length t) (length l) → endOf n m ≡ endOf (length t) l
-      go (inl e) = rw (told-begun, e .0)
-      go (inr e) = rw (told-begun, ne-eqb n 0 (λ z. omega arith), ne-eqb (length t) 0 (λ z. omega arith))
-
-pub told-fits : (t : Line) (n : ℕ) (l : List ℕ) → t ≡ toldOf n l → lengthOf t ≤ length l
-unfolding toldOf pick
-told-fits t n l e = rw e (go (ltb (length l) n) refl)
-  where
-    go : (x : Bool) → ltb (length l) n ≡ x → lengthOf (pick x OverLong (Text n)) ≤ length l
-    go true h = omega arith
-    go false h = ltb-false (length l) n h
-
-end-fits : (t : Line) (n : ℕ) (l : List ℕ) → t ≡ endOf n l → lengthOf t ≤ length l
-unfolding endOf pick
-end-fits t n l e = rw e (go (eqb n 0))
-  where
-    go : (x : Bool) → lengthOf (pick x End (toldOf n l)) ≤ length l
-    go true = omega arith
-    go false = told-fits (toldOf n l) n l refl
-
-pub gave-fits : (h l : List ℕ) (t : Line) (m after : List ℕ) → Gave h l t m after → lengthOf t ≤ length m
-unfolding pick
-gave-fits h l t m after g = rw (g .put, length-begin (g .text) l) (go (g .fed) (g .told))
-  where
-    go : (x : Bool) → t ≡ pick x (toldOf (length (g .text)) l) (endOf (length (g .text)) l) → lengthOf t ≤ length l
-    go true e = told-fits t (length (g .text)) l e
-    go false e = end-fits t (length (g .text)) l e
+      go (inl e) = rw (line-begun, e .0)
+      go (inr e) = rw (line-begun, ne-eqb n 0 (λ z. omega arith), ne-eqb (length t) 0 (λ z. omega arith))
 
 -- the answers of `last`
-pub last-none : (l : List ℕ) (n : ℕ) (h : Held) → n ≡ 0 → h ≡ nothing → _≡_ {A = Given} (record { line = End; held = h }) (lastOf n l)
+pub last-none : (l : List ℕ) (n : ℕ) (h : Unread) → n ≡ 0 → h ≡ nothing → _≡_ {A = Given} (record { line = End; unread = h }) (lastOf n l)
 unfolding endOf pick
 last-none l n h e f = rw (eq-eqb n 0 e, f)
 
-pub last-some : (l : List ℕ) (n : ℕ) (h : Held) (t : Line) → (n ≡ 0 → ⊥) → h ≡ nothing → t ≡ toldOf n l → _≡_ {A = Given} (record { line = t; held = h }) (lastOf n l)
+pub last-some : (l : List ℕ) (n : ℕ) (h : Unread) (t : Line) → (n ≡ 0 → ⊥) → h ≡ nothing → t ≡ lineOf n l → _≡_ {A = Given} (record { line = t; unread = h }) (lastOf n l)
 unfolding endOf pick
 last-some l n h t e f g = rw (ne-eqb n 0 e, f, g)
 
 -- a line feed ended the line: the bytes were those of x, which has none, and of the part
 pub ended : (h came x part l m after : List ℕ) (k n : ℕ) (t : Line) → h ++ came ≡ x ++ part → NoFeed x → k ≡ beforeFeed part → k < length part
-    → Begun (x ++ take k part) l n m → t ≡ toldOf n m → after ≡ drop (suc k) part → Gave h l t m after
+    → Begun (x ++ take k part) l n m → t ≡ lineOf n m → after ≡ drop (suc k) part → NextLine h l t m after
 unfolding pick
-ended h came x part l m after k n t e none is less b told rest =
+ended h came x part l m after k n t e none is less b known rest =
     let f : part ≡ take k part ++ (feed ∷ after) = rw (rest, is) (split-feed part (omega arith)) in
     record {
       came = came;
@@ -203,14 +179,14 @@ ended h came x part l m after k n t e none is less b told rest =
       all = e ∙ ap (λ y. x ++ y) f ∙ sym (append-assoc x (take k part) (feed ∷ after));
       first = none-both x (take k part) none (rw is (none-before part));
       last = λ z. absurd (let y : _≡_ {A = ℕ} 0 1 = cc in omega arith);
-      told = told ∙ told-begun (x ++ take k part) l m n b;
+      line = known ∙ line-begun (x ++ take k part) l m n b;
       put = b .put;
     }
 
 -- the input ended
-pub input-ended : (h came l m after : List ℕ) (n : ℕ) (t : Line) → NoFeed (h ++ came) → Begun (h ++ came) l n m → t ≡ endOf n m → after ≡ [] → Gave h l t m after
+pub input-ended : (h came l m after : List ℕ) (n : ℕ) (t : Line) → NoFeed (h ++ came) → Begun (h ++ came) l n m → t ≡ endOf n m → after ≡ [] → NextLine h l t m after
 unfolding pick
-input-ended h came l m after n t none b told rest =
+input-ended h came l m after n t none b known rest =
     record {
       came = came;
       text = h ++ came;
@@ -218,42 +194,42 @@ input-ended h came l m after n t none b told rest =
       all = rw rest (sym (append-nil (h ++ came)));
       first = none;
       last = λ z. rest;
-      told = told ∙ end-begun (h ++ came) l m n b;
+      line = known ∙ end-begun (h ++ came) l m n b;
       put = b .put;
     }
 
--- what is held lies in the buffer
-module _ (h r : Held) (n : ℕ) (told : r ≡ heldOf h n) where
-  held-by : (x y : Bool) → ltb n (h .to) ≡ x → ltb (h .to) (h .from) ≡ y → r ≡ pick x nothing (pick y nothing h)
-  unfolding heldOf
-  held-by x y p q = told ∙ rw (p, q)
+-- the unread bytes lie in the buffer
+module _ (h r : Unread) (n : ℕ) (known : r ≡ unreadOf h n) where
+  unread-by : (x y : Bool) → ltb n (h .to) ≡ x → ltb (h .to) (h .from) ≡ y → r ≡ pick x nothing (pick y nothing h)
+  unfolding unreadOf
+  unread-by x y p q = known ∙ rw (p, q)
 
-  pub held-order : r .from ≤ r .to
+  pub unread-order : r .from ≤ r .to
   unfolding pick
-  held-order = go (ltb n (h .to)) (ltb (h .to) (h .from)) refl refl
+  unread-order = go (ltb n (h .to)) (ltb (h .to) (h .from)) refl refl
     where
       go : (x y : Bool) → ltb n (h .to) ≡ x → ltb (h .to) (h .from) ≡ y → r .from ≤ r .to
-      go true y p q = rw (held-by true y p q) (omega arith)
-      go false true p q = rw (held-by false true p q) (omega arith)
-      go false false p q = rw (held-by false false p q) (ltb-false (h .to) (h .from) q)
+      go true y p q = rw (unread-by true y p q) (omega arith)
+      go false true p q = rw (unread-by false true p q) (omega arith)
+      go false false p q = rw (unread-by false false p q) (ltb-false (h .to) (h .from) q)
 
-  pub held-inside : r .to ≤ n
+  pub unread-inside : r .to ≤ n
   unfolding pick
-  held-inside = go (ltb n (h .to)) (ltb (h .to) (h .from)) refl refl
+  unread-inside = go (ltb n (h .to)) (ltb (h .to) (h .from)) refl refl
     where
       go : (x y : Bool) → ltb n (h .to) ≡ x → ltb (h .to) (h .from) ≡ y → r .to ≤ n
-      go true y p q = rw (held-by true y p q) (omega arith)
-      go false true p q = rw (held-by false true p q) (omega arith)
-      go false false p q = rw (held-by false false p q) (ltb-false n (h .to) p)
+      go true y p q = rw (unread-by true y p q) (omega arith)
+      go false true p q = rw (unread-by false true p q) (omega arith)
+      go false false p q = rw (unread-by false false p q) (ltb-false n (h .to) p)
 
-pub held-nothing : (b : List ℕ) → heldIn nothing b ≡ []
-unfolding heldIn heldOf pick
-held-nothing b = rw (le-ltb (length b) 0 (omega arith))
+pub unread-nothing : (b : List ℕ) → unreadIn nothing b ≡ []
+unfolding unreadIn unreadOf pick
+unread-nothing b = rw (le-ltb (length b) 0 (omega arith))
 
 -- the bytes behind k of those from one place to another, and the byte behind them
-pub held-behind : (b : List ℕ) (f from to k : ℕ) → f ≡ from + suc k → f ≤ to → to ≤ length b → heldIn (record { from = f; to = to }) b ≡ drop (suc k) (slice from to b)
-unfolding heldIn heldOf pick
-held-behind b f from to k e h i = rw (le-ltb (length b) to i, le-ltb to f h, drop-drop (suc k) from (take to b), e)
+pub unread-behind : (b : List ℕ) (f from to k : ℕ) → f ≡ from + suc k → f ≤ to → to ≤ length b → unreadIn (record { from = f; to = to }) b ≡ drop (suc k) (slice from to b)
+unfolding unreadIn unreadOf pick
+unread-behind b f from to k e h i = rw (le-ltb (length b) to i, le-ltb to f h, drop-drop (suc k) from (take to b), e)
 
 -- a part of a slice
 pub part-slice : (b : List ℕ) (from to : ℕ) → take (to - from) (drop from b) ≡ slice from to b
@@ -261,11 +237,3 @@ part-slice b zero to = let e : to - 0 ≡ to = omega arith in rw e
 part-slice b (suc f) zero = let e : 0 - suc f ≡ 0 = omega arith in rw e
 part-slice [] (suc f) (suc t) = take-nil (suc t - suc f)
 part-slice (x ∷ b) (suc f) (suc t) = let e : suc t - suc f ≡ t - f = omega arith in rw e (part-slice b f t)
-
--- the line that was told stands in its buffer
-module _ (t : Line) (n : ℕ) (l : List ℕ) (is : t ≡ Text n) (inside : lengthOf t ≤ length l) where
-  pub text-fits : n ≤ length l
-  text-fits = omega (arith, ap lengthOf is)
-
-  pub text-part : n ≡ length (take n l)
-  text-part = sym (length-take-le n l text-fits)

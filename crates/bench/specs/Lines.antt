@@ -10,7 +10,7 @@ use lib.Seq.{slice}
 use Rattle.errors.specs.Choice.{pick}
 use Rattle.bytes.specs.Bytes.{indexOf}
 use Rattle.bench.specs.declared.lines.Given.{Given}
-use Rattle.bench.specs.declared.lines.Held.{Held}
+use Rattle.bench.specs.declared.lines.Unread.{Unread}
 use Rattle.bench.specs.declared.lines.Line.{Line}
 use Rattle.bench.specs.declared.lines.Line.the-variants.{Text, OverLong, End}
 
@@ -37,27 +37,27 @@ pub record Begun (text l : List ℕ) (n : ℕ) (m : List ℕ) : Type 0 where
   pub count : Counted n (length text) (length l)
   pub put : m ≡ begin text l
 
--- what is told of a line of n bytes
-unfoldable pub toldOf : ℕ → List ℕ → Line
-toldOf n l = pick (ltb (length l) n) OverLong (Text n)
+-- a line of n bytes, of which the buffer l has the first ones
+unfoldable pub lineOf : ℕ → List ℕ → Line
+lineOf n l = pick (ltb (length l) n) OverLong (Text n)
 
--- what is told of the last n bytes of the input
+-- the last n bytes of the input
 unfoldable pub endOf : ℕ → List ℕ → Line
-endOf n l = pick (eqb n 0) End (toldOf n l)
+endOf n l = pick (eqb n 0) End (lineOf n l)
 
-abbrev pub nothing : Held
+abbrev pub nothing : Unread
 nothing = record { from = 0; to = 0 }
 
 abbrev pub lastOf : ℕ → List ℕ → Given
-lastOf n l = record { line = endOf n l; held = nothing }
+lastOf n l = record { line = endOf n l; unread = nothing }
 
--- what is held of a buffer of n bytes: nothing where the places are none of the buffer's
-unfoldable pub heldOf : Held → ℕ → Held
-heldOf h n = pick (ltb n (h .to)) nothing (pick (ltb (h .to) (h .from)) nothing h)
+-- what is unread of a buffer of n bytes: nothing where the places are none of the buffer's
+unfoldable pub unreadOf : Unread → ℕ → Unread
+unreadOf h n = pick (ltb n (h .to)) nothing (pick (ltb (h .to) (h .from)) nothing h)
 
--- the bytes that are held of the buffer b
-unfoldable pub heldIn : Held → List ℕ → List ℕ
-heldIn h b = slice (heldOf h (length b) .from) (heldOf h (length b) .to) b
+-- the unread bytes of the buffer b
+unfoldable pub unreadIn : Unread → List ℕ → List ℕ
+unreadIn h b = slice (unreadOf h (length b) .from) (unreadOf h (length b) .to) b
 
 -- what is given, the buffer and the line's buffer after it
 pub record Next : Type 0 where
@@ -68,27 +68,22 @@ pub record Next : Type 0 where
 abbrev pub nextOf : Given → List ℕ → List ℕ → Next
 nextOf g b l = record { given = g; buffer = b; line = l }
 
--- the line that is held in the buffer b, up to its line feed
-unfoldable pub heldLine : Held → List ℕ → List ℕ → Next
-heldLine h b l =
-    let n : ℕ = beforeFeed (heldIn h b) in
-    let behind : Held = record { from = heldOf h (length b) .from + n + 1; to = heldOf h (length b) .to } in
-    nextOf (record { line = toldOf n l; held = behind }) b (begin (take n (heldIn h b)) l)
+-- the line of the unread bytes of b, up to their line feed
+unfoldable pub unreadLine : Unread → List ℕ → List ℕ → Next
+unreadLine h b l =
+    let n : ℕ = beforeFeed (unreadIn h b) in
+    let behind : Unread = record { from = unreadOf h (length b) .from + n + 1; to = unreadOf h (length b) .to } in
+    nextOf (record { line = lineOf n l; unread = behind }) b (begin (take n (unreadIn h b)) l)
 
--- Of the bytes held and those that came from the input none is lost, and none made up: they are the text of the line, the line
--- feed where one ended it, and what is held afterwards. t is told of the line, and its buffer l became m.
-pub record Gave (held l : List ℕ) (t : Line) (m after : List ℕ) : Type 0 where
+-- Of the unread bytes and those that came from the input none is lost, and none made up: they are the text of the line, the line
+-- feed where one ended it, and what is unread afterwards. t is the line that is given, and its buffer l became m.
+pub record NextLine (unread l : List ℕ) (t : Line) (m after : List ℕ) : Type 0 where
   pub came : List ℕ
   pub text : List ℕ
   pub fed : Bool
-  pub all : held ++ came ≡ text ++ (pick fed (feed ∷ []) [] ++ after)
+  pub all : unread ++ came ≡ text ++ (pick fed (feed ∷ []) [] ++ after)
   -- the first line feed ends the line; without one, all bytes are the line's, and no byte is no line
   pub first : NoFeed text
   pub last : fed ≡ false → after ≡ []
-  pub told : t ≡ pick fed (toldOf (length text) l) (endOf (length text) l)
+  pub line : t ≡ pick fed (lineOf (length text) l) (endOf (length text) l)
   pub put : m ≡ begin text l
-
-abbrev pub lengthOf : Line → ℕ
-lengthOf (Text n) = n
-lengthOf OverLong = 0
-lengthOf End = 0

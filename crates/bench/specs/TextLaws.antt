@@ -52,7 +52,7 @@ over-over b t u at h =
     ∙ ap (λ x. take at b ++ x) (sym (append-assoc t u (drop (at + length t + length u) b)) ∙ ap (λ k. t ++ u ++ drop k b) (add-assoc at (length t) (length u) ∙ ap (λ k. at + k) (sym (length-append t u)))))
 
 -- the answers of a function that puts a text of n bytes at the buffer's start
-module _ (t b : List ℕ) (n : ℕ) (told : n ≡ length t) where
+module _ (t b : List ℕ) (n : ℕ) (known : n ≡ length t) where
   pub put-short : length b < n → left (refused (plain 2)) b ≡ putOf t b
   unfolding putOf pick
   put-short h = rw (lt-ltb (length b) (length t) (omega arith))
@@ -84,9 +84,9 @@ pub put-same : (t u b : List ℕ) (at : ℕ) (x : Placed) → x ≡ putAt at t b
 put-same t u b at x e f = rw f at e
 
 -- the place behind a text
-module _ (t b o : List ℕ) (at r : ℕ) (told : placed r o ≡ putAt at t b) (room : at + length t ≤ length b) where
+module _ (t b o : List ℕ) (at r : ℕ) (known : placed r o ≡ putAt at t b) (room : at + length t ≤ length b) where
   pub place-behind : r ≡ at + length t
-  place-behind = ap (λ p. p .next) (told ∙ sym (put-there t b at room))
+  place-behind = ap (λ p. p .next) (known ∙ sym (put-there t b at room))
 
 -- a text that was put, behind any other
 pub appended : (t o o′ : List ℕ) (at r : ℕ) → placed r o′ ≡ putAt at t o → Appends at t o r o′

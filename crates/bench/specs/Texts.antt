@@ -4,15 +4,15 @@ use mathlib.Core.List.{List, [], _∷_, _++_}
 use Prim.Native.Nat.{ℕ, zero, suc, _+_, _%_, _/_, _≤_}
 use lib.Dec.{ltb}
 use lib.ListN.{length, take, drop}
-use Rattle.errors.specs.Refusals.{Outcome, answered, refused, plain, numbered}
+use Rattle.errors.specs.Refusals.{Returned, answered, refused, plain, numbered}
 use Rattle.errors.specs.Choice.{pick}
 use Rattle.bench.specs.declared.Put.{Put}
 use Rattle.bench.specs.declared.Put.the-variants.{Bytes, Refused}
 
 -- document 01's number, or how many bytes were put
-unfoldable pub outcome : Put → Outcome
-outcome (Bytes n) = answered n
-outcome (Refused e) = refused (numbered e)
+unfoldable pub returned : Put → Returned
+returned (Bytes n) = answered n
+returned (Refused e) = refused (numbered e)
 
 -- the buffer b with the text t from place `at` on
 unfoldable pub over : ℕ → List ℕ → List ℕ → List ℕ
@@ -20,11 +20,11 @@ over at t b = take at b ++ (t ++ drop (at + length t) b)
 
 -- an outcome and the buffer after it
 pub record Left : Type 0 where
-  pub told : Outcome
+  pub result : Returned
   pub buffer : List ℕ
 
-abbrev pub left : Outcome → List ℕ → Left
-left o b = record { told = o; buffer = b }
+abbrev pub left : Returned → List ℕ → Left
+left o b = record { result = o; buffer = b }
 
 -- the text at the buffer's start, or refusal 2 and nothing written
 unfoldable pub putOf : List ℕ → List ℕ → Left

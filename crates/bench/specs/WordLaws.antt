@@ -8,7 +8,8 @@ use native.Mathlib.Omega.{arith}
 use borrow.Author.Tests.{eq-eqb, ne-eqb}
 use lib.Dec.{eqb}
 use lib.ListN.{length, getD, take, drop, drop-of-length-le, length-drop}
-use lib.Seq.{drop-cons, take-suc, getD-drop}
+use lib.Seq.{drop-cons, take-suc, getD-drop, take-length, drop-drop}
+use Rattle.bytes.specs.Bytes.{indexOf, indexAfter, slice}
 use Rattle.errors.specs.Choice.{pick}
 use Rattle.bench.specs.Words.{ahead, wordsOf}
 
@@ -120,3 +121,29 @@ word-short (b ∷ l) k = go (word-short l) (eqb b 32) k
     go h true (suc j) = omega (arith, h j)
     go h false zero = omega (arith, h 0, ap length (first-ahead b (wordsOf l)))
     go h false (suc j) = omega (arith, h (suc j), ap length (later-ahead b j (wordsOf l)))
+
+-- the words behind the first, where a space and they are left
+unfoldable pub behind : List ℕ → List (List ℕ)
+behind [] = []
+behind (b ∷ l) = wordsOf l
+
+pub words-behind : (l : List ℕ) → wordsOf l ≡ take (indexOf 32 l) l ∷ behind (drop (indexOf 32 l) l)
+unfolding wordsOf pick behind indexOf indexAfter ahead
+words-behind [] = refl
+words-behind (b ∷ l) = go (words-behind l) (eqb b 32)
+  where
+    go : wordsOf l ≡ take (indexOf 32 l) l ∷ behind (drop (indexOf 32 l) l) → (t : Bool)
+        → pick t ([] ∷ wordsOf l) (ahead b (wordsOf l)) ≡ take (indexAfter t (indexOf 32 l)) (b ∷ l) ∷ behind (drop (indexAfter t (indexOf 32 l)) (b ∷ l))
+    go h true = refl
+    go h false = ap (ahead b) h
+
+-- the word from a place to the next space, and the words behind it
+pub next-word : (l : List ℕ) (from end : ℕ) → from ≤ length l → end ≡ from + indexOf 32 (slice from (length l) l)
+    → wordsOf (drop from l) ≡ take (end - from) (drop from l) ∷ behind (drop end l)
+unfolding slice
+next-word l from end h e =
+    let all : take (length l) l ≡ l = take-length l in
+    let k : ℕ = indexOf 32 (drop from l) in
+    let is : end ≡ from + k = e ∙ ap (λ x. from + indexOf 32 (drop from x)) all in
+    let size : end - from ≡ k = omega arith in
+    words-behind (drop from l) ∙ rw (size, is, drop-drop k from l)

@@ -7,7 +7,7 @@ ghost use mathlib.Core.Path.{_≡_};
 ghost use mathlib.Core.Bool.{Bool};
 ghost use Prim.Native.Nat.{_+_, _*_, _/_, _≤_, _<_};
 ghost use lib.ListN.{length};
-ghost use Rattle.bench.specs.Texts.{outcome, left, over, placed, putAt};
+ghost use Rattle.bench.specs.Texts.{returned, left, over, placed, putAt};
 ghost use Rattle.bench.specs.Hex.{valueOf, allDigits as allDigitsOf, isHex, pairsOf, readOf, digitOf, digitsOf, hexOf};
 
 // The value of a hex digit; 16 where the byte is none.
@@ -65,7 +65,7 @@ fn put_bytes(word: &[u8], out: &mut [u8])
 
 // The bytes that the word stands for. A word that is no HEX is refused with 4, a short buffer with 2.
 pub fn read(word: &[u8], out: &mut [u8]) -> Put
-    ensures { λ r. ⌜ left (outcome r) (now (out .exit)) ≡ readOf (now (word .entry)) (now (out .entry)) ⌝ }
+    ensures { λ r. ⌜ left (returned r) (now (out .exit)) ≡ readOf (now (word .entry)) (now (out .entry)) ⌝ }
 {
     if is_hex(word) {
         let n = word.len() / 2;

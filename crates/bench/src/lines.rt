@@ -8,32 +8,33 @@ ghost use mathlib.Core.List.{List, _++_};
 ghost use Prim.Native.Nat.{ℕ, _≤_, _<_};
 ghost use lib.ListN.{length};
 ghost use Rattle.io.specs.Counts.{Counts};
-ghost use Rattle.bench.specs.Lines.{Begun, NoFeed, beforeFeed, Gave, nextOf, heldLine, heldIn, toldOf, heldOf, lastOf, nothing as nothingHeld};
+ghost use Rattle.bench.specs.Lines.{Begun, NoFeed, beforeFeed, NextLine, nextOf, unreadLine, unreadIn, lineOf, unreadOf, lastOf, nothing as nothingUnread};
 
 // What of the lent buffer was read and is no part of a line yet.
-pub struct Held {
+pub struct Unread {
     pub from: usize,
     pub to: usize,
 }
 
-// A line's length, told where the line lies in the lent buffer; or that the buffer is too short for it; or that there is none.
+// The length of a line that stands at the start of the lent buffer; or that the buffer is too short for it; or that there is none.
 pub enum Line {
     Text(usize),
     OverLong,
     End,
 }
 
+// A line, and what is still unread.
 pub struct Given {
     pub line: Line,
-    pub held: Held,
+    pub unread: Unread,
 }
 
-impl Held {
+impl Unread {
     // Nothing was read yet.
-    pub fn nothing() -> Held
-        ensures { λ r. ⌜ r ≡ nothingHeld ⌝ }
+    pub fn nothing() -> Unread
+        ensures { λ r. ⌜ r ≡ nothingUnread ⌝ }
     {
-        Held { from: 0, to: 0 }
+        Unread { from: 0, to: 0 }
     }
 }
 
@@ -60,8 +61,8 @@ fn before_feed(part: &[u8]) -> usize
     bytes::scan::find(part, 0, part.len(), b'\n')
 }
 
-fn told(len: usize, line: &[u8]) -> Line
-    ensures { λ r. ⌜ r ≡ toldOf len (now (line .entry)) ⌝ }
+fn line_of(len: usize, line: &[u8]) -> Line
+    ensures { λ r. ⌜ r ≡ lineOf len (now (line .entry)) ⌝ }
 {
     if line.len() < len {
         Line::OverLong
@@ -78,17 +79,17 @@ fn fill(buffer: &mut [u8]) -> usize
     io::count(got, buffer)
 }
 
-// What is held of a buffer of n bytes: nothing where the places are none of the buffer's.
-fn within(held: Held, n: usize) -> Held
-    ensures { λ r. ⌜ r ≡ heldOf held n ⌝ }
+// What is unread of a buffer of n bytes: nothing where the places are none of the buffer's.
+fn within(unread: Unread, n: usize) -> Unread
+    ensures { λ r. ⌜ r ≡ unreadOf unread n ⌝ }
 {
-    if n < held.to {
-        return Held::nothing();
+    if n < unread.to {
+        return Unread::nothing();
     }
-    if held.to < held.from {
-        return Held::nothing();
+    if unread.to < unread.from {
+        return Unread::nothing();
     }
-    held
+    unread
 }
 
 // The last line, if it has any byte.
@@ -98,20 +99,20 @@ fn last(len: usize, line: &[u8]) -> Given
     if len == 0 {
         return Given {
             line: Line::End,
-            held: Held::nothing(),
+            unread: Unread::nothing(),
         };
     }
     Given {
-        line: told(len, line),
-        held: Held::nothing(),
+        line: line_of(len, line),
+        unread: Unread::nothing(),
     }
 }
 
 // Reads on until a line feed or the end of the input, behind the `start` bytes of a line.
 // A loop has to end, and nothing says that the input does: it counts its turns down from a number that no run uses up. Were it
-// used up, the line would be told as far as it was read.
+// used up, the line would be given as far as it was read.
 fn read_on(start: usize, buffer: &mut [u8], line: &mut [u8]) -> Given
-    ensures { λ r. ⌜ ((t l : List ℕ) → NoFeed t → Begun t l start (now (line .entry)) → Gave t l (r .line) (now (line .exit)) (heldIn (r .held) (now (buffer .exit)))) ⌝ }
+    ensures { λ r. ⌜ ((t l : List ℕ) → NoFeed t → Begun t l start (now (line .entry)) → NextLine t l (r .line) (now (line .exit)) (unreadIn (r .unread) (now (buffer .exit)))) ⌝ }
 {
     let mut len = start;
     let mut turns = u64::MAX;
@@ -125,8 +126,8 @@ fn read_on(start: usize, buffer: &mut [u8], line: &mut [u8]) -> Given
         len = add(&part[..stop], line, len);
         if stop < to {
             return Given {
-                line: told(len, line),
-                held: Held { from: stop + 1, to },
+                line: line_of(len, line),
+                unread: Unread { from: stop + 1, to },
             };
         }
         turns -= 1;
@@ -135,13 +136,13 @@ fn read_on(start: usize, buffer: &mut [u8], line: &mut [u8]) -> Given
 }
 
 // Puts the next line, without its line feed, at the start of `line`. The last line may lack its line feed.
-// The input is read only where no whole line is held. No contract can say what comes then: what is given is fixed by it, and the
-// bytes of `buffer` that are not held afterwards are free.
-pub fn next(held: Held, buffer: &mut [u8], line: &mut [u8]) -> Given
-    ensures { λ r. ⌜ (beforeFeed (heldIn held (now (buffer .entry))) < length (heldIn held (now (buffer .entry))) → nextOf r (now (buffer .exit)) (now (line .exit)) ≡ heldLine held (now (buffer .entry)) (now (line .entry))) ⌝ }
-    ensures { λ r. ⌜ Gave (heldIn held (now (buffer .entry))) (now (line .entry)) (r .line) (now (line .exit)) (heldIn (r .held) (now (buffer .exit))) ⌝ }
+// The input is read only where the unread bytes have no line feed. No contract can say what comes then: what is given is fixed by it, and
+// the bytes of `buffer` that are not among the unread ones afterwards are free.
+pub fn next(unread: Unread, buffer: &mut [u8], line: &mut [u8]) -> Given
+    ensures { λ r. ⌜ (beforeFeed (unreadIn unread (now (buffer .entry))) < length (unreadIn unread (now (buffer .entry))) → nextOf r (now (buffer .exit)) (now (line .exit)) ≡ unreadLine unread (now (buffer .entry)) (now (line .entry))) ⌝ }
+    ensures { λ r. ⌜ NextLine (unreadIn unread (now (buffer .entry))) (now (line .entry)) (r .line) (now (line .exit)) (unreadIn (r .unread) (now (buffer .exit))) ⌝ }
 {
-    let rest = within(held, buffer.len());
+    let rest = within(unread, buffer.len());
     let from = rest.from;
     let to = rest.to;
     let part = &buffer[from..to];
@@ -149,8 +150,8 @@ pub fn next(held: Held, buffer: &mut [u8], line: &mut [u8]) -> Given
     let len = add(&part[..stop], line, 0);
     if stop < part.len() {
         return Given {
-            line: told(len, line),
-            held: Held {
+            line: line_of(len, line),
+            unread: Unread {
                 from: from + stop + 1,
                 to,
             },

@@ -1,13 +1,13 @@
 -- An answer and its line feed fit the room for them.
-use mathlib.Core.Path.{_≡_, refl, sym}
+use mathlib.Core.Path.{_≡_, refl, sym, ap}
 use mathlib.Core.Bool.{Bool, true, false}
 use mathlib.Core.List.{List, [], _∷_, _++_}
-use Prim.Native.Nat.{ℕ, _+_, _*_, _/_, _%_, _≤_, _<_}
+use Prim.Native.Nat.{ℕ, _+_, _-_, _*_, _/_, _%_, _≤_, _<_}
 use native.Mathlib.Omega.{arith}
 use borrow.Author.Tests.{lt-ltb, le-ltb, ltb-false}
 use lib.Dec.{ltb, eqb}
 use lib.ListN.{length, take, drop, getD, length-append, length-take, length-drop}
-use Rattle.errors.specs.Refusals.{Outcome, answered, refused}
+use Rattle.errors.specs.Refusals.{Returned, answered, refused}
 use Rattle.framing.specs.Build.{limitOf}
 use Rattle.framing.specs.Frames.{frameOf, checksumOf}
 use Rattle.errors.specs.Choice.{pick}
@@ -25,7 +25,7 @@ use Rattle.crc.specs.Laws.{crc-length}
 use Rattle.targets.specs.Bitrates.{ascii, parseOf as bitrateOf}
 use Rattle.bench_codec.specs.Codec.{lineLimit, bytesRoom, answerRoom, unreadable, settingNamed, buildText, dataText, foundText, parseText, isFrame, withZeros, paddedText, checksumText, yesOrNo, appendText, sendText, bitrateText, bitrateWord, onBytes, onFormat, twoWords, onSetting, onWords, wordText, askedText, fieldsText, requestText, blockFits, blockPacket, blockText, withService, blockLine, answerOf, replyOf}
 use Rattle.bench.specs.Hex.{dash, isHex, pairsOf, hexOf}
-use Rattle.bench.specs.Texts.{over, placed, placedAt, putAt, decimalOf, Appends}
+use Rattle.bench.specs.Texts.{over, Placed, placed, placedAt, putAt, decimalOf, Appends}
 use Rattle.bench.specs.Words.{wordsOf}
 use Rattle.bench.specs.declared.lines.Line.{Line}
 use Rattle.bench.specs.declared.lines.Line.the-variants.{Text, OverLong, End}
@@ -55,7 +55,7 @@ bitrate-fits : (t : List ℕ) → length t ≤ lineLimit → Fits (bitrateText t
 unfolding bitrateText sendText
 bitrate-fits t h = go (bitrateOf t)
   where
-    go : (o : Outcome) → Fits (sendText o t)
+    go : (o : Returned) → Fits (sendText o t)
     go (answered n) = rw (length-append (ascii "ok ") (take n t)) (omega (arith, length-take n t))
     go (refused e) = omega arith
 
@@ -210,11 +210,18 @@ pub answer-words : (l b o : List ℕ) (n : ℕ) → length l ≤ lineLimit → A
 unfolding answerOf pick
 answer-words l b o n h e = rw (le-ltb lineLimit (length l) h) e
 
+-- a buffer with a text put over it is as long as the longer of both
+long-over : (t b : List ℕ) → length (over 0 t b) ≡ length t + (length b - length t)
+unfolding over
+long-over t b = simp (length-append, length-drop) (omega arith)
+
 module _ (t : Line) (l b : List ℕ) where
-  pub reply-text : (n r r′ : ℕ) (o o′ : List ℕ) → t ≡ Text n → length b ≡ answerRoom → placed r o ≡ placedAt 0 (answerOf (take n l)) b → placed r′ o′ ≡ putAt r (10 ∷ []) o
+  pub reply-text : (n r r′ : ℕ) (p o o′ : List ℕ) → t ≡ Text n → placed r′ o′ ≡ putAt r (10 ∷ []) o → placed r o ≡ placedAt 0 (answerOf p) b → length o ≡ answerRoom → p ≡ take n l
       → placed r′ o′ ≡ placedAt 0 (replyOf t l) b
   unfolding replyOf
-  reply-text n r r′ o o′ h room e f = rw h (appended (10 ∷ []) o o′ r r′ f .behind (answerOf (take n l)) b e (omega (arith, answer-fits (take n l))))
+  reply-text n r r′ p o o′ h f e room q =
+      let size : length o ≡ length (over 0 (answerOf p) b) = ap (λ (x : Placed). length (x .buffer)) e in
+      rw (h, ← q) (appended (10 ∷ []) o o′ r r′ f .behind (answerOf p) b e (omega (arith, size, long-over (answerOf p) b, answer-fits p)))
 
   pub reply-long : (r r′ : ℕ) (o o′ : List ℕ) → t ≡ OverLong → length b ≡ answerRoom → Appends 0 unreadable b r o → placed r′ o′ ≡ putAt r (10 ∷ []) o → placed r′ o′ ≡ placedAt 0 (replyOf t l) b
   unfolding replyOf
@@ -223,3 +230,15 @@ module _ (t : Line) (l b : List ℕ) where
   pub reply-end : t ≡ End → placed 0 b ≡ placedAt 0 (replyOf t l) b
   unfolding replyOf over
   reply-end h = rw h
+
+-- the buffer keeps its length
+pub reply-room : (t : Line) (l b o : List ℕ) (r : ℕ) → placed r o ≡ placedAt 0 (replyOf t l) b → length b ≡ answerRoom → length o ≡ answerRoom
+unfolding replyOf
+reply-room t l b o r e room =
+    let size : length o ≡ length (over 0 (replyOf t l) b) = ap (λ (x : Placed). length (x .buffer)) e in
+    omega (arith, size, long-over (replyOf t l) b, short t)
+  where
+    short : (t : Line) → length (replyOf t l) ≤ 262193
+    short (Text n) = omega (arith, length-append (answerOf (take n l)) (10 ∷ []), answer-fits (take n l))
+    short OverLong = omega arith
+    short End = omega arith

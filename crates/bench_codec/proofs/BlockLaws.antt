@@ -9,9 +9,9 @@ use lib.Dec.{eqb}
 use lib.ListN.{length, take, drop, getD, replicate, length-append}
 use lib.Seq.{length-take-le, take-all}
 use Rattle.errors.specs.Choice.{pick}
-use Rattle.errors.specs.Refusals.{Outcome, answered, refused, plain}
+use Rattle.errors.specs.Refusals.{Returned, answered, refused, plain}
 use Rattle.errors.specs.declared.Refusal.{Refusal}
-use Rattle.framing.specs.Build.{Left, left, outcome, putFrame}
+use Rattle.framing.specs.Build.{Left, left, returned, putFrame}
 use Rattle.framing.specs.declared.Built.{Built}
 use Rattle.framing.specs.declared.Built.the-variants.{Frame, Refused}
 use Rattle.felica.specs.Fields.{idmIn, bytesIn, requestOf, requestIn, numbersOf}
@@ -60,21 +60,21 @@ unfolding askedText
 asked-done name idm b o₀ o₁ o₂ o₃ a r₀ r₁ r₂ r₃ word first second third =
     both-appended _ _ _ _ _ _ _ _ (both-appended _ _ _ _ _ _ _ _ (both-appended _ _ _ _ _ _ _ _ (appended name b o₀ 0 r₀ word) first) second) third
 
-module _ (r : Request) (p out : List ℕ) (told : requestIn r p ≡ requestOf p) where
+module _ (r : Request) (p out : List ℕ) (known : requestIn r p ≡ requestOf p) where
   pub text-read : (i o : List ℕ) (a : Asked) (n : ℕ) → r ≡ request.Read a → i ≡ idmIn p → Appends 0 (askedText (ascii "read") i (a .service) (numbersOf a)) out n o → Appends 0 (requestText p) out n o
   unfolding requestText fieldsText
-  text-read i o a n q e d = rw (← told, q) (rw e at d)
+  text-read i o a n q e d = rw (← known, q) (rw e at d)
 
   pub text-none : (o : List ℕ) (n : ℕ) → r ≡ request.Nothing → placed n o ≡ putAt 0 (ascii "none") out → Appends 0 (requestText p) out n o
   unfolding requestText fieldsText
-  text-none o n q d = rw (← told, q) (appended (ascii "none") out o 0 n d)
+  text-none o n q d = rw (← known, q) (appended (ascii "none") out o 0 n d)
 
   pub text-write : (i bytes o o′ : List ℕ) (a : Asked) (n n′ : ℕ) → r ≡ request.Write a → i ≡ idmIn p → bytes ≡ bytesIn (a .count) p
       → Appends 0 (askedText (ascii "write") i (a .service) (numbersOf a)) out n o → Appends n (wordText bytes) o n′ o′ → Appends 0 (requestText p) out n′ o′
   unfolding requestText fieldsText
   text-write i bytes o o′ a n n′ q e f before word =
       let d = both-appended _ _ _ _ _ _ _ _ before word in
-      rw (← told, q) (rw (e, f) at d)
+      rw (← known, q) (rw (e, f) at d)
 
 -- ---- packets that are built
 
@@ -119,51 +119,51 @@ packet-short kind x y idm blocks bytes h = go (eqb kind 0) (eqb kind 1) (eqb kin
     go false false true f = by-flag (eqb x 0) refl f
     go false false false f = reply-short writeReplyCode x y idm [] (eqb-true (length idm) 8 f) (omega arith)
 
-abbrev outcomeNumber : Outcome → ℕ
-outcomeNumber (answered n) = 0
-outcomeNumber (refused n) = 1
+abbrev returnedNumber : Returned → ℕ
+returnedNumber (answered n) = 0
+returnedNumber (refused n) = 1
 
 module _ (kind x y : ℕ) (idm blocks bytes p₁ : List ℕ) (built : Built)
-    (told : left (outcome built) p₁ ≡ builtOf (blockFits kind idm x blocks bytes) (blockPacket kind idm x y blocks bytes) (zeros 128)) where
+    (known : left (returned built) p₁ ≡ builtOf (blockFits kind idm x blocks bytes) (blockPacket kind idm x y blocks bytes) (zeros 128)) where
   fits : Bool
   fits = blockFits kind idm x blocks bytes
 
   packet : List ℕ
   packet = blockPacket kind idm x y blocks bytes
 
-  by-fit : (t : Bool) → fits ≡ t → left (outcome built) p₁ ≡ pick t (left (answered (length packet)) (packet ++ drop (length packet) (zeros 128))) (left (refused (plain 4)) (zeros 128))
+  by-fit : (t : Bool) → fits ≡ t → left (returned built) p₁ ≡ pick t (left (answered (length packet)) (packet ++ drop (length packet) (zeros 128))) (left (refused (plain 4)) (zeros 128))
   unfolding builtOf putFrame pick fits packet
   by-fit true h =
       let s = packet-short kind x y idm blocks bytes h in
-      told ∙ rw (h, le-ltb (length (zeros 128)) (length packet) (omega (arith, s)))
-  by-fit false h = told ∙ rw h
+      known ∙ rw (h, le-ltb (length (zeros 128)) (length packet) (omega (arith, s)))
+  by-fit false h = known ∙ rw h
 
   pub print-refused : (e : Refusal) (b z : List ℕ) (m : ℕ) → built ≡ Refused e → Appends 0 unreadable b m z → Appends 0 (blockText kind idm x y blocks bytes) b m z
-  unfolding blockText pick fits packet outcome
+  unfolding blockText pick fits packet returned
   print-refused e b z m q d = go (blockFits kind idm x blocks bytes) refl
     where
       go : (t : Bool) → blockFits kind idm x blocks bytes ≡ t → Appends 0 (pick t (hexOf (blockPacket kind idm x y blocks bytes)) unreadable) b m z
       go true h =
-          let n : outcomeNumber (outcome built) ≡ 0 = ap (λ l. outcomeNumber (l .told)) (by-fit true h) in
-          absurd (omega (arith, ap (λ b. outcomeNumber (outcome b)) q, n))
+          let n : returnedNumber (returned built) ≡ 0 = ap (λ l. returnedNumber (l .result)) (by-fit true h) in
+          absurd (omega (arith, ap (λ b. returnedNumber (returned b)) q, n))
       go false h = d
 
   module _ (n : ℕ) (q : built ≡ Frame n) where
     good : blockFits kind idm x blocks bytes ≡ true
-    unfolding pick outcome fits
+    unfolding pick returned fits
     good = go (blockFits kind idm x blocks bytes) refl
       where
         go : (t : Bool) → blockFits kind idm x blocks bytes ≡ t → t ≡ true
         go true h = refl
         go false h =
-            let m : outcomeNumber (outcome built) ≡ 1 = ap (λ l. outcomeNumber (l .told)) (by-fit false h) in
-            absurd (omega (arith, ap (λ b. outcomeNumber (outcome b)) q, m))
+            let m : returnedNumber (returned built) ≡ 1 = ap (λ l. returnedNumber (l .result)) (by-fit false h) in
+            absurd (omega (arith, ap (λ b. returnedNumber (returned b)) q, m))
 
     count : n ≡ length (blockPacket kind idm x y blocks bytes)
-    unfolding pick outcome packet fits
+    unfolding pick returned packet fits
     count =
-        let o : outcome built ≡ answered (length (blockPacket kind idm x y blocks bytes)) = ap (λ l. l .told) (by-fit true good) in
-        let f : outcome built ≡ answered n = ap outcome q in
+        let o : returned built ≡ answered (length (blockPacket kind idm x y blocks bytes)) = ap (λ l. l .result) (by-fit true good) in
+        let f : returned built ≡ answered n = ap returned q in
         cc
 
     filled : p₁ ≡ blockPacket kind idm x y blocks bytes ++ drop (length (blockPacket kind idm x y blocks bytes)) (zeros 128)
@@ -189,17 +189,17 @@ module _ (kind : ℕ) (idm s b d out z : List ℕ) (m : ℕ) where
   unfolding withService pick
   not-four h e = rw (ne-eqb (length s) 4 h) e
 
-  module _ (o : List ℕ) (r : Put) (told : texts.left (texts.outcome r) o ≡ readOf s (zeros 2)) (four : length s ≡ 4) where
+  module _ (o : List ℕ) (r : Put) (known : texts.left (texts.returned r) o ≡ readOf s (zeros 2)) (four : length s ≡ 4) where
     room-two : length s / 2 ≤ length (zeros 2)
     room-two = omega arith
 
     pub no-pair : (e : Refusal) → r ≡ NotRead e → Appends 0 unreadable out m z → Appends 0 (withService kind idm s b d) out m z
     unfolding withService pick
-    no-pair e q f = rw (eq-eqb (length s) 4 four, not-read s (zeros 2) o r room-two told e q) f
+    no-pair e q f = rw (eq-eqb (length s) 4 four, not-read s (zeros 2) o r room-two known e q) f
 
     pub pair-read : (n : ℕ) → r ≡ Bytes n → Appends 0 (withBlocks kind idm (getD o 0 0) (getD o 1 0) b d) out m z → Appends 0 (withService kind idm s b d) out m z
     unfolding withService pick over
     pair-read n q f =
         let two : length (pairsOf s) ≡ 2 = omega (arith, length-pairs s) in
-        let is : o ≡ pairsOf s = read-into s (zeros 2) o r room-two told n q ∙ ap (λ k. pairsOf s ++ drop (0 + k) (zeros 2)) two ∙ append-nil (pairsOf s) in
-        rw (eq-eqb (length s) 4 four, was-read s (zeros 2) o r room-two told n q) (rw is at f)
+        let is : o ≡ pairsOf s = read-into s (zeros 2) o r room-two known n q ∙ ap (λ k. pairsOf s ++ drop (0 + k) (zeros 2)) two ∙ append-nil (pairsOf s) in
+        rw (eq-eqb (length s) 4 four, was-read s (zeros 2) o r room-two known n q) (rw is at f)

@@ -14,7 +14,7 @@ use Rattle.framing.specs.declared.settings.Setting.{Setting}
 use Rattle.framing.specs.declared.settings.Setting.the-variants.{Format, Nothing as NoSetting}
 use Rattle.bench.specs.Hex.{isHex, pairsOf, readOf}
 use Rattle.bench.specs.HexLaws.{length-pairs, was-read, read-count, read-into, not-read}
-use Rattle.bench.specs.Texts.{outcome, over, left, Appends}
+use Rattle.bench.specs.Texts.{returned, over, left, Appends}
 use Rattle.bench.specs.WordLaws.{word-short}
 use Rattle.bench.specs.Words.{wordsOf}
 use Rattle.bench.specs.declared.Put.{Put}
@@ -23,24 +23,24 @@ use Rattle.bench_codec.specs.Codec.{lineLimit, bytesRoom, frameRoom, unr
 use Rattle.bench_codec.proofs.FrameLaws.{whole-text, whole-fits, whole-part}
 
 -- the bytes of a word
-module _ (w b o : List ℕ) (r : Put) (told : left (outcome r) o ≡ readOf w b) (short : length w ≤ lineLimit) (room : length b ≡ frameRoom) where
+module _ (w b o : List ℕ) (r : Put) (known : left (returned r) o ≡ readOf w b) (short : length w ≤ lineLimit) (room : length b ≡ frameRoom) where
   enough : length w / 2 ≤ length b
   enough = omega arith
 
   pub read-refused : (e : Refusal) (y out z : List ℕ) (m : ℕ) → r ≡ Refused e → Appends 0 unreadable out m z → Appends 0 (pick (isHex w) y unreadable) out m z
   unfolding pick
-  read-refused e y out z m q d = rw (not-read w b o r enough told e q) d
+  read-refused e y out z m q d = rw (not-read w b o r enough known e q) d
 
   module _ (n : ℕ) (q : r ≡ Bytes n) where
     hex : isHex w ≡ true
-    hex = was-read w b o r enough told n q
+    hex = was-read w b o r enough known n q
 
     counted : n ≡ length (pairsOf w)
-    counted = read-count w b o r enough told n q
+    counted = read-count w b o r enough known n q
 
     filled : o ≡ pairsOf w ++ drop (length (pairsOf w)) b
     unfolding over
-    filled = read-into w b o r enough told n q ∙ ap (λ k. pairsOf w ++ drop k b) (zero-add (length (pairsOf w)))
+    filled = read-into w b o r enough known n q ∙ ap (λ k. pairsOf w ++ drop k b) (zero-add (length (pairsOf w)))
 
     fits : length (pairsOf w) ≤ length b
     fits = omega (arith, length-pairs w)
@@ -79,14 +79,14 @@ module _ (w b o : List ℕ) (r : Put) (told : left (outcome r) o ≡ readOf w b)
       then-service kind s c d e = rw hex (rw bytes at e)
 
 -- the setting of a word
-module _ (v name w b z : List ℕ) (m : ℕ) (s : Setting) (told : s ≡ settingNamed v) where
+module _ (v name w b z : List ℕ) (m : ℕ) (s : Setting) (known : s ≡ settingNamed v) where
   pub no-setting : s ≡ NoSetting → Appends 0 unreadable b m z → Appends 0 (onSetting (settingNamed v) name w) b m z
   unfolding onSetting
-  no-setting q e = rw (sym told ∙ q) e
+  no-setting q e = rw (sym known ∙ q) e
 
   pub some-setting : (f : FrameFormat) → s ≡ Format f → Appends 0 (pick (isHex w) (onFormat name f (pairsOf w)) unreadable) b m z → Appends 0 (onSetting (settingNamed v) name w) b m z
   unfolding onSetting
-  some-setting f q e = rw (sym told ∙ q) e
+  some-setting f q e = rw (sym known ∙ q) e
 
 -- n words from the i-th on
 wordsFrom : ℕ → ℕ → List (List ℕ) → List (List ℕ)

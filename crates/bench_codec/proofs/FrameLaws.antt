@@ -9,9 +9,9 @@ use lib.Dec.{ltb, eqb}
 use lib.ListN.{length, take, drop, length-append, length-drop}
 use lib.Seq.{take-at, length-take-le}
 use Rattle.errors.specs.Choice.{pick}
-use Rattle.errors.specs.Refusals.{Outcome, answered, refused, plain}
+use Rattle.errors.specs.Refusals.{Returned, answered, refused, plain}
 use Rattle.errors.specs.declared.Refusal.{Refusal}
-use Rattle.framing.specs.Build.{outcome as built, left, limitOf, putFrame, buildOf}
+use Rattle.framing.specs.Build.{returned as built, left, limitOf, putFrame, buildOf}
 use Rattle.framing.specs.Enclose.{length-head}
 use Rattle.framing.specs.Frames.{frameOf, checksumOf, startOf, headOf, ending, longest}
 use Rattle.framing.specs.Padded.{parsePadded}
@@ -24,7 +24,7 @@ use Rattle.framing.specs.declared.FrameType.the-variants.{Data}
 use Rattle.framing.specs.declared.LengthEncoding.{LengthEncoding}
 use Rattle.framing.specs.declared.LengthEncoding.the-variants.{Normal, ExtendedLittleEndian, NormalOrExtendedBigEndian}
 use Rattle.framing.specs.declared.padded.Padded.{Padded}
-use Rattle.crc.specs.Answers.{outcome as appended, added}
+use Rattle.crc.specs.Answers.{returned as appended, added}
 use Rattle.crc.specs.Crc.{Kind, crcBytes}
 use Rattle.crc.specs.Laws.{crc-length}
 use Rattle.crc.specs.declared.Added.{Added}
@@ -40,11 +40,11 @@ use Rattle.bench_codec.specs.Codec.{bytesRoom, frameRoom, buildText, dat
 pub same-answer : (r s : Bool) (b o : List ℕ) (n : ℕ) → Appends 0 (yesOrNo r) b n o → r ≡ s → Appends 0 (yesOrNo s) b n o
 same-answer r s b o n e h = rw h at e
 
-pub told-yes : (t : Bool) (b o : List ℕ) (n : ℕ) → t ≡ true → placed n o ≡ putAt 0 (ascii "yes") b → Appends 0 (yesOrNo t) b n o
-told-yes t b o n h e = rw h (put (ascii "yes") b o 0 n e)
+pub known-yes : (t : Bool) (b o : List ℕ) (n : ℕ) → t ≡ true → placed n o ≡ putAt 0 (ascii "yes") b → Appends 0 (yesOrNo t) b n o
+known-yes t b o n h e = rw h (put (ascii "yes") b o 0 n e)
 
-pub told-no : (t : Bool) (b o : List ℕ) (n : ℕ) → t ≡ false → placed n o ≡ putAt 0 (ascii "no") b → Appends 0 (yesOrNo t) b n o
-told-no t b o n h e = rw h (put (ascii "no") b o 0 n e)
+pub known-no : (t : Bool) (b o : List ℕ) (n : ℕ) → t ≡ false → placed n o ≡ putAt 0 (ascii "no") b → Appends 0 (yesOrNo t) b n o
+known-no t b o n h e = rw h (put (ascii "no") b o 0 n e)
 
 -- a data frame: its kind and length, a space, its payload q
 pub data-done : (q b o o₁ o₂ : List ℕ) (n r r₁ r₂ : ℕ) → Appends 0 (ascii "data " ++ decimalOf n) b r o → placed r₁ o₁ ≡ putAt r (ascii " ") o → placed r₂ o₂ ≡ putAt r₁ (hexOf q) o₁
@@ -93,13 +93,13 @@ module _ (t b o : List ℕ) (n : ℕ) (counted : n ≡ length t) (is : o ≡ t +
   whole-part = sym (length-take-le n o whole-fits)
 
 -- a CRC behind s, in a buffer that has the room
-module _ (k : Kind) (s b o : List ℕ) (r : Added) (told : _≡_ {A = Outcome × List ℕ} (appended r, o) (added k s b)) (short : length s ≤ bytesRoom) (room : length b ≡ frameRoom) where
+module _ (k : Kind) (s b o : List ℕ) (r : Added) (known : _≡_ {A = Returned × List ℕ} (appended r, o) (added k s b)) (short : length s ≤ bytesRoom) (room : length b ≡ frameRoom) where
   long : length (s ++ crcBytes k s) ≡ length s + 2
   long = length-append s (crcBytes k s) ∙ ap (λ j. length s + j) (crc-length k s)
 
-  whole : _≡_ {A = Outcome × List ℕ} (appended r, o) (answered (length s + 2), s ++ crcBytes k s ++ drop (length s + 2) b)
+  whole : _≡_ {A = Returned × List ℕ} (appended r, o) (answered (length s + 2), s ++ crcBytes k s ++ drop (length s + 2) b)
   unfolding added pick
-  whole = told ∙ rw (le-ltb (length b) (length s + 2) (omega arith))
+  whole = known ∙ rw (le-ltb (length b) (length s + 2) (omega arith))
 
   pub append-refused : (e : Refusal) (t out z : List ℕ) (m : ℕ) → r ≡ NotAdded e → Appends 0 t out m z
   append-refused e t out z m q =
@@ -142,10 +142,10 @@ length-frame e p =
     rw (length-append (headOf e (length p) ++ p) (ending p), length-append (headOf e (length p)) p, length-head e (length p))
     (omega (arith, start-8 e (length p)))
 
-module _ (f : FrameFormat) (p b o : List ℕ) (r : Built) (told : left (built r) o ≡ buildOf f p b) (room : length b ≡ frameRoom) where
+module _ (f : FrameFormat) (p b o : List ℕ) (r : Built) (known : left (built r) o ≡ buildOf f p b) (room : length b ≡ frameRoom) where
   over-limit : ltb (limitOf f) (length p) ≡ true → left (built r) o ≡ left (refused (plain 3)) b
   unfolding buildOf pick
-  over-limit h = told ∙ rw h
+  over-limit h = known ∙ rw h
 
   frame-short : ltb (limitOf f) (length p) ≡ false → length (frameOf (f .length) p) ≤ 65545
   unfolding limitOf
@@ -154,7 +154,7 @@ module _ (f : FrameFormat) (p b o : List ℕ) (r : Built) (told : left (built r)
   in-limit : ltb (limitOf f) (length p) ≡ false
       → left (built r) o ≡ left (answered (length (frameOf (f .length) p))) (frameOf (f .length) p ++ drop (length (frameOf (f .length) p)) b)
   unfolding buildOf putFrame pick
-  in-limit h = told ∙ rw (h, le-ltb (length b) (length (frameOf (f .length) p)) (omega (arith, frame-short h)))
+  in-limit h = known ∙ rw (h, le-ltb (length b) (length (frameOf (f .length) p)) (omega (arith, frame-short h)))
 
   pub built-refused : (e : Refusal) (out z : List ℕ) (m : ℕ) → r ≡ NotBuilt e → placed m z ≡ putAt 0 (ascii "refused 3") out → Appends 0 (buildText f p) out m z
   unfolding buildText built pick
@@ -163,7 +163,7 @@ module _ (f : FrameFormat) (p b o : List ℕ) (r : Built) (told : left (built r)
       go : (t : Bool) → ltb (limitOf f) (length p) ≡ t → Appends 0 (pick t (ascii "refused 3") (hexOf (frameOf (f .length) p))) out m z
       go true h = put (ascii "refused 3") out z 0 m d
       go false h =
-          let z : _≡_ {A = ℕ} 0 1 = cc (ap (λ l. l .told) (in-limit h), ap built q) in
+          let z : _≡_ {A = ℕ} 0 1 = cc (ap (λ l. l .result) (in-limit h), ap built q) in
           absurd (omega arith)
 
   module _ (n : ℕ) (q : r ≡ Frame n) where
@@ -173,13 +173,13 @@ module _ (f : FrameFormat) (p b o : List ℕ) (r : Built) (told : left (built r)
       where
         go : (t : Bool) → ltb (limitOf f) (length p) ≡ t → t ≡ false
         go true h =
-            let z : _≡_ {A = ℕ} 0 1 = cc (ap (λ l. l .told) (over-limit h), ap built q) in
+            let z : _≡_ {A = ℕ} 0 1 = cc (ap (λ l. l .result) (over-limit h), ap built q) in
             absurd (omega arith)
         go false h = refl
 
     frame-count : n ≡ length (frameOf (f .length) p)
     unfolding built
-    frame-count = cc (ap (λ l. l .told) (in-limit within), ap built q)
+    frame-count = cc (ap (λ l. l .result) (in-limit within), ap built q)
 
     frame-put : o ≡ frameOf (f .length) p ++ drop (length (frameOf (f .length) p)) b
     frame-put = ap (λ l. l .buffer) (in-limit within)
@@ -204,17 +204,17 @@ send-within (x ∷ t) = go (send-within t) (eqb x 47)
     go h true = omega arith
     go h false = omega arith
 
-module _ (t b : List ℕ) (r : Parsed) (told : parsed r ≡ bitrateOf t) where
+module _ (t b : List ℕ) (r : Parsed) (known : parsed r ≡ bitrateOf t) where
   pub not-sent : (e : Refusal) (o : List ℕ) (m : ℕ) → r ≡ NotSent e → placed m o ≡ putAt 0 (ascii "refused 5") b → Appends 0 (bitrateText t) b m o
   unfolding bitrateText sendText
-  not-sent e o m q d = rw (sym told ∙ ap parsed q) (put (ascii "refused 5") b o 0 m d)
+  not-sent e o m q d = rw (sym known ∙ ap parsed q) (put (ascii "refused 5") b o 0 m d)
 
   module _ (n : ℕ) (q : r ≡ Send n) where
     sent-fits : n ≤ length t
     unfolding bitrateOf
-    sent-fits = go (isBitrate t) (sym (ap parsed q) ∙ told)
+    sent-fits = go (isBitrate t) (sym (ap parsed q) ∙ known)
       where
-        go : (e : Bool) → _≡_ {A = Outcome} (answered n) (mathlib.Core.Bool.cond e (answered (sendLength t)) (refused (plain 5))) → n ≤ length t
+        go : (e : Bool) → _≡_ {A = Returned} (answered n) (mathlib.Core.Bool.cond e (answered (sendLength t)) (refused (plain 5))) → n ≤ length t
         go true h = let s : n ≡ sendLength t = cc in omega (arith, send-within t)
         go false h = let z : _≡_ {A = ℕ} 0 1 = cc in absurd (omega arith)
 
@@ -223,4 +223,4 @@ module _ (t b : List ℕ) (r : Parsed) (told : parsed r ≡ bitrateOf t) where
 
     pub sent-done : (o o₁ : List ℕ) (m m₁ : ℕ) → placed m o ≡ putAt 0 (ascii "ok ") b → placed m₁ o₁ ≡ putAt m (take n t) o → Appends 0 (bitrateText t) b m₁ o₁
     unfolding bitrateText sendText
-    sent-done o o₁ m m₁ ok part = rw (sym told ∙ ap parsed q) (both-put _ _ _ _ _ _ _ _ ok part)
+    sent-done o o₁ m m₁ ok part = rw (sym known ∙ ap parsed q) (both-put _ _ _ _ _ _ _ _ ok part)

@@ -4,7 +4,7 @@ use mathlib.Core.List.{List, [], _∷_, _++_}
 use Prim.Native.Nat.{ℕ, _+_, _*_, _-_, _/_, _%_}
 use lib.Dec.{eqb, ltb}
 use lib.ListN.{length, take, getD}
-use Rattle.errors.specs.Refusals.{Outcome, answered, refused}
+use Rattle.errors.specs.Refusals.{Returned, answered, refused}
 use Rattle.framing.specs.Build.{limitOf}
 use Rattle.framing.specs.Frames.{frameOf, checksumOf}
 use Rattle.errors.specs.Choice.{pick}
@@ -92,7 +92,7 @@ unfoldable pub appendText : Kind → List ℕ → List ℕ
 appendText k p = hexOf (p ++ crcBytes k p)
 
 -- `bitrate`: the send part, or refusal 5; `-` is the empty text
-unfoldable pub sendText : Outcome → List ℕ → List ℕ
+unfoldable pub sendText : Returned → List ℕ → List ℕ
 sendText (answered n) t = ascii "ok " ++ take n t
 sendText (refused e) t = ascii "refused 5"
 
@@ -200,7 +200,7 @@ onWords (name ∷ i ∷ s ∷ b ∷ d ∷ more ∷ words) = unreadable
 unfoldable pub answerOf : List ℕ → List ℕ
 answerOf l = pick (ltb lineLimit (length l)) unreadable (onWords (wordsOf l))
 
--- what is written for what was told of a line that stands at the start of b: the text and a line feed (10), and nothing at the end
+-- what is written for a line that stands at the start of b: the text and a line feed (10), and nothing at the end of the input
 unfoldable pub replyOf : Line → List ℕ → List ℕ
 replyOf (Text n) b = answerOf (take n b) ++ (10 ∷ [])
 replyOf OverLong b = unreadable ++ (10 ∷ [])

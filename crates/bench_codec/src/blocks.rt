@@ -16,7 +16,7 @@ use framing::Built;
 ghost use mathlib.Core.Path.{_≡_};
 ghost use Prim.Native.Nat.{_+_, _*_, _≤_};
 ghost use lib.ListN.{length};
-ghost use Rattle.framing.specs.Build.{outcome, left};
+ghost use Rattle.framing.specs.Build.{returned, left};
 ghost use Rattle.felica.specs.Packets.{builtOf};
 ghost use Rattle.felica.specs.Fields.{numbersOf};
 ghost use Rattle.bench.specs.Texts.{Appends};
@@ -50,7 +50,7 @@ fn build(
     bytes: &[u8],
     packet: &mut [u8],
 ) -> Built
-    ensures { λ r. ⌜ left (outcome r) (now (packet .exit)) ≡ builtOf (blockFits kind (now (idm .entry)) x (now (blocks .entry)) (now (bytes .entry))) (blockPacket kind (now (idm .entry)) x y (now (blocks .entry)) (now (bytes .entry))) (now (packet .entry)) ⌝ }
+    ensures { λ r. ⌜ left (returned r) (now (packet .exit)) ≡ builtOf (blockFits kind (now (idm .entry)) x (now (blocks .entry)) (now (bytes .entry))) (blockPacket kind (now (idm .entry)) x y (now (blocks .entry)) (now (bytes .entry))) (now (packet .entry)) ⌝ }
 {
     let service = service_code(x, y);
     match kind {

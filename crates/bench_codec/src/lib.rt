@@ -3,10 +3,11 @@ mod blocks;
 mod frames;
 
 use bench::Put;
+use bench::first;
 use bench::hex;
 use bench::lines;
-use bench::lines::Held;
 use bench::lines::Line;
+use bench::lines::Unread;
 use bench::text;
 use bench::words;
 use blocks::READ_REPLY;
@@ -19,7 +20,6 @@ use framing::settings::Setting;
 ghost use mathlib.Core.Path.{_≡_};
 ghost use Prim.Native.Nat.{_≤_};
 ghost use lib.ListN.{length};
-ghost use Rattle.bench.specs.Lines.{lengthOf};
 ghost use Rattle.bench.specs.Texts.{placed, placedAt, Appends};
 ghost use Rattle.bench.specs.Words.{wordsOf};
 ghost use Rattle.bench_codec.specs.Codec.{lineLimit, bytesRoom, frameRoom, answerRoom, settingNamed, onBytes as onBytesOf, onFormat as onFormatOf, twoWords, threeWords, fourWords, fiveWords, onWords, answerOf, replyOf};
@@ -188,7 +188,7 @@ fn by_words(line: &[u8], out: &mut [u8]) -> usize
 
 // Puts the text printed for the line at the buffer's start, and gives its length.
 pub fn answer(line: &[u8], out: &mut [u8; OUT]) -> usize
-    ensures { λ r. ⌜ placed r (now (out .exit)) ≡ placedAt 0 (answerOf (now (line .entry))) (now (out .entry)) ⌝ }
+    ensures { λ r. ⌜ (placed r (now (out .exit)) ≡ placedAt 0 (answerOf (now (line .entry))) (now (out .entry))) × (length (now (out .exit)) ≡ answerRoom) ⌝ }
 {
     if LINE < line.len() {
         return unreadable(out);
@@ -196,14 +196,13 @@ pub fn answer(line: &[u8], out: &mut [u8; OUT]) -> usize
     by_words(line, out)
 }
 
-// The answer to what was told of a line, with its line feed; nothing at the end of the input.
-fn reply(told: Line, line: &[u8], out: &mut [u8; OUT]) -> usize
-    requires { ⌜ (lengthOf told ≤ length (now line)) × (length (now out) ≡ answerRoom) ⌝ }
-    ensures { λ r. ⌜ (placed r (now (out .exit)) ≡ placedAt 0 (replyOf told (now (line .entry))) (now (out .entry))) × (length (now (out .exit)) ≡ answerRoom) ⌝ }
+// The answer to a line that stands at the start of `line`, with its line feed; nothing at the end of the input.
+pub fn reply(next: Line, line: &[u8], out: &mut [u8; OUT]) -> usize
+    ensures { λ r. ⌜ placed r (now (out .exit)) ≡ placedAt 0 (replyOf next (now (line .entry))) (now (out .entry)) ⌝ }
 {
-    match told {
+    match next {
         Line::Text(n) => {
-            let end = answer(&line[..n], out);
+            let end = answer(first(n, line), out);
             text::put(b"\n", out, end)
         }
         Line::OverLong => {
@@ -214,19 +213,19 @@ fn reply(told: Line, line: &[u8], out: &mut [u8; OUT]) -> usize
     }
 }
 
-// Answers standard input line by line on standard output. No contract can say what is read or written: `lines::next` fixes each
-// line by the bytes that come, and `reply` the text that is written for it.
+// Answers standard input line by line on standard output. `lines::next` has the contract of a line, by the bytes that come, and `reply`
+// that of the text for it; free is what the operating system reads and writes.
 pub fn run() {
     let mut buffer = io::large_buffer();
     let mut line = [0u8; LINE];
     let mut out = [0u8; OUT];
-    let mut held = Held::nothing();
+    let mut unread = Unread::nothing();
     let mut turns = u64::MAX;
     while turns > 0 {
-        let given = lines::next(held, &mut buffer, &mut line);
-        held = given.held;
-        let told = given.line;
-        let n = reply(told, &line, &mut out);
+        let given = lines::next(unread, &mut buffer, &mut line);
+        unread = given.unread;
+        let next = given.line;
+        let n = reply(next, &line, &mut out);
         if !lines::write(&out, n) {
             return;
         }

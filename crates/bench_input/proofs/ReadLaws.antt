@@ -1,33 +1,34 @@
--- Laws of reading a word: as HEX or BITRATE into a buffer, as a number of pairs, and as decimal digits.
+-- Laws of reading a word: as HEX or BITRATE into a buffer, as a number of pairs, and as MS.
 use mathlib.Core.Path.{_≡_, refl, sym, ap, _∙_}
-use mathlib.Core.Bool.{true, false}
-use mathlib.Core.List.{List, [], _∷_, _++_, append-assoc, append-nil}
-use mathlib.Core.Option.{none}
-use Prim.Native.Nat.{ℕ, _+_, _-_, _*_, _/_, _%_, _≤_, _<_}
+use mathlib.Core.Bool.{Bool, true, false}
+use mathlib.Core.List.{List, [], _++_, append-assoc, append-nil}
+use mathlib.Core.Option.{Option, none, some}
+use Prim.Native.Nat.{ℕ, _+_, _-_, _*_, _/_, _%_, _≤_}
 use native.Mathlib.Nat.{zero-add}
-use native.Mathlib.Numerals.{add-one}
 use native.Mathlib.Omega.{arith}
-use borrow.Author.Tests.{eq-eqb, ne-eqb, lt-ltb, le-ltb, le-leb, lt-leb}
+use borrow.Author.Tests.{eq-eqb, ne-eqb}
 use borrow.Rule.Slice.PartMut.{putMid, postOf, take-put}
-use lib.Dec.{ltb}
-use lib.ListN.{length, getD, take, drop, length-append, length-take, length-drop, drop-of-length-le}
-use lib.Seq.{slice, take-at, drop-at, take-append-add, drop-cons, length-take-le, take-length, length-slice}
+use lib.ListN.{length, take, drop, length-append, length-take, length-drop, drop-of-length-le}
+use lib.Seq.{slice, take-at, drop-at, take-append-add, length-take-le, take-length, length-slice}
 use Rattle.errors.specs.Choice.{pick}
 use Rattle.errors.specs.declared.Refusal.{Refusal}
-use Rattle.framing.specs.Lists.{both, both-false-r, same}
+use Rattle.framing.specs.Lists.{same}
 use Rattle.framing.specs.Copied.{copied}
 use Rattle.bench.specs.Hex.{dash, pairsOf, readOf}
+use Rattle.bench.specs.Numbers.{numberFrom, isNumber, numberOf, numberIn}
+use Rattle.bench.specs.declared.number.Number.{Number}
+use Rattle.bench.specs.declared.number.Number.the-variants.{Value as MsValue, Unreadable as NoMs}
 use Rattle.bench.specs.HexLaws.{length-pairs, was-read, read-count, read-into, not-read}
-use Rattle.bench.specs.Texts.{outcome, over, left}
+use Rattle.bench.specs.Texts.{returned, over, left}
 use Rattle.bench.specs.declared.Put.{Put}
 use Rattle.bench.specs.declared.Put.the-variants.{Bytes, Refused}
-use Rattle.bench_input.specs.Arguments.{Read, hexArg, textArg, digitOf, allDecimal, numberFrom, msLimit, isMs, msArg}
-use Rattle.bench_input.specs.Readings.{Between}
+use Rattle.bench_input.specs.Arguments.{Read, hexArg, textArg, msArg}
+use Rattle.bench_input.specs.Readings.{msIn, Between}
 
 -- a buffer that the word's m bytes fill
-module _ (w u p part : List ℕ) (q : Put) (m : ℕ) (is : w ≡ u) (size : length w ≡ 2 * m) (filled : length p ≡ m) (read : left (outcome q) part ≡ readOf w p) where
-  told : left (outcome q) part ≡ readOf u p
-  told = read ∙ ap (λ z. readOf z p) is
+module _ (w u p part : List ℕ) (q : Put) (m : ℕ) (is : w ≡ u) (size : length w ≡ 2 * m) (filled : length p ≡ m) (read : left (returned q) part ≡ readOf w p) where
+  known : left (returned q) part ≡ readOf u p
+  known = read ∙ ap (λ z. readOf z p) is
 
   pairs-room : length u / 2 ≤ length p
   pairs-room = omega (arith, ap length is)
@@ -36,12 +37,12 @@ module _ (w u p part : List ℕ) (q : Put) (m : ℕ) (is : w ≡ u) (size : leng
   unfolding hexArg pick over
   pairs-read n given f =
       let k : length p ≤ 0 + length (pairsOf u) = omega (arith, ap length is, length-pairs u) in
-      let e : part ≡ pairsOf u = read-into u p part q pairs-room told n given ∙ rw (drop-of-length-le p {i = 0 + length (pairsOf u)} k, append-nil) in
-      rw (was-read u p part q pairs-room told n given) (ap f e)
+      let e : part ≡ pairsOf u = read-into u p part q pairs-room known n given ∙ rw (drop-of-length-le p {i = 0 + length (pairsOf u)} k, append-nil) in
+      rw (was-read u p part q pairs-room known n given) (ap f e)
 
   pub pairs-unread : (e : Refusal) → q ≡ Refused e → (f : List ℕ → Read) → none ≡ hexArg u f
   unfolding hexArg pick
-  pairs-unread e given f = rw (not-read u p part q pairs-room told e given)
+  pairs-unread e given f = rw (not-read u p part q pairs-room known e given)
 
 -- a list behind another
 placed-here : (a p x : List ℕ) (i n : ℕ) → length a ≡ i → n ≡ length p → slice i (i + n) (a ++ (p ++ x)) ≡ p
@@ -60,9 +61,9 @@ copied-kept b t at room part e =
     rw (copied b t at room part e, ← append-assoc (take at b) t z) (drop-at (take at b ++ t) z (at + length t) l)
 
 -- a word that was read from place `at` on, through the part of the buffer b from there
-module _ (w u b part : List ℕ) (at : ℕ) (q : Put) (is : w ≡ u) (room : at + length u ≤ length b) (read : left (outcome q) part ≡ readOf w (take (length b - at) (drop at b))) where
-  told′ : left (outcome q) part ≡ readOf u (take (length b - at) (drop at b))
-  told′ = read ∙ ap (λ z. readOf z (take (length b - at) (drop at b))) is
+module _ (w u b part : List ℕ) (at : ℕ) (q : Put) (is : w ≡ u) (room : at + length u ≤ length b) (read : left (returned q) part ≡ readOf w (take (length b - at) (drop at b))) where
+  known′ : left (returned q) part ≡ readOf u (take (length b - at) (drop at b))
+  known′ = read ∙ ap (λ z. readOf z (take (length b - at) (drop at b))) is
 
   behind-room : length u / 2 ≤ length (take (length b - at) (drop at b))
   behind-room = simp (length-take, length-drop) (omega arith)
@@ -72,7 +73,7 @@ module _ (w u b part : List ℕ) (at : ℕ) (q : Put) (is : w ≡ u) (room : at 
 
   module _ (n : ℕ) (given : q ≡ Bytes n) where
     count-is : n ≡ length u / 2
-    count-is = read-count u (take (length b - at) (drop at b)) part q behind-room told′ n given ∙ length-pairs u
+    count-is = read-count u (take (length b - at) (drop at b)) part q behind-room known′ n given ∙ length-pairs u
 
     pub hex-read : (f : List ℕ → Read) → f (slice at (at + n) (putMid at (length b - at) b part)) ≡ hexArg u f
     unfolding hexArg pick over
@@ -80,9 +81,9 @@ module _ (w u b part : List ℕ) (at : ℕ) (q : Put) (is : w ≡ u) (room : at 
         let p : List ℕ = take (length b - at) (drop at b) in
         let d : List ℕ = drop (0 + length (pairsOf u)) p in
         let z : List ℕ = postOf at (length b - at) b in
-        let e : part ++ z ≡ pairsOf u ++ (d ++ z) = ap (λ y. y ++ z) (read-into u p part q behind-room told′ n given) ∙ append-assoc (pairsOf u) d z in
+        let e : part ++ z ≡ pairsOf u ++ (d ++ z) = ap (λ y. y ++ z) (read-into u p part q behind-room known′ n given) ∙ append-assoc (pairsOf u) d z in
         let l : length (take at b) ≡ at = length-take-le at b (omega arith) in
-        rw (was-read u p part q behind-room told′ n given)
+        rw (was-read u p part q behind-room known′ n given)
         (ap f (ap (λ y. slice at (at + n) (take at b ++ y)) e ∙ placed-here (take at b) (pairsOf u) (d ++ z) at n l (count-is ∙ sym (length-pairs u))))
 
     behind-kept : drop (at + n) (putMid at (length b - at) b part) ≡ drop (at + n) b
@@ -90,7 +91,7 @@ module _ (w u b part : List ℕ) (at : ℕ) (q : Put) (is : w ≡ u) (room : at 
     behind-kept =
         let t : List ℕ = pairsOf u in
         let p : List ℕ = take (length b - at) (drop at b) in
-        let e : part ≡ take (length t) t ++ drop (length t) p = read-into u p part q behind-room told′ n given ∙ rw (take-length t, zero-add (length t)) in
+        let e : part ≡ take (length t) t ++ drop (length t) p = read-into u p part q behind-room known′ n given ∙ rw (take-length t, zero-add (length t)) in
         let size : n ≡ length t = count-is ∙ sym (length-pairs u) in
         rw size (copied-kept b t at (omega (arith, length-pairs u)) part e)
 
@@ -103,59 +104,28 @@ module _ (w u b part : List ℕ) (at : ℕ) (q : Put) (is : w ≡ u) (room : at 
   module _ (e : Refusal) (given : q ≡ Refused e) where
     pub hex-unread : (f : List ℕ → Read) → none ≡ hexArg u f
     unfolding hexArg pick
-    hex-unread f = rw (not-read u (take (length b - at) (drop at b)) part q behind-room told′ e given)
+    hex-unread f = rw (not-read u (take (length b - at) (drop at b)) part q behind-room known′ e given)
 
--- decimal digits, place by place
-grows : (n : ℕ) (w : List ℕ) → n ≤ numberFrom n w
-unfolding numberFrom
-grows n [] = omega arith
-grows n (d ∷ w) = omega (arith, grows (n * 10 + digitOf d) w)
+-- MS, by the number that was read of the word
+given : (ℕ → Read) → Option ℕ → Read
+given f none = none
+given f (some n) = f n
 
-no-digits : (w : List ℕ) → allDecimal w ≡ false → isMs w ≡ false
-unfolding isMs
-no-digits w h = both-false-r (ltb 0 (length w)) _ (rw h)
+ms-in : (r : Number) (f : ℕ → Read) → msIn r f ≡ given f (numberIn r)
+unfolding given
+ms-in (MsValue n) f = refl
+ms-in NoMs f = refl
 
-too-large : (w : List ℕ) → msLimit < numberFrom 0 w → isMs w ≡ false
-unfolding isMs
-too-large w h = both-false-r (ltb 0 (length w)) _ (both-false-r (allDecimal w) _ (lt-leb (numberFrom 0 w) msLimit h))
+ms-arg : (w : List ℕ) (f : ℕ → Read) → given f (numberOf w) ≡ msArg w f
+unfolding given numberOf msArg pick
+ms-arg w f = go (isNumber w)
+  where
+    go : (t : Bool) → given f (pick t (some (numberFrom 0 w)) none) ≡ pick t (f (numberFrom 0 w)) none
+    go true = refl
+    go false = refl
 
-module _ (w : List ℕ) (n i v : ℕ) (inside : i < length w) (value : v ≡ digitOf (getD w i 0)) where
-  number-step : numberFrom n (drop i w) ≡ numberFrom (n * 10 + v) (drop (i + 1) w)
-  unfolding numberFrom
-  number-step = rw (drop-cons w i 0 inside, value, add-one)
-
-  digits-step : allDecimal (drop i w) ≡ both (ltb v 10) (allDecimal (drop (i + 1) w))
-  unfolding allDecimal
-  digits-step = rw (drop-cons w i 0 inside, value, add-one)
-
-  pub ms-number : numberFrom 0 w ≡ numberFrom n (drop i w) → numberFrom 0 w ≡ numberFrom (n * 10 + v) (drop (i + 1) w)
-  ms-number e = e ∙ number-step
-
-  pub ms-digits : allDecimal w ≡ allDecimal (drop i w) → v ≤ 9 → allDecimal w ≡ allDecimal (drop (i + 1) w)
-  ms-digits e h = e ∙ digits-step ∙ rw (lt-ltb v 10 (omega arith))
-
-  pub ms-bad : allDecimal w ≡ allDecimal (drop i w) → 9 < v → isMs w ≡ false
-  ms-bad e h = no-digits w (e ∙ digits-step ∙ rw (le-ltb v 10 (omega arith)))
-
-  pub ms-over : numberFrom 0 w ≡ numberFrom n (drop i w) → msLimit < n * 10 + v → isMs w ≡ false
-  ms-over e h = too-large w (omega (arith, ms-number e, grows (n * 10 + v) (drop (i + 1) w)))
-
--- what is said with a number that was read, or was not
-module _ (w u : List ℕ) (is : w ≡ u) (f : ℕ → Read) where
-  pub ms-unread : isMs w ≡ false → none ≡ msArg u f
-  unfolding msArg pick
-  ms-unread h = rw (← is, h)
-
-  pub ms-empty : length w ≡ 0 → none ≡ msArg u f
-  unfolding isMs
-  ms-empty h = ms-unread (rw (le-ltb 0 (length w) (omega arith)))
-
-  pub ms-read : (n i : ℕ) → 0 < length w → length w ≤ i → numberFrom 0 w ≡ numberFrom n (drop i w) → allDecimal w ≡ allDecimal (drop i w) → n ≤ msLimit → f n ≡ msArg u f
-  unfolding msArg isMs numberFrom allDecimal pick
-  ms-read n i some done e d h =
-      let z : drop i w ≡ [] = drop-of-length-le w {i = i} done in
-      let number : numberFrom 0 w ≡ n = e ∙ ap (numberFrom n) z in
-      rw (← is, lt-ltb 0 (length w) some, d ∙ ap allDecimal z, number, le-leb n msLimit h)
+pub ms-read : (w u : List ℕ) (r : Number) → w ≡ u → numberIn r ≡ numberOf w → (f : ℕ → Read) → msIn r f ≡ msArg u f
+ms-read w u r is known f = ms-in r f ∙ ap (given f) known ∙ ms-arg w f ∙ ap (λ x. msArg x f) is
 
 -- a BITRATE that was copied into the buffer b, or was not
 module _ (w u : List ℕ) (is : w ≡ u) where
@@ -165,7 +135,7 @@ module _ (w u : List ℕ) (is : w ≡ u) where
 
   pub text-dash : (f : List ℕ → Read) → (length w ≡ 0 → ⊥) → same dash w ≡ true → f [] ≡ textArg u f
   unfolding textArg pick
-  text-dash f some h = rw (← is, ne-eqb (length w) 0 some, h)
+  text-dash f more h = rw (← is, ne-eqb (length w) 0 more, h)
 
   pub text-room : (b : List ℕ) (at : ℕ) → at + length u ≤ length b → length w ≤ length (take (length b - at) (drop at b))
   text-room b at room = simp (length-take, length-drop) (omega (arith, ap length is))
@@ -176,11 +146,11 @@ module _ (w u : List ℕ) (is : w ≡ u) where
 
     pub text-read : (f : List ℕ → Read) → (length w ≡ 0 → ⊥) → same dash w ≡ false → f (slice at (at + length w) (putMid at (length b - at) b part)) ≡ textArg u f
     unfolding textArg pick
-    text-read f some h =
+    text-read f more h =
         let l : length (take at b) ≡ at = length-take-le at b (omega arith) in
         let here : slice at (at + length w) (putMid at (length b - at) b part) ≡ w
         = ap (slice at (at + length w)) (copied b w at text-inside part e) ∙ placed-here (take at b) w (drop (at + length w) b) at (length w) l refl in
-        rw (← is, ne-eqb (length w) 0 some, h) (ap f here)
+        rw (← is, ne-eqb (length w) 0 more, h) (ap f here)
 
     pub text-between : Between at (at + length w) (length u) b (putMid at (length b - at) b part)
     text-between = record { from = omega arith; short = omega (arith, ap length is); kept = take-put at (length b - at) b part (omega arith); behind = copied-kept b w at text-inside part e }

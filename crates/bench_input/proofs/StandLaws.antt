@@ -102,12 +102,12 @@ pub grown-at : (at size : ℕ) (b o : List ℕ) (r : Next) (t : Taken) → Grown
 grown-at at size b o r t h e = subst (λ (q : Next). Grown at size b o q) e h
 
 -- what was read of all words
-module _ (o : List ℕ) (r : Next) (a : Read) (told : nextIn o r some ≡ a) where
+module _ (o : List ℕ) (r : Next) (a : Read) (known : nextIn o r some ≡ a) where
   pub all-taken : (t : Taken) → r ≡ NextValue t → some (takenIn o t) ≡ a
-  all-taken t e = ap (λ q. nextIn o q some) (sym e) ∙ told
+  all-taken t e = ap (λ q. nextIn o q some) (sym e) ∙ known
 
   pub none-taken : r ≡ NoNext → none ≡ a
-  none-taken e = ap (λ q. nextIn o q some) (sym e) ∙ told
+  none-taken e = ap (λ q. nextIn o q some) (sym e) ∙ known
 
 pub drop-more : (i j : ℕ) (b o : List ℕ) → i ≤ j → drop i o ≡ drop i b → drop j o ≡ drop j b
 drop-more i j b o h e =

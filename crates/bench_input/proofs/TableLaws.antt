@@ -134,31 +134,31 @@ module _ (t : List ℕ) (is : wordsOf t ≡ texts table) where
         e ∙ ap (λ n. getD (wordsOf t) n []) k ∙ word-at 0 (omega arith)
 
     -- the number of the row i, as it was read
-    module _ (r : Byte) (told : (f : ℕ → Read) → byteIn r f ≡ byteArg (getD (wordsOf t) (3 * i + 2) []) f) where
-      number-told : (f : ℕ → Read) → byteIn r f ≡ f ((rowAt i) .number)
-      number-told f = told f ∙ ap (λ w. byteArg w f) (word-at 2 (omega arith)) ∙ number-read ((rowAt i) .number) f (number-fits i inside)
+    module _ (r : Byte) (known : (f : ℕ → Read) → byteIn r f ≡ byteArg (getD (wordsOf t) (3 * i + 2) []) f) where
+      number-known : (f : ℕ → Read) → byteIn r f ≡ f ((rowAt i) .number)
+      number-known f = known f ∙ ap (λ w. byteArg w f) (word-at 2 (omega arith)) ∙ number-read ((rowAt i) .number) f (number-fits i inside)
 
       pub number-is : (n : ℕ) → r ≡ ByteValue n → n ≡ (rowAt i) .number
       number-is n e =
           let f : ℕ → Read = λ k. some (arguments (withX k noNumbers) []) in
-          ap xOf (ap (λ q. byteIn q f) (sym e) ∙ number-told f)
+          ap xOf (ap (λ q. byteIn q f) (sym e) ∙ number-known f)
 
       pub number-there : r ≡ NoByte → ⊥
       number-there e =
-          let z : _≡_ {A = ℕ} 0 1 = ap xOf (ap (λ q. byteIn q (λ k. some (arguments (withX 1 noNumbers) []))) (sym e) ∙ number-told _) in
+          let z : _≡_ {A = ℕ} 0 1 = ap xOf (ap (λ q. byteIn q (λ k. some (arguments (withX 1 noNumbers) []))) (sym e) ∙ number-known _) in
           omega arith
 
 -- the row of a line, as it was found
-module _ (l : List ℕ) (r : Found) (told : foundIn r ≡ rowFor table (word l 0) (length (wordsOf l))) where
+module _ (l : List ℕ) (r : Found) (known : foundIn r ≡ rowFor table (word l 0) (length (wordsOf l))) where
   pub no-row : r ≡ Nothing → unreadable ≡ byRow (rowFor table (word l 0) (length (wordsOf l))) (wordsOf l)
-  no-row e = ap (λ q. byRow (foundIn q) (wordsOf l)) (sym e) ∙ ap (λ o. byRow o (wordsOf l)) told
+  no-row e = ap (λ q. byRow (foundIn q) (wordsOf l)) (sym e) ∙ ap (λ o. byRow o (wordsOf l)) known
 
   module _ (i : ℕ) (e : r ≡ At i) where
     pub row-inside : Within r → i < length table
     row-inside h = subst (λ (q : Found). Within q) e h
 
     here : some (rowAt i) ≡ rowFor table (word l 0) (length (wordsOf l))
-    here = ap foundIn (sym e) ∙ told
+    here = ap foundIn (sym e) ∙ known
 
     pub row-words : length ((rowAt i) .letters) + 1 ≡ length (wordsOf l)
     row-words = row-length table (word l 0) (length (wordsOf l)) (rowAt i) (sym here)

@@ -1,14 +1,15 @@
 -- The arguments of a line, and how a word is read. A reader of a word hands its value on, or the line cannot be read.
-use mathlib.Core.Bool.{Bool, true}
-use mathlib.Core.List.{List, [], _∷_}
+use mathlib.Core.Bool.{Bool}
+use mathlib.Core.List.{List, []}
 use mathlib.Core.Option.{Option, none}
-use Prim.Native.Nat.{ℕ, _+_, _-_, _*_, _%_}
-use lib.Dec.{eqb, ltb, leb}
+use Prim.Native.Nat.{ℕ, _+_, _*_, _%_}
+use lib.Dec.{eqb, ltb}
 use lib.ListN.{length, getD}
 use Rattle.errors.specs.Choice.{pick}
-use Rattle.framing.specs.Lists.{both, same}
+use Rattle.framing.specs.Lists.{same}
 use Rattle.targets.specs.Bitrates.{ascii}
-use Rattle.bench.specs.Hex.{dash, inRange, isHex, pairsOf}
+use Rattle.bench.specs.Hex.{dash, isHex, pairsOf}
+use Rattle.bench.specs.Numbers.{isNumber, numberFrom}
 use Rattle.bench.specs.Words.{wordsOf}
 use Rattle.calls.specs.declared.start.Numbers.{Numbers}
 
@@ -55,28 +56,9 @@ flagArg w f = byteArg w (λ b. pick (ltb 1 b) none (f b))
 unfoldable pub wordArg : List ℕ → (ℕ → Read) → Read
 wordArg w f = pick (eqb (length w) 4) (hexArg w (λ p. f (getD p 0 0 * 256 + getD p 1 0))) none
 
--- the value of a decimal digit; 10 for any other byte
-unfoldable pub digitOf : ℕ → ℕ
-digitOf d = pick (inRange 48 57 d) (d - 48) 10
-
-unfoldable pub allDecimal : List ℕ → Bool
-allDecimal [] = true
-allDecimal (d ∷ w) = both (ltb (digitOf d) 10) (allDecimal w)
-
--- the number whose digits are n's and then those of the word
-unfoldable pub numberFrom : ℕ → List ℕ → ℕ
-numberFrom n [] = n
-numberFrom n (d ∷ w) = numberFrom (n * 10 + digitOf d) w
-
--- MS: one or more decimal digits, at most 4294967295
-abbrev pub msLimit : ℕ
-msLimit = 4294967295
-
-unfoldable pub isMs : List ℕ → Bool
-isMs w = both (ltb 0 (length w)) (both (allDecimal w) (leb (numberFrom 0 w) msLimit))
-
+-- MS: a number
 unfoldable pub msArg : List ℕ → (ℕ → Read) → Read
-msArg w f = pick (isMs w) (f (numberFrom 0 w)) none
+msArg w f = pick (isNumber w) (f (numberFrom 0 w)) none
 
 -- BITRATE: the word itself, or `-` for the empty text
 unfoldable pub textArg : List ℕ → (List ℕ → Read) → Read

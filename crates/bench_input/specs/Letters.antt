@@ -30,7 +30,7 @@ numberArg letter w n f =
     (pick (eqb letter 121) (byteArg w (λ v. f (withY v n)))
     -- `f`: 00 or 01, to x
     (pick (eqb letter 102) (flagArg w (λ v. f (withX v n)))
-    -- `p`: HEX or `none`, of which x tells whether it is present
+    -- `p`: HEX or `none`, of which x gives whether it is present
     (pick (eqb letter 112) (presentArg w (λ v. f (withX v n)))
     -- `w`: WORD
     (pick (eqb letter 119) (wordArg w (λ v. f (withWord v n)))

@@ -8,6 +8,8 @@ use lib.ListN.{length, take, drop}
 use lib.Seq.{slice}
 use Rattle.errors.specs.Choice.{pick}
 use Rattle.bench.specs.Hex.{digitsOf}
+use Rattle.bench.specs.declared.number.Number.{Number}
+use Rattle.bench.specs.declared.number.Number.the-variants.{Value as MsValue, Unreadable as NoMs}
 use Rattle.bench.specs.declared.Put.{Put}
 use Rattle.bench.specs.declared.Put.the-variants.{Bytes, Refused}
 use Rattle.bench_input.specs.Arguments.{Arguments, arguments, Read, bytesRoom}
@@ -21,8 +23,6 @@ use Rattle.bench_input.specs.declared.arguments.Byte.{Byte}
 use Rattle.bench_input.specs.declared.arguments.Byte.the-variants.{Value as ByteValue, Unreadable as NoByte}
 use Rattle.bench_input.specs.declared.arguments.Word.{Word}
 use Rattle.bench_input.specs.declared.arguments.Word.the-variants.{Value as WordValue, Unreadable as NoWord}
-use Rattle.bench_input.specs.declared.arguments.Ms.{Ms}
-use Rattle.bench_input.specs.declared.arguments.Ms.the-variants.{Value as MsValue, Unreadable as NoMs}
 use Rattle.bench_input.specs.declared.arguments.Wait.{Wait}
 use Rattle.bench_input.specs.declared.arguments.Wait.the-variants.{Value as WaitValue, Unreadable as NoWait}
 use Rattle.bench_input.specs.declared.letters.Numbered.{Numbered}
@@ -64,7 +64,7 @@ abbrev pub wordIn : Word → (ℕ → Read) → Read
 wordIn (WordValue n) f = f n
 wordIn NoWord f = none
 
-abbrev pub msIn : Ms → (ℕ → Read) → Read
+abbrev pub msIn : Number → (ℕ → Read) → Read
 msIn (MsValue n) f = f n
 msIn NoMs f = none
 

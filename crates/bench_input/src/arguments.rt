@@ -1,16 +1,18 @@
 // The arguments of a line: its k-th word, the name being word 0, as a number or as bytes.
 use bench::Put;
 use bench::hex;
+use bench::number;
+use bench::number::Number;
 use bench::words;
 use errors::Refusal;
 ghost use mathlib.Core.Path.{_≡_};
 ghost use mathlib.Core.List.{List};
 ghost use Prim.Native.Nat.{ℕ, _+_, _*_, _≤_, _<_};
 ghost use lib.ListN.{length};
-ghost use Rattle.bench_input.specs.Arguments.{Read, word, byteArg, flagArg, wordArg, msArg, hexArg, wholeArg, textArg, isNone, hexOrNone, presentArg, nameArg, waitArg, digitOf};
+ghost use Rattle.bench_input.specs.Arguments.{Read, word, byteArg, flagArg, wordArg, msArg, hexArg, wholeArg, textArg, isNone, hexOrNone, presentArg, nameArg, waitArg};
 ghost use Rattle.bench_input.specs.Readings.{byteIn, wordIn, msIn, waitIn, hexIn, Behind};
 
-// What a word says as BYTE, as WORD and as MS.
+// What a word says as BYTE and as WORD; as MS it is a `Number`.
 pub enum Byte {
     Value(u8),
     Unreadable,
@@ -21,18 +23,11 @@ pub enum Word {
     Unreadable,
 }
 
-pub enum Ms {
-    Value(u32),
-    Unreadable,
-}
-
 // A time-out that may be absent: whether it is given, and its ms.
 pub enum Wait {
     Value(u8, u16),
     Unreadable,
 }
-
-const MS_LIMIT: u64 = 4294967295;
 
 const WAIT_LIMIT: u32 = 65535;
 
@@ -72,38 +67,11 @@ pub(crate) fn read_word(line: &[u8], k: usize) -> Word
     Word::Unreadable
 }
 
-// The value of a decimal digit; 10 where the byte is none.
-fn digit(byte: u8) -> u64
-    ensures { λ r. ⌜ r ≡ digitOf byte ⌝ }
-{
-    match byte {
-        b'0'..=b'9' => (byte - b'0') as u64,
-        _ => 10,
-    }
-}
-
-// MS: one or more decimal digits.
-pub(crate) fn read_ms(line: &[u8], k: usize) -> Ms
+// MS: a number.
+pub(crate) fn read_ms(line: &[u8], k: usize) -> Number
     ensures { λ r. ⌜ ((f : ℕ → Read) → msIn r f ≡ msArg (word (now (line .entry)) k) f) ⌝ }
 {
-    let word = words::word(line, k);
-    if word.len() == 0 {
-        return Ms::Unreadable;
-    }
-    let mut n: u64 = 0;
-    let mut i = 0;
-    while i < word.len() {
-        let value = digit(word[i]);
-        if 9 < value {
-            return Ms::Unreadable;
-        }
-        n = n * 10 + value;
-        if MS_LIMIT < n {
-            return Ms::Unreadable;
-        }
-        i += 1;
-    }
-    Ms::Value(n as u32)
+    number::read(words::word(line, k))
 }
 
 // HEX: puts its bytes into the buffer from a place on, and gives the place behind them.
@@ -212,7 +180,7 @@ pub(crate) fn read_wait(line: &[u8], k: usize) -> Wait
     if is_none(line, k) {
         return Wait::Value(0, 0);
     }
-    let Ms::Value(ms) = read_ms(line, k) else {
+    let Number::Value(ms) = read_ms(line, k) else {
         return Wait::Unreadable;
     };
     if WAIT_LIMIT < ms {

@@ -2,10 +2,10 @@
 use super::Ends;
 use super::arguments;
 use super::arguments::Byte;
-use super::arguments::Ms;
 use super::arguments::Wait;
 use super::arguments::Word;
 use bench::Put;
+use bench::number::Number;
 use calls::start::Numbers;
 use errors::Refusal;
 ghost use mathlib.Core.Path.{_≡_};
@@ -96,10 +96,10 @@ fn with_limit(numbers: Numbers, value: Wait) -> Numbered
     Numbered::Value(with)
 }
 
-fn with_ms(numbers: Numbers, value: Ms) -> Numbered
+fn with_ms(numbers: Numbers, value: Number) -> Numbered
     ensures { λ r. ⌜ ((f : Numbers → Read) → numberIn r f ≡ msIn value (λ v. f (withMs v numbers))) ⌝ }
 {
-    let Ms::Value(ms) = value else {
+    let Number::Value(ms) = value else {
         return Numbered::Unreadable;
     };
     let mut with = numbers;

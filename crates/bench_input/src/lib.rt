@@ -1,5 +1,5 @@
 // A line of the program `session`, read: a call or an event. The bytes of its BITRATE and HEX arguments stand one behind the
-// other at the start of a lent buffer, and a call tells the places where they end.
+// other at the start of a lent buffer, and a call has the places where they end.
 mod arguments;
 mod letters;
 mod table;

@@ -6,7 +6,7 @@ use native.Mathlib.Nat.{zero-add}
 use lib.ListN.{length, take, set}
 use Rattle.exchange.specs.Steps.{eventOf}
 use Rattle.exchange.specs.declared.Event.{Event}
-use Rattle.engine.specs.Inputs.{tells, stepWith}
+use Rattle.engine.specs.Inputs.{gives, stepWith}
 use Rattle.engine.specs.Numbers.{eventBy, knownIn}
 use Rattle.engine.specs.Sessions.{Stepped, stepped}
 use Rattle.errors.specs.declared.Refusal.the-variants.{BadArgument}
@@ -21,20 +21,20 @@ use Rattle.bench.specs.declared.lines.Line.{Line}
 use Rattle.bench.specs.declared.lines.Line.the-variants.{Text, OverLong, End}
 use Rattle.bench_input.specs.Table.{Said, happens, inputOf}
 use Rattle.bench_session.specs.Outputs.{textOf}
-use Rattle.bench_session.specs.Answers.{kept, told, stepOf, After, after, printed, answerOf, fed, replyOf}
+use Rattle.bench_session.specs.Answers.{unchanged, eventStep, stepOf, After, after, printed, answerOf, fed, replyOf}
 
-pub kept-is : (s : Session) (r : Step) (b : List ℕ) → r .session ≡ s → r .output ≡ Refused BadArgument → stepped r b ≡ kept s b
-kept-is s r b p q = ap₂ (λ (x : Session) (y : Output). record { session = x; output = y; buffer = b }) p q
+pub unchanged-is : (s : Session) (r : Step) (b : List ℕ) → r .session ≡ s → r .output ≡ Refused BadArgument → stepped r b ≡ unchanged s b
+unchanged-is s r b p q = ap₂ (λ (x : Session) (y : Output). record { session = x; output = y; buffer = b }) p q
 
 -- an event by its number, which has none or one
 module _ (s : Session) (number : ℕ) (r : Known) (p b : List ℕ) (known : (packet : List ℕ) → knownIn r packet ≡ eventBy number packet) where
-  pub told-none : r ≡ Not → kept s b ≡ stepOf s (happens number p) b
+  pub event-none : r ≡ Not → unchanged s b ≡ stepOf s (happens number p) b
   unfolding stepOf knownIn
-  told-none h = ap (λ e. told s e b) (ap (λ q. knownIn q p) (sym h) ∙ known p)
+  event-none h = ap (λ e. eventStep s e b) (ap (λ q. knownIn q p) (sym h) ∙ known p)
 
-  pub told-some : (e : Event) (t : Stepped) → r ≡ Is e → t ≡ stepWith s (tells (eventOf e p) b) → t ≡ stepOf s (happens number p) b
+  pub event-some : (e : Event) (t : Stepped) → r ≡ Is e → t ≡ stepWith s (gives (eventOf e p) b) → t ≡ stepOf s (happens number p) b
   unfolding stepOf knownIn
-  told-some e t h g = g ∙ ap (λ e. told s e b) (ap (λ q. knownIn q p) (sym h) ∙ known p)
+  event-some e t h g = g ∙ ap (λ e. eventStep s e b) (ap (λ q. knownIn q p) (sym h) ∙ known p)
 
 -- the text of a step
 pub print-done : (t : Stepped) (s : Session) (f : Output) (b o o′ : List ℕ) (n : ℕ) → record { session = s; output = f; buffer = b } ≡ t → placed n o′ ≡ placedAt 0 (textOf f b) o
@@ -54,11 +54,11 @@ unfolding fed
 fed-done s s′ n n′ b o o′ a e p q r = ap (λ z. after z n′ b o′) p ∙ ap (λ z. after s z b o′) q ∙ ap (λ z. after s (n + 1) b z) r ∙ ap fed e
 
 module _ (s : Session) (t : Line) (l b o : List ℕ) (x : After) where
-  pub reply-text : (n : ℕ) → t ≡ Text n → x ≡ fed (answerOf s (take n l) b o) → x ≡ replyOf s t l b o
+  pub reply-text : (n : ℕ) (p : List ℕ) → t ≡ Text n → p ≡ take n l → x ≡ fed (answerOf s p b o) → x ≡ replyOf s t l b o
   unfolding replyOf
-  reply-text n h e = rw h e
+  reply-text n p h q e = rw (h, ← q) e
 
-  pub reply-long : t ≡ OverLong → x ≡ fed (printed (kept s b) o) → x ≡ replyOf s t l b o
+  pub reply-long : t ≡ OverLong → x ≡ fed (printed (unchanged s b) o) → x ≡ replyOf s t l b o
   unfolding replyOf
   reply-long h e = rw h e
 
@@ -66,5 +66,5 @@ pub reply-end : (s : Session) (t : Line) (l b o : List ℕ) → t ≡ End → af
 unfolding replyOf
 reply-end s t l b o h = rw h
 
-pub long-done : (s : Session) (b o o′ : List ℕ) (n : ℕ) → placed n o′ ≡ placedAt 0 (textOf (Refused BadArgument) b) o → after s n b o′ ≡ printed (kept s b) o
-long-done s b o o′ n d = print-done (kept s b) s (Refused BadArgument) b o o′ n refl d
+pub long-done : (s : Session) (b o o′ : List ℕ) (n : ℕ) → placed n o′ ≡ placedAt 0 (textOf (Refused BadArgument) b) o → after s n b o′ ≡ printed (unchanged s b) o
+long-done s b o o′ n d = print-done (unchanged s b) s (Refused BadArgument) b o o′ n refl d

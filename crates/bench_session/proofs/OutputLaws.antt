@@ -1,13 +1,12 @@
 -- Laws of the text of an output: what each function printed, and that it fits.
-use mathlib.Core.Path.{_≡_, sym, ap}
+use mathlib.Core.Path.{_≡_, ap}
 use mathlib.Core.Bool.{Bool, true, false}
 use mathlib.Core.List.{List, [], _∷_, _++_}
-use Prim.Native.Nat.{ℕ, _≤_, _<_}
+use Prim.Native.Nat.{ℕ, _≤_}
 use native.Mathlib.Omega.{arith}
 use borrow.Author.Tests.{eq-eqb, ne-eqb}
 use lib.Dec.{eqb}
 use lib.ListN.{length, take, length-append, length-take}
-use lib.Seq.{length-take-le, take-all}
 use Rattle.errors.specs.Choice.{pick}
 use Rattle.errors.specs.Refusals.{numbered, faultNumbered}
 use Rattle.errors.specs.declared.Numbered.{Numbered}
@@ -22,13 +21,6 @@ use Rattle.bench.specs.HexLaws.{hex-short}
 use Rattle.bench.specs.TextLaws.{appended, then-put, then-both, at-start}
 use Rattle.bench.specs.Texts.{placed, placedAt, putAt, decimalOf, Appends}
 use Rattle.bench_session.specs.Outputs.{outRoom, textLimit, doneText, type1Text, lengthsText, refusedText, listRefusedText, textOf}
-
--- the first n bytes
-pub first-part : (n : ℕ) (p : List ℕ) → n < length p → n ≡ length (take n p)
-first-part n p h = sym (length-take-le n p (omega arith))
-
-pub first-all : (n : ℕ) (p : List ℕ) → length p ≤ n → p ≡ take n p
-first-all n p h = sym (take-all n p h)
 
 pub type1-done : (p b o o₁ : List ℕ) (r r₁ : ℕ) → Appends 0 (ascii "done " ++ hexOf p) b r o → placed r₁ o₁ ≡ putAt r (ascii " type1") o → Appends 0 (type1Text p) b r₁ o₁
 unfolding type1Text

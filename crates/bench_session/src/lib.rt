@@ -1,9 +1,10 @@
 // The lines of the program `session`: a call or an event in, an order or an answer out.
 pub mod output;
 
+use bench::first;
 use bench::lines;
-use bench::lines::Held;
 use bench::lines::Line;
+use bench::lines::Unread;
 use bench_input::BYTES;
 use bench_input::Ends;
 use bench_input::Input;
@@ -20,7 +21,6 @@ ghost use mathlib.Core.Path.{_≡_};
 ghost use Prim.Native.Nat.{_+_, _≤_};
 ghost use lib.ListN.{length, set};
 ghost use Rattle.engine.specs.Sessions.{stepped};
-ghost use Rattle.bench.specs.Lines.{lengthOf};
 ghost use Rattle.bench_input.specs.Readings.{inputIn};
 ghost use Rattle.bench_session.specs.Outputs.{outRoom, textLimit};
 ghost use Rattle.bench_session.specs.Answers.{stepOf, after, answerOf, replyOf};
@@ -65,7 +65,7 @@ fn called(
 }
 
 // What the engine does with an event, whose packet has n bytes.
-fn told(session: Session, number: u8, n: usize, bytes: &[u8], buffer: &mut [u8]) -> Step
+fn on_event(session: Session, number: u8, n: usize, bytes: &[u8], buffer: &mut [u8]) -> Step
     ensures { λ r. ⌜ stepped r (now (buffer .exit)) ≡ stepOf session (inputIn (now (bytes .entry)) (Input.Event number n)) (now (buffer .entry)) ⌝ }
 {
     let Known::Is(event) = by_number::event_by(number) else {
@@ -82,7 +82,7 @@ fn step(session: Session, input: Input, bytes: &[u8; BYTES], buffer: &mut [u8]) 
         Input::Call(number, numbers, ends) => {
             called(session, number, numbers, ends, bytes, buffer)
         }
-        Input::Event(number, n) => told(session, number, n, bytes, buffer),
+        Input::Event(number, n) => on_event(session, number, n, bytes, buffer),
         Input::Unreadable => unreadable(session),
     }
 }
@@ -108,20 +108,19 @@ pub fn answer(
     }
 }
 
-// The answer to what was told of a line, with its line feed; nothing at the end of the input.
-fn reply(
+// The answer to a line that stands at the start of `line`, with its line feed; nothing at the end of the input.
+pub fn reply(
     session: Session,
-    told: Line,
+    next: Line,
     line: &[u8],
     buffer: &mut [u8; BUFFER],
     out: &mut [u8; OUT],
 ) -> Answered
-    requires { ⌜ (lengthOf told ≤ length (now line)) × (length (now out) ≡ outRoom) ⌝ }
-    ensures { λ r. ⌜ (after (r .session) (r .len) (now (buffer .exit)) (now (out .exit)) ≡ replyOf session told (now (line .entry)) (now (buffer .entry)) (now (out .entry))) × (r .len ≤ outRoom) × (length (now (out .exit)) ≡ outRoom) ⌝ }
+    ensures { λ r. ⌜ (after (r .session) (r .len) (now (buffer .exit)) (now (out .exit)) ≡ replyOf session next (now (line .entry)) (now (buffer .entry)) (now (out .entry))) × (length (now (out .entry)) ≡ outRoom → length (now (out .exit)) ≡ outRoom) ⌝ }
 {
-    match told {
+    match next {
         Line::Text(n) => {
-            let answered = answer(session, &line[..n], buffer, out);
+            let answered = answer(session, first(n, line), buffer, out);
             fed(answered, out)
         }
         Line::OverLong => {
@@ -146,21 +145,21 @@ fn fed(answer: Answered, out: &mut [u8; OUT]) -> Answered
     }
 }
 
-// Answers standard input line by line on standard output. No contract can say what is read or written: `lines::next` fixes each
-// line by the bytes that come, and `reply` the text that is written for it.
+// Answers standard input line by line on standard output. `lines::next` has the contract of a line, by the bytes that come, and `reply`
+// that of the text for it; free is what the operating system reads and writes.
 pub fn run() {
     let mut read = io::large_buffer();
     let mut line = [0u8; LINE];
     let mut buffer = [0u8; BUFFER];
     let mut out = [0u8; OUT];
     let mut session = Session::fresh();
-    let mut held = Held::nothing();
+    let mut unread = Unread::nothing();
     let mut turns = u64::MAX;
     while turns > 0 {
-        let given = lines::next(held, &mut read, &mut line);
-        held = given.held;
-        let told = given.line;
-        let replied = reply(session, told, &line, &mut buffer, &mut out);
+        let given = lines::next(unread, &mut read, &mut line);
+        unread = given.unread;
+        let next = given.line;
+        let replied = reply(session, next, &line, &mut buffer, &mut out);
         let n = replied.len;
         let after = replied.session;
         session = after;

@@ -1,6 +1,7 @@
 // What is printed for an order or an answer.
 use super::BUFFER;
 use super::OUT;
+use bench::first;
 use bench::hex;
 use bench::text;
 use engine::core::Output;
@@ -8,17 +9,10 @@ use errors::Numbered;
 ghost use mathlib.Core.Path.{_≡_};
 ghost use mathlib.Core.List.{_++_};
 ghost use Prim.Native.Nat.{_≤_};
-ghost use lib.ListN.{length, take};
+ghost use lib.ListN.{length};
 ghost use Rattle.bench.specs.Texts.{placed, placedAt, decimalOf, Appends};
 ghost use Rattle.bench.specs.Hex.{hexOf};
 ghost use Rattle.bench_session.specs.Outputs.{outRoom, textLimit, doneText, type1Text, lengthsText, refusedText, listRefusedText, textOf};
-
-// The first n bytes; all of them where there are fewer.
-fn first(n: usize, bytes: &[u8]) -> &[u8]
-    ensures { λ r. ⌜ now r ≡ take n (now (bytes .entry)) ⌝ }
-{
-    if n < bytes.len() { &bytes[..n] } else { bytes }
-}
 
 fn put_bytes(name: &[u8], bytes: &[u8], out: &mut [u8]) -> usize
     ensures { λ r. ⌜ Appends 0 (now (name .entry) ++ hexOf (now (bytes .entry))) (now (out .entry)) r (now (out .exit)) ⌝ }

@@ -38,8 +38,8 @@ module _ (cursor : ℕ) (pending found : List ℕ) (f : ℕ → Answer Byte → 
   abbrev ended : Decision → Decision
   ended = onEnd (λ bytes. codeFinished cursor pending found (0x01 ∷ take 16 bytes)) (pollFailure cursor pending found)
 
-  -- f follows the ends of a code
-  record Follows : Type 0 where
+  -- f code-ends the ends of a code
+  record CodeEnds : Type 0 where
     met : (k : ℕ) (bytes : List Byte) → RefinesHere (codeFinished cursor pending found (0x01 ∷ take 16 (map value bytes))) (f k (done bytes))
     fails : (k : ℕ) (r : Fault) → RefinesHere (pollFailure cursor pending found r) (f k (refused r))
 
@@ -49,11 +49,11 @@ module _ (cursor : ℕ) (pending found : List ℕ) (f : ℕ → Answer Byte → 
   then-if true k x y s u h l = h
   then-if false k x y s u h l = l
 
-  module _ (follows : Follows) where
+  module _ (code-ends : CodeEnds) where
     then-long : (bs : List ℕ) (n k : ℕ) (d : Decision) (s : Script) → RefinesHere (ended d) (andThen s k f)
         → RefinesHere (ended (withLength bs n d)) (andThen (ifElse (ltb (length bs) n) (refuse ShortResponse) s) k f)
     unfolding withLength
-    then-long bs n k d s h = then-if (ltb (length bs) n) k _ d _ s (follows .fails k ShortResponse) h
+    then-long bs n k d s h = then-if (ltb (length bs) n) k _ d _ s (code-ends .fails k ShortResponse) h
 
     module _ (code : ℕ) (req : List ℕ) (polls : pollOf cursor pending ≡ 1 ∷ code ∷ req) where
       -- the poll is command j of the code, and k commands of the call are through behind it
@@ -62,16 +62,16 @@ module _ (cursor : ℕ) (pending found : List ℕ) (f : ℕ → Answer Byte → 
       unfolding decidedOf failedOf pollDecision typeFDecision polled pick
       poll-2 j k = record {
         answered = λ cs few.
-            then-if (eqb (getD cs 0 0) 0) k _ _ _ _ (follows .fails k NoCard)
-            (then-long cs 2 k _ _ (then-long cs 20 k (ends (done (drop 4 cs))) (finish (done (rest j cs 4))) (rw (rest-values j cs 4) at (follows .met k (rest j cs 4)))));
-        failing = λ r. follows .fails k r;
+            then-if (eqb (getD cs 0 0) 0) k _ _ _ _ (code-ends .fails k NoCard)
+            (then-long cs 2 k _ _ (then-long cs 20 k (ends (done (drop 4 cs))) (finish (done (rest j cs 4))) (rw (rest-values j cs 4) at (code-ends .met k (rest j cs 4)))));
+        failing = λ r. code-ends .fails k r;
       }
 
       poll-1 : (k : ℕ) → Awaits pollTypeFKind rfOnStage cursor pending found (λ r. andThen (either (λ _. fieldPause (poll 2 code req)) refuse r) k f)
       unfolding decidedOf failedOf pollDecision typeFDecision commandOf isResetOf pollCommand typeFCommand pick
       poll-1 k = record {
         answered = λ cs few. refines-pause pollStage _ refl (go-on pollStage inListPassiveTargetCode inListPassiveTargetClock (1 ∷ code ∷ req) refl refl (ap (cmd inListPassiveTargetCode inListPassiveTargetClock) polls) (poll-2 2 (suc k)));
-        failing = λ r. follows .fails k r;
+        failing = λ r. code-ends .fails k r;
       }
 
       poll-0 : (k : ℕ)
@@ -81,7 +81,7 @@ module _ (cursor : ℕ) (pending found : List ℕ) (f : ℕ → Answer Byte → 
         answered = λ cs few.
             then-long cs 1 k _ _
             (then-if (eqb (getD cs 0 0 % 4) 0) k (send rfOnStage) (send pollStage) _ _ (go-on rfOnStage rfConfigurationCode commandClock _ refl refl refl (poll-1 (suc k))) (go-on pollStage inListPassiveTargetCode inListPassiveTargetClock (1 ∷ code ∷ req) refl refl (ap (cmd inListPassiveTargetCode inListPassiveTargetClock) polls) (poll-2 1 (suc k))));
-        failing = λ r. follows .fails k r;
+        failing = λ r. code-ends .fails k r;
       }
 
       code-refines : (first : ℕ) → RefinesHere (send fieldStage) (andThen (detectTypeF code req) first f)
@@ -160,7 +160,7 @@ module _ (code : ℕ) (words : List ℕ) (few : length words ≤ 32) where
     list-ends add h =
         rw (has-no-next cursor pending (omega (arith, h, count))) (ending _ (ap done (values-added cursor first found bytes add (at .same))))
 
-    -- another code follows
+    -- another code code-ends
     list-goes-on : (add : List Byte) (s : Script) → length add ≤ 17 → 2 ≤ length ws → Refines pollTypeFKind (suc cursor) pending (soFar cursor found ++ map value add) (send fieldStage) s
         → Refines pollTypeFKind cursor pending found (codeFinished cursor pending found (map value add)) s
     unfolding codeFinished pick
@@ -176,11 +176,11 @@ module _ (code : ℕ) (words : List ℕ) (few : length words ≤ 32) where
     unfolding pollFailure
     code-step codes finishes =
         let f : ℕ → Answer Byte → Script = λ k a. codeEnd (λ add. pollCodes code k (suc cursor) (added add) codes) (λ r. finish (refusedAfter r cursor)) a in
-        let follows : Follows cursor pending found f = record {
+        let code-ends : CodeEnds cursor pending found f = record {
           met = λ k bs. rw (values-taken 16 bs) at (finishes k (cardMet bs) (omega (arith, length-take 16 bs)));
           fails = λ k r. by-no-card (finishes k noCardMet (omega arith)) (ending (refusedAfter r cursor) refl) r;
         } in
-        code-refines cursor pending found f follows code _ (polls-code code words cursor high low ws (at .left)) first
+        code-refines cursor pending found f code-ends code _ (polls-code code words cursor high low ws (at .left)) first
 
   -- the next code, where there is one
   next-at : (cursor first high low x y : ℕ) (ws found : List ℕ) (bytes add : List Byte) (at : At cursor high low (x ∷ y ∷ ws) found bytes) → length add ≤ 17

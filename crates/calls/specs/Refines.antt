@@ -12,7 +12,7 @@ use Rattle.errors.specs.declared.Fault.{Fault}
 use Rattle.errors.specs.declared.Fault.the-variants.{Transport, TimeOut, FalseStart, BrokenFrame, Length, FrameKind, Identifier, Code, Status, ShortResponse, NoCard, CrcA, Rate, CardStatus, OtherCard, UidLayout}
 use Rattle.exchange.specs.Packets.{Reply, response, failed, resetCode, resetData}
 use Rattle.protocol.specs.Scripts.{Byte, Answer, nothing, refused, Script, finish, command, reset, fieldPause, refuse, ifElse}
-use Rattle.protocol.specs.Follows.{plainAnswer}
+use Rattle.protocol.specs.Machine.{plainAnswer}
 use Rattle.stages.specs.Stages.{cmd, Decision, send, keep, next, put, pause, ends, withLength}
 use Rattle.calls.specs.Tables.{commandOf, isResetOf, decidedOf, failedOf}
 use Rattle.protocol.specs.Names.{fieldPauseTime}

@@ -15,9 +15,9 @@ use Rattle.crc.specs.Crc.{typeA as crcA, checks}
 use Rattle.exchange.specs.Packets.{isEmpty}
 use Rattle.protocol.specs.Scripts.{Byte, own, value, Answer, done, nothing, refused, Script, finish, refuse, ifElse, part, rest}
 use Rattle.protocol.specs.Rules.{anyNonzero, statusByte, withStatus as statusThen, withLength as lengthThen, maskedStatus, moreFlag, sendIndex, receiveIndex, finished, answer, ruleScript, version, registersWritten, firstByte, listedTarget, exchangedData, thru, jump, initiatorCommand, targetStatus}
-use Rattle.protocol.specs.Follows.{plainAnswer}
+use Rattle.protocol.specs.Machine.{plainAnswer}
 use Rattle.protocol.specs.Values.{part-values, rest-values}
-use Rattle.chipset.specs.Responses.{withLength, withStatus, versionAnswer, writeAnswer, firstAnswer, listAnswer, exchangeAnswer, jumpAnswer, initiatorAnswer, targetAnswer}
+use Rattle.chipset.specs.Responses.{withLength, withStatus, versionAnswer, writtenAnswer, firstAnswer, listAnswer, exchangeAnswer, jumpAnswer, initiatorAnswer, targetAnswer}
 use Rattle.device.specs.Transceive.{type2Answer, type1Answer}
 use Rattle.stages.specs.Stages.{ends as endsWith}
 use Rattle.device.specs.Names.{first-three}
@@ -65,8 +65,8 @@ pub interprets-version : (bs : List ℕ) → Interprets (ruleScript version bs) 
 unfolding versionAnswer
 interprets-version bs = by-length bs 4 (λ h. ends _ (ap done (sym (first-three bs (omega arith)))))
 
-pub interprets-write : (bs : List ℕ) → Interprets (ruleScript registersWritten bs) (writeAnswer bs)
-unfolding writeAnswer
+pub interprets-write : (bs : List ℕ) → Interprets (ruleScript registersWritten bs) (writtenAnswer bs)
+unfolding writtenAnswer
 interprets-write bs = interprets-if (anyNonzero bs) (λ _. refusing (Status registerWriteFailed)) (λ _. empty)
 
 pub interprets-first : (bs : List ℕ) → Interprets (ruleScript firstByte bs) (firstAnswer bs)

@@ -1,5 +1,5 @@
 -- Each call of an open reader: it is refused as its script has it, or the script's first command is the one that is sent.
-use mathlib.Core.Path.{_≡_, refl}
+use mathlib.Core.Path.{_≡_, refl, ap}
 use mathlib.Core.Bool.{Bool, true, false, cond, _&&_}
 use mathlib.Core.List.{List, [], _∷_}
 use mathlib.Core.Option.{Option, none, some}
@@ -16,7 +16,7 @@ use Rattle.framing.specs.Valid.{both-right}
 use Rattle.exchange.specs.Packets.{Reply}
 use Rattle.targets.specs.Bitrates.{Choice, chosen, noCode, choiceOf}
 use Rattle.targets.specs.declared.Bitrate.{Bitrate}
-use Rattle.protocol.specs.Scripts.{Answer, Script, command, either, refuse, ask, ifElse}
+use Rattle.protocol.specs.Scripts.{Answer, Script, command, either, refuse, ifElse}
 use Rattle.protocol.specs.Rules.{Rule, version, noBytes, allBytes, registersWritten, firstByte, listedTarget, exchangedData, thru, jump, status, initiatorCommand, targetStatus, ruleScript}
 use Rattle.protocol.specs.Discovery.{cascaded, sensfReq, detectDep as depScript, transceiveType1, transceiveType2, transceiveThru}
 use Rattle.protocol.specs.Blocks.{readBlocks, writeBlocks}
@@ -25,16 +25,15 @@ use Rattle.protocol.specs.Calls.{DeviceCall, detectTypeA, detectTypeASplit, det
 use Rattle.protocol.specs.Starts.{Start, starts, rowStart, deviceStart, readerStart, typeACode, typeBCode, typeFCode, depCode, is106A, type2SelRes, isSendable, clockOf, transceiveStart}
 use Rattle.protocol.specs.Arguments.{systemCodesFit, atrReqFits}
 use Rattle.protocol.specs.Starts.{refuses as refusesStart, limited as limitedStart, asserted as assertedStart, onCode as codeStart, withBitrate as bitrateStart}
-use Rattle.stages.specs.Stages.{cmd, send, ends, refuse as refuseWith}
+use Rattle.stages.specs.Stages.{Decision, cmd, send, ends, refuse as refuseWith}
 use Rattle.stages.specs.Starts.{refuses, sends, staged, limited, stagedLimited, asserted}
 use Rattle.stages.specs.Starts as stages
 use Rattle.stages.specs.Bitrates.{onCode, withBitrate, codeFor}
 use Rattle.chipset.specs.Commands.{rowFirst, firstOf}
-use Rattle.chipset.specs.Kinds.{kindOf, versionKind, resetModeKind, noBytesKind, allBytesKind, registersWrittenKind, firstByteKind, listedTargetKind, exchangedDataKind, thruKind, jumpKind, statusKind, initiatorCommandKind, targetStatusKind}
-use Rattle.chipset.specs.Responses.{answerOf}
+use Rattle.chipset.specs.Kinds.{kindOf, resetModeKind, thruKind}
 use Rattle.device.specs.Transceive.{type1First, thruFirst, transceiveFirst}
-use Rattle.device.specs.Blocks.{readFirst, writeFirst, readAnswer, writeAnswer}
-use Rattle.felica.specs.Packets.{readRequest, writeRequest, requestFits, writeFits}
+use Rattle.device.specs.Blocks.{readFirst, writeFirst}
+use Rattle.felica.specs.Packets.{requestFits, writeFits}
 use Rattle.discovery.specs.Firsts.{listFirst, typeBFirst, typeFFirst, pollFirst, pollAsserted, depFirst, depAsserted}
 use Rattle.discovery.specs.FirstLaws.{jump-few, list-few}
 use Rattle.calls.specs.Firsts.{deviceFirst, startFor}
@@ -45,7 +44,7 @@ use Rattle.calls.specs.TypeA.{typeA-refines, split-refines}
 use Rattle.calls.specs.Discoveries.{typeB-refines, typeF-refines, dep-refines}
 use Rattle.calls.specs.Blocks.{read-length, write-length, interprets-read, interprets-written}
 use Rattle.calls.specs.Polls.{poll-refines}
-use Rattle.device.specs.Kinds.{openingKind, type2Kind, type1Kind, readBlocksKind, writeBlocksKind}
+use Rattle.device.specs.Kinds.{openingKind, type2Kind, type1Kind}
 use Rattle.discovery.specs.Kinds.{typeAKind, typeBKind, typeFKind, depKind, pollTypeFKind, typeASplitKind}
 use Rattle.calls.specs.Kinds.{noCallKind, lastKind, firstStage}
 
@@ -66,58 +65,90 @@ pub data Starting : Start → stages.Start → Type 0 where
   leading : (kind : ℕ) (pending : List ℕ) (s : Script) → Kind kind → length pending ≤ 512 → ((found : List ℕ) → Refines kind 0 pending found (send firstStage) s)
       → Starting (starts s) (staged kind pending)
 
--- ---- a call of one command
-
--- the response leads to the answer a
-pub record Reads (kind : ℕ) (bytes : List ℕ) (f : List ℕ → Script) (a : List ℕ → Answer ℕ) : Type 0 where
-  decides : (found bs : List ℕ) → decidedOf kind firstStage 0 bytes found bs ≡ ends (a bs)
-  fails : (found : List ℕ) (r : Fault) → failedOf kind firstStage 0 bytes found r ≡ refuseWith r
-  interprets : (bs : List ℕ) → Interprets (f bs) (a bs)
-
-reads : {kind : ℕ} {bytes : List ℕ} {f : List ℕ → Script} {a : List ℕ → Answer ℕ} → ((found bs : List ℕ) → decidedOf kind firstStage 0 bytes found bs ≡ ends (a bs))
-    → ((found : List ℕ) (r : Fault) → failedOf kind firstStage 0 bytes found r ≡ refuseWith r) → ((bs : List ℕ) → Interprets (f bs) (a bs)) → Reads kind bytes f a
-reads p q r = record { decides = p; fails = q; interprets = r }
-
-single : (kind code clock : ℕ) (bytes : List ℕ) (f : List ℕ → Script) (a : List ℕ → Answer ℕ) → Kind kind → isResetOf kind firstStage ≡ false → length bytes ≤ 512 → Reads kind bytes f a
-    → Starting (starts (command code clock bytes (either f refuse))) (sends kind (cmd code clock bytes))
-single kind code clock bytes f a h q few k =
-    first kind code clock bytes (either f refuse) h q few
-    (λ found. record { answered = λ cs _. rw (k .decides found cs) (answer-refines (k .interprets cs)); failing = λ e. rw (k .fails found e) (refusal e) })
-
-single-limited : (kind code clock : ℕ) (bytes : List ℕ) (f : List ℕ → Script) (a : List ℕ → Answer ℕ) → Kind kind → isResetOf kind firstStage ≡ false → Reads kind bytes f a
-    → Starting (limitedStart bytes (command code clock bytes (either f refuse))) (limited kind (cmd code clock bytes))
-unfolding limited pick
-single-limited kind code clock bytes f a h q k = go (ltb 512 (length bytes)) refl
+-- data over 512 bytes are refused
+begins-limited : (bytes : List ℕ) {s : Script} {l : stages.Start} → (length bytes ≤ 512 → Starting (starts s) l)
+    → Starting (limitedStart bytes s) (pick (ltb 512 (length bytes)) (refuses OverLong) l)
+unfolding pick
+begins-limited bytes {s} {l} h = go (ltb 512 (length bytes)) refl
   where
-    go : (t : Bool) → ltb 512 (length bytes) ≡ t
-        → Starting (cond t (refusesStart OverLong) (starts (command code clock bytes (either f refuse)))) (pick t (refuses OverLong) (sends kind (cmd code clock bytes)))
+    go : (t : Bool) → ltb 512 (length bytes) ≡ t → Starting (cond t (refusesStart OverLong) (starts s)) (pick t (refuses OverLong) l)
     go true e = refusedNow OverLong
-    go false e = single kind code clock bytes f a h q (ltb-false 512 (length bytes) e) k
+    go false e = h (ltb-false 512 (length bytes) e)
 
 begins-asserted : (t : Bool) {x : Start} {l : stages.Start} → (t ≡ true → Starting x l) → Starting (assertedStart t x) (asserted t l)
 unfolding asserted pick
 begins-asserted true h = h refl
 begins-asserted false h = refusedNow BadArgument
 
--- a command of any row, a line for each rule
-rule-begins : (code clock : ℕ) (bytes : List ℕ) (q : Rule) → Starting (limitedStart bytes (ask code clock bytes (ruleScript q))) (limited (kindOf q) (cmd code clock bytes))
-unfolding answerOf decidedOf failedOf isResetOf pick
-rule-begins code clock bytes version = single-limited versionKind code clock bytes _ _ (a-kind refl refl refl) refl (reads (λ _ _. refl) (λ _ _. refl) interprets-version)
-rule-begins code clock bytes noBytes = single-limited noBytesKind code clock bytes _ _ (a-kind refl refl refl) refl (reads (λ _ _. refl) (λ _ _. refl) (λ _. empty))
-rule-begins code clock bytes allBytes = single-limited allBytesKind code clock bytes _ _ (a-kind refl refl refl) refl (reads (λ _ _. refl) (λ _ _. refl) (answers 0))
-rule-begins code clock bytes registersWritten = single-limited registersWrittenKind code clock bytes _ _ (a-kind refl refl refl) refl (reads (λ _ _. refl) (λ _ _. refl) interprets-write)
-rule-begins code clock bytes firstByte = single-limited firstByteKind code clock bytes _ _ (a-kind refl refl refl) refl (reads (λ _ _. refl) (λ _ _. refl) interprets-first)
-rule-begins code clock bytes listedTarget = single-limited listedTargetKind code clock bytes _ _ (a-kind refl refl refl) refl (reads (λ _ _. refl) (λ _ _. refl) interprets-list)
-rule-begins code clock bytes exchangedData = single-limited exchangedDataKind code clock bytes _ _ (a-kind refl refl refl) refl (reads (λ _ _. refl) (λ _ _. refl) interprets-exchange)
-rule-begins code clock bytes thru = single-limited thruKind code clock bytes _ _ (a-kind refl refl refl) refl (reads (λ _ _. refl) (λ _ _. refl) interprets-thru)
-rule-begins code clock bytes jump = single-limited jumpKind code clock bytes _ _ (a-kind refl refl refl) refl (reads (λ _ _. refl) (λ _ _. refl) interprets-jump)
-rule-begins code clock bytes status = single-limited statusKind code clock bytes _ _ (a-kind refl refl refl) refl (reads (λ _ _. refl) (λ _ _. refl) (λ bs. by-status bs empty))
-rule-begins code clock bytes initiatorCommand = single-limited initiatorCommandKind code clock bytes _ _ (a-kind refl refl refl) refl (reads (λ _ _. refl) (λ _ _. refl) interprets-initiator)
-rule-begins code clock bytes targetStatus = single-limited targetStatusKind code clock bytes _ _ (a-kind refl refl refl) refl (reads (λ _ _. refl) (λ _ _. refl) interprets-target)
+-- ---- a call of one command
+
+-- what the tables have for a kind and its first stage
+record Stage : Type 0 where
+  noCall : Bool
+  opening : Bool
+  within : Bool
+  reset : Bool
+  decision : List ℕ → List ℕ → Decision
+  failure : List ℕ → Fault → Decision
+
+abbrev stageOf : ℕ → List ℕ → Stage
+stageOf kind bytes =
+    record {
+      noCall = eqb kind noCallKind;
+      opening = eqb kind openingKind;
+      within = leb kind lastKind;
+      reset = isResetOf kind firstStage;
+      decision = decidedOf kind firstStage 0 bytes;
+      failure = failedOf kind firstStage 0 bytes;
+    }
+
+-- the response ends the call with the answer a, a failure with its fault
+abbrev ending : (List ℕ → Answer ℕ) → Stage
+ending a = record { noCall = false; opening = false; within = true; reset = false; decision = λ _ bs. ends (a bs); failure = λ _ r. refuseWith r }
+
+-- a kind of this stage, with the answer that the script f has
+record Reads (kind : ℕ) (bytes : List ℕ) (f : List ℕ → Script) : Type 0 where
+  answer : List ℕ → Answer ℕ
+  stage : stageOf kind bytes ≡ ending answer
+  interprets : (bs : List ℕ) → Interprets (f bs) (answer bs)
+
+reads : {kind : ℕ} {bytes : List ℕ} {f : List ℕ → Script} {a : List ℕ → Answer ℕ} → stageOf kind bytes ≡ ending a → ((bs : List ℕ) → Interprets (f bs) (a bs)) → Reads kind bytes f
+reads e h = record { answer = _; stage = e; interprets = h }
+
+module _ {kind : ℕ} {bytes : List ℕ} {f : List ℕ → Script} (code clock : ℕ) (k : Reads kind bytes f) where
+  single : length bytes ≤ 512 → Starting (starts (command code clock bytes (either f refuse))) (sends kind (cmd code clock bytes))
+  single few =
+      first kind code clock bytes (either f refuse)
+      (a-kind (ap (λ s. s .noCall) (k .stage)) (ap (λ s. s .opening) (k .stage)) (ap (λ s. s .within) (k .stage)))
+      (ap (λ s. s .reset) (k .stage)) few
+      (λ found. record {
+        answered = λ cs _. rw (ap (λ s. s .decision found cs) (k .stage)) (answer-refines (k .interprets cs));
+        failing = λ e. rw (ap (λ s. s .failure found e) (k .stage)) (refusal e);
+      })
+
+  single-limited : Starting (limitedStart bytes (command code clock bytes (either f refuse))) (limited kind (cmd code clock bytes))
+  unfolding limited
+  single-limited = begins-limited bytes single
+
+-- a line for each rule
+rule-reads : (bytes : List ℕ) (q : Rule) → Reads (kindOf q) bytes (ruleScript q)
+unfolding decidedOf failedOf isResetOf pick
+rule-reads bytes version = reads refl interprets-version
+rule-reads bytes noBytes = reads refl (λ _. empty)
+rule-reads bytes allBytes = reads refl (answers 0)
+rule-reads bytes registersWritten = reads refl interprets-write
+rule-reads bytes firstByte = reads refl interprets-first
+rule-reads bytes listedTarget = reads refl interprets-list
+rule-reads bytes exchangedData = reads refl interprets-exchange
+rule-reads bytes thru = reads refl interprets-thru
+rule-reads bytes jump = reads refl interprets-jump
+rule-reads bytes status = reads refl (λ bs. by-status bs empty)
+rule-reads bytes initiatorCommand = reads refl interprets-initiator
+rule-reads bytes targetStatus = reads refl interprets-target
 
 row-begins : (w : Row) → Starting (rowStart w) (rowFirst w)
-unfolding isResetOf commandOf decidedOf answerOf pick
-row-begins (row holds code clock bytes q) = begins-asserted holds (λ _. rule-begins code clock bytes q)
+unfolding isResetOf commandOf decidedOf pick
+row-begins (row holds code clock bytes q) = begins-asserted holds (λ _. single-limited code clock (rule-reads bytes q))
 row-begins resets = leading resetModeKind [] _ (a-kind refl refl refl) (omega arith) (λ found. refines-reset firstStage _ refl refl refl (answer-refines empty))
 
 -- ---- a discovery, or transceive
@@ -138,13 +169,8 @@ by-code takes text f g h = go (choiceOf text)
 -- Type A's list, of a kind that has its stages
 list-begins : (kind : ℕ) → Kind kind → (uid : List ℕ) (code : ℕ) (s : Script) → ((found : List ℕ) → Refines kind 0 (1 ∷ code ∷ cascaded uid) found (send firstStage) s)
     → Starting (limitedStart (1 ∷ code ∷ cascaded uid) s) (listFirst kind uid code)
-unfolding listFirst stagedLimited pick
-list-begins kind h uid code s k = go (ltb 512 (length (1 ∷ code ∷ cascaded uid))) refl
-  where
-    go : (t : Bool) → ltb 512 (length (1 ∷ code ∷ cascaded uid)) ≡ t
-        → Starting (cond t (refusesStart OverLong) (starts s)) (pick t (refuses OverLong) (staged kind (1 ∷ code ∷ cascaded uid)))
-    go true e = refusedNow OverLong
-    go false e = leading kind _ _ h (ltb-false 512 (length (1 ∷ code ∷ cascaded uid)) e) k
+unfolding listFirst stagedLimited
+list-begins kind h uid code s k = begins-limited (1 ∷ code ∷ cascaded uid) (λ few. leading kind _ _ h few k)
 
 dep-begins : (req : List ℕ) → length req ≤ 64 → (code : ℕ) → Starting (starts (depScript code req)) (depFirst req code)
 unfolding depFirst
@@ -152,17 +178,17 @@ dep-begins req h code = leading depKind _ _ (a-kind refl refl refl) (jump-few re
 
 transceive-begins : (rate : Bitrate) (selRes : List ℕ) (ridRes : Bool) (bytes : List ℕ) (ms : ℕ)
     → Starting (transceiveStart rate selRes ridRes bytes ms) (pick ridRes (type1First bytes ms) (thruFirst rate selRes bytes ms))
-unfolding type1First thruFirst answerOf decidedOf failedOf isResetOf pick
+unfolding type1First thruFirst decidedOf failedOf isResetOf pick
 transceive-begins rate selRes true bytes ms = go (isSendable bytes)
   where
     go : (t : Bool) → Starting (cond t (limitedStart (0x01 ∷ bytes) (transceiveType1 bytes ms)) (refusesStart NotSendable)) (pick t (limited type1Kind (cmd inDataExchangeCode ms (0x01 ∷ bytes))) (refuses NotSendable))
-    go true = single-limited type1Kind inDataExchangeCode ms (0x01 ∷ bytes) _ _ (a-kind refl refl refl) refl (reads (λ _ _. refl) (λ _ _. refl) interprets-type1)
+    go true = single-limited inDataExchangeCode ms (reads refl interprets-type1)
     go false = refusedNow NotSendable
 transceive-begins rate selRes false bytes ms = go (is106A rate && type2SelRes selRes)
   where
     go : (t : Bool) → Starting (limitedStart bytes (ifElse t (transceiveType2 bytes ms) (transceiveThru bytes ms))) (limited (pick t type2Kind thruKind) (cmd inCommunicateThruCode ms bytes))
-    go true = single-limited type2Kind inCommunicateThruCode ms bytes _ _ (a-kind refl refl refl) refl (reads (λ _ _. refl) (λ _ _. refl) interprets-type2)
-    go false = single-limited thruKind inCommunicateThruCode ms bytes _ _ (a-kind refl refl refl) refl (reads (λ _ _. refl) (λ _ _. refl) interprets-thru)
+    go true = single-limited inCommunicateThruCode ms (reads refl interprets-type2)
+    go false = single-limited inCommunicateThruCode ms (rule-reads bytes thru)
 
 -- a read and a write of FeliCa blocks
 read-begins : (idm : List ℕ) (service : ℕ) (blocks : List ℕ) (ms : ℕ)
@@ -170,16 +196,14 @@ read-begins : (idm : List ℕ) (service : ℕ) (blocks : List ℕ) (ms : ℕ)
 unfolding readFirst decidedOf failedOf isResetOf pick
 read-begins idm service blocks ms =
     begins-asserted (requestFits idm blocks)
-    (λ h. single readBlocksKind inCommunicateThruCode ms (readRequest idm service blocks) _ (readAnswer (readRequest idm service blocks)) (a-kind refl refl refl) refl (read-length idm service blocks h)
-    (reads (λ _ _. refl) (λ _ _. refl) (interprets-read idm service blocks h)))
+    (λ h. single inCommunicateThruCode ms (reads refl (interprets-read idm service blocks h)) (read-length idm service blocks h))
 
 write-begins : (idm : List ℕ) (service : ℕ) (blocks bytes : List ℕ) (ms : ℕ)
     → Starting (assertedStart (writeFits idm blocks bytes) (starts (writeBlocks idm service blocks bytes ms))) (writeFirst idm service blocks bytes ms)
 unfolding writeFirst decidedOf failedOf isResetOf pick
 write-begins idm service blocks bytes ms =
     begins-asserted (writeFits idm blocks bytes)
-    (λ h. single writeBlocksKind inCommunicateThruCode ms (writeRequest idm service blocks bytes) _ (writeAnswer (writeRequest idm service blocks bytes)) (a-kind refl refl refl) refl (write-length idm service blocks bytes h)
-    (reads (λ _ _. refl) (λ _ _. refl) (interprets-written idm service blocks bytes h)))
+    (λ h. single inCommunicateThruCode ms (reads refl (interprets-written idm service blocks bytes h)) (write-length idm service blocks bytes h))
 
 -- one line for each call
 device-begins : (d : DeviceCall) → Starting (deviceStart d) (deviceFirst d)

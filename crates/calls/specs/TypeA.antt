@@ -1,4 +1,4 @@
--- Type A's discovery, and the mode in which UID and ATS are told apart: what is decided at each stage is what the script has.
+-- Type A's discovery, and the mode that separates UID and ATS: what is decided at each stage is what the script has.
 use mathlib.Core.Path.{_≡_, refl, sym, ap, _∙_}
 use mathlib.Core.Bool.{Bool, true, false}
 use mathlib.Core.List.{List, [], _∷_, _++_}
@@ -16,7 +16,7 @@ use Rattle.protocol.specs.Scripts.{Byte, Answer, done, type1, uidAndAts, nothin
 use Rattle.protocol.specs.Rules.{anyNonzero, maskedStatus}
 use Rattle.protocol.specs.Arguments.{word}
 use Rattle.protocol.specs.Discovery.{detectTypeA, detectTypeASplit, cascaded, isType2, cardA, uidLength, atsLength, foundA, foundSplit, noneOnStatus, cardType1, tryType1, noTarget}
-use Rattle.protocol.specs.Follows.{plainAnswer}
+use Rattle.protocol.specs.Machine.{plainAnswer}
 use Rattle.protocol.specs.Values.{rest-values}
 use Rattle.stages.specs.Stages.{Decision, send, ends, withLength}
 use Rattle.chipset.specs.Responses.{foundWritten}

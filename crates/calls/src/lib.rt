@@ -1,9 +1,23 @@
 // The calls by their kinds: the command of each stage, and what follows each reply. How each starts, by its number, is in start.rt.
 pub mod start;
 
+use chipset::ALL_BYTES;
+use chipset::EXCHANGED_DATA;
+use chipset::FIRST_BYTE;
+use chipset::INITIATOR_COMMAND;
+use chipset::JUMP;
+use chipset::LISTED_TARGET;
+use chipset::REGISTERS_WRITTEN;
 use chipset::RESET_MODE;
+use chipset::STATUS;
+use chipset::TARGET_STATUS;
+use chipset::THRU;
+use chipset::VERSION;
 use chipset::general;
+use chipset::initiator;
+use chipset::registers;
 use chipset::response;
+use chipset::target;
 use device::OPENING;
 use device::blocks;
 use device::blocks::READ_BLOCKS;
@@ -72,6 +86,17 @@ pub fn decided(
 {
     match kind {
         OPENING => device::decided(stage, found, response),
+        VERSION => general::get_firmware_version_response(response),
+        ALL_BYTES => response::from(response, 0),
+        REGISTERS_WRITTEN => registers::write_register_response(response),
+        FIRST_BYTE => registers::read_single_register_response(response),
+        LISTED_TARGET => initiator::in_list_passive_target_response(response),
+        EXCHANGED_DATA => initiator::in_data_exchange_response(response),
+        THRU => initiator::in_communicate_thru_response(response),
+        JUMP => initiator::in_jump_for_dep_response(response),
+        STATUS => target::status_response(response),
+        INITIATOR_COMMAND => target::tg_get_initiator_command_response(response),
+        TARGET_STATUS => target::tg_get_target_status_response(response),
         TYPE_2 => transceive::type2_response(response),
         TYPE_1 => transceive::type1_response(response),
         TYPE_A => type_a::decided(stage, found, response),
@@ -82,7 +107,7 @@ pub fn decided(
         TYPE_A_SPLIT => type_a_split::decided(stage, cursor, found, response),
         READ_BLOCKS => blocks::read_response(pending, response),
         WRITE_BLOCKS => blocks::write_response(pending, response),
-        _ => response::decided(kind, response),
+        _ => response::part(0, 0),
     }
 }
 

@@ -6,7 +6,6 @@ use Prim.Native.Nat.{ℕ, _+_, _*_, _-_, _≤_, _<_}
 use native.Mathlib.Numerals.{add-one}
 use native.Mathlib.Omega.{arith}
 use borrow.Author.Tests.{eq-eqb, ne-eqb}
-use lib.Dec.{eqb}
 use lib.ListN.{length, take, drop, getD, length-drop, drop-of-length-le}
 use lib.Seq.{drop-cons, take-all}
 use Rattle.protocol.specs.Rules.{anyNonzero}
@@ -51,9 +50,9 @@ module _ (bs : List ℕ) where
       answer-done bs r _ (λ f. subst (λ l. Lays f bs r (l ++ (word m ++ word n))) first (k f))
 
   -- the rates as their indexes give them
-  pub comes-rates : (r : Decision) (m n m′ n′ : ℕ) → m ≡ m′ → n ≡ n′ → AnswerRefines bs r (done (getD bs 0 0 ∷ (word m ++ word n)))
+  pub answer-rates : (r : Decision) (m n m′ n′ : ℕ) → m ≡ m′ → n ≡ n′ → AnswerRefines bs r (done (getD bs 0 0 ∷ (word m ++ word n)))
       → AnswerRefines bs r (done (getD bs 0 0 ∷ (word m′ ++ word n′)))
-  comes-rates r m n m′ n′ e f h = rw (← e, ← f) h
+  answer-rates r m n m′ n′ e f h = rw (← e, ← f) h
 
 -- the bit of a part of in_jump_for_dep
 pub bit-none : (l : List ℕ) → length l ≡ 0 → 0 ≡ bit l

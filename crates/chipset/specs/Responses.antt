@@ -1,4 +1,4 @@
--- What a response comes to, by the kind of its call. A reset's is not looked at.
+-- What the response to each command comes to.
 use mathlib.Core.List.{List, [], _∷_, _++_}
 use Prim.Native.Nat.{ℕ}
 use lib.Dec.{eqb, ltb}
@@ -10,7 +10,6 @@ use Rattle.stages.specs.Stages.{Decision, ends, refuse}
 use Rattle.protocol.specs.Rules.{anyNonzero, statusByte, maskedStatus, moreFlag, sendIndex, receiveIndex, rate}
 use Rattle.protocol.specs.Arguments.{word}
 use Rattle.protocol.specs.Names.{noData, registerWriteFailed}
-use Rattle.chipset.specs.Kinds.{versionKind, allBytesKind, registersWrittenKind, firstByteKind, listedTargetKind, exchangedDataKind, thruKind, jumpKind, statusKind, initiatorCommandKind, targetStatusKind}
 
 -- at least n bytes, else 16; a status of 0, else 15
 unfoldable pub withLength : List ℕ → ℕ → Answer ℕ → Answer ℕ
@@ -22,8 +21,8 @@ withStatus bs a = pick (eqb (statusByte bs) 0) a (refused (Status (statusByte bs
 unfoldable pub versionAnswer : List ℕ → Answer ℕ
 versionAnswer bs = withLength bs 4 (done (take 3 bs))
 
-unfoldable pub writeAnswer : List ℕ → Answer ℕ
-writeAnswer bs = pick (anyNonzero bs) (refused (Status registerWriteFailed)) (done [])
+unfoldable pub writtenAnswer : List ℕ → Answer ℕ
+writtenAnswer bs = pick (anyNonzero bs) (refused (Status registerWriteFailed)) (done [])
 
 -- the last command of a call: the answer is what was found
 unfoldable pub foundWritten : List ℕ → List ℕ → Decision
@@ -53,26 +52,3 @@ targetAnswer bs =
     (pick (ltb 2 (sendIndex bs)) (refused Rate)
     (pick (ltb 2 (receiveIndex bs)) (refused Rate) (done (getD bs 0 0 ∷ (word (rate (sendIndex bs)) ++ word (rate (receiveIndex bs)))))))
     (done (getD bs 0 0 ∷ 0 ∷ 0 ∷ 0 ∷ 0 ∷ [])))
-
-unfoldable pub answerOf : ℕ → List ℕ → Answer ℕ
-answerOf kind bs =
-    pick (eqb kind versionKind) (versionAnswer bs)
-    (pick (eqb kind allBytesKind) (done bs)
-    (pick (eqb kind registersWrittenKind) (writeAnswer bs)
-    (pick (eqb kind firstByteKind) (firstAnswer bs)
-    (pick (eqb kind listedTargetKind) (listAnswer bs)
-    (pick (eqb kind exchangedDataKind) (exchangeAnswer bs)
-    (pick (eqb kind thruKind) (withStatus bs (done (drop 1 bs)))
-    (pick (eqb kind jumpKind) (jumpAnswer bs)
-    (pick (eqb kind statusKind) (withStatus bs (done []))
-    (pick (eqb kind initiatorCommandKind) (initiatorAnswer bs)
-    (pick (eqb kind targetStatusKind) (targetAnswer bs) (done [])))))))))))
-
--- the kinds from `thruKind` on
-unfoldable pub laterAnswer : ℕ → List ℕ → Answer ℕ
-laterAnswer kind bs =
-    pick (eqb kind thruKind) (withStatus bs (done (drop 1 bs)))
-    (pick (eqb kind jumpKind) (jumpAnswer bs)
-    (pick (eqb kind statusKind) (withStatus bs (done []))
-    (pick (eqb kind initiatorCommandKind) (initiatorAnswer bs)
-    (pick (eqb kind targetStatusKind) (targetAnswer bs) (done [])))))

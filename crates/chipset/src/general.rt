@@ -50,7 +50,7 @@ pub fn get_firmware_version(command: &mut [u8; 512]) -> Start
     start::command(VERSION, GET_FIRMWARE_VERSION, clock::COMMAND, n)
 }
 
-pub(crate) fn get_firmware_version_response(response: &[u8]) -> Decision
+pub fn get_firmware_version_response(response: &[u8]) -> Decision
     ensures { λ r. ⌜ AnswerRefines (now (response .entry)) r (versionAnswer (now (response .entry))) ⌝ }
 {
     if response.len() < 4 {

@@ -56,7 +56,7 @@ pub fn in_list_passive_target(
 }
 
 // NbTg and Tg are left out.
-pub(crate) fn in_list_passive_target_response(response: &[u8]) -> Decision
+pub fn in_list_passive_target_response(response: &[u8]) -> Decision
     ensures { λ r. ⌜ AnswerRefines (now (response .entry)) r (listAnswer (now (response .entry))) ⌝ }
 {
     if byte_or(response, 0, 0) == 0 {
@@ -77,7 +77,7 @@ pub fn in_data_exchange(bytes: &[u8], ms: u32, command: &mut [u8; 512]) -> Start
 }
 
 // The status is masked, and the more flag stands behind the data.
-pub(crate) fn in_data_exchange_response(response: &[u8]) -> Decision
+pub fn in_data_exchange_response(response: &[u8]) -> Decision
     ensures { λ r. ⌜ AnswerRefines (now (response .entry)) r (exchangeAnswer (now (response .entry))) ⌝ }
 {
     if response.len() == 0 {
@@ -101,7 +101,7 @@ pub fn in_communicate_thru(bytes: &[u8], ms: u32, command: &mut [u8; 512]) -> St
 }
 
 // The status is not masked.
-pub(crate) fn in_communicate_thru_response(response: &[u8]) -> Decision
+pub fn in_communicate_thru_response(response: &[u8]) -> Decision
     ensures { λ r. ⌜ AnswerRefines (now (response .entry)) r (withStatus (now (response .entry)) (done (drop 1 (now (response .entry))))) ⌝ }
 {
     let status = byte_or(response, 0, err::NO_DATA);
@@ -142,7 +142,7 @@ pub fn in_jump_for_dep(
 }
 
 // Status and Tg are left out.
-pub(crate) fn in_jump_for_dep_response(response: &[u8]) -> Decision
+pub fn in_jump_for_dep_response(response: &[u8]) -> Decision
     ensures { λ r. ⌜ AnswerRefines (now (response .entry)) r (jumpAnswer (now (response .entry))) ⌝ }
 {
     let status = byte_or(response, 0, err::NO_DATA);

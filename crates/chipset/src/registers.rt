@@ -18,10 +18,12 @@ ghost use Prim.Native.Nat.{_<_};
 ghost use Rattle.protocol.specs.Rules.{anyNonzero};
 ghost use Rattle.protocol.specs.Calls.{readRegister, writeRegister, readSingleRegister, writeSingleRegister};
 ghost use Rattle.protocol.specs.Arguments.{registers as registersOf};
+ghost use Rattle.protocol.specs.Names.{registersClock};
 ghost use Rattle.stages.specs.Decided.{DecisionRefines, AnswerRefines, Commands};
-ghost use Rattle.stages.specs.Starts.{Starts};
+ghost use Rattle.stages.specs.Stages.{cmd};
+ghost use Rattle.stages.specs.Starts.{limited, asserted, Starts};
 ghost use Rattle.chipset.specs.Commands.{firstOf, readCommand, writeCommand};
-ghost use Rattle.chipset.specs.Responses.{foundWritten, writeAnswer, firstAnswer};
+ghost use Rattle.chipset.specs.Responses.{foundWritten, writtenAnswer, firstAnswer};
 
 // The command codes.
 pub const READ_REGISTER: u8 = 0x06;
@@ -40,28 +42,31 @@ fn whole_registers(bytes: &[u8], size: usize) -> bool
     }
 }
 
+// Whole registers are sent as they are.
+fn of_registers(kind: u8, code: u8, size: usize, bytes: &[u8], command: &mut [u8; 512]) -> Start
+    requires { ⌜ 0 < size ⌝ }
+    ensures { λ r. ⌜ Starts r (now (command .entry)) (now (command .exit)) (asserted (registersOf size (now (bytes .entry))) (limited kind (cmd code registersClock (now (bytes .entry))))) ⌝ }
+{
+    if whole_registers(bytes, size) {
+        let n = put_two(bytes, &[], command);
+        start::command(kind, code, clock::REGISTERS, n)
+    } else {
+        start::refused(Refusal::BadArgument)
+    }
+}
+
 // The addresses as they are sent, high byte first.
 pub fn read_register(addresses: &[u8], command: &mut [u8; 512]) -> Start
     ensures { λ r. ⌜ Starts r (now (command .entry)) (now (command .exit)) (firstOf (readRegister (now (addresses .entry)))) ⌝ }
 {
-    if whole_registers(addresses, 2) {
-        let n = put_two(addresses, &[], command);
-        start::command(ALL_BYTES, READ_REGISTER, clock::REGISTERS, n)
-    } else {
-        start::refused(Refusal::BadArgument)
-    }
+    of_registers(ALL_BYTES, READ_REGISTER, 2, addresses, command)
 }
 
 // For each register its address, high byte first, and its value.
 pub fn write_register(registers: &[u8], command: &mut [u8; 512]) -> Start
     ensures { λ r. ⌜ Starts r (now (command .entry)) (now (command .exit)) (firstOf (writeRegister (now (registers .entry)))) ⌝ }
 {
-    if whole_registers(registers, 3) {
-        let n = put_two(registers, &[], command);
-        start::command(REGISTERS_WRITTEN, WRITE_REGISTER, clock::REGISTERS, n)
-    } else {
-        start::refused(Refusal::BadArgument)
-    }
+    of_registers(REGISTERS_WRITTEN, WRITE_REGISTER, 3, registers, command)
 }
 
 // Whether a byte is not 0.
@@ -79,8 +84,8 @@ pub fn any_nonzero(bytes: &[u8]) -> bool
 }
 
 // A register was not written.
-pub(crate) fn write_register_response(response: &[u8]) -> Decision
-    ensures { λ r. ⌜ AnswerRefines (now (response .entry)) r (writeAnswer (now (response .entry))) ⌝ }
+pub fn write_register_response(response: &[u8]) -> Decision
+    ensures { λ r. ⌜ AnswerRefines (now (response .entry)) r (writtenAnswer (now (response .entry))) ⌝ }
 {
     if any_nonzero(response) {
         Decision::Refused(Fault::Status(err::REGISTER_WRITE_FAILED))
@@ -118,7 +123,7 @@ pub fn read_single_register_command(address: u16) -> Command
     Command::with(READ_REGISTER, clock::REGISTERS, bytes, 2)
 }
 
-pub(crate) fn read_single_register_response(response: &[u8]) -> Decision
+pub fn read_single_register_response(response: &[u8]) -> Decision
     ensures { λ r. ⌜ AnswerRefines (now (response .entry)) r (firstAnswer (now (response .entry))) ⌝ }
 {
     if response.len() < 1 {

@@ -102,7 +102,7 @@ pub fn tg_get_initiator_command(ms: u32, command: &mut [u8; 512]) -> Start
 }
 
 // None on any other status.
-pub(crate) fn tg_get_initiator_command_response(response: &[u8]) -> Decision
+pub fn tg_get_initiator_command_response(response: &[u8]) -> Decision
     ensures { λ r. ⌜ AnswerRefines (now (response .entry)) r (initiatorAnswer (now (response .entry))) ⌝ }
 {
     if byte_or(response, 0, err::NO_DATA) == 0 {
@@ -125,7 +125,7 @@ pub fn tg_response_to_initiator(bytes: &[u8], command: &mut [u8; 512]) -> Start
 }
 
 // Of tg_set_general_bytes and tg_response_to_initiator.
-pub(crate) fn status_response(response: &[u8]) -> Decision
+pub fn status_response(response: &[u8]) -> Decision
     ensures { λ r. ⌜ AnswerRefines (now (response .entry)) r (withStatus (now (response .entry)) (done [])) ⌝ }
 {
     let status = byte_or(response, 0, err::NO_DATA);
@@ -174,7 +174,7 @@ fn with_rates(send: u16, receive: u16) -> Decision
     Decision::Done(Layout::tailed(0, 1, tail, 4))
 }
 
-pub(crate) fn tg_get_target_status_response(response: &[u8]) -> Decision
+pub fn tg_get_target_status_response(response: &[u8]) -> Decision
     ensures { λ r. ⌜ AnswerRefines (now (response .entry)) r (targetAnswer (now (response .entry))) ⌝ }
 {
     if response.len() < 2 {

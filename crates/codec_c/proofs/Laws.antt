@@ -8,7 +8,7 @@ use Rattle.crc.specs.Answers as crc
 use Rattle.crc.specs.Crc.{typeB}
 use Rattle.crc.specs.declared.Added.{Added}
 use Rattle.crc.specs.declared.Added.the-variants as added
-use Rattle.errors.specs.Refusals.{Outcome, numbered}
+use Rattle.errors.specs.Refusals.{Returned, numbered}
 use Rattle.errors.specs.declared.Refusal.{Refusal}
 use Rattle.framing.specs.Build.{left, buildOf}
 use Rattle.framing.specs.Build as framing
@@ -24,7 +24,7 @@ use Rattle.framing.specs.declared.settings.Setting.the-variants.{Format, Nothin
 use Rattle.codec_c.specs.Answers.{written, writtenOf, buildFor, appendB, foundOf, parsed, parseFor, parsedPadded, paddedFor}
 use Rattle.codec_c.specs.declared.Found.{Found}
 
-module _ (bytes out after : List ℕ) (count : ℕ) (r : Added) (e : _≡_ {A = Outcome × List ℕ} (crc.outcome r, after) (added typeB bytes out)) where
+module _ (bytes out after : List ℕ) (count : ℕ) (r : Added) (e : _≡_ {A = Returned × List ℕ} (crc.returned r, after) (added typeB bytes out)) where
   pub appended : (n : ℕ) → r ≡ added.Bytes n → written 0 after n ≡ appendB bytes out count
   unfolding appendB writtenOf
   appended n h = rw (← e, h)
@@ -56,11 +56,11 @@ module _ (s t : Setting) (e : s ≡ t) where
     unfolding parseFor
     was-parsed packet before places p g k = rw (← e, h, ← g, k)
 
-    module _ (payload buffer after : List ℕ) (count : ℕ) (r : Built) (g : left (framing.outcome r) after ≡ buildOf f payload buffer) where
+    module _ (payload buffer after : List ℕ) (count : ℕ) (r : Built) (g : left (framing.returned r) after ≡ buildOf f payload buffer) where
       pub was-built : (n : ℕ) → r ≡ built.Frame n → written 0 after n ≡ buildFor t payload buffer count
-      unfolding buildFor writtenOf framing.outcome
+      unfolding buildFor writtenOf framing.returned
       was-built n k = rw (← e, h, ← g, k)
 
       pub not-built : (m : ℕ) (x : Refusal) → r ≡ built.Refused x → m ≡ numbered x .number → written m after count ≡ buildFor t payload buffer count
-      unfolding buildFor writtenOf framing.outcome
+      unfolding buildFor writtenOf framing.returned
       not-built m x k l = rw (← e, h, ← g, k, l)

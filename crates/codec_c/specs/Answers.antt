@@ -4,7 +4,7 @@ use mathlib.Core.List.{List}
 use Prim.Native.Nat.{ℕ}
 use Rattle.crc.specs.Answers.{added}
 use Rattle.crc.specs.Crc.{typeB}
-use Rattle.errors.specs.Refusals.{Outcome, answered, refused, plain}
+use Rattle.errors.specs.Refusals.{Returned, answered, refused, plain}
 use Rattle.framing.specs.Build.{buildOf}
 use Rattle.framing.specs.Padded.{parsePadded}
 use Rattle.framing.specs.Parse.{parseOf}
@@ -25,13 +25,13 @@ abbrev pub written : ℕ → List ℕ → ℕ → Written
 written answer buffer count = record { answer = answer; buffer = buffer; count = count }
 
 -- a refusal leaves the count as it was
-unfoldable pub writtenOf : Outcome → List ℕ → ℕ → Written
+unfoldable pub writtenOf : Returned → List ℕ → ℕ → Written
 writtenOf (answered n) buffer count = written 0 buffer n
 writtenOf (refused e) buffer count = written (e .number) buffer count
 
 -- a frame under a setting; where there is no such setting, refusal 4 and nothing written
 unfoldable pub buildFor : Setting → List ℕ → List ℕ → ℕ → Written
-buildFor (Format f) payload buffer count = writtenOf (buildOf f payload buffer .told) (buildOf f payload buffer .buffer) count
+buildFor (Format f) payload buffer count = writtenOf (buildOf f payload buffer .result) (buildOf f payload buffer .buffer) count
 buildFor Setting.Nothing payload buffer count = writtenOf (refused (plain 4)) buffer count
 
 -- bytes with their CRC_B

@@ -10,7 +10,7 @@ use lib.Dec.{eqb}
 use lib.ListN.{length, take, drop, getD, set, length-drop, length-append, drop-of-length-le}
 use lib.Seq.{drop-cons, take-length, take-append-seam, drop-append-add, drop-drop, sets-eq}
 use borrow.Author.Tests.{lt-ltb, le-ltb}
-use Rattle.errors.specs.Refusals.{Outcome, answered, refused, plain}
+use Rattle.errors.specs.Refusals.{Returned, answered, refused, plain}
 use Rattle.errors.specs.Choice.{pick, same}
 use Rattle.crc.specs.Crc.{Kind, crcOf, crcBytes, checks}
 use Rattle.crc.specs.Answers.{added}
@@ -37,7 +37,7 @@ module _ (k : Kind) (s : List ℕ) where
         rw (le-ltb (length s) 2 h, last-two h, ← e, d, and-true)
 
 module _ (k : Kind) (s out : List ℕ) where
-  pub no-room : length out < length s + 2 → _≡_ {A = Outcome × List ℕ} (refused (plain 2), out) (added k s out)
+  pub no-room : length out < length s + 2 → _≡_ {A = Returned × List ℕ} (refused (plain 2), out) (added k s out)
   unfolding added pick
   no-room h = rw lt-ltb
 
@@ -55,7 +55,7 @@ module _ (k : Kind) (s out : List ℕ) where
 
     -- x is the CRC of s
     pub written : (x : ℕ) → x ≡ crcOf k s → x < 2 ^ 16
-        → _≡_ {A = Outcome × List ℕ} (answered (length s + 2), set (set o (length s) (x % 256)) (length s + 1) (x / 256)) (added k s out)
+        → _≡_ {A = Returned × List ℕ} (answered (length s + 2), set (set o (length s) (x % 256)) (length s + 1) (x / 256)) (added k s out)
     unfolding added pick crcBytes
     written x e b =
         let d : x / 256 % 256 ≡ x / 256 = omega arith in

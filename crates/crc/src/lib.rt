@@ -2,9 +2,9 @@
 ghost use mathlib.Core.List.{List};
 ghost use mathlib.Core.Path.{_≡_};
 ghost use Prim.Native.Nat.{ℕ};
-ghost use Rattle.errors.specs.Refusals.{Outcome};
+ghost use Rattle.errors.specs.Refusals.{Returned};
 ghost use Rattle.crc.specs.Crc.{kind, typeA, typeB, crcOf, checks};
-ghost use Rattle.crc.specs.Answers.{outcome, added};
+ghost use Rattle.crc.specs.Answers.{returned, added};
 
 mod table;
 
@@ -47,7 +47,7 @@ fn verify_crc(data: &[u8], initial: u16, inverted: bool) -> bool
 }
 
 fn append_crc(data: &[u8], out: &mut [u8], initial: u16, inverted: bool) -> Added
-    ensures { λ r. ⌜ _≡_ {A = Outcome × List ℕ} (outcome r, now (out .exit)) (added (kind initial inverted) (now («data» .entry)) (now (out .entry))) ⌝ }
+    ensures { λ r. ⌜ _≡_ {A = Returned × List ℕ} (returned r, now (out .exit)) (added (kind initial inverted) (now («data» .entry)) (now (out .entry))) ⌝ }
 {
     let n = data.len();
     if out.len() < n + 2 {
@@ -76,14 +76,14 @@ pub fn check_crc_b(data: &[u8]) -> bool
 
 // Writes `data` and its CRC_A to the start of `out`, and says how many bytes they are. A buffer that is too short is refused and left as it is.
 pub fn add_crc_a(data: &[u8], out: &mut [u8]) -> Added
-    ensures { λ r. ⌜ _≡_ {A = Outcome × List ℕ} (outcome r, now (out .exit)) (added typeA (now («data» .entry)) (now (out .entry))) ⌝ }
+    ensures { λ r. ⌜ _≡_ {A = Returned × List ℕ} (returned r, now (out .exit)) (added typeA (now («data» .entry)) (now (out .entry))) ⌝ }
 {
     append_crc(data, out, CRC_A_INIT, false)
 }
 
 // The same with CRC_B.
 pub fn add_crc_b(data: &[u8], out: &mut [u8]) -> Added
-    ensures { λ r. ⌜ _≡_ {A = Outcome × List ℕ} (outcome r, now (out .exit)) (added typeB (now («data» .entry)) (now (out .entry))) ⌝ }
+    ensures { λ r. ⌜ _≡_ {A = Returned × List ℕ} (returned r, now (out .exit)) (added typeB (now («data» .entry)) (now (out .entry))) ⌝ }
 {
     append_crc(data, out, CRC_B_INIT, true)
 }

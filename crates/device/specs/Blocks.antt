@@ -1,19 +1,17 @@
 -- Read and Write Without Encryption: how each starts, and its answers. The pending command is the request.
-use mathlib.Core.Path.{_≡_, refl, sym, ap, _∙_}
+use mathlib.Core.Path.{_≡_, refl, sym, ap}
 use mathlib.Core.Bool.{Bool, true, false}
 use mathlib.Core.List.{List, [], _++_}
-use Prim.Native.Nat.{ℕ, _+_, _*_, _-_, _≤_, _<_}
+use Prim.Native.Nat.{ℕ, _+_, _-_, _≤_}
 use native.Mathlib.Omega.{arith}
 use borrow.Author.Tests.{le-ltb}
-use lib.Dec.{eqb, ltb}
-use lib.ListN.{length, take, drop, getD, length-drop, drop-of-length-le}
-use lib.Seq.{take-all}
+use lib.Dec.{ltb}
+use lib.ListN.{length, drop}
 use Rattle.errors.specs.Choice.{pick}
-use Rattle.errors.specs.Refusals.{Outcome, answered, refused as refusedWith, numbered, plain}
-use Rattle.errors.specs.declared.Fault.the-variants.{Status}
+use Rattle.errors.specs.Refusals.{Returned, answered, refused as refusedWith, numbered}
 use Rattle.errors.specs.declared.Refusal.{Refusal}
 use Rattle.errors.specs.declared.Refusal.the-variants.{OutOfTurn, ShortBuffer, OverLong, BadArgument, Bitrate, NotSendable}
-use Rattle.framing.specs.Build.{Left, left, putFrame}
+use Rattle.framing.specs.Build.{left, putFrame}
 use Rattle.felica.specs.Packets.{readRequest, writeRequest, readCode, writeCode, requestFits, writeFits, builtOf}
 use Rattle.felica.specs.Fields.{idmIn, countIn}
 use Rattle.felica.specs.Checks.{readCheck, writeCheck}
@@ -22,12 +20,9 @@ use Rattle.felica.specs.declared.check.Checked.{Checked}
 use Rattle.felica.specs.declared.check.Checked.the-variants.{Good, Faulty}
 use Rattle.protocol.specs.Calls.{inCommunicateThruCode}
 use Rattle.protocol.specs.Scripts.{Answer, done, refused}
-use Rattle.stages.specs.Put.{Puts, Joins, joins-within}
+use Rattle.stages.specs.Put.{Joins, joins-within}
 use Rattle.stages.specs.Stages.{cmd}
 use Rattle.stages.specs.Starts.{Start, refuses, sends, limited, asserted, Starts, short-command}
-use Rattle.stages.specs.Decided.{AnswerRefines}
-use Rattle.stages.specs.Laws.{answer-refused}
-use Rattle.stages.specs.declared.Decision.{Decision}
 use Rattle.stages.specs.declared.start.Start as code
 use Rattle.chipset.specs.Responses.{withStatus}
 use Rattle.device.specs.Kinds.{readBlocksKind, writeBlocksKind}
@@ -56,9 +51,9 @@ writeAnswer pending bs = withStatus bs (ifGood (length bs) bs (writeCheck (idmIn
 
 -- ---- laws
 
-abbrev outcomeNumber : Outcome → ℕ
-outcomeNumber (answered j) = 0
-outcomeNumber (refusedWith y) = y .number
+abbrev returnedNumber : Returned → ℕ
+returnedNumber (answered j) = 0
+returnedNumber (refusedWith y) = y .number
 
 -- a request that was built, or refused
 module _ (c₀ c₁ p : List ℕ) where
@@ -68,11 +63,11 @@ module _ (c₀ c₁ p : List ℕ) where
   built-sent n kind ms r true few e k =
       let room : ltb (length c₀) (length p) ≡ false = le-ltb (length c₀) (length p) (few refl .1) in
       let f : left (answered n) c₁ ≡ left (answered (length p)) (p ++ drop (length p) c₀) = rw room at e in
-      let o : answered n ≡ answered (length p) = ap (λ l. l .told) f in
+      let o : answered n ≡ answered (length p) = ap (λ l. l .result) f in
       let m : n ≡ length p = cc in
       let b : c₁ ≡ p ++ drop (length p) c₀ = ap (λ l. l .buffer) f in
       short-command r c₀ c₁ kind (cmd inCommunicateThruCode ms p) (few refl .0) (k c₀ c₁ p (joins-within n c₀ c₁ p (few refl .0) record { count = m; is = b }))
-  built-sent n kind ms r false few e k = absurd (let z : 0 ≡ 4 = ap (λ l. outcomeNumber (l .told)) e in omega (arith, z))
+  built-sent n kind ms r false few e k = absurd (let z : 0 ≡ 4 = ap (λ l. returnedNumber (l .result)) e in omega (arith, z))
 
   pub built-refused : (x : Refusal) (kind ms : ℕ) (r : code.Start) (fits : Bool) → (fits ≡ true → (length p ≤ 512) × (length p ≤ length c₀))
       → left (refusedWith (numbered x)) c₁ ≡ builtOf fits p c₀ → ((c : List ℕ) → Starts r c c (refuses x)) → Starts r c₀ c₁ (thruIf fits kind ms p)
@@ -80,11 +75,11 @@ module _ (c₀ c₁ p : List ℕ) where
   built-refused x kind ms r true few e k =
       let room : ltb (length c₀) (length p) ≡ false = le-ltb (length c₀) (length p) (few refl .1) in
       let f : left (refusedWith (numbered x)) c₁ ≡ left (answered (length p)) (p ++ drop (length p) c₀) = rw room at e in
-      let o : refusedWith (numbered x) ≡ answered (length p) = ap (λ l. l .told) f in
+      let o : refusedWith (numbered x) ≡ answered (length p) = ap (λ l. l .result) f in
       absurd (let z : _≡_ {A = ℕ} 0 1 = cc in omega arith)
   built-refused x kind ms r false few e k =
       let b : c₁ ≡ c₀ = ap (λ l. l .buffer) e in
-      let n : numbered x .number ≡ 4 = ap (λ l. outcomeNumber (l .told)) e in
+      let n : numbered x .number ≡ 4 = ap (λ l. returnedNumber (l .result)) e in
       rw (b, ← bad x n) (k c₀)
     where
       bad : (y : Refusal) → numbered y .number ≡ 4 → y ≡ BadArgument
@@ -116,16 +111,3 @@ write-few idm blocks bytes c service n h =
     let b = write-few-bytes idm blocks bytes true (sym h) refl in
     let l = request-length writeCode service idm blocks bytes i in
     (omega (arith, l), omega (arith, l))
-
--- a reply stands behind the status byte
-pub behind-status : (bs : List ℕ) → 1 ≤ length bs → take (length bs - 1) (drop 1 bs) ≡ drop 1 bs
-behind-status bs h = take-all (length bs - 1) (drop 1 bs) (omega (arith, length-drop 1 bs))
-
-module _ (pending bs : List ℕ) (r : Decision) (c : Checked) (h : 1 ≤ length bs) where
-  pub comes-read : c ≡ readCheck (idmIn pending) (countIn pending) (take (length bs - 1) (drop 1 bs)) → AnswerRefines bs r (ifGood 14 bs c)
-      → AnswerRefines bs r (ifGood 14 bs (readCheck (idmIn pending) (countIn pending) (drop 1 bs)))
-  comes-read e k = rw (← behind-status bs h, ← e) k
-
-  pub comes-written : c ≡ writeCheck (idmIn pending) (take (length bs - 1) (drop 1 bs)) → AnswerRefines bs r (ifGood (length bs) bs c)
-      → AnswerRefines bs r (ifGood (length bs) bs (writeCheck (idmIn pending) (drop 1 bs)))
-  comes-written e k = rw (← behind-status bs h, ← e) k

@@ -83,7 +83,7 @@ module _ (r : code.Start) (c₀ c₁ : List ℕ) (rate : Bitrate) (selRes bytes 
   as-thru rid h s = rw (h, ← clock) s
 
 -- the check of a reply, which stands behind the status byte
-pub check-told : (bs : List ℕ) (r t : Bool) → r ≡ checks crcA (take (length bs - 1) (drop 1 bs)) → r ≡ t → checks crcA (drop 1 bs) ≡ t
-check-told bs r t e f =
+pub check-known : (bs : List ℕ) (r t : Bool) → r ≡ checks crcA (take (length bs - 1) (drop 1 bs)) → r ≡ t → checks crcA (drop 1 bs) ≡ t
+check-known bs r t e f =
     let l : length (drop 1 bs) ≤ length bs - 1 = rw (length-drop 1 bs) (omega arith) in
     ap (checks crcA) (sym (take-all (length bs - 1) (drop 1 bs) l)) ∙ sym e ∙ f

@@ -1,5 +1,5 @@
-// Read and Write Without Encryption of FeliCa blocks (document 02, N5): how each starts, and its response, which is held against
-// the request.
+// Read and Write Without Encryption of FeliCa blocks (document 02, N5): how each starts, and its response, which is checked
+// against the request.
 use super::transceive::Timeout;
 use super::transceive::clock;
 use chipset::err;
@@ -20,12 +20,13 @@ ghost use mathlib.Core.Bool.{Bool};
 ghost use mathlib.Core.List.{List};
 ghost use mathlib.Core.Path.{_≡_};
 ghost use Prim.Native.Nat.{ℕ, _≤_};
-ghost use lib.ListN.{length};
-ghost use Rattle.framing.specs.Build.{outcome, left};
+ghost use lib.ListN.{length, drop};
+ghost use Rattle.framing.specs.Build.{returned, left};
 ghost use Rattle.felica.specs.Packets.{builtOf};
 ghost use Rattle.protocol.specs.Starts.{clockOf};
 ghost use Rattle.stages.specs.Decided.{AnswerRefines};
 ghost use Rattle.stages.specs.Starts.{Starts};
+ghost use Rattle.chipset.specs.Responses.{withStatus};
 ghost use Rattle.device.specs.Transceive.{timeoutOf};
 ghost use Rattle.device.specs.Blocks.{thruIf, readFirst, writeFirst, ifGood, readAnswer, writeAnswer};
 
@@ -39,7 +40,7 @@ const BLOCKS_AT: usize = 14;
 
 // A request that was built in the pending command is sent through InCommunicateThru.
 fn sent(kind: u8, built: Built, ms: u32) -> Start
-    ensures { λ r. ⌜ ((fits : Bool) (p c₀ c₁ : List ℕ) → (fits ≡ Bool.true → (length p ≤ 512) × (length p ≤ length c₀)) → left (outcome built) c₁ ≡ builtOf fits p c₀ → Starts r c₀ c₁ (thruIf fits kind ms p)) ⌝ }
+    ensures { λ r. ⌜ ((fits : Bool) (p c₀ c₁ : List ℕ) → (fits ≡ Bool.true → (length p ≤ 512) × (length p ≤ length c₀)) → left (returned built) c₁ ≡ builtOf fits p c₀ → Starts r c₀ c₁ (thruIf fits kind ms p)) ⌝ }
 {
     match built {
         Built::Frame(n) => start::command(kind, initiator::IN_COMMUNICATE_THRU, ms, n),
@@ -76,10 +77,25 @@ pub fn write_without_encryption(
     sent(WRITE_BLOCKS, built, ms)
 }
 
-// The response from a place on where the reply is good; else its fault.
-fn if_good(checked: Checked, response: &[u8], start: usize) -> Decision
-    ensures { λ r. ⌜ AnswerRefines (now (response .entry)) r (ifGood start (now (response .entry)) checked) ⌝ }
+// The card's reply stands behind the status byte.
+fn reply(response: &[u8]) -> &[u8]
+    ensures { λ r. ⌜ now r ≡ drop 1 (now (response .entry)) ⌝ }
 {
+    let n = response.len();
+    if n < 1 {
+        return &response[n..];
+    }
+    &response[1..]
+}
+
+// The response from a place on where its status and its reply are good; else the fault of the first that is not.
+fn if_good(checked: Checked, response: &[u8], start: usize) -> Decision
+    ensures { λ r. ⌜ AnswerRefines (now (response .entry)) r (withStatus (now (response .entry)) (ifGood start (now (response .entry)) checked)) ⌝ }
+{
+    let status = byte_or(response, 0, err::NO_DATA);
+    if status != 0 {
+        return Decision::Refused(Fault::Status(status));
+    }
     match checked {
         Checked::Good => from(response, start),
         Checked::Faulty(fault) => Decision::Refused(fault),
@@ -90,26 +106,16 @@ fn if_good(checked: Checked, response: &[u8], start: usize) -> Decision
 pub fn read_response(pending: &[u8], response: &[u8]) -> Decision
     ensures { λ r. ⌜ AnswerRefines (now (response .entry)) r (readAnswer (now (pending .entry)) (now (response .entry))) ⌝ }
 {
-    let status = byte_or(response, 0, err::NO_DATA);
-    if status == 0 {
-        if_good(check_read(pending, &response[1..]), response, BLOCKS_AT)
-    } else {
-        Decision::Refused(Fault::Status(status))
-    }
+    if_good(check_read(pending, reply(response)), response, BLOCKS_AT)
 }
 
 // No bytes.
 pub fn write_response(pending: &[u8], response: &[u8]) -> Decision
     ensures { λ r. ⌜ AnswerRefines (now (response .entry)) r (writeAnswer (now (pending .entry)) (now (response .entry))) ⌝ }
 {
-    let status = byte_or(response, 0, err::NO_DATA);
-    if status == 0 {
-        if_good(
-            check_write(pending, &response[1..]),
-            response,
-            response.len(),
-        )
-    } else {
-        Decision::Refused(Fault::Status(status))
-    }
+    if_good(
+        check_write(pending, reply(response)),
+        response,
+        response.len(),
+    )
 }

@@ -31,7 +31,7 @@ pub enum Timeout {
     Ms(u16),
 }
 
-// What transceive waits for a card where it is not told, and what the chip gets beside it.
+// What transceive waits for a card where no ms are given, and what the chip gets beside it.
 const STANDARD_MS: u32 = 1000;
 
 const MARGIN_MS: u32 = 100;

@@ -66,12 +66,12 @@ no-dep B848B h = refl
 no-dep Other h = refl
 
 -- the status bytes 01 and 0A
-pub no-partner-told : (x : ℕ) → OneOf (1 ∷ 10 ∷ []) x → (eqb x 1 || eqb x 10) ≡ true
-no-partner-told x (inl e) = rw e
-no-partner-told x (inr e) = rw e
+pub no-partner-known : (x : ℕ) → OneOf (1 ∷ 10 ∷ []) x → (eqb x 1 || eqb x 10) ≡ true
+no-partner-known x (inl e) = rw e
+no-partner-known x (inr e) = rw e
 
-pub partner-told : (x : ℕ) → (OneOf (1 ∷ 10 ∷ []) x → ⊥) → (eqb x 1 || eqb x 10) ≡ false
-partner-told x h = rw (ne-eqb x 1 (λ e. h (inl e)), ne-eqb x 10 (λ e. h (inr e)))
+pub partner-known : (x : ℕ) → (OneOf (1 ∷ 10 ∷ []) x → ⊥) → (eqb x 1 || eqb x 10) ≡ false
+partner-known x h = rw (ne-eqb x 1 (λ e. h (inl e)), ne-eqb x 10 (λ e. h (inr e)))
 
 -- no status
 pub not-status : {A : Type 0} (f : ℕ → A) (a : A) (fault : Fault) → OneOf (0 ∷ 1 ∷ 2 ∷ 3 ∷ 4 ∷ 5 ∷ 6 ∷ 7 ∷ 9 ∷ 10 ∷ 11 ∷ 12 ∷ 13 ∷ 14 ∷ 15 ∷ []) (tagOf Rattle.errors.proofs.Fault.the-type fault)

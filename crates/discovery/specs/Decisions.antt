@@ -74,7 +74,7 @@ ridFailure fault = byStatus (λ status. ends nothing) (refuse fault) fault
 unfoldable pub typeAFailure : ℕ → Fault → Decision
 typeAFailure stage fault = pick (eqb stage fifoStage) (send listType1Stage) (pick (eqb stage ridStage) (ridFailure fault) (refuse fault))
 
--- ---- Type A in the mode in which UID and ATS are told apart: Type A's stages. The cursor is the UID's length while the RX mode is set, where
+-- ---- Type A in the mode that separates UID and ATS: Type A's stages. The cursor is the UID's length while the RX mode is set, where
 -- the found bytes are three bytes, the UID and the ATS.
 
 unfoldable pub splitFound : List ℕ → Decision

@@ -1,14 +1,15 @@
 -- Laws of how the discoveries start.
-use mathlib.Core.Path.{_≡_, refl, ap, ap₂, _∙_}
+use mathlib.Core.Path.{_≡_, ap₂, _∙_}
 use mathlib.Core.Bool.{true, false}
 use mathlib.Core.List.{List, [], _∷_, _++_, append-nil}
-use mathlib.Core.Option.{Option}
+use mathlib.Core.Option.{Option, none}
 use Prim.Native.Nat.{ℕ, _+_, _*_, _-_, _/_, _%_, _≤_, _<_}
 use native.Mathlib.Omega.{arith}
 use borrow.Author.Tests.{lt-ltb, le-ltb, lt-leb, le-leb, leb-true, eqb-true}
 use lib.Dec.{eqb, leb}
 use lib.ListN.{length, take, drop, getD, length-append, length-take, length-drop}
 use lib.Seq.{take-all}
+use Rattle.errors.specs.declared.Refusal.{Refusal}
 use Rattle.errors.specs.declared.Refusal.the-variants.{Bitrate as BadBitrate}
 use Rattle.framing.specs.Lists.{both}
 use Rattle.framing.specs.Valid.{both-left, both-right}
@@ -16,18 +17,34 @@ use Rattle.protocol.specs.Arguments.{bit, jumpData, systemCodesFit}
 use Rattle.protocol.specs.Discovery.{cascaded}
 use Rattle.chipset.specs.Laws.{bit-none, bit-some}
 use Rattle.stages.specs.Starts.{Start, refuses, Starts}
-use Rattle.stages.specs.Bitrates.{onCode}
+use Rattle.targets.specs.Bitrates.{choiceOf, coded}
+use Rattle.targets.specs.declared.Bitrate.{Bitrate}
+use Rattle.targets.specs.declared.Bitrate.the-variants.{Other}
+use Rattle.targets.specs.declared.Coded.{Coded}
+use Rattle.targets.specs.declared.Coded.the-variants as targets
+use Rattle.stages.specs.Bitrates.{onCode, codeFor}
 use Rattle.stages.specs.declared.start.Start as code
-use Rattle.discovery.specs.Firsts.{supportedIn, typeBFirst, depFirst}
+use Rattle.discovery.specs.Firsts.{supportedIn, Rated, typeBFirst}
 use Rattle.discovery.specs.declared.rates.Supported.{Supported}
 use Rattle.discovery.specs.declared.rates.Supported.the-variants.{Code, Not}
 
-module _ (r : code.Start) (c₀ c₁ : List ℕ) (o : Option ℕ) (s : Supported) (f : ℕ → Start) (told : supportedIn s ≡ o) where
-  pub not-supported : s ≡ Not → Starts r c₀ c₁ (refuses BadBitrate) → Starts r c₀ c₁ (onCode o f)
-  not-supported h e = rw (← told, h) e
+-- ---- a bitrate: malformed, not taken by the call, or taken
 
-  pub supported : (code : ℕ) → s ≡ Code code → Starts r c₀ c₁ (f code) → Starts r c₀ c₁ (onCode o f)
-  supported code h e = rw (← told, h) e
+module _ (t : List ℕ) (takes : Bitrate → Option ℕ) (f : ℕ → Start) where
+  pub malformed : (c : Coded) (e : Refusal) → coded c ≡ choiceOf t → c ≡ targets.Refused e → takes Other ≡ none → onCode (takes Other) f ≡ codeFor takes t f
+  unfolding codeFor
+  malformed c e read h n = rw (← read, h, n)
+
+  pub well-formed : (c : Coded) (b : Bitrate) → coded c ≡ choiceOf t → c ≡ targets.Code b → onCode (takes b) f ≡ codeFor takes t f
+  unfolding codeFor
+  well-formed c b read h = rw (← read, h)
+
+  module _ (r : code.Start) (c₀ c₁ : List ℕ) (b : Bitrate) (s : Supported) (rated : Rated t b) (other : takes Other ≡ none) (known : supportedIn s ≡ takes b) where
+    pub not-supported : s ≡ Not → Starts r c₀ c₁ (refuses BadBitrate) → Starts r c₀ c₁ (codeFor takes t f)
+    not-supported h e = rw (← rated takes f other, ← known, h) e
+
+    pub supported : (code : ℕ) → s ≡ Code code → Starts r c₀ c₁ (f code) → Starts r c₀ c₁ (codeFor takes t f)
+    supported code h e = rw (← rated takes f other, ← known, h) e
 
 -- ---- detect_type_a: the UID by its length
 

@@ -1,13 +1,16 @@
 -- How each discovery starts: the bytes that are put by for its stages, or its refusal at once.
+use mathlib.Core.Path.{_≡_}
 use mathlib.Core.List.{List, [], _∷_}
 use mathlib.Core.Option.{Option, none, some}
 use Prim.Native.Nat.{ℕ}
-use lib.ListN.{length, take, drop}
+use lib.ListN.{take, drop}
 use Rattle.protocol.specs.Arguments.{jumpData, systemCodesFit, atrReqFits}
 use Rattle.protocol.specs.Discovery.{cascaded}
 use Rattle.protocol.specs.Starts.{typeFCode, depCode}
 use Rattle.stages.specs.Starts.{Start, staged, stagedLimited, asserted}
-use Rattle.stages.specs.Bitrates.{codeFor}
+use Rattle.stages.specs.Bitrates.{onCode, codeFor}
+use Rattle.targets.specs.declared.Bitrate.{Bitrate}
+use Rattle.targets.specs.declared.Bitrate.the-variants.{Other}
 use Rattle.discovery.specs.declared.rates.Supported.{Supported}
 use Rattle.discovery.specs.declared.rates.Supported.the-variants.{Code, Not}
 use Rattle.discovery.specs.Kinds.{typeAKind, typeBKind, typeFKind, depKind, pollTypeFKind, typeASplitKind}
@@ -19,7 +22,7 @@ listFirst kind uid code = stagedLimited kind (1 ∷ code ∷ cascaded uid)
 abbrev pub typeAFirst : List ℕ → ℕ → Start
 typeAFirst uid code = listFirst typeAKind uid code
 
--- the same in the mode in which UID and ATS are told apart
+-- the same in the mode that separates UID and ATS
 abbrev pub splitFirst : List ℕ → ℕ → Start
 splitFirst uid code = listFirst typeASplitKind uid code
 
@@ -44,6 +47,10 @@ depFirst atrReq code = staged depKind (jumpData 1 code [] (take 10 (drop 2 atrRe
 
 unfoldable pub depAsserted : List ℕ → List ℕ → Start
 depAsserted text atrReq = asserted (atrReqFits atrReq) (codeFor depCode text (depFirst atrReq))
+
+-- the bitrate of a text; a malformed one starts no call, as a bitrate that no call takes
+abbrev pub Rated : List ℕ → Bitrate → Type 0
+Rated text b = (takes : Bitrate → Option ℕ) (f : ℕ → Start) → takes Other ≡ none → onCode (takes b) f ≡ codeFor takes text f
 
 -- what the code's answer says
 abbrev pub supportedIn : Supported → Option ℕ

@@ -1,7 +1,7 @@
 -- Laws of what is decided.
-use mathlib.Core.Path.{_≡_, ap, _∙_}
+use mathlib.Core.Path.{_≡_}
 use mathlib.Core.Bool.{Bool, true, false}
-use mathlib.Core.List.{List, [], _∷_, _++_, append-nil}
+use mathlib.Core.List.{List, [], _∷_, _++_}
 use Prim.Native.Nat.{ℕ, _-_, _≤_, _<_}
 use native.Mathlib.Omega.{arith}
 use borrow.Author.Tests.{lt-ltb, le-ltb}
@@ -35,8 +35,8 @@ lays-rid f b r k =
     rw (take-all (length b - 1) (drop 1 b) l) at k
 
 -- a status that a call answered
-pub decides-partner : (f b : List ℕ) (r : Decision) (s x : ℕ) → s ≡ x → DecisionRefines f b r (noPartner s) → DecisionRefines f b r (noPartner x)
-decides-partner f b r s x e d = rw (← e) d
+pub decision-partner : (f b : List ℕ) (r : Decision) (s x : ℕ) → s ≡ x → DecisionRefines f b r (noPartner s) → DecisionRefines f b r (noPartner x)
+decision-partner f b r s x e d = rw (← e) d
 
 -- an AFI that a call answered
 pub same-afi : (f b : List ℕ) (r : Decision) (p x y : ℕ) → x ≡ y → DecisionRefines f b r (isoDep p x) → DecisionRefines f b r (isoDep p y)

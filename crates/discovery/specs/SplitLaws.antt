@@ -1,4 +1,4 @@
--- Laws of the mode in which UID and ATS are told apart.
+-- Laws of the mode that separates UID and ATS.
 use mathlib.Core.Path.{_≡_, sym, ap, _∙_}
 use mathlib.Core.Bool.{Bool}
 use mathlib.Core.List.{List}
@@ -15,12 +15,12 @@ use Rattle.stages.specs.declared.Decision.the-variants.{UidAndAts}
 use Rattle.stages.specs.declared.Layout.{Layout}
 
 -- what a call answered of the list's data, its part from byte 2 on
-pub data-told : (l p : List ℕ) (r t : Bool) → p ≡ take (length l - 2) (drop 2 l) → r ≡ isTargetData p → r ≡ t → isTargetData (drop 2 l) ≡ t
-data-told l p r t q e h =
+pub data-known : (l p : List ℕ) (r t : Bool) → p ≡ take (length l - 2) (drop 2 l) → r ≡ isTargetData p → r ≡ t → isTargetData (drop 2 l) ≡ t
+data-known l p r t q e h =
     let d : take (length l - 2) (drop 2 l) ≡ drop 2 l = take-all (length l - 2) (drop 2 l) (omega (arith, length-drop 2 l)) in
     sym (ap isTargetData (q ∙ d)) ∙ (sym e ∙ h)
 
 -- the ATS's length as a call answered it
-pub decides-lengths : (f b : List ℕ) (l : Layout) (bytes : List ℕ) (uid ats x : ℕ) → Lays f b l bytes → ats ≡ x
+pub decision-lengths : (f b : List ℕ) (l : Layout) (bytes : List ℕ) (uid ats x : ℕ) → Lays f b l bytes → ats ≡ x
     → DecisionRefines f b (UidAndAts l uid ats) (ends (uidAndAts bytes uid x))
-decides-lengths f b l bytes uid ats x h e = rw (← e) (decision-uid-and-ats f b l bytes uid ats h)
+decision-lengths f b l bytes uid ats x h e = rw (← e) (decision-uid-and-ats f b l bytes uid ats h)

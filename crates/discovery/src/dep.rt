@@ -2,6 +2,7 @@
 use super::DEP;
 use super::rates::Supported;
 use super::rates::dep_code;
+use super::rates::rate;
 use chipset::ciu;
 use chipset::clock;
 use chipset::err;
@@ -19,7 +20,6 @@ use stages::byte_or;
 use stages::put::put_all;
 use stages::start;
 use stages::start::Start;
-use targets::Coded;
 ghost use mathlib.Core.List.{List};
 ghost use Prim.Native.Nat.{ℕ};
 ghost use Rattle.stages.specs.Decided.{DecisionRefines, Always, Commands};
@@ -68,10 +68,7 @@ pub fn detect_dep(bitrate: &[u8], atr_req: &[u8], command: &mut [u8; 512]) -> St
     if LONGEST_ATR_REQ < atr_req.len() {
         return start::refused(Refusal::BadArgument);
     }
-    let Coded::Code(rate) = targets::code(bitrate) else {
-        return start::refused(Refusal::Bitrate);
-    };
-    let Supported::Code(code) = dep_code(rate) else {
+    let Supported::Code(code) = dep_code(rate(bitrate)) else {
         return start::refused(Refusal::Bitrate);
     };
     jump(code, atr_req, command)

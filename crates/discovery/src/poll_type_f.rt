@@ -2,6 +2,7 @@
 // bitrate's code and the system codes, two bytes each; the cursor is the number of codes finished.
 use super::POLL_TYPE_F;
 use super::rates::Supported;
+use super::rates::rate;
 use super::rates::type_f_code;
 use super::type_f;
 use super::type_f::STAGE_FIELD;
@@ -14,7 +15,6 @@ use stages::byte_or;
 use stages::put::put_two;
 use stages::start;
 use stages::start::Start;
-use targets::Coded;
 ghost use mathlib.Core.List.{List, _∷_};
 ghost use mathlib.Core.Path.{_≡_};
 ghost use Prim.Native.Nat.{ℕ, _+_, _≤_};
@@ -60,10 +60,7 @@ pub fn poll_type_f(bitrate: &[u8], codes: &[u8], command: &mut [u8; 512]) -> Sta
     ensures { λ r. ⌜ Starts r (now (command .entry)) (now (command .exit)) (pollAsserted (now (bitrate .entry)) (now (codes .entry))) ⌝ }
 {
     if is_list(codes) {
-        let Coded::Code(rate) = targets::code(bitrate) else {
-            return start::refused(Refusal::Bitrate);
-        };
-        let Supported::Code(code) = type_f_code(rate) else {
+        let Supported::Code(code) = type_f_code(rate(bitrate)) else {
             return start::refused(Refusal::Bitrate);
         };
         let head = [code];

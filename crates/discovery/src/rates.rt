@@ -1,13 +1,24 @@
 // The bitrates that each discovery takes, and their codes for the chip.
 use targets::Bitrate;
+use targets::Coded;
 ghost use mathlib.Core.Path.{_≡_};
 ghost use Rattle.protocol.specs.Starts.{typeACode, typeBCode, typeFCode, depCode};
-ghost use Rattle.discovery.specs.Firsts.{supportedIn};
+ghost use Rattle.discovery.specs.Firsts.{supportedIn, Rated};
 
 // The chip's code of a bitrate, where the call takes it.
 pub enum Supported {
     Code(u8),
     Not,
+}
+
+// The bitrate of a text; a malformed one is refused as a bitrate is that no call takes.
+pub(crate) fn rate(text: &[u8]) -> Bitrate
+    ensures { λ r. ⌜ Rated (now (text .entry)) r ⌝ }
+{
+    let Coded::Code(bitrate) = targets::code(text) else {
+        return Bitrate::Other;
+    };
+    bitrate
 }
 
 pub(crate) fn type_a_code(bitrate: Bitrate) -> Supported

@@ -1,6 +1,7 @@
 // detect_type_a: the command of each stage, and what follows each reply.
 use super::TYPE_A;
 use super::rates::Supported;
+use super::rates::rate;
 use super::rates::type_a_code;
 use chipset::ciu;
 use chipset::clock;
@@ -17,9 +18,7 @@ use stages::byte_or;
 use stages::put::put_two;
 use stages::start;
 use stages::start::Start;
-use targets::Coded;
 ghost use mathlib.Core.List.{List};
-ghost use mathlib.Core.Path.{_≡_};
 ghost use Prim.Native.Nat.{ℕ, _≤_};
 ghost use lib.ListN.{length};
 ghost use Rattle.stages.specs.Decided.{Lays, DecisionRefines, Always, Commands};
@@ -72,10 +71,7 @@ fn list(kind: u8, code: u8, uid: &[u8], command: &mut [u8; 512]) -> Start
 pub(crate) fn detect(kind: u8, bitrate: &[u8], uid: &[u8], command: &mut [u8; 512]) -> Start
     ensures { λ r. ⌜ Starts r (now (command .entry)) (now (command .exit)) (codeFor typeACode (now (bitrate .entry)) (listFirst kind (now (uid .entry)))) ⌝ }
 {
-    let Coded::Code(rate) = targets::code(bitrate) else {
-        return start::refused(Refusal::Bitrate);
-    };
-    let Supported::Code(code) = type_a_code(rate) else {
+    let Supported::Code(code) = type_a_code(rate(bitrate)) else {
         return start::refused(Refusal::Bitrate);
     };
     list(kind, code, uid, command)

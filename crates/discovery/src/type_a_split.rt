@@ -1,4 +1,4 @@
-// detect_type_a in the mode in which UID and ATS are told apart: Type A's stages and commands, with its own decisions upon the list and at
+// detect_type_a in the mode that separates UID and ATS: Type A's stages and commands, with its own decisions upon the list and at
 // the end. The cursor is the UID's length while the RX mode is set; the found bytes are then three bytes, the UID and the ATS.
 use super::TYPE_A_SPLIT;
 use super::type_a;

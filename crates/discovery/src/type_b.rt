@@ -1,6 +1,7 @@
 // detect_type_b: the command of each stage, and what follows each reply.
 use super::TYPE_B;
 use super::rates::Supported;
+use super::rates::rate;
 use super::rates::type_b_code;
 use chipset::clock;
 use chipset::err;
@@ -15,7 +16,6 @@ use stages::byte_or;
 use stages::put::put_two;
 use stages::start;
 use stages::start::Start;
-use targets::Coded;
 ghost use mathlib.Core.List.{List};
 ghost use Prim.Native.Nat.{ℕ};
 ghost use lib.ListN.{getD};
@@ -29,10 +29,7 @@ ghost use Rattle.discovery.specs.Firsts.{typeBFirst};
 pub fn detect_type_b(bitrate: &[u8], sensb_req: &[u8], command: &mut [u8; 512]) -> Start
     ensures { λ r. ⌜ Starts r (now (command .entry)) (now (command .exit)) (codeFor typeBCode (now (bitrate .entry)) (typeBFirst (getD (now («sensb_req» .entry)) 0 0))) ⌝ }
 {
-    let Coded::Code(rate) = targets::code(bitrate) else {
-        return start::refused(Refusal::Bitrate);
-    };
-    let Supported::Code(code) = type_b_code(rate) else {
+    let Supported::Code(code) = type_b_code(rate(bitrate)) else {
         return start::refused(Refusal::Bitrate);
     };
     let n = put_two(&[1, code, byte_or(sensb_req, 0, 0)], &[], command);

@@ -1,6 +1,7 @@
 // detect_type_f: the command of each stage, and what follows each reply.
 use super::TYPE_F;
 use super::rates::Supported;
+use super::rates::rate;
 use super::rates::type_f_code;
 use chipset::ciu;
 use chipset::clock;
@@ -16,7 +17,6 @@ use stages::byte_or;
 use stages::put::put_two;
 use stages::start;
 use stages::start::Start;
-use targets::Coded;
 ghost use mathlib.Core.List.{List};
 ghost use Prim.Native.Nat.{ℕ};
 ghost use Rattle.stages.specs.Decided.{DecisionRefines, Commands};
@@ -37,10 +37,7 @@ pub fn detect_type_f(
 ) -> Start
     ensures { λ r. ⌜ Starts r (now (command .entry)) (now (command .exit)) (codeFor typeFCode (now (bitrate .entry)) (typeFFirst (sensfReq «system_code» «request_code» «time_slots»))) ⌝ }
 {
-    let Coded::Code(rate) = targets::code(bitrate) else {
-        return start::refused(Refusal::Bitrate);
-    };
-    let Supported::Code(code) = type_f_code(rate) else {
+    let Supported::Code(code) = type_f_code(rate(bitrate)) else {
         return start::refused(Refusal::Bitrate);
     };
     let high = (system_code / 256) as u8;

@@ -1,35 +1,45 @@
 -- What the arm for all other ends, or for all other decisions, knows.
-use mathlib.Core.Path.{_≡_, refl, ap}
+use mathlib.Core.Path.{_≡_, refl}
 use mathlib.Core.List.{List, [], _∷_}
 use Prim.Native.Nat.{ℕ}
+use native.Mathlib.Omega.{arith}
 use denote.Enum.Declared.{tagOf}
 use types.Run.{OneOf, miss}
-use lib.ListN.{drop}
-use Rattle.exchange.specs.Packets.{response}
+use Rattle.errors.specs.declared.Fault.{Fault}
+use Rattle.exchange.specs.Packets.{response, failed}
+use Rattle.stages.specs.Decided.{DecisionRefines}
 use Rattle.stages.specs.declared.Decision.{Decision}
 use Rattle.stages.specs.declared.Decision.the-variants.{Send, Keep, Next, Put, Pause, Done, Part, Type1, UidAndAts, Nothing, Refused, RefusedAfter}
-use Rattle.engine.specs.Ends.{payloadIn, replyIn, endReply, GoesOn}
+use Rattle.engine.specs.Core.{Arrays, replyDecision}
+use Rattle.engine.specs.Ends.{replyIn, endReply, GoesOn, Checked}
 use Rattle.engine.specs.declared.call.End.{End}
 use Rattle.engine.specs.declared.call.End.the-variants.{ResetDone, Arrived, Failed}
+use Rattle.engine.specs.declared.core.Core.{Core}
 use Rattle.engine.proofs.call.End.{the-type}
 
 -- no packet is in
-pub no-payload : (code : ℕ) (packet : List ℕ) (e : End) → OneOf (0 ∷ 2 ∷ []) (tagOf the-type e) → [] ≡ payloadIn code packet e
-no-payload code packet ResetDone h = refl
-no-payload code packet Arrived h = absurd (miss (0 ∷ 2 ∷ []) 1 tt h)
-no-payload code packet (Failed r) h = refl
+pub no-packet : (code : ℕ) (packet bytes : List ℕ) (e to : End) → OneOf (0 ∷ 2 ∷ []) (tagOf the-type e) → to ≡ e → bytes ≡ [] → Checked code packet bytes e to
+no-packet code packet bytes e to tag t z = record { few = rw z (omega arith); reply = rw (t, z) (by e tag) }
+  where
+    by : (e : End) → OneOf (0 ∷ 2 ∷ []) (tagOf the-type e) → endReply [] e ≡ replyIn code packet e
+    by ResetDone tag = refl
+    by Arrived tag = absurd (miss (0 ∷ 2 ∷ []) 1 tt tag)
+    by (Failed r) tag = refl
 
-pub no-packet : (code : ℕ) (packet payload : List ℕ) (e : End) → OneOf (0 ∷ 2 ∷ []) (tagOf the-type e) → payload ≡ payloadIn code packet e
-    → endReply (drop 2 payload) e ≡ replyIn code packet e
-no-packet code packet payload ResetDone h q = ap (λ l. response (drop 2 l)) q
-no-packet code packet payload Arrived h q = absurd (miss (0 ∷ 2 ∷ []) 1 tt h)
-no-packet code packet payload (Failed r) h q = refl
+-- what is decided upon a fault, and upon a response
+module _ (s : Core) (f : Arrays) (found bytes : List ℕ) (d r : Decision) (to : End) (same : d ≡ r) where
+  pub decides-fault : (fault : Fault) → to ≡ Failed fault → DecisionRefines found bytes r (replyDecision s f (failed fault))
+      → DecisionRefines found bytes d (replyDecision s f (endReply bytes to))
+  decides-fault fault t h = rw (same, t) h
 
--- no fault
-pub no-fault : (bytes : List ℕ) (e : End) → OneOf (0 ∷ 1 ∷ []) (tagOf the-type e) → response bytes ≡ endReply bytes e
-no-fault bytes ResetDone h = refl
-no-fault bytes Arrived h = refl
-no-fault bytes (Failed r) h = absurd (miss (0 ∷ 1 ∷ []) 2 tt h)
+  pub decides-response : OneOf (0 ∷ 1 ∷ []) (tagOf the-type to) → DecisionRefines found bytes r (replyDecision s f (response bytes))
+      → DecisionRefines found bytes d (replyDecision s f (endReply bytes to))
+  decides-response tag h = rw same (by to tag)
+    where
+      by : (to : End) → OneOf (0 ∷ 1 ∷ []) (tagOf the-type to) → DecisionRefines found bytes r (replyDecision s f (endReply bytes to))
+      by ResetDone tag = h
+      by Arrived tag = h
+      by (Failed fault) tag = absurd (miss (0 ∷ 1 ∷ []) 2 tt tag)
 
 -- the call goes on, and it ends
 pub goes-on : (d : Decision) → OneOf (0 ∷ 1 ∷ 2 ∷ 3 ∷ 4 ∷ []) (tagOf Rattle.stages.proofs.Decision.the-type d) → GoesOn d

@@ -15,8 +15,8 @@ use Rattle.exchange.specs.Exchange.{Order, write, read, drain, pause}
 use Rattle.protocol.specs.Scripts.{Byte, Answer}
 use Rattle.protocol.specs.Calls.{Call, isOpening, isPaddedMode}
 use Rattle.protocol.specs.Count.{length-counted}
-use Rattle.protocol.specs.Session.{lastCaller, addFrame, counted, countedFor, ceiling, answered, bookOrder, bookAnswer, Outcome, unchanged, runs, ends, bookOutcome}
-use Rattle.protocol.specs.Session as Meant
+use Rattle.protocol.specs.Session.{lastCaller, addFrame, counted, countedFor, ceiling, answered, bookOrder, bookAnswer, Effect, unchanged, runs, ends, bookEffect}
+use Rattle.protocol.specs.Session as Spec
 use Rattle.protocol.specs.Laws.{frame-not-ack, ack-is-ack}
 use Rattle.engine.specs.Books.{Books, books, booksOf, openedIn, modeIn, callerIn, noBooks, isInRange, oneMore, byCaller, ended, booked}
 use Rattle.engine.specs.declared.core.Output.the-variants.{Command}
@@ -38,29 +38,29 @@ abbrev AllFew : List ℕ → Type 0
 AllFew [] = Unit {0}
 AllFew (n ∷ ns) = (n ≤ ceiling) × AllFew ns
 
-pub record Bounded (b : Meant.Books) : Type 0 where
+pub record Bounded (b : Spec.Books) : Type 0 where
   pub caller : b .caller ≤ lastCaller
   pub eight : length (b .counts) ≡ 8
   pub few : AllFew (b .counts)
 
-pub begun-bounded : (padded : Bool) (k : ℕ) → k ≤ lastCaller → Bounded (Meant.noBooks padded k)
+pub begun-bounded : (padded : Bool) (k : ℕ) → k ≤ lastCaller → Bounded (Spec.noBooks padded k)
 begun-bounded padded k h =
     record { caller = h; eight = refl; few = (omega arith, (omega arith, (omega arith, (omega arith, (omega arith, (omega arith, (omega arith, (omega arith, tt)))))))) }
 
-abbrev pub bookNumbers : Meant.Books → Books
+abbrev pub bookNumbers : Spec.Books → Books
 bookNumbers b = books (flag (b .opened)) (flag (b .padded)) (b .caller) (b .counts)
 
-pub books-in-range : (b : Meant.Books) → Bounded b → isInRange (bookNumbers b) ≡ true
+pub books-in-range : (b : Spec.Books) → Bounded b → isInRange (bookNumbers b) ≡ true
 books-in-range b h = rw (flag-fits (b .opened), flag-fits (b .padded)) (le-leb (b .caller) 7 (h .caller))
 
-pub open-flag : (b : Meant.Books) → eqb (openedIn (bookNumbers b)) 1 ≡ b .opened
+pub open-flag : (b : Spec.Books) → eqb (openedIn (bookNumbers b)) 1 ≡ b .opened
 open-flag b = flag-is (b .opened)
 
-pub mode-flag : (b : Meant.Books) → isPaddedMode (modeIn (bookNumbers b)) ≡ b .padded
+pub mode-flag : (b : Spec.Books) → isPaddedMode (modeIn (bookNumbers b)) ≡ b .padded
 mode-flag b = flag-is (b .padded)
 
 -- where an opening begins, in a mode that there is
-pub no-books : (mode : ℕ) → mode ≤ 1 → noBooks mode ≡ bookNumbers (Meant.noBooks (isPaddedMode mode) 0)
+pub no-books : (mode : ℕ) → mode ≤ 1 → noBooks mode ≡ bookNumbers (Spec.noBooks (isPaddedMode mode) 0)
 no-books zero h = refl
 no-books (suc zero) h = refl
 no-books (suc (suc mode)) h = absurd (omega arith)
@@ -76,14 +76,14 @@ one-more n h = go (ltb n 4294967295) refl
 -- ---- what is booked, of the call of caller k
 
 -- the books with another caller
-abbrev byMeant : ℕ → Meant.Books → Meant.Books
-byMeant k b = record { opened = b .opened; padded = b .padded; caller = k; counts = b .counts }
+abbrev bySpec : ℕ → Spec.Books → Spec.Books
+bySpec k b = record { opened = b .opened; padded = b .padded; caller = k; counts = b .counts }
 
--- what the definitions book of an outcome; a refusal at once leaves the books, the caller too
-abbrev pub bookBy : ℕ → Outcome → Meant.Books → Meant.Books
+-- what the definitions book of an effect; a refusal at once leaves the books, the caller too
+abbrev pub bookBy : ℕ → Effect → Spec.Books → Spec.Books
 bookBy k (unchanged r) b = b
-bookBy k (runs c x phase) b = bookOutcome (runs c x phase) (byMeant k b)
-bookBy k (ends c a) b = bookOutcome (ends c a) (byMeant k b)
+bookBy k (runs c x phase) b = bookEffect (runs c x phase) (bySpec k b)
+bookBy k (ends c a) b = bookEffect (ends c a) (bySpec k b)
 
 -- an order that is no command
 quiet : (x : Order) → ((n : ℕ) → counted x n ≡ n) → (k : ℕ) (ns : List ℕ) → countedFor k x ns ≡ ns
@@ -91,7 +91,7 @@ quiet x h k [] = refl
 quiet x h zero (n ∷ ns) = ap (λ m. m ∷ ns) (h n)
 quiet x h (suc k) (n ∷ ns) = ap (λ ms. n ∷ ms) (quiet x h k ns)
 
-pub quiet-booked : (k : ℕ) (x : Order) (b : Meant.Books) → ((n : ℕ) → counted x n ≡ n) → byCaller k (bookNumbers b) ≡ bookNumbers (bookOrder x (byMeant k b))
+pub quiet-booked : (k : ℕ) (x : Order) (b : Spec.Books) → ((n : ℕ) → counted x n ≡ n) → byCaller k (bookNumbers b) ≡ bookNumbers (bookOrder x (bySpec k b))
 quiet-booked k x b h = ap (books (flag (b .opened)) (flag (b .padded)) k) (sym (quiet x h k (b .counts)))
 
 pub ack-counts : (n : ℕ) → counted (write ack) n ≡ n
@@ -103,14 +103,14 @@ count-set bytes e k [] h = refl
 count-set bytes e zero (n ∷ ns) h = ap (λ m. m ∷ ns) (one-more n (h .0) ∙ ap (λ t. addFrame t n) (sym e))
 count-set bytes e (suc k) (n ∷ ns) h = ap (λ ms. n ∷ ms) (count-set bytes e k ns (h .1))
 
-pub frame-booked : (k : ℕ) (opens : Bool) (n code : ℕ) (bytes : List ℕ) (b : Meant.Books) → Bounded b
-    → booked k opens (Command n) (bookNumbers b) ≡ bookNumbers (bookOrder (write (commandFrame code bytes)) (byMeant k b))
+pub frame-booked : (k : ℕ) (opens : Bool) (n code : ℕ) (bytes : List ℕ) (b : Spec.Books) → Bounded b
+    → booked k opens (Command n) (bookNumbers b) ≡ bookNumbers (bookOrder (write (commandFrame code bytes)) (bySpec k b))
 frame-booked k opens n code bytes b h =
     ap (books (flag (b .opened)) (flag (b .padded)) k) (count-set (commandFrame code bytes) (frame-not-ack code bytes) k (b .counts) (h .few))
 
 -- the end of a call, an opening or not, with success or not
-pub end-booked : (c : Call) (a : Answer Byte) (k : ℕ) (b : Meant.Books)
-    → ended (byCaller k (bookNumbers b)) (isOpening c) (cond (answered a) 1 0) ≡ bookNumbers (bookAnswer c a (byMeant k b))
+pub end-booked : (c : Call) (a : Answer Byte) (k : ℕ) (b : Spec.Books)
+    → ended (byCaller k (bookNumbers b)) (isOpening c) (cond (answered a) 1 0) ≡ bookNumbers (bookAnswer c a (bySpec k b))
 unfolding ended pick
 end-booked c a k b = go (isOpening c)
   where
@@ -156,7 +156,7 @@ all-few x k [] h = tt
 all-few x zero (n ∷ ns) h = (few-counted x n (h .0), h .1)
 all-few x (suc k) (n ∷ ns) h = (h .0, all-few x k ns (h .1))
 
-pub bounded : (k : ℕ) (o : Outcome) (b : Meant.Books) → k ≤ lastCaller → Bounded b → Bounded (bookBy k o b)
+pub bounded : (k : ℕ) (o : Effect) (b : Spec.Books) → k ≤ lastCaller → Bounded b → Bounded (bookBy k o b)
 bounded k (unchanged r) b h q = q
 bounded k (runs c x phase) b h q =
     record { caller = h; eight = length-counted k x (b .counts) ∙ q .eight; few = all-few x k (b .counts) (q .few) }

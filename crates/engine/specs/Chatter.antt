@@ -3,16 +3,16 @@ use mathlib.Core.Path.{_≡_}
 use mathlib.Core.List.{List}
 use Prim.Native.Nat.{ℕ}
 use Rattle.protocol.specs.Calls.{Call}
-use Rattle.protocol.specs.Session as Meant
-use Rattle.protocol.specs.Follows.{Machine, entries}
+use Rattle.protocol.specs.Session as Spec
+use Rattle.protocol.specs.Machine.{entries}
 use Rattle.protocol.specs.PollList.{EventAndRoom}
 use Rattle.protocol.specs.Chatter.{waits, Alike, callEntries, linesFrom}
-use Rattle.protocol.specs.ChatterFollows.{SameFrom, machine-chatter}
+use Rattle.protocol.specs.ChatterMachine.{SameFrom, machine-chatter}
 use Rattle.engine.specs.Inputs.{Input}
-use Rattle.engine.specs.Follows.{engine}
+use Rattle.engine.specs.Refinement.{engine}
 use Rattle.engine.specs.declared.session.Session.{Session}
 
-pub engine-chatter : (s t : Session) (m : Meant.Session) → engine .Means s m → engine .Means t m
+pub engine-chatter : (s t : Session) (m : Spec.Session) → engine .Represents s m → engine .Represents t m
     → (caller : ℕ) (c : Call) (room : ℕ) (es ds : List EventAndRoom) (is js : List Input)
     → entries engine is ≡ callEntries caller c room es → entries engine js ≡ callEntries caller c room ds
     → Alike waits (linesFrom m caller c room es) (linesFrom m caller c room ds) → SameFrom engine s t is js

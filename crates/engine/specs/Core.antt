@@ -1,10 +1,9 @@
 -- What a call or an event does to the running call, its arrays and the buffer: the contracts of core.rt and reply.rt.
 use mathlib.Core.Bool.{Bool}
-use mathlib.Core.Path.{_≡_}
-use mathlib.Core.List.{List, [], _++_}
+use mathlib.Core.List.{List, []}
 use Prim.Native.Nat.{ℕ}
 use lib.Dec.{eqb, leb, ltb}
-use lib.ListN.{length, take, drop}
+use lib.ListN.{length, take}
 use Rattle.errors.specs.Choice.{pick}
 use Rattle.errors.specs.declared.Refusal.{Refusal}
 use Rattle.errors.specs.declared.Refusal.the-variants.{OutOfTurn, ShortBuffer, OverLong}

@@ -1,12 +1,12 @@
--- How a command's end reads by its packet, and what of it is left once the payload of a response is at hand.
+-- How a command's end reads by its packet, and what of it is left once the response is at hand.
 use mathlib.Core.Path.{_≡_, refl, sym, ap, _∙_, subst}
-use mathlib.Core.List.{List, [], _∷_}
-use Prim.Native.Nat.{ℕ, _+_, _≤_}
+use mathlib.Core.List.{List, []}
+use Prim.Native.Nat.{ℕ, _-_, _≤_}
 use native.Mathlib.Omega.{arith}
-use lib.ListN.{length, drop}
+use lib.ListN.{length, take, drop}
 use Rattle.errors.specs.declared.Fault.{Fault}
 use Rattle.exchange.specs.Packets.{Reply, response, failed, replyOf}
-use Rattle.exchange.specs.Places.{partAt, responsePlace, faultOf}
+use Rattle.exchange.specs.Spans.{partAt, responseSpan, faultOf}
 use Rattle.exchange.specs.Responses.{no-response, its-response}
 use Rattle.stages.specs.declared.Decision.{Decision}
 use Rattle.stages.specs.declared.Decision.the-variants.{Send, Keep, Next, Put, Pause, Done, Part, Type1, UidAndAts, Nothing, Refused, RefusedAfter}
@@ -15,12 +15,6 @@ use Rattle.engine.specs.Transitions.{endTransition, replyTransition, rep
 use Rattle.engine.specs.declared.call.End.{End}
 use Rattle.engine.specs.declared.call.End.the-variants.{ResetDone, Arrived, Failed}
 use Rattle.engine.specs.declared.core.Core.{Core}
-
--- the payload of a response: identifier, code, and the response
-abbrev pub payloadIn : ℕ → List ℕ → End → List ℕ
-payloadIn code packet ResetDone = []
-payloadIn code packet Arrived = partAt (responsePlace code packet) packet
-payloadIn code packet (Failed r) = []
 
 -- the reply to a command with this code
 abbrev pub replyIn : ℕ → List ℕ → End → Reply
@@ -63,28 +57,21 @@ end-follows s f code packet Arrived b = go (replyOf code packet)
     go (failed fault) = refl
 end-follows s f code packet (Failed r) b = refl
 
--- a response within a packet of 1,024 bytes
-pub response-few : (code : ℕ) (packet payload : List ℕ) (e : End) → payload ≡ payloadIn code packet e → replyLength (endTransition code packet e) ≤ 1024
-    → length (drop 2 payload) ≤ 1022
-response-few code packet payload ResetDone e h = rw e (omega arith)
-response-few code packet payload (Failed r) e h = rw e (omega arith)
-response-few code packet payload Arrived e h = go payload refl
-  where
-    go : (l : List ℕ) → payload ≡ l → length (drop 2 payload) ≤ 1022
-    go [] q = rw q (omega arith)
-    go (x ∷ l) q =
-        let more : length payload ≡ length (x ∷ l) = ap length q in
-        let a = its-response code packet payload e (λ z. omega (arith, z, more)) in
-        let n = subst (λ r. replyLength (replyTransition r) ≤ 1024) (a .rest ∙ ap response (a .whole)) h in
-        omega (arith, n)
+-- what is left of an end: the bytes of the response, and the end upon which is decided
+pub record Checked (code : ℕ) (packet bytes : List ℕ) (e to : End) : Type 0 where
+  pub few : length bytes ≤ 1022
+  pub reply : endReply bytes to ≡ replyIn code packet e
 
--- a packet with no response, and one with its response
-pub end-fault : (code : ℕ) (packet payload : List ℕ) (fault : Fault) → payload ≡ payloadIn code packet Arrived → length payload ≡ 0 → fault ≡ faultOf packet
-    → failed fault ≡ replyOf code packet
-end-fault code packet payload fault e h q = ap failed q ∙ sym (no-response code packet payload e h)
+-- a packet without a response, and one with its response
+module _ (code : ℕ) (packet payload bytes : List ℕ) (e to : End) (is : payload ≡ partAt (responseSpan code packet) packet) (a : e ≡ Arrived) where
+  pub without-response : (fault : Fault) → length payload ≡ 0 → fault ≡ faultOf packet → to ≡ Failed fault → bytes ≡ [] → Checked code packet bytes e to
+  without-response fault h q t z =
+      record { few = rw z (omega arith); reply = rw (t, a) (ap failed q ∙ sym (no-response code packet payload is h)) }
 
-pub end-response : (code : ℕ) (packet payload : List ℕ) → payload ≡ payloadIn code packet Arrived → (length payload ≡ 0 → ⊥)
-    → response (drop 2 payload) ≡ replyOf code packet
-end-response code packet payload e h =
-    let a = its-response code packet payload e h in
-    ap response (sym (a .whole)) ∙ sym (a .rest)
+  pub with-response : (length payload ≡ 0 → ⊥) → replyLength (endTransition code packet e) ≤ 1024 → to ≡ e → bytes ≡ take (length payload - 2) (drop 2 payload)
+      → Checked code packet bytes e to
+  with-response h short t z =
+      let r = its-response code packet payload is h in
+      let n = subst (λ d. replyLength (endTransition code packet d) ≤ 1024) a short in
+      let m = subst (λ d. replyLength (replyTransition d) ≤ 1024) (r .rest) n in
+      record { few = rw z (omega (arith, m)); reply = rw (t, a, z) (sym (r .rest)) }

@@ -1,10 +1,10 @@
 -- Each event that a running call meets, and each call that begins: the engine does what the definitions say.
-use mathlib.Core.Path.{_≡_, refl, sym, ap, _∙_, subst}
-use mathlib.Core.Bool.{Bool, true, false}
+use mathlib.Core.Path.{_≡_, refl}
+use mathlib.Core.Bool.{true, false}
 use mathlib.Core.List.{List, []}
 use Prim.Native.Nat.{ℕ, _≤_}
 use native.Mathlib.Omega.{arith}
-use lib.Dec.{eqb, leb}
+use lib.Dec.{leb}
 use lib.ListN.{length, take}
 use Rattle.errors.specs.Choice.{pick}
 use Rattle.errors.specs.declared.Fault.{Fault}
@@ -17,9 +17,9 @@ use Rattle.protocol.specs.Scripts.{Script, refused}
 use Rattle.protocol.specs.Device.{deviceNew}
 use Rattle.protocol.specs.Calls.{ReaderCall, opening, reader}
 use Rattle.protocol.specs.Starts.{Start, starts, readerStart}
-use Rattle.protocol.specs.Session.{byReply, ofReset, enter, afterReply, progress, Running, idle, packetLength, admitted, eventOutcome, outcome, started}
+use Rattle.protocol.specs.Session.{byReply, ofReset, enter, afterReply, progress, idle, packetLength, admitted, eventEffect, started}
 use Rattle.protocol.specs.Session.{runs as runsOf}
-use Rattle.stages.specs.Stages.{cmd, Decision, send, refuse}
+use Rattle.stages.specs.Stages.{Decision, send, refuse}
 use Rattle.stages.specs.Put.{take-put}
 use Rattle.stages.specs.Starts as stages
 use Rattle.calls.specs.Tables.{isResetOf, decidedOf, failedOf}
@@ -27,9 +27,9 @@ use Rattle.calls.specs.Refines.{Refines}
 use Rattle.calls.specs.Opening.{opening-script-refines, opening-fails, reset-fails}
 use Rattle.calls.specs.Firsts.{startFor}
 use Rattle.calls.specs.Starts.{Kind, Starting, refusedNow, first, leading, reader-begins}
-use Rattle.engine.specs.Transitions.{exchangePhase, resetAckPhase, pausePhase, noCall, firstCall, Transitioned, orders as goesOn, sends, resetDone, replies, refuses, fits, replyLength, transitionOf, overTransition, endedTransition, validCall}
+use Rattle.engine.specs.Transitions.{exchangePhase, resetAckPhase, pausePhase, noCall, Transitioned, orders as goesOn, sends, resetDone, replies, refuses, fits, replyLength, transitionOf, overTransition, endedTransition, validCall}
 use Rattle.engine.specs.Core.{stageOf, admittedOf, transitionedOf, followsOf, failsOf, repliesOf, eventCore, openCore, startOn}
-use Rattle.engine.specs.Relation.{Place, Wait, reply, resetReply, resetAck, resetPause, openingAck, openingReads, pausing, phaseNumber, callAt, phaseAt, Fields, coreWith, arraysAt, Agrees, coreAt, runningAt, free}
+use Rattle.engine.specs.Relation.{Position, Wait, reply, resetReply, resetAck, resetPause, openingAck, openingReads, pausing, phaseNumber, callAt, phaseAt, Fields, coreWith, arraysAt, Agrees, coreAt, free}
 use Rattle.engine.specs.Exchanges.{NoCommand, good, reply-short}
 use Rattle.engine.specs.Simulation.{Simulates, sim-unchanged, sim-orders, sim-sends, sim-answer, with-command, lead-sims, SimulatesHere, Advances, advances-none, advances, advances-enter, advances-exchange, two-write, two-read, two-pause}
 use Rattle.protocol.specs.Names.{openingReadTime, resetPauseTime}
@@ -38,7 +38,7 @@ use Rattle.device.specs.Kinds.{openingKind, resetStage}
 
 -- ---- an event, by what the call waits for
 
-module _ (p : Place) (w : Wait p) (v : Fields) (agrees : Agrees p v) where
+module _ (p : Position) (w : Wait p) (v : Fields) (agrees : Agrees p v) where
   -- an order follows that is no command
   advances-order : (u : Wait p) (o : Order) → NoCommand o
       → (e : Event) (b : List ℕ) → replyLength (goesOn o (callAt p u) (v .exchange)) ≤ packetLength e
@@ -84,7 +84,7 @@ module _ (p : Place) (w : Wait p) (v : Fields) (agrees : Agrees p v) where
   unfolding overTransition pick
   reset-ends s u h is call r = rw h (rw (← is, ← call) (advances-order u (write ack) refl))
 
-event-advances : (p : Place) (w : Wait p) (v : Fields) (agrees : Agrees p v) (e : Event)
+event-advances : (p : Position) (w : Wait p) (v : Fields) (agrees : Agrees p v) (e : Event)
     → Advances p w v agrees (transitionOf (callAt p w) (v .exchange) e) (progress (phaseAt w (v .exchange)) e)
 unfolding transitionOf transitionedOf repliesOf pick
 event-advances p (reply k h l) v agrees e =
@@ -114,7 +114,7 @@ event-advances p (pausing s l) v agrees e =
 
 -- ---- the entries
 
-phase-fits : {p : Place} (w : Wait p) → leb (phaseNumber w) pausePhase ≡ true
+phase-fits : {p : Position} (w : Wait p) → leb (phaseNumber w) pausePhase ≡ true
 phase-fits (reply k h l) = refl
 phase-fits (resetReply s h l) = refl
 phase-fits (resetAck s h l) = refl
@@ -123,12 +123,12 @@ phase-fits (openingAck s h l) = refl
 phase-fits (openingReads s l) = refl
 phase-fits (pausing s l) = refl
 
-pub call-fits : (p : Place) (w : Wait p) → validCall (callAt p w) ≡ true
+pub call-fits : (p : Position) (w : Wait p) → validCall (callAt p w) ≡ true
 unfolding validCall
 call-fits p w = rw (p .kindFits, p .stageFits, phase-fits w)
 
-pub event-sims : (p : Place) (w : Wait p) (v : Fields) (agrees : Agrees p v) (e : Event) (b : List ℕ)
-    → SimulatesHere p w v agrees (eventCore (coreAt p w v) (arraysAt v) e b) (eventOutcome (p .call) e (length b) (progress (phaseAt w (v .exchange)) e))
+pub event-sims : (p : Position) (w : Wait p) (v : Fields) (agrees : Agrees p v) (e : Event) (b : List ℕ)
+    → SimulatesHere p w v agrees (eventCore (coreAt p w v) (arraysAt v) e b) (eventEffect (p .call) e (length b) (progress (phaseAt w (v .exchange)) e))
 unfolding eventCore pick
 event-sims p w v agrees e b = rw (p .running) (event-advances p w v agrees e e b (reply-short (callAt p w) (v .exchange) e))
 
@@ -147,7 +147,7 @@ open-sims v mode b =
       keptFits = refl;
       phaseFits = v .phaseFits;
     } in
-    let p : Place = record {
+    let p : Position = record {
       call = opening mode;
       kind = openingKind;
       stage = resetStage;
@@ -162,8 +162,8 @@ open-sims v mode b =
     sim-orders u noCall true idle p (openingAck deviceNew refl (opening-script-refines (take (v .pending) (v .command)) [])) (v .exchange) (write ack) b (v .phaseFits)
     record { pending = refl; found = refl } refl
 
-abbrev first-place : (q : ReaderCall) (kind : ℕ) (pending found : List ℕ) → Kind kind → Place
-first-place q kind pending found h =
+abbrev first-position : (q : ReaderCall) (kind : ℕ) (pending found : List ℕ) → Kind kind → Position
+first-position q kind pending found h =
     record {
       call = reader q;
       kind = kind;
@@ -182,10 +182,10 @@ start-sims : (v : Fields) (q : ReaderCall) (b : List ℕ) (x : Start) (y : stage
 unfolding startOn stepOf followsOf stageOf
 start-sims v q b x y (refusedNow r) = sim-unchanged r b (free v refl refl refl)
 start-sims v q b x y (first kind code clock bytes k isKind noReset small stands) =
-    sim-sends (with-command v bytes small) noCall false idle (first-place q kind bytes (take (v .kept) (v .found)) isKind)
+    sim-sends (with-command v bytes small) noCall false idle (first-position q kind bytes (take (v .kept) (v .found)) isKind)
     (reply k noReset (stands (take (v .kept) (v .found)))) code clock bytes b record { pending = take-put bytes (v .command); found = refl }
 start-sims v q b x y (leading kind later s isKind small l) =
-    lead-sims (first-place q kind later (take (v .kept) (v .found)) isKind) idle (with-command v later small) 0 0 (send firstStage) s b (take-put later (v .command)) refl (l (take (v .kept) (v .found)))
+    lead-sims (first-position q kind later (take (v .kept) (v .found)) isKind) idle (with-command v later small) 0 0 (send firstStage) s b (take-put later (v .command)) refl (l (take (v .kept) (v .found)))
 
 pub call-sims : (v : Fields) (q : ReaderCall) (b : List ℕ) → Simulates false idle (startOn (coreWith v noCall) (arraysAt v) (startFor q) b) (started (reader q) (readerStart q))
 call-sims v q b = start-sims v q b (readerStart q) (startFor q) (reader-begins q)

@@ -15,7 +15,7 @@ use Rattle.engine.specs.declared.core.Output.{Output}
 use Rattle.engine.specs.declared.core.Output.the-variants.{Ack, Command, Read, Drain, Pause, Done, Type1, UidAndAts, Nothing, Failed, FailedAfter, Refused}
 use Rattle.engine.specs.declared.session.Session.{Session}
 
--- what the host is told: an output with the buffer's bytes
+-- what the host is given: an output with the buffer's bytes
 abbrev pub outputOf : Output → List ℕ → Given ℕ
 outputOf Ack b = orders (write (take 6 b))
 outputOf (Command n) b = orders (write (take n b))
@@ -34,22 +34,22 @@ outputOf (Refused r) b = rejects r
 pub data Input : Type 0 where
   opens : ℕ → ℕ → List ℕ → Input  -- caller, mode
   asks : ℕ → ReaderCall → List ℕ → Input  -- caller
-  tells : Event → List ℕ → Input
+  gives : Event → List ℕ → Input
 
 abbrev pub bufferOf : Input → List ℕ
 bufferOf (opens k mode b) = b
 bufferOf (asks k c b) = b
-bufferOf (tells e b) = b
+bufferOf (gives e b) = b
 
 abbrev pub entryOf : Input → Entry
 entryOf (opens k mode b) = call k (opening mode) (length b)
 entryOf (asks k c b) = call k (reader c) (length b)
-entryOf (tells e b) = event e (length b)
+entryOf (gives e b) = event e (length b)
 
 abbrev pub afterInput : State → Arrays → Input → After State
 afterInput s f (opens k mode b) = openedAt s f k mode b
 afterInput s f (asks k c b) = startAfter s f k (startFor c) b
-afterInput s f (tells e b) = eventAfter s f e b
+afterInput s f (gives e b) = eventAfter s f e b
 
 abbrev pub stepWith : Session → Input → Stepped
 stepWith s i = sessionAfter (afterInput (stateIn s) (arraysIn s) i)

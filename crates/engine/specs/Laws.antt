@@ -1,29 +1,25 @@
 -- Laws of what the session's functions do.
-use mathlib.Core.Path.{_≡_, refl, sym, ap, ap₂, _∙_, subst}
+use mathlib.Core.Path.{_≡_, refl, sym, ap, _∙_}
 use mathlib.Core.Bool.{Bool, true, false, cond}
-use mathlib.Core.List.{List, [], _∷_, _++_, append-assoc}
-use Prim.Native.Nat.{ℕ, _+_, _-_, _≤_, _<_}
-use native.Mathlib.Decide.{decLe}
+use mathlib.Core.List.{List, []}
+use Prim.Native.Nat.{ℕ, _+_, _-_, _≤_}
 use native.Mathlib.Omega.{arith}
-use borrow.Rule.Slice.PartMut.{putMid}
-use borrow.Author.Tests.{ne-eqb, le-ltb, leb-true}
+use borrow.Author.Tests.{le-ltb, leb-true}
 use lib.Dec.{leb, ltb}
-use lib.ListN.{length, take, drop, getD, length-append, length-drop, take-append-drop, length-take}
-use lib.Seq.{drop-cons, take-length, take-all, take-append-seam, drop-append-add, drop-drop, length-take-le, take-take}
+use lib.ListN.{length, take, drop, length-drop, length-take}
+use lib.Seq.{take-all}
 use Rattle.errors.specs.Choice.{pick}
 use Rattle.errors.specs.Refusals.{answered, refused, numbered}
 use Rattle.errors.specs.declared.Refusal.{Refusal}
-use Rattle.framing.specs.Build.{left, outcome, buildOf, putFrame, limitOf}
+use Rattle.framing.specs.Build.{left, returned, buildOf, putFrame, limitOf}
 use Rattle.framing.specs.declared.Built.{Built}
 use Rattle.framing.specs.declared.Built.the-variants.{Frame, Refused}
 use Rattle.framing.specs.Enclose.{length-frame, start-most}
-use Rattle.framing.specs.Copied.{copied}
 use Rattle.framing.specs.Settings.{rcs956, commandPayload}
 use Rattle.framing.specs.Valid.{both-left, both-right}
 use Rattle.framing.specs.Padded.{extraZeros, unpadded}
 use Rattle.framing.specs.Unpadded.{extra-fits}
 use Rattle.exchange.specs.Exchange.{pkt}
-use Rattle.exchange.specs.Exchange as exchange
 use Rattle.exchange.specs.Packets.{commandFrame}
 use Rattle.exchange.specs.Steps.{exchangeAt, eventOf}
 use Rattle.exchange.specs.declared.Event.{Event}
@@ -40,8 +36,7 @@ use Rattle.engine.specs.Books.{Books, booksOf, callerIn, booked, extraIn
 use Rattle.engine.specs.declared.core.Progress.{Progress}
 use Rattle.engine.specs.Booking.{range-caller}
 use Rattle.engine.specs.Sessions.{State, state, effected, bookedAfter, valid, isValid as validState}
-use Rattle.engine.specs.Core.{isValid, Arrays, progressed, After, admittedOf, eventCore, endsOf, doneOf, answersOf, sendsOf, running, after}
-use Rattle.engine.specs.Transitions.{Transitioned, transitionOf, validCall}
+use Rattle.engine.specs.Core.{isValid, Arrays, progressed, After, eventCore, endsOf, doneOf, answersOf, sendsOf, running, after}
 use Rattle.engine.specs.declared.call.Call.{Call}
 use Rattle.engine.specs.declared.core.Core.{Core}
 use Rattle.engine.specs.declared.core.Output.the-variants.{Command as Sends, Done, Type1, UidAndAts}
@@ -63,23 +58,23 @@ command-built code bytes b h room =
 
 -- the frame of a command was built, and nothing else can be
 module _ (s : Core) (f : Arrays) (c : Call) (m : Command) (b b₁ : List ℕ) (h : length (m .bytes) ≤ 512) (room : 1024 ≤ length b) where
-  pub sent-frame : (core : Core) (built : Built) (n : ℕ) (x : Exchange) → built ≡ Frame n → left (outcome built) b₁ ≡ buildOf rcs956 (commandPayload (m .code) (m .bytes)) b
+  pub sent-frame : (core : Core) (built : Built) (n : ℕ) (x : Exchange) → built ≡ Frame n → left (returned built) b₁ ≡ buildOf rcs956 (commandPayload (m .code) (m .bytes)) b
       → x ≡ exchangeAt 0 (m .code) (m .clock) → core ≡ running s c x → after core f (Sends n) b₁ ≡ sendsOf s f c m b
-  unfolding outcome
+  unfolding returned
   sent-frame core built n x e l k is =
       let q : left (answered n) b₁ ≡ left (answered (length (commandFrame (m .code) (m .bytes)))) (put (commandFrame (m .code) (m .bytes)) b)
-      = ap (λ y. left (outcome y) b₁) (sym e) ∙ l ∙ command-built (m .code) (m .bytes) b h room in
-      let t : answered n ≡ answered (length (commandFrame (m .code) (m .bytes))) = ap (λ y. y .told) q in
+      = ap (λ y. left (returned y) b₁) (sym e) ∙ l ∙ command-built (m .code) (m .bytes) b h room in
+      let t : answered n ≡ answered (length (commandFrame (m .code) (m .bytes))) = ap (λ y. y .result) q in
       let size : n ≡ length (commandFrame (m .code) (m .bytes)) = cc in
       rw is (λ i. after (running s c (k i)) f (Sends (size i)) ((ap (λ y. y .buffer) q) i))
 
-  pub sent-refused : (a : After Core) (built : Built) (r : Refusal) → built ≡ Refused r → left (outcome built) b₁ ≡ buildOf rcs956 (commandPayload (m .code) (m .bytes)) b
+  pub sent-refused : (a : After Core) (built : Built) (r : Refusal) → built ≡ Refused r → left (returned built) b₁ ≡ buildOf rcs956 (commandPayload (m .code) (m .bytes)) b
       → a ≡ sendsOf s f c m b
-  unfolding outcome
+  unfolding returned
   sent-refused a built r e l =
       let q : left (refused (numbered r)) b₁ ≡ left (answered (length (commandFrame (m .code) (m .bytes)))) (put (commandFrame (m .code) (m .bytes)) b)
-      = ap (λ y. left (outcome y) b₁) (sym e) ∙ l ∙ command-built (m .code) (m .bytes) b h room in
-      let t : refused (numbered r) ≡ answered (length (commandFrame (m .code) (m .bytes))) = ap (λ y. y .told) q in
+      = ap (λ y. left (returned y) b₁) (sym e) ∙ l ∙ command-built (m .code) (m .bytes) b h room in
+      let t : refused (numbered r) ≡ answered (length (commandFrame (m .code) (m .bytes))) = ap (λ y. y .result) q in
       let z : _≡_ {A = ℕ} 0 1 = cc in
       absurd (omega (arith, z))
 
@@ -122,12 +117,6 @@ valid-command s h = leb-true (s .command) 512 (both-left (leb (s .command) 512) 
 pub valid-found : (s : Core) → isValid s ≡ true → s .found ≤ 1024
 unfolding isValid
 valid-found s h = leb-true (s .found) 1024 (both-left (leb (s .found) 1024) _ (both-right (leb (s .command) 512) _ h))
-
--- an event while a call runs
-pub event-admitted : (s : Core) (f : Arrays) (m : Transitioned) (e : exchange.Event) (b : List ℕ) (x : After Core) → m ≡ transitionOf (s .call) (s .exchange) e → (s .call .kind ≡ 0 → ⊥)
-    → x ≡ admittedOf s f m e b → x ≡ eventCore s f e b
-unfolding eventCore pick
-event-admitted s f m e b x is runs h = rw (ne-eqb (s .call .kind) 0 runs) (h ∙ ap (λ n. admittedOf s f n e b) is)
 
 -- what came out of the running call, with the books as they are booked
 pub booked-after : (k : ℕ) (t : Bool) (p : Progress) (b : Books) (m n : List ℕ) → booksOf m n ≡ booked k t (p .output) b

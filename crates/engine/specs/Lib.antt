@@ -11,7 +11,7 @@ pub mod Relation
 pub mod Simulation
 pub mod Ends
 pub mod Events
-pub mod Follows
+pub mod Refinement
 pub mod PollCodes
 pub mod Chatter
 pub mod Unchanged

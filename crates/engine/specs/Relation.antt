@@ -11,7 +11,7 @@ use Rattle.exchange.specs.declared.Exchange.{Exchange}
 use Rattle.protocol.specs.Scripts.{Script}
 use Rattle.protocol.specs.Calls.{Call as CallOf, isOpening}
 use Rattle.protocol.specs.Session.{byReply, ofReset, Phase, exchange, Running, idle, busy}
-use Rattle.protocol.specs.Session as Meant
+use Rattle.protocol.specs.Session as Spec
 use Rattle.stages.specs.Stages.{send}
 use Rattle.calls.specs.Tables.{isResetOf, decidedOf}
 use Rattle.calls.specs.Refines.{Refines, Awaits}
@@ -26,7 +26,7 @@ use Rattle.calls.specs.Kinds.{noCallKind, lastKind, lastStage}
 use Rattle.device.specs.Kinds.{openingKind}
 
 -- where a call stands: its kind, stage and cursor, its pending command and its found bytes
-pub record Place : Type 0 where
+pub record Position : Type 0 where
   pub call : CallOf
   pub kind : ℕ
   pub stage : ℕ
@@ -40,7 +40,7 @@ pub record Place : Type 0 where
 
 -- what it waits for, and the script that is left: a command's reply, a reset's exchange, ACK or pause, or what comes before the command of
 -- its stage, the opening's ACK or reads, or a pause
-pub data Wait (p : Place) : Type 0 where
+pub data Wait (p : Position) : Type 0 where
   reply : (k : Reply → Script) → isResetOf (p .kind) (p .stage) ≡ false → Awaits (p .kind) (p .stage) (p .cursor) (p .pending) (p .found) k → Wait p
   resetReply : (s : Script) → isResetOf (p .kind) (p .stage) ≡ true → Refines (p .kind) (p .cursor) (p .pending) (p .found) (decidedOf (p .kind) (p .stage) (p .cursor) (p .pending) (p .found) []) s → Wait p
   resetAck : (s : Script) → isResetOf (p .kind) (p .stage) ≡ true → Refines (p .kind) (p .cursor) (p .pending) (p .found) (decidedOf (p .kind) (p .stage) (p .cursor) (p .pending) (p .found) []) s → Wait p
@@ -49,7 +49,7 @@ pub data Wait (p : Place) : Type 0 where
   openingReads : (s : Script) → Refines (p .kind) (p .cursor) (p .pending) (p .found) (send (p .stage)) s → Wait p
   pausing : (s : Script) → Refines (p .kind) (p .cursor) (p .pending) (p .found) (send (p .stage)) s → Wait p
 
-abbrev pub phaseNumber : {p : Place} → Wait p → ℕ
+abbrev pub phaseNumber : {p : Position} → Wait p → ℕ
 phaseNumber (reply k h l) = exchangePhase
 phaseNumber (resetReply s h l) = exchangePhase
 phaseNumber (resetAck s h l) = resetAckPhase
@@ -58,17 +58,17 @@ phaseNumber (openingAck s h l) = openingAckPhase
 phaseNumber (openingReads s l) = openingReadsPhase
 phaseNumber (pausing s l) = pausePhase
 
-abbrev pub callAt : (p : Place) → Wait p → Call
+abbrev pub callAt : (p : Position) → Wait p → Call
 callAt p w = record { kind = p .kind; stage = p .stage; cursor = p .cursor; phase = phaseNumber w }
 
-abbrev pub phaseAt : {p : Place} → Wait p → Exchange → Phase
+abbrev pub phaseAt : {p : Position} → Wait p → Exchange → Phase
 phaseAt (reply k h l) x = exchange (stepOf x) (byReply k)
 phaseAt (resetReply s h l) x = exchange (stepOf x) (ofReset s)
-phaseAt (resetAck s h l) x = Meant.resetAck s
-phaseAt (resetPause s l) x = Meant.resetPause s
-phaseAt (openingAck s h l) x = Meant.openingAck s
-phaseAt (openingReads s l) x = Meant.openingReads s
-phaseAt (pausing s l) x = Meant.fieldPausing s
+phaseAt (resetAck s h l) x = Spec.resetAck s
+phaseAt (resetPause s l) x = Spec.resetPause s
+phaseAt (openingAck s h l) x = Spec.openingAck s
+phaseAt (openingReads s l) x = Spec.openingReads s
+phaseAt (pausing s l) x = Spec.fieldPausing s
 
 -- ---- the other numbers, and the arrays
 
@@ -89,23 +89,23 @@ abbrev pub arraysAt : Fields → Arrays
 arraysAt v = arrays (v .command) (v .found)
 
 -- the pending command and the found bytes are those of the place
-pub record Agrees (p : Place) (v : Fields) : Type 0 where
+pub record Agrees (p : Position) (v : Fields) : Type 0 where
   pub pending : take (v .pending) (v .command) ≡ p .pending
   pub found : take (v .kept) (v .found) ≡ p .found
 
-abbrev pub coreAt : (p : Place) → Wait p → Fields → Core
+abbrev pub coreAt : (p : Position) → Wait p → Fields → Core
 coreAt p w v = coreWith v (callAt p w)
 
-abbrev pub runningAt : (p : Place) → Wait p → Fields → Running
+abbrev pub runningAt : (p : Position) → Wait p → Fields → Running
 runningAt p w v = busy (p .call) (phaseAt w (v .exchange))
 
 -- the running call of the definitions that the numbers and the arrays represent
 pub data Represents (s : Core) (f : Arrays) (m : Running) : Type 0 where
   free : (v : Fields) → s ≡ coreWith v noCall → f ≡ arraysAt v → m ≡ idle → Represents s f m
-  runs : (p : Place) (w : Wait p) (v : Fields) → Agrees p v → s ≡ coreAt p w v → f ≡ arraysAt v → m ≡ runningAt p w v → Represents s f m
+  runs : (p : Position) (w : Wait p) (v : Fields) → Agrees p v → s ≡ coreAt p w v → f ≡ arraysAt v → m ≡ runningAt p w v → Represents s f m
 
 -- the session of the definitions that a session's fields represent
-pub record Means (s : Session) (m : Meant.Session) : Type 0 where
+pub record SessionRepresents (s : Session) (m : Spec.Session) : Type 0 where
   pub call : Represents (s .core) (arraysIn s) (m .running)
   pub booked : (stateIn s) .books ≡ bookNumbers (m .books)
   pub bounded : Bounded (m .books)

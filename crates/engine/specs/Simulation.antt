@@ -1,38 +1,37 @@
 -- What it is for the engine's step to do what the definitions say, and the ways in which a call goes on.
 use mathlib.Core.Path.{_≡_, refl, sym, ap, _∙_, subst}
 use mathlib.Core.Bool.{Bool, true, false, cond}
-use mathlib.Core.List.{List, [], map}
+use mathlib.Core.List.{List, map}
 use Prim.Native.Nat.{ℕ, _≤_}
 use native.Mathlib.Omega.{arith}
 use borrow.Author.Tests.{ltb-false, le-leb}
-use lib.Dec.{eqb, leb, ltb}
+use lib.Dec.{leb, ltb}
 use lib.ListN.{length, take, drop}
 use lib.Seq.{take-append-seam}
 use Rattle.errors.specs.Choice.{pick}
 use Rattle.errors.specs.declared.Refusal.{Refusal}
 use Rattle.errors.specs.declared.Refusal.the-variants.{OutOfTurn, ShortBuffer, OverLong}
-use Rattle.errors.specs.declared.Fault.{Fault}
 use Rattle.framing.specs.Frames.{ack}
 use Rattle.exchange.specs.Packets.{commandFrame, Reply, resetCode, resetData}
-use Rattle.exchange.specs.Exchange.{Order, write, read, drain, pause, Event, ok, bad, pkt, time, fail, late, slept, unfit, pending, ended, onWrite, onRead, onPause, ExchangeResult, sending}
+use Rattle.exchange.specs.Exchange.{Order, write, read, drain, pause, Event, ok, bad, pkt, time, fail, late, slept, unfit, pending, ended, onWrite, onRead, onPause, ExchangeResult}
 use Rattle.exchange.specs.Steps.{stepOf, exchangeAt}
 use Rattle.exchange.specs.declared.Exchange.{Exchange}
 use Rattle.protocol.specs.Scripts.{Byte, value, Answer, done, type1, uidAndAts, nothing, refused, refusedAfter, Script, finish, command, reset, fieldPause}
 use Rattle.protocol.specs.Calls.{Call as CallOf, isOpening}
-use Rattle.protocol.specs.Session.{Phase, exchange, Rest, CallResult, enter, afterReply, afterExchange, Running, busy, ceiling, bookAnswer, packetLength, admitted, eventOutcome, Outcome, outcome, bookOutcome, runningAfter}
+use Rattle.protocol.specs.Session.{exchange, Rest, CallResult, enter, afterReply, afterExchange, Running, busy, packetLength, admitted, eventEffect, Effect, effect, runningAfter}
 use Rattle.protocol.specs.Session.{orders, answers, given, unchanged as unchangedOf, runs as runsOf, ends as endsIn}
-use Rattle.protocol.specs.Session as Meant
-use Rattle.protocol.specs.Follows.{plain, plainAnswer}
+use Rattle.protocol.specs.Session as Spec
+use Rattle.protocol.specs.Machine.{plain, plainAnswer}
 use Rattle.stages.specs.Put.{put, take-put}
-use Rattle.stages.specs.Stages.{Command, cmd, Decision, send}
+use Rattle.stages.specs.Stages.{cmd, Decision, send}
 use Rattle.calls.specs.Tables.{commandOf}
 use Rattle.calls.specs.Refines.{Refines, refines-end, refines-send, refines-reset, refines-keep, refines-next, refines-put, refines-pause}
 use Rattle.engine.specs.Books.{booked as bookedBy}
 use Rattle.engine.specs.Booking.{bookNumbers, Bounded, bookBy, quiet-booked, ack-counts, frame-booked, end-booked}
-use Rattle.engine.specs.Core.{Arrays, After, unchanged, running, putFound, putCommand, ordersOf, sendsOf, stageOf, endsOf, doneOf, answersOf, followsOf, admittedOf, isLong, transitionedOf}
+use Rattle.engine.specs.Core.{Arrays, After, unchanged, running, ordersOf, sendsOf, stageOf, endsOf, answersOf, followsOf, admittedOf, isLong, transitionedOf}
 use Rattle.engine.specs.Transitions.{Transitioned, unfitting, orders as goesOn, fits, replyLength, endedTransition, exchangeTransition, exchangeIn}
 use Rattle.engine.specs.Inputs.{outputOf}
-use Rattle.engine.specs.Relation.{Place, Wait, reply, resetReply, pausing, callAt, phaseAt, Fields, coreWith, arraysAt, Agrees, coreAt, runningAt, Represents, free, runs}
+use Rattle.engine.specs.Relation.{Position, Wait, reply, resetReply, pausing, callAt, phaseAt, Fields, coreWith, arraysAt, Agrees, coreAt, runningAt, Represents, free, runs}
 use Rattle.engine.specs.Exchanges.{NoCommand, Good}
 use Rattle.engine.specs.declared.call.Call.{Call}
 use Rattle.engine.specs.declared.core.Core.{Core}
@@ -42,17 +41,17 @@ use Rattle.protocol.specs.Names.{fieldPauseTime}
 use Rattle.calls.specs.Kinds.{lastStage}
 
 -- What an entry leaves, beside what the definitions say; the running call is m before it. What is booked of the output, of the call of any
--- caller k, is what the definitions book of the outcome.
-pub record Simulates (opens : Bool) (m : Running) (a : After Core) (o : Outcome) : Type 0 where
+-- caller k, is what the definitions book of the effect.
+pub record Simulates (opens : Bool) (m : Running) (a : After Core) (o : Effect) : Type 0 where
   pub represents : Represents (a .state) (a .arrays) (runningAfter m o)
   pub output : outputOf (a .output) (a .buffer) ≡ plain (given o)
-  pub booked : (k : ℕ) (b : Meant.Books) → Bounded b → bookedBy k opens (a .output) (bookNumbers b) ≡ bookNumbers (bookBy k o b)
+  pub booked : (k : ℕ) (b : Spec.Books) → Bounded b → bookedBy k opens (a .output) (bookNumbers b) ≡ bookNumbers (bookBy k o b)
 
 module _ {t : Bool} {m : Running} where
   pub sim-unchanged : {s : Core} {f : Arrays} (r : Refusal) (b : List ℕ) → Represents s f m → Simulates t m (unchanged s f r b) (unchangedOf r)
   sim-unchanged r b h = record { represents = h; output = refl; booked = λ k b h. refl }
 
-  pub sim-pick : (u : Bool) {x y : After Core} {o w : Outcome} → Simulates t m x o → (u ≡ false → Simulates t m y w) → Simulates t m (pick u x y) (cond u o w)
+  pub sim-pick : (u : Bool) {x y : After Core} {o w : Effect} → Simulates t m x o → (u ≡ false → Simulates t m y w) → Simulates t m (pick u x y) (cond u o w)
   unfolding pick
   sim-pick true h k = h
   sim-pick false h k = k refl
@@ -61,7 +60,7 @@ module _ {t : Bool} {m : Running} where
 
 module _ (v : Fields) (c : Call) (t : Bool) (m : Running) where
   -- with an order that is no command
-  pub sim-orders : (p : Place) (w : Wait p) (x : Exchange) (o : Order) (b : List ℕ) → leb (x .phase) 6 ≡ true → Agrees p v → NoCommand o
+  pub sim-orders : (p : Position) (w : Wait p) (x : Exchange) (o : Order) (b : List ℕ) → leb (x .phase) 6 ≡ true → Agrees p v → NoCommand o
       → Simulates t m (ordersOf (coreWith v c) (arraysAt v) o (callAt p w) x b) (runsOf (p .call) o (phaseAt w x))
   sim-orders p w x o b small agrees e = go o e
     where
@@ -90,7 +89,7 @@ module _ (v : Fields) (c : Call) (t : Bool) (m : Running) where
       go (pause us) e = record { represents = here; output = refl; booked = λ k n h. quiet-booked k (pause us) n (λ _. refl) }
 
   -- with a command
-  pub sim-sends : (p : Place) (w : Wait p) (code clock : ℕ) (bytes b : List ℕ) → Agrees p v
+  pub sim-sends : (p : Position) (w : Wait p) (code clock : ℕ) (bytes b : List ℕ) → Agrees p v
       → Simulates t m (sendsOf (coreWith v c) (arraysAt v) (callAt p w) (cmd code clock bytes) b)
       (runsOf (p .call) (write (commandFrame code bytes)) (phaseAt w (exchangeAt 0 code clock)))
   sim-sends p w code clock bytes b agrees =
@@ -113,7 +112,7 @@ module _ (v : Fields) (c : Call) (t : Bool) (m : Running) where
 -- the call ends
 module _ (v : Fields) (c : Call) (q : CallOf) (m : Running) where
   sim-ends : (a : Answer Byte) (o : Output) (b : List ℕ) → outputOf o b ≡ answers (plainAnswer a)
-      → ((k : ℕ) (n : Meant.Books) → bookedBy k (isOpening q) o (bookNumbers n) ≡ bookNumbers (bookBy k (endsIn q a) n))
+      → ((k : ℕ) (n : Spec.Books) → bookedBy k (isOpening q) o (bookNumbers n) ≡ bookNumbers (bookBy k (endsIn q a) n))
       → Simulates (isOpening q) m (endsOf (coreWith v c) (arraysAt v) o b) (endsIn q a)
   sim-ends a o b given k = record { represents = free v refl refl refl; output = given; booked = λ i n h. k i n }
 
@@ -136,7 +135,7 @@ module _ (v : Fields) (c : Call) (q : CallOf) (m : Running) where
 
 -- ---- what a call decided leads to what its script has
 
-abbrev pub atStage : (p : Place) (stage cursor : ℕ) (later found : List ℕ) → leb stage lastStage ≡ true → Place
+abbrev pub atStage : (p : Position) (stage cursor : ℕ) (later found : List ℕ) → leb stage lastStage ≡ true → Position
 atStage p stage cursor later found h =
     record {
       call = p .call;
@@ -178,7 +177,7 @@ with-command v l h =
     }
 
 -- a call of the place's kind, at any of its stages
-abbrev callOf : Place → ℕ → ℕ → ℕ → Call
+abbrev callOf : Position → ℕ → ℕ → ℕ → Call
 callOf p stage cursor phase = record { kind = p .kind; stage = stage; cursor = cursor; phase = phase }
 
 -- the numbers that a call had are of no account to its next command
@@ -186,30 +185,30 @@ same-stage : (v : Fields) (c d k : Call) (b : List ℕ) → stageOf (coreWith v 
 unfolding stageOf
 same-stage v c d k b = refl
 
-module _ (p : Place) (m : Running) where
+module _ (p : Position) (m : Running) where
   -- the command of a stage, from a call at any stage and cursor
   pub stage-sims : (v : Fields) (later found : List ℕ) (n i : ℕ) (h : leb n lastStage ≡ true) (w : Wait (atStage p n i later found h)) (c : Call) (code clock : ℕ) (bytes b : List ℕ)
       → take (v .pending) (v .command) ≡ later → take (v .kept) (v .found) ≡ found → commandOf (p .kind) n i later ≡ cmd code clock bytes → callAt _ w ≡ callOf p n i 0
       → Simulates (isOpening (p .call)) m (stageOf (coreWith v c) (arraysAt v) (callOf p n i 0) b)
       (runsOf (p .call) (write (commandFrame code bytes)) (phaseAt w (exchangeAt 0 code clock)))
   unfolding stageOf
-  stage-sims v later found n i h w c code clock bytes b e f plan is =
-      let sent : commandOf (p .kind) n i (take (v .pending) (v .command)) ≡ cmd code clock bytes = ap (commandOf (p .kind) n i) e ∙ plan in
+  stage-sims v later found n i h w c code clock bytes b e f is-command is =
+      let sent : commandOf (p .kind) n i (take (v .pending) (v .command)) ≡ cmd code clock bytes = ap (commandOf (p .kind) n i) e ∙ is-command in
       subst (λ k. Simulates (isOpening (p .call)) m (sendsOf (coreWith v c) (arraysAt v) k (commandOf (p .kind) n i (take (v .pending) (v .command))) b)
       (runsOf (p .call) (write (commandFrame code bytes)) (phaseAt w (exchangeAt 0 code clock)))) is
       (rw sent (sim-sends v c (isOpening (p .call)) m _ w code clock bytes b record { pending = e; found = f }))
 
   pub lead-sims : {later found : List ℕ} {i : ℕ} (v : Fields) (stage phase : ℕ) (d : Decision) (s : Script) (b : List ℕ)
       → take (v .pending) (v .command) ≡ later → take (v .kept) (v .found) ≡ found → Refines (p .kind) i later found d s
-      → Simulates (isOpening (p .call)) m (followsOf (coreWith v (callOf p stage i phase)) (arraysAt v) d b) (outcome (p .call) (enter s))
+      → Simulates (isOpening (p .call)) m (followsOf (coreWith v (callOf p stage i phase)) (arraysAt v) d b) (effect (p .call) (enter s))
   unfolding followsOf stepOf
   lead-sims v stage phase d s b e f (refines-end a c h) = sim-answer v (callOf p stage _ phase) (p .call) m c a b h
-  lead-sims v stage phase d s b e f (refines-send n code clock bytes k h q plan answered failing) =
-      stage-sims v _ _ n _ h (reply k q record { answered = answered; failing = failing }) (callOf p stage _ phase) code clock bytes b e f plan refl
-  lead-sims v stage phase d s b e f (refines-reset n r h q plan l) = stage-sims v _ _ n _ h (resetReply r q l) (callOf p stage _ phase) resetCode 100 resetData b e f plan refl
+  lead-sims v stage phase d s b e f (refines-send n code clock bytes k h q is-command answered failing) =
+      stage-sims v _ _ n _ h (reply k q record { answered = answered; failing = failing }) (callOf p stage _ phase) code clock bytes b e f is-command refl
+  lead-sims v stage phase d s b e f (refines-reset n r h q is-command l) = stage-sims v _ _ n _ h (resetReply r q l) (callOf p stage _ phase) resetCode 100 resetData b e f is-command refl
   lead-sims v stage phase d s b e f (refines-keep n l s′ few k) = lead-sims (with-found v l few) stage phase (send n) s b e (take-put l (v .found)) k
   lead-sims v stage phase d s b e f (refines-next n j l s′ few k) =
-      subst (λ a. Simulates (isOpening (p .call)) m a (outcome (p .call) (enter s))) (same-stage (with-found v l few) (callOf p stage j phase) (callOf p stage _ phase) (callOf p n j 0) b)
+      subst (λ a. Simulates (isOpening (p .call)) m a (effect (p .call) (enter s))) (same-stage (with-found v l few) (callOf p stage j phase) (callOf p stage _ phase) (callOf p n j 0) b)
       (lead-sims (with-found v l few) stage phase (send n) s b e (take-put l (v .found)) k)
   lead-sims v stage phase d s b e f (refines-put n l s′ few k) = lead-sims (with-command v l few) stage phase (send n) s b (take-put l (v .command)) f k
   lead-sims v stage phase d s b e f (refines-pause n r h k) =
@@ -218,15 +217,15 @@ module _ (p : Place) (m : Running) where
 
 -- ---- an event that a running call meets
 
-module _ (p : Place) (w : Wait p) (v : Fields) (agrees : Agrees p v) where
-  abbrev pub SimulatesHere : After Core → Outcome → Type 0
+module _ (p : Position) (w : Wait p) (v : Fields) (agrees : Agrees p v) where
+  abbrev pub SimulatesHere : After Core → Effect → Type 0
   SimulatesHere = Simulates (isOpening (p .call)) (runningAt p w v)
 
   -- of an event with a packet that is long enough for the response
   abbrev pub Advances : Transitioned → CallResult → Type 0
   Advances mv r =
       (e : Event) (b : List ℕ) → replyLength mv ≤ packetLength e
-      → SimulatesHere (admittedOf (coreAt p w v) (arraysAt v) mv e b) (eventOutcome (p .call) e (length b) r)
+      → SimulatesHere (admittedOf (coreAt p w v) (arraysAt v) mv e b) (eventEffect (p .call) e (length b) r)
 
   stays : (r : Refusal) (b : List ℕ) → SimulatesHere (unchanged (coreAt p w v) (arraysAt v) r b) (unchangedOf r)
   stays r b = sim-unchanged r b (runs p w v agrees refl refl refl)
@@ -236,7 +235,7 @@ module _ (p : Place) (w : Wait p) (v : Fields) (agrees : Agrees p v) where
   advances-none e b l = stays OutOfTurn b
 
   -- buffer and packet are looked at first
-  pub advances : (mv : Transitioned) (o : Outcome) → fits mv ≡ true → ((b : List ℕ) → replyLength mv ≤ 1024 → SimulatesHere (transitionedOf (coreAt p w v) (arraysAt v) mv b) o)
+  pub advances : (mv : Transitioned) (o : Effect) → fits mv ≡ true → ((b : List ℕ) → replyLength mv ≤ 1024 → SimulatesHere (transitionedOf (coreAt p w v) (arraysAt v) mv b) o)
       → (e : Event) (b : List ℕ) → replyLength mv ≤ packetLength e → SimulatesHere (admittedOf (coreAt p w v) (arraysAt v) mv e b) (admitted e (length b) o)
   unfolding admittedOf isLong pick
   advances mv o h k e b l =
@@ -245,7 +244,7 @@ module _ (p : Place) (w : Wait p) (v : Fields) (agrees : Agrees p v) where
       (λ _. sim-pick (ltb 1024 (packetLength e)) (stays OverLong b) (λ n. k b (omega (arith, l, ltb-false 1024 (packetLength e) n)))))
 
   -- a script is entered
-  pub advances-enter : (mv : Transitioned) (s : Script) → fits mv ≡ true → ((b : List ℕ) → replyLength mv ≤ 1024 → SimulatesHere (transitionedOf (coreAt p w v) (arraysAt v) mv b) (outcome (p .call) (enter s)))
+  pub advances-enter : (mv : Transitioned) (s : Script) → fits mv ≡ true → ((b : List ℕ) → replyLength mv ≤ 1024 → SimulatesHere (transitionedOf (coreAt p w v) (arraysAt v) mv b) (effect (p .call) (enter s)))
       → Advances mv (enter s)
   advances-enter mv (finish a) h k = advances mv _ h k
   advances-enter mv (command code clock bytes n) h k = advances mv _ h k

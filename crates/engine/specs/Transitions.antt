@@ -14,7 +14,7 @@ use Rattle.framing.specs.Lists.{both}
 use Rattle.framing.specs.Rules.{at-true, at-false}
 use borrow.Author.Tests.{eq-eqb}
 use Rattle.exchange.specs.Exchange.{Event, unfit, pending, ended, onWrite, onRead, onPause, Step, sending, reading, waiting, cancelling, rejecting, draining, ExchangeResult, advance}
-use Rattle.exchange.specs.Exchange.{Order as HostOrder, write, read, drain, pause}
+use Rattle.exchange.specs.Exchange.{Order as HostOrder, write, read, pause}
 use Rattle.exchange.specs.Packets.{Reply, response, failed, replyOf}
 use Rattle.exchange.specs.Steps.{orderOf, stepOf, exchangeAt, resultIn, SameCommand}
 use Rattle.exchange.specs.declared.Advanced.{Advanced}
@@ -232,13 +232,14 @@ module _ (c : Call) (x : Exchange) (packet : List ℕ) (a : Advanced) (r : Excha
       let k = subst (SameCommand x) h kept in
       rw e (p ∙ ap (λ z. orders (orderOf n) c z) (exchange-kept x y (k .0) (k .1) (k .2)))
 
-  pub exchange-arrived : (m : Transitioned) → a ≡ Advanced.Arrived → m ≡ overTransition c x (replyTransition (replyOf (x .code) packet)) → m ≡ exchangeTransition c x r
+  -- the exchange is over
+  pub exchange-arrived : (e : End) → a ≡ Advanced.Arrived → e ≡ Arrived → overTransition c x (endTransition (x .code) packet e) ≡ exchangeTransition c x r
   unfolding exchangeTransition
-  exchange-arrived m h p = let e : r ≡ ended (replyOf (x .code) packet) = sym is ∙ ap (resultIn x packet) h in rw e p
+  exchange-arrived e h q = let o : r ≡ ended (replyOf (x .code) packet) = sym is ∙ ap (resultIn x packet) h in rw (o, q)
 
-  pub exchange-failed : (m : Transitioned) (q : Fault) → a ≡ Advanced.Failed q → m ≡ overTransition c x (refuses q) → m ≡ exchangeTransition c x r
+  pub exchange-failed : (e : End) (fault : Fault) → a ≡ Advanced.Failed fault → e ≡ Failed fault → overTransition c x (endTransition (x .code) packet e) ≡ exchangeTransition c x r
   unfolding exchangeTransition
-  exchange-failed m q h p = let e : r ≡ ended (failed q) = sym is ∙ ap (resultIn x packet) h in rw e p
+  exchange-failed e fault h q = let o : r ≡ ended (failed fault) = sym is ∙ ap (resultIn x packet) h in rw (o, q)
 
 -- a number that is n is none that n is not
 other : {p : ℕ} (n : ℕ) → p ≡ n → (k : ℕ) → eqb n k ≡ false → eqb p k ≡ false

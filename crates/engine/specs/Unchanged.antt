@@ -26,7 +26,7 @@ use Rattle.engine.specs.Laws.{valid-caller}
 use Rattle.engine.specs.Core.{Arrays, After, after, unchanged, idle, ordersOf, stageOf, endsOf, answersOf, followsOf, repliesOf, failsOf, transitionedOf, isLong, admittedOf, eventCore, openCore, startOn}
 use Rattle.engine.specs.Core.{isValid as validCore}
 use Rattle.engine.specs.Exchanges.{by-pick}
-use Rattle.engine.specs.Inputs.{Input, opens as opened, asks, tells, bufferOf, stepWith, afterInput}
+use Rattle.engine.specs.Inputs.{Input, opens as opened, asks, gives, bufferOf, stepWith, afterInput}
 use Rattle.engine.specs.Transitions.{Transitioned, unfitting, orders, sends as sendsStage, resetDone, replies, refuses, fits, transitionOf, validCall}
 use Rattle.engine.specs.Sessions.{State, state, stateIn, valid, isValid, isFree, isAdmitted, bookedAfter, eventAfter, openAfter, startAfter, arraysIn, sessionAfter}
 use Rattle.engine.specs.declared.call.Call.{Call}
@@ -214,7 +214,7 @@ module _ (s : State) (f : Arrays) (b : List ℕ) where
 all-stay : (s : State) (f : Arrays) (i : Input) → Stays s f (bufferOf i) (afterInput s f i)
 all-stay s f (opened k mode b) = open-stays s f b k mode
 all-stay s f (asks k q b) = start-stays s f b k (startFor q)
-all-stay s f (tells e b) = event-stays s f b e
+all-stay s f (gives e b) = event-stays s f b e
 
 -- ---- the session
 

@@ -8,9 +8,9 @@ ghost use mathlib.Core.List.{List};
 ghost use mathlib.Core.Path.{_≡_};
 ghost use Prim.Native.Nat.{ℕ};
 ghost use Rattle.errors.specs.declared.Fault.the-variants.{Transport};
-ghost use Rattle.exchange.specs.Exchange.{advance, onWrite, onPause};
-ghost use Rattle.exchange.specs.Steps.{eventOf, stepOf};
-ghost use Rattle.engine.specs.Transitions.{noCall, firstCall, validCall, fits, at, toStage, toCursor, transitionIn, transitionOf, overTransition, exchangeTransition, orders, resetAckTransition, resetPauseTransition, openingAckTransition, openingReadsTransition, pauseTransition, unfitting, refuses};
+ghost use Rattle.exchange.specs.Exchange.{onWrite, onPause};
+ghost use Rattle.exchange.specs.Steps.{eventOf};
+ghost use Rattle.engine.specs.Transitions.{noCall, firstCall, at, toStage, toCursor, transitionIn, transitionOf, resetAckTransition, resetPauseTransition, openingAckTransition, openingReadsTransition, pauseTransition, unfitting, refuses};
 
 // What runs: no call, the opening, a call of one command by the number of the rule for its response, or a discovery.
 pub const NO_CALL: u8 = 0;
@@ -20,7 +20,7 @@ pub const OPEN: u8 = 1;
 pub const LAST: u8 = 24;
 
 // The last stage of the call that has most, the opening.
-const LAST_STAGE: u8 = 9;
+pub const LAST_STAGE: u8 = 9;
 
 // What a call waits for: its command's exchange, a reset's ACK or pause, the opening's ACK or reads, a pause.
 pub const EXCHANGE: u8 = 0;
@@ -120,21 +120,6 @@ impl Call {
         }
     }
 
-    // Every field is in its range.
-    pub(crate) fn is_valid(self) -> bool
-        ensures { λ r. ⌜ r ≡ validCall self ⌝ }
-    {
-        if self.kind <= LAST {
-            if self.stage <= LAST_STAGE {
-                self.phase <= PAUSE
-            } else {
-                false
-            }
-        } else {
-            false
-        }
-    }
-
     pub(crate) fn at(self, phase: u8) -> Call
         ensures { λ r. ⌜ r ≡ at self phase ⌝ }
     {
@@ -167,28 +152,6 @@ impl Call {
             stage,
             cursor,
             phase: EXCHANGE,
-        }
-    }
-
-    // A command's exchange is over: behind a reset's follows ACK, whatever came of it.
-    fn over(self, exchange: Exchange, next: Transition) -> Transition
-        ensures { λ r. ⌜ ((p : List ℕ) → transitionIn (exchange .code) p r ≡ overTransition self exchange (transitionIn (exchange .code) p next)) ⌝ }
-    {
-        if calls::is_reset(self.kind, self.stage) {
-            Transition::Orders(Order::Ack, self.at(RESET_ACK), exchange)
-        } else {
-            next
-        }
-    }
-
-    fn on_exchange(self, exchange: Exchange, event: Event, packet: &[u8]) -> Transition
-        ensures { λ r. ⌜ transitionIn (exchange .code) (now (packet .entry)) r ≡ exchangeTransition self exchange (advance (stepOf exchange) (eventOf event (now (packet .entry)))) ⌝ }
-    {
-        match exchange.advance(event, packet) {
-            Advanced::Unfit => Transition::Unfit,
-            Advanced::Pending(order, x) => Transition::Orders(order, self, x),
-            Advanced::Arrived => self.over(exchange, Transition::Ends(End::Arrived)),
-            Advanced::Failed(fault) => self.over(exchange, Transition::Ends(End::Failed(fault))),
         }
     }
 
@@ -246,26 +209,24 @@ impl Call {
     {
         let phase = self.phase;
         match phase {
-            EXCHANGE => self.on_exchange(exchange, event, packet),
-            RESET_ACK => self.on_reset_ack(exchange, event),
-            RESET_PAUSE => self.on_reset_pause(event),
-            OPENING_ACK => self.on_opening_ack(exchange, event),
-            OPENING_READS => self.on_opening_reads(exchange, event),
-            PAUSE => self.on_pause(event),
-            _ => Transition::Unfit,
+            EXCHANGE => {}
+            RESET_ACK => return self.on_reset_ack(exchange, event),
+            RESET_PAUSE => return self.on_reset_pause(event),
+            OPENING_ACK => return self.on_opening_ack(exchange, event),
+            OPENING_READS => return self.on_opening_reads(exchange, event),
+            PAUSE => return self.on_pause(event),
+            _ => return Transition::Unfit,
         }
-    }
-}
-
-impl Transition {
-    pub(crate) fn fits(self) -> bool
-        ensures { λ r. ⌜ ((code : ℕ) (p : List ℕ) → r ≡ fits (transitionIn code p self)) ⌝ }
-    {
-        match self {
-            Transition::Unfit => false,
-            Transition::Orders(_, _, _) => true,
-            Transition::Sends(_) => true,
-            Transition::Ends(_) => true,
+        let end = match exchange.advance(event, packet) {
+            Advanced::Unfit => return Transition::Unfit,
+            Advanced::Pending(order, x) => return Transition::Orders(order, self, x),
+            Advanced::Arrived => End::Arrived,
+            Advanced::Failed(fault) => End::Failed(fault),
+        };
+        // Behind a reset's exchange follows ACK, whatever came of it.
+        if calls::is_reset(self.kind, self.stage) {
+            return Transition::Orders(Order::Ack, self.at(RESET_ACK), exchange);
         }
+        Transition::Ends(end)
     }
 }

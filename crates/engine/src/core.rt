@@ -1,8 +1,11 @@
 // One running call: its numbers, and what a call or an event does to them, to the arrays and to the buffer.
 use super::call::Call;
+use super::call::LAST;
+use super::call::LAST_STAGE;
 use super::call::NO_CALL;
 use super::call::OPEN;
 use super::call::OPENING_ACK;
+use super::call::PAUSE;
 use super::call::Transition;
 use errors::Fault;
 use errors::Refusal;
@@ -22,8 +25,7 @@ ghost use lib.ListN.{length};
 ghost use Rattle.exchange.specs.Steps.{eventOf, orderOf};
 ghost use Rattle.stages.specs.Stages.{cmd};
 ghost use Rattle.stages.specs.Starts.{Starts, StartFits, Start as StartOf};
-ghost use Rattle.engine.specs.Transitions.{transitionIn, replyLength};
-ghost use Rattle.engine.specs.Core.{noCore, isValid, Arrays, arrays, running, unchanged, withFound, withCommand, progressed, ordersOf, sendsOf, stageOf, endsOf, transitionedOf, isLong, eventCore, openCore, startOn};
+ghost use Rattle.engine.specs.Core.{noCore, isValid, Arrays, arrays, running, unchanged, withFound, withCommand, progressed, ordersOf, sendsOf, stageOf, endsOf, isLong, eventCore, openCore, startOn};
 
 // A buffer has so many bytes at least, a packet so many at most, and so have the found bytes.
 pub const BUFFER_NEED: usize = 1024;
@@ -109,7 +111,13 @@ impl Core {
         if exchange.phase > Exchange::DRAINING {
             return false;
         }
-        call.is_valid()
+        if call.kind > LAST {
+            return false;
+        }
+        if call.stage > LAST_STAGE {
+            return false;
+        }
+        call.phase <= PAUSE
     }
 
     fn running(self, call: Call, exchange: Exchange) -> Core
@@ -237,33 +245,6 @@ impl Core {
         Progress { core: self, output }
     }
 
-    fn transition(
-        self,
-        transition: Transition,
-        packet: &[u8],
-        command: &mut [u8],
-        found: &mut [u8],
-        buffer: &mut [u8],
-    ) -> Progress
-        requires { ⌜ (replyLength (transitionIn (self .exchange .code) (now packet) transition) ≤ 1024) × (self .found ≤ 1024) × (self .command ≤ 512) × (length (now command) ≡ 512) × (length (now found) ≡ 1024) × (1024 ≤ length (now buffer)) ⌝ }
-        ensures { λ r. ⌜ progressed r (arrays (now (command .exit)) (now (found .exit))) (now (buffer .exit)) ≡ transitionedOf self (arrays (now (command .entry)) (now (found .entry))) (transitionIn (self .exchange .code) (now (packet .entry)) transition) (now (buffer .entry)) ⌝ }
-    {
-        match transition {
-            Transition::Unfit => self.refused(Refusal::OutOfTurn),
-            Transition::Orders(order, call, exchange) => self.ordered(
-                order,
-                call,
-                exchange,
-                buffer,
-            ),
-            Transition::Sends(call) => {
-                let next = self.send(call, command, buffer);
-                next
-            }
-            Transition::Ends(end) => self.replied(end, packet, command, found, buffer),
-        }
-    }
-
     // What the host returns for an order: it is refused where it does not fit the order, where the buffer is short or the packet over-long.
     pub(crate) fn event(
         self,
@@ -282,16 +263,23 @@ impl Core {
             return self.refused(Refusal::OutOfTurn);
         }
         let transition = call.transition(exchange, event, packet);
-        if transition.fits() {
-            if buffer.len() < BUFFER_NEED {
-                return self.refused(Refusal::ShortBuffer);
+        if let Transition::Unfit = transition {
+            return self.refused(Refusal::OutOfTurn);
+        }
+        if buffer.len() < BUFFER_NEED {
+            return self.refused(Refusal::ShortBuffer);
+        }
+        if is_long(event, packet) {
+            return self.refused(Refusal::OverLong);
+        }
+        match transition {
+            Transition::Unfit => self.refused(Refusal::OutOfTurn),
+            Transition::Orders(order, call, x) => self.ordered(order, call, x, buffer),
+            Transition::Sends(call) => {
+                let next = self.send(call, command, buffer);
+                next
             }
-            if is_long(event, packet) {
-                return self.refused(Refusal::OverLong);
-            }
-            self.transition(transition, packet, command, found, buffer)
-        } else {
-            self.refused(Refusal::OutOfTurn)
+            Transition::Ends(end) => self.replied(end, packet, command, found, buffer),
         }
     }
 

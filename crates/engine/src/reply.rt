@@ -10,16 +10,16 @@ use stages::Decision;
 use stages::Head;
 use stages::Layout;
 use stages::put::append;
-ghost use mathlib.Core.List.{List, _++_};
+ghost use mathlib.Core.List.{List};
 ghost use mathlib.Core.Path.{_≡_};
 ghost use Prim.Native.Nat.{ℕ, _+_, _≤_};
-ghost use lib.ListN.{length, take, drop};
+ghost use lib.ListN.{length, take};
 ghost use Rattle.stages.specs.Stages.{put as putBy};
 ghost use Rattle.stages.specs.Put.{put, Puts};
-ghost use Rattle.stages.specs.Decided.{headBytes, tailBytes, layoutBytes, Fitting, decisionIn, DecisionFits, DecisionRefines};
+ghost use Rattle.stages.specs.Decided.{headBytes, layoutBytes, Fitting, decisionIn, DecisionFits};
 ghost use Rattle.engine.specs.Transitions.{endTransition, replyLength};
-ghost use Rattle.engine.specs.Ends.{payloadIn, replyIn, endReply, GoesOn};
-ghost use Rattle.engine.specs.Core.{Arrays, arrays, progressed, keepsOf, followsOf, replyDecision, transitionedOf};
+ghost use Rattle.engine.specs.Ends.{GoesOn};
+ghost use Rattle.engine.specs.Core.{arrays, progressed, keepsOf, followsOf, transitionedOf};
 
 // Puts a layout behind the found bytes that it keeps, which stand at the target's start already.
 fn lay(layout: Layout, response: &[u8], target: &mut [u8]) -> usize
@@ -48,42 +48,6 @@ fn answer(layout: Layout, found: &[u8], response: &[u8], target: &mut [u8]) -> u
     let kept = layout.kept;
     append(&found[..kept], target, 0);
     lay(layout, response, target)
-}
-
-// What stands behind a payload's identifier and code.
-fn behind_code(payload: &[u8]) -> &[u8]
-    ensures { λ r. ⌜ now r ≡ drop 2 (now (payload .entry)) ⌝ }
-{
-    if payload.len() < 2 {
-        return &payload[0..0];
-    }
-    &payload[2..]
-}
-
-impl End {
-    // The payload of the response, where a packet is in and is one.
-    fn payload<'p>(self, code: u8, packet: &'p [u8]) -> &'p [u8]
-        ensures { λ r. ⌜ now r ≡ payloadIn code (now (packet .entry)) self ⌝ }
-    {
-        let End::Arrived = self else {
-            return &packet[0..0];
-        };
-        let served = [code];
-        exchange::response_payload(packet, &served)
-    }
-
-    // A packet without a response is a fault.
-    fn checked(self, packet: &[u8], payload: &[u8]) -> End
-        ensures { λ r. ⌜ ((code : ℕ) → now (payload .entry) ≡ payloadIn code (now (packet .entry)) self → endReply (drop 2 (now (payload .entry))) r ≡ replyIn code (now (packet .entry)) self) ⌝ }
-    {
-        let End::Arrived = self else {
-            return self;
-        };
-        if payload.len() == 0 {
-            return End::Failed(exchange::fault(packet));
-        }
-        self
-    }
 }
 
 impl Core {
@@ -190,23 +154,7 @@ impl Core {
         }
     }
 
-    // What is decided upon a command's response, or upon its fault.
-    fn decided(self, end: End, response: &[u8], command: &[u8], found: &[u8]) -> Decision
-        requires { ⌜ (self .found ≤ 1024) × (self .command ≤ 512) × (length (now command) ≡ 512) × (length (now found) ≡ 1024) ⌝ }
-        ensures { λ r. ⌜ DecisionRefines (take (self .found) (now (found .entry))) (now (response .entry)) r (replyDecision self (arrays (now (command .entry)) (now (found .entry))) (endReply (now (response .entry)) end)) ⌝ }
-    {
-        let call = self.call;
-        let pending = &command[..self.command];
-        let kept = &found[..self.found];
-        match end {
-            End::Failed(fault) => {
-                calls::failed(call.kind, call.stage, call.cursor, pending, kept, fault)
-            }
-            _ => calls::decided(call.kind, call.stage, call.cursor, pending, kept, response),
-        }
-    }
-
-    // The call's command has ended.
+    // The call's command has ended. The response stands behind the payload's identifier and code; a packet without one is a fault.
     pub(crate) fn replied(
         self,
         end: End,
@@ -218,10 +166,27 @@ impl Core {
         requires { ⌜ (replyLength (endTransition (self .exchange .code) (now packet) end) ≤ 1024) × (self .found ≤ 1024) × (self .command ≤ 512) × (length (now command) ≡ 512) × (length (now found) ≡ 1024) × (1024 ≤ length (now buffer)) ⌝ }
         ensures { λ r. ⌜ progressed r (arrays (now (command .exit)) (now (found .exit))) (now (buffer .exit)) ≡ transitionedOf self (arrays (now (command .entry)) (now (found .entry))) (endTransition (self .exchange .code) (now (packet .entry)) end) (now (buffer .entry)) ⌝ }
     {
+        let call = self.call;
         let exchange = self.exchange;
-        let payload = end.payload(exchange.code, packet);
-        let response = behind_code(payload);
-        let decision = self.decided(end.checked(packet, payload), response, command, found);
+        let mut end = end;
+        let mut response = &packet[0..0];
+        if let End::Arrived = end {
+            let served = [exchange.code];
+            let payload = exchange::response_payload(packet, &served);
+            if payload.len() == 0 {
+                end = End::Failed(exchange::fault(packet));
+            } else {
+                response = &payload[2..];
+            }
+        }
+        let pending = &command[..self.command];
+        let kept = &found[..self.found];
+        let decision = match end {
+            End::Failed(fault) => {
+                calls::failed(call.kind, call.stage, call.cursor, pending, kept, fault)
+            }
+            _ => calls::decided(call.kind, call.stage, call.cursor, pending, kept, response),
+        };
         self.followed(decision, response, command, found, buffer)
     }
 }

@@ -6,7 +6,7 @@ use calls::start::Numbers;
 use exchange::Event;
 ghost use mathlib.Core.Path.{_≡_};
 ghost use Rattle.exchange.specs.Steps.{eventOf};
-ghost use Rattle.engine.specs.Inputs.{tells, stepWith};
+ghost use Rattle.engine.specs.Inputs.{gives, stepWith};
 ghost use Rattle.calls.specs.Numbers.{callOf};
 ghost use Rattle.engine.specs.Numbers.{callInput};
 ghost use Rattle.engine.specs.Sessions.{stepped, freshSession};
@@ -84,7 +84,7 @@ impl Session {
 
     // What the host returns for an order. A packet's bytes are lent beside the event, and count with Packet alone.
     pub fn event(mut self, event: Event, packet: &[u8], buffer: &mut [u8]) -> Step
-        ensures { λ r. ⌜ stepped r (now (buffer .exit)) ≡ stepWith self (tells (eventOf event (now (packet .entry))) (now (buffer .entry))) ⌝ }
+        ensures { λ r. ⌜ stepped r (now (buffer .exit)) ≡ stepWith self (gives (eventOf event (now (packet .entry))) (now (buffer .entry))) ⌝ }
     {
         let core = self.core;
         let mut command = self.command;

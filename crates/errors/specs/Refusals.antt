@@ -65,6 +65,6 @@ byStatus f a OtherCard = a
 byStatus f a UidLayout = a
 
 -- What an answer says: a value, or a refusal by its number and values.
-pub data Outcome : Type 0 where
-  answered : ℕ → Outcome
-  refused : Numbered → Outcome
+pub data Returned : Type 0 where
+  answered : ℕ → Returned
+  refused : Numbered → Returned

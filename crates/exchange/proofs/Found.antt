@@ -18,7 +18,7 @@ use Rattle.framing.specs.declared.FrameFormat.{FrameFormat}
 use Rattle.framing.specs.declared.FrameType.{FrameType}
 use Rattle.framing.specs.declared.FrameType.the-variants.{Ack, Error, Data, Nothing}
 use Rattle.exchange.specs.Packets.{response, failed, payloadReply, frameReply, replyOf}
-use Rattle.exchange.specs.Places.{nowhere, partAt, isResponse, payloadPlace, responsePlace, frameLength, payloadFault, frameFault, faultOf}
+use Rattle.exchange.specs.Spans.{nowhere, partAt, isResponse, payloadSpan, responseSpan, frameLength, payloadFault, frameFault, faultOf}
 
 -- whether a payload is a response, by its length and its first bytes
 module _ (code : ℕ) where
@@ -55,15 +55,15 @@ module _ (p : List ℕ) (f : FrameFormat) (x : FrameType) (format : f ≡ rcs956
   parses = rw (← format, parsed)
 
   -- no response
-  none : (code : ℕ) → isResponse (frameReply code p x) ≡ false → [] ≡ partAt (responsePlace code p) p
-  unfolding responsePlace replyOf
+  none : (code : ℕ) → isResponse (frameReply code p x) ≡ false → [] ≡ partAt (responseSpan code p) p
+  unfolding responseSpan replyOf
   none code e = rw (parses, e)
 
-  pub other-kind : (code : ℕ) → OneOf (0 ∷ 1 ∷ 3 ∷ []) (tagOf the-type x) → [] ≡ partAt (responsePlace code p) p
-  unfolding responsePlace replyOf
+  pub other-kind : (code : ℕ) → OneOf (0 ∷ 1 ∷ 3 ∷ []) (tagOf the-type x) → [] ≡ partAt (responseSpan code p) p
+  unfolding responseSpan replyOf
   other-kind code tag = rw parses (go x tag (isResponse (frameReply code p x)))
     where
-      go : (x : FrameType) → OneOf (0 ∷ 1 ∷ 3 ∷ []) (tagOf the-type x) → (t : Bool) → [] ≡ partAt (cond t (payloadPlace x) nowhere) p
+      go : (x : FrameType) → OneOf (0 ∷ 1 ∷ 3 ∷ []) (tagOf the-type x) → (t : Bool) → [] ≡ partAt (cond t (payloadSpan x) nowhere) p
       go (Ack m) h true = refl
       go (Error m) h true = refl
       go (Data s n m) h true = absurd (miss (0 ∷ 1 ∷ 3 ∷ []) 2 tt h)
@@ -72,23 +72,23 @@ module _ (p : List ℕ) (f : FrameFormat) (x : FrameType) (format : f ≡ rcs956
 
   -- a data frame
   module _ (s n m : ℕ) (kind : x ≡ Data s n m) where
-    pub other-length : (code : ℕ) → (m ≡ length p → ⊥) → [] ≡ partAt (responsePlace code p) p
+    pub other-length : (code : ℕ) → (m ≡ length p → ⊥) → [] ≡ partAt (responseSpan code p) p
     other-length code h = none code (rw (kind, ne-eqb m (length p) h))
 
     module _ (code first : ℕ) (r : Bool) (full : m ≡ length p) (e : code ≡ first)
-        (told : r ≡ isResponse (payloadReply code (take (s + n - s) (drop s p)))) where
+        (known : r ≡ isResponse (payloadReply code (take (s + n - s) (drop s p)))) where
       end : s + n - s ≡ n
       end = omega arith
 
       tested : isResponse (frameReply first p x) ≡ r
       unfolding payloadOf
-      tested = rw (kind, eq-eqb m (length p) full, ← e) (rw end at (sym told))
+      tested = rw (kind, eq-eqb m (length p) full, ← e) (rw end at (sym known))
 
-      pub other-payload : r ≡ false → [] ≡ partAt (responsePlace first p) p
+      pub other-payload : r ≡ false → [] ≡ partAt (responseSpan first p) p
       other-payload h = none first (tested ∙ h)
 
-      pub its-payload : r ≡ true → take (s + n - s) (drop s p) ≡ partAt (responsePlace first p) p
-      unfolding responsePlace replyOf
+      pub its-payload : r ≡ true → take (s + n - s) (drop s p) ≡ partAt (responseSpan first p) p
+      unfolding responseSpan replyOf
       its-payload h = rw (parses, tested, h, kind, end)
 
   -- the fault
@@ -96,10 +96,10 @@ module _ (p : List ℕ) (f : FrameFormat) (x : FrameType) (format : f ≡ rcs956
   unfolding faultOf
   no-frame e = rw (parses, e)
 
-  module _ (l : ℕ) (told : l ≡ frameLength x) where
+  module _ (l : ℕ) (known : l ≡ frameLength x) where
     pub not-filled : OneOf (0 ∷ 1 ∷ 2 ∷ []) (tagOf the-type x) → (l ≡ length p → ⊥) → Length ≡ faultOf p
     unfolding faultOf
-    not-filled tag h = rw parses (go x tag (λ e. h (told ∙ e)))
+    not-filled tag h = rw parses (go x tag (λ e. h (known ∙ e)))
       where
         go : (x : FrameType) → OneOf (0 ∷ 1 ∷ 2 ∷ []) (tagOf the-type x) → (frameLength x ≡ length p → ⊥) → Length ≡ frameFault p x
         go (Ack m) t h = rw (ne-eqb m (length p) h)
@@ -110,7 +110,7 @@ module _ (p : List ℕ) (f : FrameFormat) (x : FrameType) (format : f ≡ rcs956
     module _ (full : l ≡ length p) where
       pub no-data : OneOf (0 ∷ 1 ∷ 2 ∷ []) (tagOf the-type x) → OneOf (0 ∷ 1 ∷ 3 ∷ []) (tagOf the-type x) → FrameKind ≡ faultOf p
       unfolding faultOf
-      no-data tag other = rw parses (go x tag other (sym told ∙ full))
+      no-data tag other = rw parses (go x tag other (sym known ∙ full))
         where
           go : (x : FrameType) → OneOf (0 ∷ 1 ∷ 2 ∷ []) (tagOf the-type x) → OneOf (0 ∷ 1 ∷ 3 ∷ []) (tagOf the-type x) → frameLength x ≡ length p
               → FrameKind ≡ frameFault p x
@@ -122,6 +122,6 @@ module _ (p : List ℕ) (f : FrameFormat) (x : FrameType) (format : f ≡ rcs956
       pub of-payload : (s n m : ℕ) (r : Fault) → x ≡ Data s n m → r ≡ payloadFault (take (s + n - s) (drop s p)) → r ≡ faultOf p
       unfolding faultOf
       of-payload s n m r kind e =
-          let filled : m ≡ length p = sym (ap frameLength kind) ∙ sym told ∙ full in
+          let filled : m ≡ length p = sym (ap frameLength kind) ∙ sym known ∙ full in
           let end : s + n - s ≡ n = omega arith in
           rw (parses, kind, eq-eqb m (length p) filled) (rw end at e)

@@ -1,6 +1,6 @@
 pub mod Packets
 pub mod Exchange
 pub mod Steps
-pub mod Places
+pub mod Spans
 pub mod Responses
 pub mod Rules

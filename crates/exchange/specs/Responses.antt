@@ -19,7 +19,7 @@ use Rattle.framing.specs.declared.FrameFormat.{FrameFormat}
 use Rattle.framing.specs.declared.FrameType.{FrameType}
 use Rattle.framing.specs.declared.FrameType.the-variants.{Ack, Error, Data, Nothing}
 use Rattle.exchange.specs.Packets.{Reply, response, failed, codeReply, payloadReply, frameReply, replyOf}
-use Rattle.exchange.specs.Places.{nowhere, partAt, isResponse, payloadPlace, responsePlace, payloadFault, frameFault, faultOf}
+use Rattle.exchange.specs.Spans.{partAt, isResponse, payloadSpan, responseSpan, payloadFault, frameFault, faultOf}
 
 -- a data frame lies inside the packet
 pub data-within : (f : FrameFormat) (p : List ℕ) → Bytes p → (s n m : ℕ) → parseOf f p ≡ Data s n m → s + n ≤ length p
@@ -60,11 +60,11 @@ refuses code (b ∷ bs) e = go (eqb b 0x7F) (eqb b 0xD5) e
   where
     late : (l : List ℕ) → isResponse (codeReply code l) ≡ false → codeReply code l ≡ failed Code
     late [] h = refl
-    late (i ∷ l) h = told (eqb i ((code + 1) % 256)) h
+    late (i ∷ l) h = known (eqb i ((code + 1) % 256)) h
       where
-        told : (v : Bool) → isResponse (cond v (response l) (failed Code)) ≡ false → cond v (response l) (failed Code) ≡ failed Code
-        told true g = absurd (true≢false g)
-        told false g = refl
+        known : (v : Bool) → isResponse (cond v (response l) (failed Code)) ≡ false → cond v (response l) (failed Code) ≡ failed Code
+        known true g = absurd (true≢false g)
+        known false g = refl
 
     go : (t u : Bool) → isResponse (cond t (failed (Status 0x7F)) (cond u (codeReply code bs) (failed Identifier))) ≡ false
         → cond t (failed (Status 0x7F)) (cond u (codeReply code bs) (failed Identifier))
@@ -106,7 +106,7 @@ sliced l two short =
     record { long = two .0; rest = two .1 ∙ ap response (sym all); inside = rw (all, length-drop 2 l) (omega (arith, two .0)); whole = all }
 
 frame-answers : (code : ℕ) (p : List ℕ) (x : FrameType) → isResponse (frameReply code p x) ≡ true
-    → Answered (frameReply code p x) p (partAt (payloadPlace x) p)
+    → Answered (frameReply code p x) p (partAt (payloadSpan x) p)
 unfolding payloadOf
 frame-answers code p x e = by x e
   where
@@ -119,35 +119,21 @@ frame-answers code p x e = by x e
     full s n true h = sliced (take n (drop s p)) (answers code (take n (drop s p)) h) (omega (arith, length-take n (drop s p), length-drop s p))
     full s n false h = absurd (false≢true h)
 
-    by : (x : FrameType) → isResponse (frameReply code p x) ≡ true → Answered (frameReply code p x) p (partAt (payloadPlace x) p)
+    by : (x : FrameType) → isResponse (frameReply code p x) ≡ true → Answered (frameReply code p x) p (partAt (payloadSpan x) p)
     by (Ack m) h = absurd (kind (eqb m (length p)) h)
     by (Error m) h = absurd (kind (eqb m (length p)) h)
     by (Data s n m) h = full s n (eqb m (length p)) h
     by Nothing h = absurd (false≢true h)
 
--- the place lies inside the packet
-pub place-inside : (code : ℕ) (packet : List ℕ) → Bytes packet
-    → responsePlace code packet .start + responsePlace code packet .len ≤ length packet
-unfolding responsePlace
-place-inside code packet bytes = go (isResponse (replyOf code packet)) (parseOf rcs956 packet) refl
-  where
-    go : (t : Bool) (x : FrameType) → parseOf rcs956 packet ≡ x
-        → cond t (payloadPlace x) nowhere .start + cond t (payloadPlace x) nowhere .len ≤ length packet
-    go true (Ack m) e = omega arith
-    go true (Error m) e = omega arith
-    go true (Data s n m) e = data-within rcs956 packet bytes s n m e
-    go true Nothing e = omega arith
-    go false x e = omega arith
-
 -- what the part at the response's place says of the reply
-module _ (code : ℕ) (packet payload : List ℕ) (told : payload ≡ partAt (responsePlace code packet) packet) where
+module _ (code : ℕ) (packet payload : List ℕ) (known : payload ≡ partAt (responseSpan code packet) packet) where
   here : isResponse (replyOf code packet) ≡ true → Answered (replyOf code packet) packet payload
-  unfolding responsePlace replyOf
-  here e = rw (told, e) (frame-answers code packet (parseOf rcs956 packet) e)
+  unfolding responseSpan replyOf
+  here e = rw (known, e) (frame-answers code packet (parseOf rcs956 packet) e)
 
   gone : isResponse (replyOf code packet) ≡ false → length payload ≡ 0
-  unfolding responsePlace
-  gone e = rw (told, e)
+  unfolding responseSpan
+  gone e = rw (known, e)
 
   pub no-response : length payload ≡ 0 → replyOf code packet ≡ failed (faultOf packet)
   unfolding faultOf replyOf

@@ -22,8 +22,8 @@ pub at-false : {A : Type 0} (x a b : A) (t : Bool) → t ≡ false → x ≡ b �
 at-false x a b t h e = rw h e
 
 -- a test that a call answered
-pub told : (r s t : Bool) → r ≡ s → r ≡ t → s ≡ t
-told r s t p q = sym p ∙ q
+pub known : (r s t : Bool) → r ≡ s → r ≡ t → s ≡ t
+known r s t p q = sym p ∙ q
 
 pub empty : (p : List ℕ) → length p ≡ 0 → isEmpty p ≡ true
 empty [] h = refl
@@ -63,6 +63,6 @@ in-phase x k event packet r e f =
     let same : stepOf (exchangeAt k (x .code) (x .clock)) ≡ stepOf x = ap (λ (n : ℕ). stepOf (exchangeAt n (x .code) (x .clock))) (sym e) in
     (f .result ∙ ap (λ (s : Step). advance s event) same, f .kept)
 
-pub ruleset cases = (at-true, at-false, told, eq-eqb, ne-eqb)
+pub ruleset cases = (at-true, at-false, known, eq-eqb, ne-eqb)
 
-pub ruleset follows = (on-true, on-false, told, empty, not-empty, eq-eqb, ne-eqb, goes-on, fails, arrives)
+pub ruleset follows = (on-true, on-false, known, empty, not-empty, eq-eqb, ne-eqb, goes-on, fails, arrives)

@@ -8,9 +8,9 @@ ghost use mathlib.Core.List.{List};
 ghost use Prim.Native.Nat.{ℕ};
 ghost use lib.ListN.{getD};
 ghost use Rattle.exchange.specs.Packets.{payloadReply};
-ghost use Rattle.exchange.specs.Exchange.{advance as advanceOf, sending, reading, waiting, cancelling, rejecting, draining, onPacket, onFirstPacket, onLaterPacket, onDrained};
+ghost use Rattle.exchange.specs.Exchange.{advance as advanceOf, sending, reading, waiting, cancelling, rejecting, draining, onPacket};
 ghost use Rattle.exchange.specs.Steps.{exchangeAt, stepOf, eventOf, resultIn, SameCommand, Handled};
-ghost use Rattle.exchange.specs.Places.{partAt, isResponse, responsePlace, frameLength, payloadFault, faultOf};
+ghost use Rattle.exchange.specs.Spans.{partAt, isResponse, responseSpan, frameLength, payloadFault, faultOf};
 
 // What the host returns. A packet's bytes are lent beside it.
 pub enum Event {
@@ -85,7 +85,7 @@ impl Exchange {
         }
     }
 
-    // What an event does to the exchange. A fault of step 5 may be told as `Arrived` or as `Failed`: `resultIn` gives both the same meaning.
+    // What an event does to the exchange. A fault of step 5 may come out as `Arrived` or as `Failed`: `resultIn` gives both the same meaning.
     pub fn advance(self, event: Event, packet: &[u8]) -> Advanced
         ensures { λ r. ⌜ resultIn self (now (packet .entry)) r ≡ advanceOf (stepOf self) (eventOf event (now (packet .entry))) ⌝ }
         ensures { λ r. ⌜ SameCommand self r ⌝ }
@@ -126,24 +126,19 @@ impl Exchange {
         ensures { λ r. ⌜ Handled self (now (packet .entry)) (advanceOf (reading (self .code) (self .clock)) (eventOf event (now (packet .entry)))) r ⌝ }
     {
         match event {
-            Event::Packet => self.on_first_packet(packet),
+            Event::Packet => {
+                if packet.len() == 0 {
+                    return Advanced::Failed(Fault::TimeOut);
+                }
+                if framing::has_sof(packet) {
+                    self.on_packet(packet)
+                } else {
+                    self.pending(Order::Ack, Self::REJECTING)
+                }
+            }
             Event::Time => Advanced::Failed(Fault::TimeOut),
             Event::Fail => Advanced::Failed(Fault::Transport),
             _ => Advanced::Unfit,
-        }
-    }
-
-    // Steps 2 and 3.
-    fn on_first_packet(self, packet: &[u8]) -> Advanced
-        ensures { λ r. ⌜ Handled self (now (packet .entry)) (onFirstPacket (self .code) (self .clock) (now (packet .entry))) r ⌝ }
-    {
-        if packet.len() == 0 {
-            return Advanced::Failed(Fault::TimeOut);
-        }
-        if framing::has_sof(packet) {
-            self.on_packet(packet)
-        } else {
-            self.pending(Order::Ack, Self::REJECTING)
         }
     }
 
@@ -152,21 +147,17 @@ impl Exchange {
         ensures { λ r. ⌜ Handled self (now (packet .entry)) (advanceOf (waiting (self .code) (self .clock)) (eventOf event (now (packet .entry)))) r ⌝ }
     {
         match event {
-            Event::Packet => self.on_later_packet(packet),
+            Event::Packet => {
+                if packet.len() == 0 {
+                    return Advanced::Failed(Fault::TimeOut);
+                }
+                self.on_packet(packet)
+            }
             Event::Time => Advanced::Failed(Fault::TimeOut), // no ACK
             Event::Fail => Advanced::Failed(Fault::Transport), // no ACK
             Event::Late => self.pending(Order::Ack, Self::OVERDUE),
             _ => Advanced::Unfit,
         }
-    }
-
-    fn on_later_packet(self, packet: &[u8]) -> Advanced
-        ensures { λ r. ⌜ Handled self (now (packet .entry)) (onLaterPacket (self .code) (self .clock) (now (packet .entry))) r ⌝ }
-    {
-        if packet.len() == 0 {
-            return Advanced::Failed(Fault::TimeOut);
-        }
-        self.on_packet(packet)
     }
 
     // Steps 4 and 5: what follows an ACK in its packet is lost. A clock of 0 ms has passed at once.
@@ -199,21 +190,17 @@ impl Exchange {
         ensures { λ r. ⌜ Handled self (now (packet .entry)) (advanceOf draining (eventOf event (now (packet .entry)))) r ⌝ }
     {
         match event {
-            Event::Packet => self.on_drained(packet),
+            Event::Packet => {
+                if packet.len() == 0 {
+                    return Advanced::Failed(Fault::FalseStart);
+                }
+                self.pending(Order::Drain, Self::DRAINING)
+            }
             Event::Time => Advanced::Failed(Fault::FalseStart),
             Event::Fail => self.pending(Order::Drain, Self::DRAINING),
             Event::Late => Advanced::Failed(Fault::FalseStart),
             _ => Advanced::Unfit,
         }
-    }
-
-    fn on_drained(self, packet: &[u8]) -> Advanced
-        ensures { λ r. ⌜ Handled self (now (packet .entry)) (onDrained (now (packet .entry))) r ⌝ }
-    {
-        if packet.len() == 0 {
-            return Advanced::Failed(Fault::FalseStart);
-        }
-        self.pending(Order::Drain, Self::DRAINING)
     }
 }
 
@@ -254,7 +241,7 @@ fn is_response(payload: &[u8], code: u8) -> bool
 // Step 5: the payload (identifier, code and response) of an intact response to a command, whose code stands at its start.
 // The empty part where the packet is none.
 pub fn response_payload<'p, 'c>(packet: &'p [u8], command: &'c [u8]) -> &'p [u8]
-    ensures { λ r. ⌜ now r ≡ partAt (responsePlace (getD (now (command .entry)) 0 0) (now (packet .entry))) (now (packet .entry)) ⌝ }
+    ensures { λ r. ⌜ now r ≡ partAt (responseSpan (getD (now (command .entry)) 0 0) (now (packet .entry))) (now (packet .entry)) ⌝ }
 {
     let FrameType::Data { start, len, frame } = framing::parse(Rcs956Format::format(), packet)
     else {

@@ -7,13 +7,12 @@ use native.Mathlib.Omega.{arith}
 use borrow.Author.Tests.{lt-ltb, le-ltb, leb-true, eqb-true, eq-eqb, ne-eqb}
 use mir.Syntax.{w64}
 use mir.Val.{Fits}
-use lib.Dec.{eqb, leb, ltb}
+use lib.Dec.{eqb, leb}
 use lib.ListN.{length, take, drop, getD, length-append}
 use lib.Seq.{drop-drop, take-at, drop-append-add}
 use Rattle.errors.specs.Choice.{pick}
 use Rattle.errors.specs.Refusals.{refused, answered, plain}
 use Rattle.framing.specs.Build.{Left, left, putFrame}
-use Rattle.framing.specs.Lists.{both}
 use Rattle.framing.specs.Valid.{both-left, both-right}
 use Rattle.felica.specs.Packets.{packet, blockList, request, reply, readReply, readReplyCode, idmFits, requestFits, writeFits, areBlocks, readReplyFits, builtOf}
 use Rattle.felica.specs.Lists.{eight, list-length}
@@ -150,8 +149,8 @@ record Named (idm blocks : List ℕ) : Type 0 where
 
 fits : (idm blocks : List ℕ) (r : Bool) → r ≡ requestFits idm blocks → r ≡ true → Named idm blocks
 unfolding requestFits
-fits idm blocks r told good =
-    let h = sym told ∙ good in
+fits idm blocks r known good =
+    let h = sym known ∙ good in
     let both-h = both-right (idmFits idm) _ h in
     record {
       idm-eight = eqb-true (length idm) 8 (both-left (idmFits idm) _ h);
@@ -161,22 +160,22 @@ fits idm blocks r told good =
 
 write-bytes : (idm blocks bytes : List ℕ) (r : Bool) → r ≡ writeFits idm blocks bytes → r ≡ true → (length bytes ≤ 64) × Named idm blocks
 unfolding writeFits
-write-bytes idm blocks bytes r told good =
-    let h = sym told ∙ good in
+write-bytes idm blocks bytes r known good =
+    let h = sym known ∙ good in
     let f = fits idm blocks (requestFits idm blocks) refl (both-left (requestFits idm blocks) _ h) in
     let e : length bytes ≡ 16 * length blocks = eqb-true (length bytes) (16 * length blocks) (both-right (requestFits idm blocks) _ h) in
     (omega (arith, f .few), f)
 
 -- of a read's reply: the IDm; with flag 1 at 0 the data of at most 4 blocks
-module _ (idm bytes : List ℕ) (flag1 : ℕ) (r : Bool) (told : r ≡ readReplyFits idm flag1 bytes) (good : r ≡ true) where
+module _ (idm bytes : List ℕ) (flag1 : ℕ) (r : Bool) (known : r ≡ readReplyFits idm flag1 bytes) (good : r ≡ true) where
   pub reply-idm : length idm ≡ 8
   unfolding readReplyFits
-  reply-idm = eqb-true (length idm) 8 (both-left (idmFits idm) _ (sym told ∙ good))
+  reply-idm = eqb-true (length idm) 8 (both-left (idmFits idm) _ (sym known ∙ good))
 
   pub reply-bytes : flag1 ≡ 0 → length bytes ≤ 64
   unfolding readReplyFits pick areBlocks
   reply-bytes z =
-      let h : pick (eqb flag1 0) (areBlocks (length bytes)) (eqb (length bytes) 0) ≡ true = both-right (idmFits idm) _ (sym told ∙ good) in
+      let h : pick (eqb flag1 0) (areBlocks (length bytes)) (eqb (length bytes) 0) ≡ true = both-right (idmFits idm) _ (sym known ∙ good) in
       let k : areBlocks (length bytes) ≡ true = rw (eq-eqb flag1 0 z) at h in
       leb-true (length bytes) 64 (both-right (leb 16 (length bytes)) _ (both-right (eqb (length bytes % 16) 0) _ k))
 
@@ -184,22 +183,22 @@ module _ (idm bytes : List ℕ) (flag1 : ℕ) (r : Bool) (told : r ≡ readReply
     pub built-blocks : flag1 ≡ 0 → x ≡ putFrame (reply readReplyCode idm flag1 flag2 (length bytes / 16 ∷ bytes)) b
         → x ≡ builtOf (readReplyFits idm flag1 bytes) (readReply idm flag1 flag2 bytes) b
     unfolding builtOf pick
-    built-blocks z e = rw (sym told ∙ good, eq-eqb flag1 0 z) e
+    built-blocks z e = rw (sym known ∙ good, eq-eqb flag1 0 z) e
 
     pub built-flags : (flag1 ≡ 0 → ⊥) → x ≡ putFrame (reply readReplyCode idm flag1 flag2 []) b
         → x ≡ builtOf (readReplyFits idm flag1 bytes) (readReply idm flag1 flag2 bytes) b
     unfolding builtOf pick
-    built-flags n e = rw (sym told ∙ good, ne-eqb flag1 0 n) e
+    built-flags n e = rw (sym known ∙ good, ne-eqb flag1 0 n) e
 
--- what a call told is what was built, or refused
-module _ (p b : List ℕ) (r t : Bool) (told : r ≡ t) where
+-- by the test that a call answered: built, or refused
+module _ (p b : List ℕ) (r t : Bool) (known : r ≡ t) where
   pub built : (x : Left) → r ≡ true → x ≡ putFrame p b → x ≡ builtOf t p b
   unfolding builtOf pick
-  built x good e = rw (sym told ∙ good) e
+  built x good e = rw (sym known ∙ good) e
 
   pub not-built : r ≡ false → left (refused (plain 4)) b ≡ builtOf t p b
   unfolding builtOf pick
-  not-built bad = rw (sym told ∙ bad)
+  not-built bad = rw (sym known ∙ bad)
 
 -- the same where the code made the test itself
 module _ (p b idm : List ℕ) where
@@ -209,28 +208,28 @@ module _ (p b idm : List ℕ) where
   pub as-refused : (length idm ≡ 8 → ⊥) → left (refused (plain 4)) b ≡ builtOf (idmFits idm) p b
   as-refused h = not-built p b false (idmFits idm) (sym (ne-eqb (length idm) 8 h)) refl
 
-module _ (idm blocks : List ℕ) (r : Bool) (told : r ≡ requestFits idm blocks) (good : r ≡ true) where
+module _ (idm blocks : List ℕ) (r : Bool) (known : r ≡ requestFits idm blocks) (good : r ≡ true) where
   pub fits-idm : length idm ≡ 8
-  fits-idm = fits idm blocks r told good .idm-eight
+  fits-idm = fits idm blocks r known good .idm-eight
 
   pub fits-few : length blocks ≤ 4
-  fits-few = fits idm blocks r told good .few
+  fits-few = fits idm blocks r known good .few
 
   pub fits-some : 1 ≤ length blocks
-  fits-some = fits idm blocks r told good .some
+  fits-some = fits idm blocks r known good .some
 
   pub fits-product : Fits w64 (16 * length blocks)
   fits-product = record { fits = omega (arith, fits-few) }
 
-module _ (idm blocks bytes : List ℕ) (r : Bool) (told : r ≡ writeFits idm blocks bytes) (good : r ≡ true) where
+module _ (idm blocks bytes : List ℕ) (r : Bool) (known : r ≡ writeFits idm blocks bytes) (good : r ≡ true) where
   pub write-idm : length idm ≡ 8
-  write-idm = write-bytes idm blocks bytes r told good .1 .idm-eight
+  write-idm = write-bytes idm blocks bytes r known good .1 .idm-eight
 
   pub write-few : length blocks ≤ 4
-  write-few = write-bytes idm blocks bytes r told good .1 .few
+  write-few = write-bytes idm blocks bytes r known good .1 .few
 
   pub write-few-bytes : length bytes ≤ 64
-  write-few-bytes = write-bytes idm blocks bytes r told good .0
+  write-few-bytes = write-bytes idm blocks bytes r known good .0
 
 module _ (idm blocks bytes : List ℕ) (h : writeFits idm blocks bytes ≡ true) where
   pub write-named : requestFits idm blocks ≡ true

@@ -11,28 +11,28 @@ use Rattle.framing.specs.Rules.{steps}
 pub byte-behind : (l : List ℕ) (i : ℕ) → length l ≤ i → 0 ≡ getD l i 0
 byte-behind l i h = sym (List·getD-eq-default l 0 {n = i} h)
 
-module _ (r x k : ℕ) (told : r ≡ x) where
-  pub told-eq : r ≡ k → eqb x k ≡ true
-  told-eq h = eq-eqb x k (sym told ∙ h)
+module _ (r x k : ℕ) (known : r ≡ x) where
+  pub known-eq : r ≡ k → eqb x k ≡ true
+  known-eq h = eq-eqb x k (sym known ∙ h)
 
-  pub told-ne : (r ≡ k → ⊥) → eqb x k ≡ false
-  told-ne h = ne-eqb x k (λ e. h (told ∙ e))
+  pub known-ne : (r ≡ k → ⊥) → eqb x k ≡ false
+  known-ne h = ne-eqb x k (λ e. h (known ∙ e))
 
-  pub told-is : (t : Bool) → t ≡ eqb r k → t ≡ eqb x k
-  told-is t e = e ∙ ap (λ n. eqb n k) told
+  pub known-is : (t : Bool) → t ≡ eqb r k → t ≡ eqb x k
+  known-is t e = e ∙ ap (λ n. eqb n k) known
 
-  pub told-least : k ≤ r → leb k x ≡ true
-  told-least h = rw told at (le-leb k r h)
+  pub known-least : k ≤ r → leb k x ≡ true
+  known-least h = rw known at (le-leb k r h)
 
-  pub told-under : r < k → leb k x ≡ false
-  told-under h = rw told at (lt-leb k r h)
+  pub known-under : r < k → leb k x ≡ false
+  known-under h = rw known at (lt-leb k r h)
 
-  pub told-most : r ≤ k → leb x k ≡ true
-  told-most h = rw told at (le-leb r k h)
+  pub known-most : r ≤ k → leb x k ≡ true
+  known-most h = rw known at (le-leb r k h)
 
-  pub told-over : k < r → leb x k ≡ false
-  told-over h = rw told at (lt-leb r k h)
+  pub known-over : k < r → leb x k ≡ false
+  known-over h = rw known at (lt-leb r k h)
 
-pub ruleset tests = (steps, told-eq, told-ne)
+pub ruleset tests = (steps, known-eq, known-ne)
 
-pub ruleset bounds = (tests, told-least, told-under, told-most, told-over)
+pub ruleset bounds = (tests, known-least, known-under, known-most, known-over)

@@ -44,29 +44,29 @@ list-within p s (suc (suc (suc (suc zero)))) e h = omega (arith, e)
 list-within p s (suc (suc (suc (suc (suc n))))) e h = absurd (omega arith)
 
 -- n is the number of blocks
-module _ (p : List ℕ) (s n : ℕ) (told : n ≡ countIn p) where
+module _ (p : List ℕ) (s n : ℕ) (known : n ≡ countIn p) where
   pub asks-none : n < 1 → false ≡ asksBlocks s p
   unfolding asksBlocks
-  asks-none h = rw (← told, lt-leb 1 n h)
+  asks-none h = rw (← known, lt-leb 1 n h)
 
   pub asks-many : 1 ≤ n → 4 < n → false ≡ asksBlocks s p
   unfolding asksBlocks
-  asks-many h k = rw (← told, le-leb 1 n h, lt-leb n 4 k)
+  asks-many h k = rw (← known, le-leb 1 n h, lt-leb n 4 k)
 
   pub asks-other : 1 ≤ n → n ≤ 4 → (length p ≡ 14 + (2 + s) * n → ⊥) → false ≡ asksBlocks s p
   unfolding asksBlocks
-  asks-other h k ne = rw (← told, le-leb 1 n h, le-leb n 4 k, ne-eqb (length p) (14 + (2 + s) * n) ne)
+  asks-other h k ne = rw (← known, le-leb 1 n h, le-leb n 4 k, ne-eqb (length p) (14 + (2 + s) * n) ne)
 
   pub asks-list : (r : Bool) → 1 ≤ n → n ≤ 4 → length p ≡ 14 + (2 + s) * n → r ≡ isBlockList (take (14 + 2 * n - 14) (drop 14 p)) → r ≡ asksBlocks s p
   unfolding asksBlocks
   asks-list r h k e t =
       let m : 14 + 2 * n - 14 ≡ 2 * n = omega arith in
-      rw (← told, le-leb 1 n h, le-leb n 4 k, eq-eqb (length p) (14 + (2 + s) * n) e) (t ∙ ap (λ j. isBlockList (take j (drop 14 p))) m)
+      rw (← known, le-leb 1 n h, le-leb n 4 k, eq-eqb (length p) (14 + (2 + s) * n) e) (t ∙ ap (λ j. isBlockList (take j (drop 14 p))) m)
 
-module _ (code s : ℕ) (p : List ℕ) (r : Bool) (told : r ≡ isRequest code s p) (good : r ≡ true) where
+module _ (code s : ℕ) (p : List ℕ) (r : Bool) (known : r ≡ isRequest code s p) (good : r ≡ true) where
   asks : asksBlocks s p ≡ true
   unfolding isRequest
-  asks = both-right (eqb (getD p 10 0) 1) _ (both-right (eqb (getD p 1 0) code) _ (both-right (eqb (getD p 0 0) (length p)) _ (sym told ∙ good)))
+  asks = both-right (eqb (getD p 10 0) 1) _ (both-right (eqb (getD p 1 0) code) _ (both-right (eqb (getD p 0 0) (length p)) _ (sym known ∙ good)))
 
   pub request-few : countIn p ≤ 4
   unfolding asksBlocks
@@ -117,17 +117,17 @@ pub not-length : (p : List ℕ) (n : ℕ) (rest : Bool) → 12 ≤ length p → 
     → false ≡ both (leb 12 (length p)) (both (eqb (getD p 0 0) (length p)) rest)
 not-length p n rest h e ne = rw (le-leb 12 (length p) h, ne-eqb (getD p 0 0) (length p) (λ k. ne (e ∙ k)))
 
-pub told-blocks : (p : List ℕ) (n m : ℕ) (r : Bool) → n ≡ m → r ≡ hasBlocks n p → r ≡ hasBlocks m p
-told-blocks p n m r e h = h ∙ ap (λ k. hasBlocks k p) e
+pub known-blocks : (p : List ℕ) (n m : ℕ) (r : Bool) → n ≡ m → r ≡ hasBlocks n p → r ≡ hasBlocks m p
+known-blocks p n m r e h = h ∙ ap (λ k. hasBlocks k p) e
 
-module _ (p : List ℕ) (f g : ℕ) (r : Bool) (first : f ≡ flag1In p) (second : g ≡ flag2In p) (told : r ≡ isReadReply p) where
+module _ (p : List ℕ) (f g : ℕ) (r : Bool) (first : f ≡ flag1In p) (second : g ≡ flag2In p) (known : r ≡ isReadReply p) where
   pub as-read-reply : r ≡ true → readReplied (idmIn p) f g (blocksIn p) ≡ replyOf p
   unfolding replyOf pick
-  as-read-reply h = rw (sym told ∙ h) (ap₂ (λ x y. readReplied (idmIn p) x y (blocksIn p)) first second)
+  as-read-reply h = rw (sym known ∙ h) (ap₂ (λ x y. readReplied (idmIn p) x y (blocksIn p)) first second)
 
   pub as-write-reply : (q : Bool) → r ≡ false → q ≡ isWriteReply p → q ≡ true → writeReplied (idmIn p) f g ≡ replyOf p
   unfolding replyOf pick
-  as-write-reply q h u k = rw (sym told ∙ h, sym u ∙ k) (ap₂ (writeReplied (idmIn p)) first second)
+  as-write-reply q h u k = rw (sym known ∙ h, sym u ∙ k) (ap₂ (writeReplied (idmIn p)) first second)
 
 pub as-no-reply : (p : List ℕ) (r q : Bool) → r ≡ isReadReply p → r ≡ false → q ≡ isWriteReply p → q ≡ false → noReply ≡ replyOf p
 unfolding replyOf pick
@@ -135,12 +135,12 @@ as-no-reply p r q t h u k = rw (sym t ∙ h, sym u ∙ k)
 
 -- ---- the check of a reply
 
-pub told-from : (code b : ℕ) (idm i p : List ℕ) (r : Bool) → b ≡ getD p 1 0 → b ≡ code → i ≡ idmIn p → r ≡ same idm i → r ≡ isFrom code idm p
+pub known-from : (code b : ℕ) (idm i p : List ℕ) (r : Bool) → b ≡ getD p 1 0 → b ≡ code → i ≡ idmIn p → r ≡ same idm i → r ≡ isFrom code idm p
 unfolding isFrom
-told-from code b idm i p r e f g h = rw (eq-eqb (getD p 1 0) code (sym e ∙ f)) (h ∙ ap (same idm) g)
+known-from code b idm i p r e f g h = rw (eq-eqb (getD p 1 0) code (sym e ∙ f)) (h ∙ ap (same idm) g)
 
-pub told-status : (r : Checked) (f g x y : ℕ) → f ≡ x → g ≡ y → r ≡ byStatus f g → r ≡ byStatus x y
-told-status r f g x y p q h = h ∙ ap₂ byStatus p q
+pub known-status : (r : Checked) (f g x y : ℕ) → f ≡ x → g ≡ y → r ≡ byStatus f g → r ≡ byStatus x y
+known-status r f g x y p q h = h ∙ ap₂ byStatus p q
 
 pub read-checked : (r : Checked) (request p i : List ℕ) (w : Bool) (n : ℕ) → i ≡ idmIn request → n ≡ countIn request → w ≡ hasBlocks n p
     → r ≡ checkOf readReplyCode i w p → r ≡ readCheck (idmIn request) (countIn request) p

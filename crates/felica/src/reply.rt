@@ -13,7 +13,7 @@ ghost use mathlib.Core.Path.{_≡_};
 ghost use mathlib.Core.List.{[], _∷_, _++_};
 ghost use Prim.Native.Nat.{_/_, _≤_};
 ghost use lib.ListN.{length};
-ghost use Rattle.framing.specs.Build.{outcome, left, putFrame};
+ghost use Rattle.framing.specs.Build.{returned, left, putFrame};
 ghost use Rattle.felica.specs.Packets.{reply, readReply, writeReply, areBlocks, readReplyFits, builtOf, idmFits};
 ghost use Rattle.felica.specs.Fields.{replyIn, replyOf, isReply, hasBlocks, isReadReply, isWriteReply, readsBlocks, blocksIn};
 
@@ -84,7 +84,7 @@ fn head(len: u8, code: u8, idm: &[u8], flag1: u8, flag2: u8) -> [u8; 12]
 // Writes a reply without block data.
 fn put_flags(code: u8, idm: &[u8], flag1: u8, flag2: u8, buffer: &mut [u8]) -> Built
     requires { ⌜ length (now idm) ≡ 8 ⌝ }
-    ensures { λ r. ⌜ left (outcome r) (now (buffer .exit)) ≡ putFrame (reply code (now (idm .entry)) flag1 flag2 []) (now (buffer .entry)) ⌝ }
+    ensures { λ r. ⌜ left (returned r) (now (buffer .exit)) ≡ putFrame (reply code (now (idm .entry)) flag1 flag2 []) (now (buffer .entry)) ⌝ }
 {
     if buffer.len() < FLAGS_END {
         return Built::Refused(Refusal::ShortBuffer);
@@ -97,7 +97,7 @@ fn put_flags(code: u8, idm: &[u8], flag1: u8, flag2: u8, buffer: &mut [u8]) -> B
 // Writes a reply with the number of blocks and their data.
 fn put_blocks(code: u8, idm: &[u8], flag1: u8, flag2: u8, bytes: &[u8], buffer: &mut [u8]) -> Built
     requires { ⌜ (length (now idm) ≡ 8) × (length (now bytes) ≤ 64) ⌝ }
-    ensures { λ r. ⌜ left (outcome r) (now (buffer .exit)) ≡ putFrame (reply code (now (idm .entry)) flag1 flag2 (length (now (bytes .entry)) / 16 ∷ now (bytes .entry))) (now (buffer .entry)) ⌝ }
+    ensures { λ r. ⌜ left (returned r) (now (buffer .exit)) ≡ putFrame (reply code (now (idm .entry)) flag1 flag2 (length (now (bytes .entry)) / 16 ∷ now (bytes .entry))) (now (buffer .entry)) ⌝ }
 {
     let len = BLOCKS_AT + bytes.len();
     if buffer.len() < len {
@@ -113,7 +113,7 @@ fn put_blocks(code: u8, idm: &[u8], flag1: u8, flag2: u8, bytes: &[u8], buffer: 
 // The reply to a read; 4 where the IDm has not 8 bytes, or there is not block data of 1 to 4 blocks where flag 1 is 0 and else none,
 // then 2, and nothing is written.
 pub fn build_read_reply(idm: &[u8], flag1: u8, flag2: u8, bytes: &[u8], buffer: &mut [u8]) -> Built
-    ensures { λ r. ⌜ left (outcome r) (now (buffer .exit)) ≡ builtOf (readReplyFits (now (idm .entry)) flag1 (now (bytes .entry))) (readReply (now (idm .entry)) flag1 flag2 (now (bytes .entry))) (now (buffer .entry)) ⌝ }
+    ensures { λ r. ⌜ left (returned r) (now (buffer .exit)) ≡ builtOf (readReplyFits (now (idm .entry)) flag1 (now (bytes .entry))) (readReply (now (idm .entry)) flag1 flag2 (now (bytes .entry))) (now (buffer .entry)) ⌝ }
 {
     if read_fits(idm, flag1, bytes) {
         if flag1 == 0 {
@@ -128,7 +128,7 @@ pub fn build_read_reply(idm: &[u8], flag1: u8, flag2: u8, bytes: &[u8], buffer: 
 
 // The reply to a write; 4 where the IDm has not 8 bytes.
 pub fn build_write_reply(idm: &[u8], flag1: u8, flag2: u8, buffer: &mut [u8]) -> Built
-    ensures { λ r. ⌜ left (outcome r) (now (buffer .exit)) ≡ builtOf (idmFits (now (idm .entry))) (writeReply (now (idm .entry)) flag1 flag2) (now (buffer .entry)) ⌝ }
+    ensures { λ r. ⌜ left (returned r) (now (buffer .exit)) ≡ builtOf (idmFits (now (idm .entry))) (writeReply (now (idm .entry)) flag1 flag2) (now (buffer .entry)) ⌝ }
 {
     if idm.len() == IDM_SIZE {
         put_flags(WRITE_REPLY, idm, flag1, flag2, buffer)

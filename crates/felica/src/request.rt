@@ -15,7 +15,7 @@ ghost use mathlib.Core.Path.{_≡_};
 ghost use mathlib.Core.List.{_++_};
 ghost use Prim.Native.Nat.{_+_, _*_, _/_, _≤_};
 ghost use lib.ListN.{length, take, drop};
-ghost use Rattle.framing.specs.Build.{outcome, left, putFrame};
+ghost use Rattle.framing.specs.Build.{returned, left, putFrame};
 ghost use Rattle.felica.specs.Packets.{request, blockList, readRequest, writeRequest, requestFits, writeFits, builtOf};
 ghost use Rattle.felica.specs.Fields.{requestIn, requestOf, isRequest, asksBlocks, isBlockList, countIn, bytesIn, four, numbersIn, AskedOf};
 
@@ -74,7 +74,7 @@ fn put_request(
     buffer: &mut [u8],
 ) -> Built
     requires { ⌜ (length (now idm) ≡ 8) × (length (now blocks) ≤ 4) × (length (now bytes) ≤ 64) ⌝ }
-    ensures { λ r. ⌜ left (outcome r) (now (buffer .exit)) ≡ putFrame (request code (now (idm .entry)) service (now (blocks .entry)) (now (bytes .entry))) (now (buffer .entry)) ⌝ }
+    ensures { λ r. ⌜ left (returned r) (now (buffer .exit)) ≡ putFrame (request code (now (idm .entry)) service (now (blocks .entry)) (now (bytes .entry))) (now (buffer .entry)) ⌝ }
 {
     let n = blocks.len();
     let at = HEAD + 2 * n;
@@ -126,7 +126,7 @@ fn put_list(blocks: &[u8], buffer: &mut [u8])
 
 // Read Without Encryption of these blocks; 4 where the IDm has not 8 bytes or there are not 1 to 4 blocks, then 2, and nothing is written.
 pub fn build_read_request(idm: &[u8], service: u16, blocks: &[u8], buffer: &mut [u8]) -> Built
-    ensures { λ r. ⌜ left (outcome r) (now (buffer .exit)) ≡ builtOf (requestFits (now (idm .entry)) (now (blocks .entry))) (readRequest (now (idm .entry)) service (now (blocks .entry))) (now (buffer .entry)) ⌝ }
+    ensures { λ r. ⌜ left (returned r) (now (buffer .exit)) ≡ builtOf (requestFits (now (idm .entry)) (now (blocks .entry))) (readRequest (now (idm .entry)) service (now (blocks .entry))) (now (buffer .entry)) ⌝ }
 {
     if fits(idm, blocks) {
         put_request(READ_WITHOUT_ENCRYPTION, idm, service, blocks, &[], buffer)
@@ -143,7 +143,7 @@ pub fn build_write_request(
     bytes: &[u8],
     buffer: &mut [u8],
 ) -> Built
-    ensures { λ r. ⌜ left (outcome r) (now (buffer .exit)) ≡ builtOf (writeFits (now (idm .entry)) (now (blocks .entry)) (now (bytes .entry))) (writeRequest (now (idm .entry)) service (now (blocks .entry)) (now (bytes .entry))) (now (buffer .entry)) ⌝ }
+    ensures { λ r. ⌜ left (returned r) (now (buffer .exit)) ≡ builtOf (writeFits (now (idm .entry)) (now (blocks .entry)) (now (bytes .entry))) (writeRequest (now (idm .entry)) service (now (blocks .entry)) (now (bytes .entry))) (now (buffer .entry)) ⌝ }
 {
     if write_fits(idm, blocks, bytes) {
         put_request(

@@ -3,7 +3,7 @@ use mathlib.Core.List.{List, _++_}
 use Prim.Native.Nat.{ℕ, _+_, min}
 use lib.Dec.{ltb}
 use lib.ListN.{length, take, drop}
-use Rattle.errors.specs.Refusals.{Outcome, answered, refused, numbered, plain}
+use Rattle.errors.specs.Refusals.{Returned, answered, refused, numbered, plain}
 use Rattle.errors.specs.declared.Refusal.the-variants.{OverLong, ShortBuffer}
 use Rattle.framing.specs.Frames.{frameOf, startOf, longest}
 use Rattle.errors.specs.Choice.{pick}
@@ -15,21 +15,21 @@ use Rattle.framing.specs.declared.Place.{Place}
 use Rattle.framing.specs.declared.Place.the-variants.{At}
 
 -- document 01's number or the frame's length
-unfoldable pub outcome : Built → Outcome
-outcome (Frame n) = answered n
-outcome (Refused e) = refused (numbered e)
+unfoldable pub returned : Built → Returned
+returned (Frame n) = answered n
+returned (Refused e) = refused (numbered e)
 
 -- the longest payload under a format: its limit, as far as its length form reaches
 unfoldable pub limitOf : FrameFormat → ℕ
 limitOf f = min (f .limit) (longest (f .length))
 
--- an outcome and the buffer after it
+-- what was returned, and the buffer after it
 pub record Left : Type 0 where
-  pub told : Outcome
+  pub result : Returned
   pub buffer : List ℕ
 
-abbrev pub left : Outcome → List ℕ → Left
-left o b = record { told = o; buffer = b }
+abbrev pub left : Returned → List ℕ → Left
+left o b = record { result = o; buffer = b }
 
 unfoldable pub putFrame : List ℕ → List ℕ → Left
 putFrame frame b = pick (ltb (length b) (length frame)) (left (refused (plain 2)) b) (left (answered (length frame)) (frame ++ drop (length frame) b))

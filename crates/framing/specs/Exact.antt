@@ -172,8 +172,8 @@ module _ (e : LengthEncoding) (p : List ℕ) (bytes : Bytes p) where
         size = ap (λ k. k + 10) n ∙ sym (length-long e q);
       }
 
-  as-told : {s n m s′ n′ m′ : ℕ} → StartsWith e p s n m → Data s n m ≡ Data s′ n′ m′ → StartsWith e p s′ n′ m′
-  as-told {s} {n} {m} {s′} {n′} {m′} w x =
+  as-known : {s n m s′ n′ m′ : ℕ} → StartsWith e p s n m → Data s n m ≡ Data s′ n′ m′ → StartsWith e p s′ n′ m′
+  as-known {s} {n} {m} {s′} {n′} {m′} w x =
       let a : s ≡ s′ = cc in
       let b : n ≡ n′ = cc in
       let c : m ≡ m′ = cc in
@@ -189,8 +189,8 @@ module _ (e : LengthEncoding) (p : List ℕ) (bytes : Bytes p) where
       go : (t u : Bool) → normalAt p ≡ t → extendedAt e p ≡ u
           → pick t (pick t (Data 5 (getD p 3 0) (getD p 3 0 + 7)) Nothing) (pick u (Data 8 (lengthAt e p) (lengthAt e p + 10)) Nothing) ≡ Data s n m
           → StartsWith e p s n m
-      go true u a b x = as-told (normal-shows a) x
-      go false true a b x = as-told (extended-shows b) x
+      go true u a b x = as-known (normal-shows a) x
+      go false true a b x = as-known (extended-shows b) x
       go false false a b x = absurd (no-data x)
 
 -- ---- the whole packet

@@ -131,10 +131,10 @@ module _ (f : FrameFormat) where
       (λ e. let same-length : n ≡ length (drop z p) = cc in same-length ∙ length-drop z p) (λ start len k l e. cc) h
 
   -- what `parse_padded` puts together
-  pub padded-told : (on : Bool) (p : List ℕ) (z : ℕ) (t r : FrameType) → z ≡ zerosIn on p → t ≡ parseOf f (take (length p - z) (drop z p)) → r ≡ behind z t
+  pub padded-known : (on : Bool) (p : List ℕ) (z : ℕ) (t r : FrameType) → z ≡ zerosIn on p → t ≡ parseOf f (take (length p - z) (drop z p)) → r ≡ behind z t
       → padded z r ≡ parsePadded f on p
   unfolding parsePadded
-  padded-told on p z t r e a b =
+  padded-known on p z t r e a b =
       let whole : length (drop z p) ≤ length p - z = rw (length-drop z p) (omega arith) in
       ap (padded z) (b ∙ ap (behind z) (a ∙ ap (parseOf f) (take-all (length p - z) (drop z p) whole)))
       ∙ ap (λ k. padded k (behind k (parseOf f (drop k p)))) e

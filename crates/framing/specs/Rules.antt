@@ -20,9 +20,9 @@ pub both-false : (a b : Bool) → a ≡ false → false ≡ both a b
 both-false a b h = rw h
 
 -- a test that a call answered
-pub told : (r s t : Bool) → r ≡ s → r ≡ t → s ≡ t
-told r s t p q = sym p ∙ q
+pub same-value : (r s t : Bool) → r ≡ s → r ≡ t → s ≡ t
+same-value r s t p q = sym p ∙ q
 
 pub ruleset cases = (at-true, at-false, both-true, both-false, lt-ltb, le-ltb, lt-leb, le-leb, eq-eqb, ne-eqb)
 
-pub ruleset steps = (cases, told)
+pub ruleset steps = (cases, same-value)

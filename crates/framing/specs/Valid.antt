@@ -270,31 +270,31 @@ unfolding extendedOf pick
 extended-too-short e p h = rw (extended-short e p h)
 
 module _ (p : List ℕ) (bytes : Bytes p) (h : starts sof p ≡ true) (n : ℕ) (r : Bool) where
-  normal-told : n ≡ getD p 3 0 → 5 ≤ length p → r ≡ checked 3 5 n p → normalAt p ≡ r
-  normal-told e five v = sym (normal-valid p bytes h five) ∙ ap (λ k. checked 3 5 k p) (sym e) ∙ sym v
+  normal-known : n ≡ getD p 3 0 → 5 ≤ length p → r ≡ checked 3 5 n p → normalAt p ≡ r
+  normal-known e five v = sym (normal-valid p bytes h five) ∙ ap (λ k. checked 3 5 k p) (sym e) ∙ sym v
 
   pub normal-found : n ≡ getD p 3 0 → 5 ≤ length p → r ≡ checked 3 5 n p → r ≡ true → Data 5 n (n + 7) ≡ normalOf p
   unfolding normalOf pick
-  normal-found e five v t = rw (normal-told e five v ∙ t, ← e)
+  normal-found e five v t = rw (normal-known e five v ∙ t, ← e)
 
   pub normal-none : n ≡ getD p 3 0 → 5 ≤ length p → r ≡ checked 3 5 n p → r ≡ false → Nothing ≡ normalOf p
   unfolding normalOf pick
-  normal-none e five v t = rw (normal-told e five v ∙ t)
+  normal-none e five v t = rw (normal-known e five v ∙ t)
 
   module _ (e : LengthEncoding) (m : marked e p ≡ true) (len : n ≡ pairLength e (getD p 5 0) (getD p 6 0)) (eight : 8 ≤ length p) (v : r ≡ checked 5 8 n p) where
-    length-told : n ≡ lengthAt e p
-    length-told = len ∙ pair-at e p
+    length-known : n ≡ lengthAt e p
+    length-known = len ∙ pair-at e p
 
-    extended-told : extendedAt e p ≡ r
-    extended-told = sym (extended-valid e p bytes h m eight) ∙ ap (λ k. checked 5 8 k p) (sym length-told) ∙ sym v
+    extended-known : extendedAt e p ≡ r
+    extended-known = sym (extended-valid e p bytes h m eight) ∙ ap (λ k. checked 5 8 k p) (sym length-known) ∙ sym v
 
     pub extended-found : r ≡ true → Data 8 n (n + 10) ≡ extendedOf e p
     unfolding extendedOf pick
-    extended-found t = rw (extended-told ∙ t, ← length-told)
+    extended-found t = rw (extended-known ∙ t, ← length-known)
 
     pub extended-none : r ≡ false → Nothing ≡ extendedOf e p
     unfolding extendedOf pick
-    extended-none t = rw (extended-told ∙ t)
+    extended-none t = rw (extended-known ∙ t)
 
 module _ (e : LengthEncoding) (p : List ℕ) (x : FrameType) where
   pub data-extended : Bytes p → starts sof p ≡ true → marked e p ≡ true → x ≡ extendedOf e p → x ≡ dataOf e p

@@ -5,7 +5,7 @@ use super::FrameFormat;
 use super::LengthEncoding;
 use super::Place;
 ghost use mathlib.Core.Path.{_≡_};
-ghost use Rattle.framing.specs.Build.{outcome, left, buildOf};
+ghost use Rattle.framing.specs.Build.{returned, left, buildOf};
 ghost use Rattle.framing.specs.Settings.{rcs956, commandPayload};
 
 // Host to controller, and controller to host.
@@ -35,7 +35,7 @@ impl Rcs956Format {
 
 // Writes the frame of a command: TFI, the code and its data.
 pub fn build_command(code: u8, bytes: &[u8], buffer: &mut [u8]) -> Built
-    ensures { λ r. ⌜ left (outcome r) (now (buffer .exit)) ≡ buildOf rcs956 (commandPayload code (now (bytes .entry))) (now (buffer .entry)) ⌝ }
+    ensures { λ r. ⌜ left (returned r) (now (buffer .exit)) ≡ buildOf rcs956 (commandPayload code (now (bytes .entry))) (now (buffer .entry)) ⌝ }
 {
     let n = bytes.len() + 2;
     match super::room_for(Rcs956Format::format(), n, buffer.len()) {

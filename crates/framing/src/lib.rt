@@ -17,7 +17,7 @@ ghost use Prim.Native.Nat.{_+_, _-_, _≤_, _<_, _^_, min};
 ghost use lib.ListN.{length, drop};
 ghost use Rattle.framing.specs.Frames.{sof, longest, normalHead, extendedHead, headOf, startOf};
 ghost use Rattle.framing.specs.Lists.{starts, same};
-ghost use Rattle.framing.specs.Build.{outcome, left, buildOf, enclosed, placeOf};
+ghost use Rattle.framing.specs.Build.{returned, left, buildOf, enclosed, placeOf};
 ghost use Rattle.framing.specs.Parse.{isError, normalOf, extendedOf, dataOf, parseOf, payloadOf};
 ghost use Rattle.framing.specs.Checks.{hasMarker, marked, pairLength, checked};
 
@@ -376,7 +376,7 @@ fn room_for(format: FrameFormat, n: usize, room: usize) -> Place
 
 // Writes the frame that carries the payload at the buffer's start; the rest of the buffer keeps its bytes.
 pub fn build(format: FrameFormat, payload: &[u8], buffer: &mut [u8]) -> Built
-    ensures { λ r. ⌜ left (outcome r) (now (buffer .exit)) ≡ buildOf format (now (payload .entry)) (now (buffer .entry)) ⌝ }
+    ensures { λ r. ⌜ left (returned r) (now (buffer .exit)) ≡ buildOf format (now (payload .entry)) (now (buffer .entry)) ⌝ }
 {
     let n = payload.len();
     let length = format.length;

@@ -1,1 +1,3 @@
-pub mod Bounds
+pub mod Lines
+pub mod Readings
+pub mod Examples

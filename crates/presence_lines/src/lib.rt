@@ -2,86 +2,106 @@
 mod print;
 mod read;
 
+use bench::first;
 use bench::lines;
-use bench::lines::Held;
 use bench::lines::Line;
+use bench::lines::Unread;
+use bench::text;
 use errors::Refusal;
 use errors::RoundRefusal;
 use presence_list::list::Answer;
 use presence_list::list::Presence;
-use read::RECORDS;
+use presence_list::list::Round;
 use read::Read;
 ghost use mathlib.Core.Path.{_≡_};
-ghost use Prim.Native.Nat.{_≤_};
+ghost use mathlib.Core.List.{[], _∷_};
 ghost use lib.ListN.{length};
-ghost use Rattle.bench.specs.Lines.{lengthOf};
+ghost use Rattle.bench.specs.Texts.{Appends};
+ghost use Rattle.presence_list.specs.Sizes.{FewAfter};
+ghost use Rattle.presence_lines.specs.Lines.{recordsRoom, unreadable as unreadableText, textOf, answerOf, after, replyOf};
 
-// A line, and room for any answer and a line feed.
-const LINE: usize = 65536;
+// The longest line, without its line feed, and room for any answer and a line feed.
+pub const LINE: usize = 65536;
 
-const OUT: usize = 8192;
+pub const OUT: usize = 8192;
+
+// Room for the records of the longest line: the shortest card has 8 bytes, and a space stands before it.
+const RECORDS: usize = 145660;
 
 // The list after a line, and the length of the text printed for it.
-struct Answered {
-    list: Presence,
-    len: usize,
+pub struct Answered {
+    pub list: Presence,
+    pub len: usize,
+}
+
+fn room() -> [u8; RECORDS]
+    ensures { λ r. ⌜ length r ≡ recordsRoom ⌝ }
+{
+    [0u8; RECORDS]
 }
 
 // A line that cannot be read: the list stays as it was.
 fn unreadable(list: Presence, out: &mut [u8]) -> Answered
-    requires { ⌜ 8192 ≤ length (now out) ⌝ }
-    ensures { λ r. ⌜ (r .list ≡ list) × (r .len ≤ 28) ⌝ }
+    ensures { λ r. ⌜ (r .list ≡ list) × Appends 0 unreadableText (now (out .entry)) (r .len) (now (out .exit)) ⌝ }
 {
     let len = print::put_refused(RoundRefusal::AtOnce(Refusal::BadArgument), out);
     Answered { list, len }
 }
 
-// Hands a line to the list, and puts the text printed for it at the start of `out`.
-fn answer(list: Presence, line: &[u8], records: &mut [u8], out: &mut [u8]) -> Answered
-    requires { ⌜ (length (now line) ≤ 65536) × (145660 ≤ length (now records)) × (8192 ≤ length (now out)) ⌝ }
-    ensures { λ r. ⌜ r .len ≤ 8191 ⌝ }
+// The text of a round.
+fn report(round: Round, out: &mut [u8]) -> Answered
+    requires { ⌜ FewAfter (round .answer) (round .list .state .count) ⌝ }
+    ensures { λ r. ⌜ (r .list ≡ round .list) × Appends 0 (textOf (round .answer) (round .list)) (now (out .entry)) (r .len) (now (out .exit)) ⌝ }
 {
-    let Read::Round(number, len) = read::read_line(line, records) else {
-        return unreadable(list, out);
-    };
-    let round = list.round(number, &records[..len]);
-    let after = round.list;
+    let list = round.list;
     let answer = round.answer;
     match answer {
         Answer::Accepted(came, left) => {
-            let arrived = after.arrived;
-            let departed = after.departed;
-            let cards = after.cards;
-            let count = after.state.count as usize;
+            let arrived = list.arrived;
+            let departed = list.departed;
+            let cards = list.cards;
+            let count = list.state.count as usize;
             let len = print::put_report(&arrived, came, &departed, left, &cards, count, out);
-            Answered { list: after, len }
+            Answered { list, len }
         }
         Answer::Refused(refusal) => {
             let len = print::put_refused(refusal, out);
-            Answered { list: after, len }
+            Answered { list, len }
         }
     }
 }
 
-// A line feed behind the text.
-fn fed(answer: Answered, out: &mut [u8]) -> Answered
-    requires { ⌜ (answer .len ≤ 8191) × (8192 ≤ length (now out)) ⌝ }
-    ensures { λ r. ⌜ (r .list ≡ answer .list) × (r .len ≤ 8192) ⌝ }
+// Hands a line to the list, and puts the text printed for it at the start of `out`.
+fn answer(list: Presence, line: &[u8], out: &mut [u8]) -> Answered
+    ensures { λ r. ⌜ (r .list ≡ answerOf list (now (line .entry)) .list) × Appends 0 (answerOf list (now (line .entry)) .text) (now (out .entry)) (r .len) (now (out .exit)) ⌝ }
 {
-    let n = answer.len;
-    let list = answer.list;
-    out[n] = b'\n';
-    Answered { list, len: n + 1 }
+    if LINE < line.len() {
+        return unreadable(list, out);
+    }
+    let mut records = room();
+    let Read::Round(number, len) = read::read_line(line, &mut records) else {
+        return unreadable(list, out);
+    };
+    let round = list.round(number, &records[..len]);
+    report(round, out)
 }
 
-// The answer to what was told of a line, with its line feed; nothing at the end of the input.
-fn reply(list: Presence, told: Line, line: &[u8], records: &mut [u8], out: &mut [u8]) -> Answered
-    requires { ⌜ (lengthOf told ≤ length (now line)) × (length (now line) ≤ 65536) × (145660 ≤ length (now records)) × (8192 ≤ length (now out)) ⌝ }
-    ensures { λ r. ⌜ r .len ≤ 8192 ⌝ }
+// A line feed behind the text.
+fn fed(answer: Answered, out: &mut [u8]) -> Answered
+    ensures { λ r. ⌜ (r .list ≡ answer .list) × Appends (answer .len) (10 ∷ []) (now (out .entry)) (r .len) (now (out .exit)) ⌝ }
 {
-    match told {
+    let list = answer.list;
+    let len = text::put(b"\n", out, answer.len);
+    Answered { list, len }
+}
+
+// The answer to a line that stands at the start of `line`, with its line feed; nothing at the end of the input.
+pub fn reply(list: Presence, next: Line, line: &[u8], out: &mut [u8; OUT]) -> Answered
+    ensures { λ r. ⌜ after (r .list) (r .len) (now (out .exit)) ≡ replyOf list next (now (line .entry)) (now (out .entry)) ⌝ }
+{
+    match next {
         Line::Text(n) => {
-            let answered = answer(list, &line[..n], records, out);
+            let answered = answer(list, first(n, line), out);
             fed(answered, out)
         }
         Line::OverLong => {
@@ -92,21 +112,20 @@ fn reply(list: Presence, told: Line, line: &[u8], records: &mut [u8], out: &mut 
     }
 }
 
-// Answers standard input line by line on standard output. No contract can say what is read or written: `lines::next` fixes each
-// line by the bytes that come.
+// Answers standard input line by line on standard output. `lines::next` has the contract of a line, by the bytes that come, and `reply`
+// that of the text for it; free is what the operating system reads and writes.
 pub fn run() {
     let mut buffer = io::large_buffer();
     let mut line = [0u8; LINE];
-    let mut records = [0u8; RECORDS];
     let mut out = [0u8; OUT];
     let mut list = Presence::empty();
-    let mut held = Held::nothing();
+    let mut unread = Unread::nothing();
     let mut turns = u64::MAX;
     while turns > 0 {
-        let given = lines::next(held, &mut buffer, &mut line);
-        held = given.held;
-        let told = given.line;
-        let replied = reply(list, told, &line, &mut records, &mut out);
+        let given = lines::next(unread, &mut buffer, &mut line);
+        unread = given.unread;
+        let next = given.line;
+        let replied = reply(list, next, &line, &mut out);
         let n = replied.len;
         let after = replied.list;
         list = after;

@@ -1,109 +1,68 @@
-// What is printed for a round. A text behind another has room, and the place behind it is given.
+// What is printed for a round. Each function gives the place behind its text; a text that has no room is not put.
+use bench::first;
 use bench::hex;
 use bench::text;
+use bench::words;
 use errors::RoundRefusal;
-ghost use mathlib.Core.Path.{_≡_};
-ghost use Prim.Native.Nat.{_+_, _*_, _≤_, _<_};
-ghost use lib.ListN.{length};
-
-fn put(text: &[u8], out: &mut [u8], at: usize) -> usize
-    requires { ⌜ at + length (now text) ≤ length (now out) ⌝ }
-    ensures { λ r. ⌜ r ≡ at + length (now (text .entry)) ⌝ }
-{
-    text::put(text, out, at)
-}
-
-// The bytes as HEX, `-` where there are none.
-fn put_hex(bytes: &[u8], out: &mut [u8], at: usize) -> usize
-    requires { ⌜ (length (now bytes) ≤ 16) × (at + 33 ≤ length (now out)) ⌝ }
-    ensures { λ r. ⌜ (at ≤ r) × (r ≤ at + 33) ⌝ }
-{
-    hex::put(bytes, out, at)
-}
-
-fn put_kind(kind: u8, out: &mut [u8], at: usize) -> usize
-    requires { ⌜ at + 5 ≤ length (now out) ⌝ }
-    ensures { λ r. ⌜ (at ≤ r) × (r ≤ at + 5) ⌝ }
-{
-    match kind {
-        0 => put(b" A:", out, at),
-        1 => put(b" T1:", out, at),
-        2 => put(b" B:", out, at),
-        3 => put(b" F:", out, at),
-        _ => put(b" DEP:", out, at),
-    }
-}
-
-fn put_bitrate(bitrate: u8, out: &mut [u8], at: usize) -> usize
-    requires { ⌜ at + 5 ≤ length (now out) ⌝ }
-    ensures { λ r. ⌜ (at ≤ r) × (r ≤ at + 5) ⌝ }
-{
-    match bitrate {
-        0 => put(b":106A", out, at),
-        1 => put(b":212F", out, at),
-        2 => put(b":424F", out, at),
-        3 => put(b":106B", out, at),
-        4 => put(b":212B", out, at),
-        5 => put(b":424B", out, at),
-        _ => put(b":848B", out, at),
-    }
-}
-
-// How many bytes the identifier of a record has.
-fn identifier_length(length: u8) -> usize
-    ensures { λ r. ⌜ r ≤ 16 ⌝ }
-{
-    if length <= 16 { length as usize } else { 16 }
-}
+ghost use Prim.Native.Nat.{_*_, _≤_, _<_};
+ghost use lib.ListN.{length, take, drop};
+ghost use Rattle.bench.specs.Texts.{Appends};
+ghost use Rattle.presence_list.specs.Memory.{pieces};
+ghost use Rattle.presence_lines.specs.Lines.{cardText, bitrateText, cardsText, refusedText, listsText};
 
 // A card of the list as `KIND:HEX`, a space before it.
 fn put_card(cards: &[u8], i: usize, out: &mut [u8], at: usize) -> usize
-    requires { ⌜ (i < 64) × (1280 ≤ length (now cards)) × (at + 38 ≤ length (now out)) ⌝ }
-    ensures { λ r. ⌜ (at ≤ r) × (r ≤ at + 38) ⌝ }
+    requires { ⌜ (i < 64) × (1280 ≤ length (now cards)) ⌝ }
+    ensures { λ r. ⌜ Appends at (cardText (take 20 (drop (20 * i) (now (cards .entry))))) (now (out .entry)) r (now (out .exit)) ⌝ }
 {
     let start = 20 * i;
-    let next = put_kind(cards[start], out, at);
-    let n = identifier_length(cards[start + 17]);
     let from = start + 1;
-    let to = from + n;
-    put_hex(&cards[from..to], out, next)
+    let to = from + 16;
+    let length = cards[start + 17] as usize;
+    let kind = cards[start] as usize;
+    let second = text::put(b" ", out, at);
+    let third = text::put(words::word(b"A T1 B F DEP", kind), out, second);
+    let fourth = text::put(b":", out, third);
+    hex::put(first(length, &cards[from..to]), out, fourth)
 }
 
-// The first cards of a list, each with a space before it.
-fn put_cards(cards: &[u8], count: usize, out: &mut [u8], at: usize) -> usize
-    requires { ⌜ (count ≤ 64) × (1280 ≤ length (now cards)) × (at + 38 * 64 ≤ length (now out)) ⌝ }
-    ensures { λ r. ⌜ (at ≤ r) × (r ≤ at + 38 * 64) ⌝ }
+// Its bitrate, where it is shown.
+fn put_bitrate(cards: &[u8], i: usize, shown: bool, out: &mut [u8], at: usize) -> usize
+    requires { ⌜ (i < 64) × (1280 ≤ length (now cards)) ⌝ }
+    ensures { λ r. ⌜ Appends at (bitrateText shown (take 20 (drop (20 * i) (now (cards .entry))))) (now (out .entry)) r (now (out .exit)) ⌝ }
 {
-    let mut next = at;
-    let mut i = 0;
-    while i < count {
-        next = put_card(cards, i, out, next);
-        i += 1;
+    if shown {
+        let bitrate = cards[20 * i + 18] as usize;
+        let next = text::put(b":", out, at);
+        return text::put(
+            words::word(b"106A 212F 424F 106B 212B 424B 848B", bitrate),
+            out,
+            next,
+        );
     }
-    next
+    at
 }
 
-// The same with each card's bitrate.
-fn put_present(cards: &[u8], count: usize, out: &mut [u8], at: usize) -> usize
-    requires { ⌜ (count ≤ 64) × (1280 ≤ length (now cards)) × (at + 43 * 64 ≤ length (now out)) ⌝ }
-    ensures { λ r. ⌜ (at ≤ r) × (r ≤ at + 43 * 64) ⌝ }
+// The first cards of a list.
+fn put_cards(cards: &[u8], count: usize, shown: bool, out: &mut [u8], at: usize) -> usize
+    requires { ⌜ (count ≤ 64) × (1280 ≤ length (now cards)) ⌝ }
+    ensures { λ r. ⌜ Appends at (cardsText shown (pieces count (now (cards .entry)))) (now (out .entry)) r (now (out .exit)) ⌝ }
 {
     let mut next = at;
     let mut i = 0;
     while i < count {
-        next = put_card(cards, i, out, next);
-        next = put_bitrate(cards[20 * i + 18], out, next);
+        let behind = put_card(cards, i, out, next);
+        next = put_bitrate(cards, i, shown, out, behind);
         i += 1;
     }
     next
 }
 
 pub(crate) fn put_refused(refusal: RoundRefusal, out: &mut [u8]) -> usize
-    requires { ⌜ 28 ≤ length (now out) ⌝ }
-    ensures { λ r. ⌜ r ≤ 28 ⌝ }
+    ensures { λ r. ⌜ Appends 0 (refusedText refusal) (now (out .entry)) r (now (out .exit)) ⌝ }
 {
     let numbered = refusal.numbered();
-    let at = put(b"refused ", out, 0);
+    let at = text::put(b"refused ", out, 0);
     text::put_decimal(numbered.number as u64, out, at)
 }
 
@@ -117,13 +76,13 @@ pub(crate) fn put_report(
     count: usize,
     out: &mut [u8],
 ) -> usize
-    requires { ⌜ (came ≤ 64) × (left ≤ 64) × (count ≤ 64) × (8192 ≤ length (now out)) ⌝ }
-    ensures { λ r. ⌜ r ≤ 8191 ⌝ }
+    requires { ⌜ (came ≤ 64) × (left ≤ 64) × (count ≤ 64) ⌝ }
+    ensures { λ r. ⌜ Appends 0 (listsText (pieces came (now (arrived .entry))) (pieces left (now (departed .entry))) (pieces count (now (cards .entry)))) (now (out .entry)) r (now (out .exit)) ⌝ }
 {
-    let first = put(b"arrived", out, 0);
-    let second = put_cards(arrived, came, out, first);
-    let third = put(b" departed", out, second);
-    let fourth = put_cards(departed, left, out, third);
-    let fifth = put(b" present", out, fourth);
-    put_present(cards, count, out, fifth)
+    let first = text::put(b"arrived", out, 0);
+    let second = put_cards(arrived, came, false, out, first);
+    let third = text::put(b" departed", out, second);
+    let fourth = put_cards(departed, left, false, out, third);
+    let fifth = text::put(b" present", out, fourth);
+    put_cards(cards, count, true, out, fifth)
 }

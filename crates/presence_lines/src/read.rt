@@ -1,24 +1,26 @@
 // A line taken apart: `round`, the number, and the cards.
 use bench::Put;
+use bench::first;
 use bench::hex;
+use bench::number;
+use bench::number::Number;
+use bench::text;
 use bench::words;
 ghost use mathlib.Core.Path.{_≡_};
 ghost use mathlib.Core.Bool.{Bool};
-ghost use Prim.Native.Nat.{_+_, _*_, _≤_};
-ghost use lib.ListN.{length};
-ghost use Rattle.presence_lines.specs.Bounds.{cardBytes, readBytes};
-
-// The records of the longest line: the shortest card has 8 bytes, and a space stands before it.
-pub(crate) const RECORDS: usize = 145660;
+ghost use Prim.Native.Nat.{_≤_};
+ghost use lib.ListN.{length, drop};
+ghost use Rattle.bench.specs.Hex.{isHex};
+ghost use Rattle.bench.specs.Texts.{Appends};
+ghost use Rattle.bench.specs.Words.{wordsOf};
+ghost use Rattle.bench.specs.WordLaws.{behind};
+ghost use Rattle.presence_lines.specs.Lines.{lineLimit, recordsRoom, placeOf, beforeColon, behindColon, isIdentifier, isCard, recordWith, identified, recordOf, areCards, recordsOf, saidOf};
+ghost use Rattle.presence_lines.specs.Readings.{Puts, readIn, readBytes};
 
 // How many bytes an identifier has at most that can be read, and that a record holds.
 const READABLE: usize = 1024;
 
 const HELD: usize = 16;
-
-const SHORTEST_CARD: usize = 8;
-
-const NUMBER_LIMIT: u64 = 4294967295;
 
 // A round's number, and the bytes of its records at the start of the lent buffer.
 pub(crate) enum Read {
@@ -26,44 +28,15 @@ pub(crate) enum Read {
     Unreadable,
 }
 
-pub(crate) enum Number {
-    Value(u32),
+pub(crate) enum Cards {
+    Bytes(usize),
     Unreadable,
 }
 
-// The value of a decimal digit; 10 where the byte is none.
-fn digit(byte: u8) -> u64
-    ensures { λ r. ⌜ r ≤ 10 ⌝ }
-{
-    match byte {
-        b'0'..=b'9' => (byte - b'0') as u64,
-        _ => 10,
-    }
-}
-
-// One or more decimal digits.
-fn read_number(word: &[u8]) -> Number {
-    if word.len() == 0 {
-        return Number::Unreadable;
-    }
-    let mut n: u64 = 0;
-    let mut i = 0;
-    while i < word.len() {
-        let value = digit(word[i]);
-        if 9 < value {
-            return Number::Unreadable;
-        }
-        n = n * 10 + value;
-        if NUMBER_LIMIT < n {
-            return Number::Unreadable;
-        }
-        i += 1;
-    }
-    Number::Value(n as u32)
-}
-
 // The place of the word among the words of a text; how many they are where it is none of them.
-fn place(word: &[u8], text: &[u8]) -> usize {
+fn place(word: &[u8], text: &[u8]) -> usize
+    ensures { λ r. ⌜ r ≡ placeOf (now (word .entry)) (wordsOf (now (text .entry))) ⌝ }
+{
     let n = words::count(text);
     let mut i = 0;
     while i < n {
@@ -75,104 +48,122 @@ fn place(word: &[u8], text: &[u8]) -> usize {
     i
 }
 
-// Puts an identifier and its length into a record: of one that is too long for it the length alone, as 17. False where the word is no HEX, or
-// too long to be read.
-fn put_identifier(word: &[u8], found: &mut [u8]) -> bool
-    requires { ⌜ length (now found) ≡ 20 ⌝ }
+fn before_colon(word: &[u8]) -> &[u8]
+    ensures { λ r. ⌜ now r ≡ beforeColon (now (word .entry)) ⌝ }
+{
+    let n = bytes::scan::find(word, 0, word.len(), b':');
+    &word[..n]
+}
+
+fn behind_colon(word: &[u8]) -> &[u8]
+    ensures { λ r. ⌜ now r ≡ behindColon (now (word .entry)) ⌝ }
+{
+    let n = bytes::scan::find(word, 0, word.len(), b':');
+    if n < word.len() {
+        &word[n + 1..]
+    } else {
+        &word[n..]
+    }
+}
+
+// Whether the word is HEX that can be read.
+fn is_identifier(word: &[u8]) -> bool
+    ensures { λ r. ⌜ r ≡ isIdentifier (now (word .entry)) ⌝ }
 {
     if hex::is_hex(word) {
-        let n = word.len() / 2;
-        if READABLE < n {
-            return false;
-        }
-        if HELD < n {
-            found[17] = 17;
-            return true;
-        }
-        let mut identifier = [0u8; 16];
-        let Put::Bytes(_) = hex::read(word, &mut identifier) else {
-            return false;
-        };
-        bytes::copy(&identifier, &mut found[1..]);
-        found[17] = n as u8;
-        return true;
+        return word.len() / 2 <= READABLE;
     }
     false
 }
 
-// Puts the record of a card, `KIND:HEX:BITRATE`, into the buffer from a place on. False where the word is no card.
-fn put_card(word: &[u8], records: &mut [u8], at: usize) -> bool
-    requires { ⌜ at + 20 ≤ length (now records) ⌝ }
-    ensures { λ r. ⌜ (r ≡ Bool.true → 8 ≤ length (now (word .entry))) ⌝ }
+fn put_record(
+    kind: u8,
+    identifier: &[u8],
+    len: u8,
+    bitrate: u8,
+    records: &mut [u8],
+    at: usize,
+) -> usize
+    requires { ⌜ length (now identifier) ≤ 16 ⌝ }
+    ensures { λ r. ⌜ Appends at (recordWith kind (now (identifier .entry)) len bitrate) (now (records .entry)) r (now (records .exit)) ⌝ }
 {
-    let n = word.len();
-    if n < SHORTEST_CARD {
-        return false;
-    }
-    let first = bytes::scan::find(word, 0, n, b':');
-    if n <= first {
-        return false;
-    }
-    let second = bytes::scan::find(word, first + 1, n, b':');
-    if n <= second {
-        return false;
-    }
-    let kind = place(&word[..first], b"A T1 B F DEP");
-    let rate = place(&word[second + 1..], b"106A 212F 424F 106B 212B 424B 848B");
-    if 4 < kind {
-        return false;
-    }
-    if 6 < rate {
-        return false;
-    }
-    let mut found = [0u8; 20];
-    if put_identifier(&word[first + 1..second], &mut found) {
-        found[0] = kind as u8;
-        found[18] = rate as u8;
-        bytes::copy(&found, &mut records[at..]);
-        return true;
-    }
-    false
+    let zeros = [0u8; 16];
+    let head = [kind];
+    let last = [len, bitrate, 0];
+    let second = text::put(&head, records, at);
+    let third = text::put(identifier, records, second);
+    let fourth = text::put(first(16 - identifier.len(), &zeros), records, third);
+    text::put(&last, records, fourth)
 }
 
-// Puts the records of the cards behind a place of the line into the buffer, each behind the other, and gives the bytes that they have.
+// The record of an identifier; of one that is too long for it the length alone, as 17.
+fn put_identified(kind: u8, word: &[u8], bitrate: u8, records: &mut [u8], at: usize) -> usize
+    requires { ⌜ isHex (now word) ≡ Bool.true ⌝ }
+    ensures { λ r. ⌜ Appends at (identified kind (now (word .entry)) bitrate) (now (records .entry)) r (now (records .exit)) ⌝ }
+{
+    let mut identifier = [0u8; 16];
+    let n = word.len() / 2;
+    if HELD < n {
+        return put_record(kind, first(0, word), 17, bitrate, records, at);
+    }
+    let Put::Bytes(k) = hex::read(word, &mut identifier) else {
+        return at;
+    };
+    put_record(kind, first(k, &identifier), n as u8, bitrate, records, at)
+}
+
+// Puts the record of a card, `KIND:HEX:BITRATE`, into the buffer from a place on.
+fn put_card(word: &[u8], records: &mut [u8], at: usize) -> Cards
+    ensures { λ r. ⌜ Puts r (isCard (now (word .entry))) at (recordOf (now (word .entry))) (now (records .entry)) (now (records .exit)) ⌝ }
+{
+    let rest = behind_colon(word);
+    let kind = place(before_colon(word), b"A T1 B F DEP");
+    if 4 < kind {
+        return Cards::Unreadable;
+    }
+    let bitrate = place(behind_colon(rest), b"106A 212F 424F 106B 212B 424B 848B");
+    if 6 < bitrate {
+        return Cards::Unreadable;
+    }
+    let identifier = before_colon(rest);
+    if is_identifier(identifier) {
+        return Cards::Bytes(put_identified(kind as u8, identifier, bitrate as u8, records, at));
+    }
+    Cards::Unreadable
+}
+
+// Puts the records of the cards behind a place of the line into the buffer, each behind the other.
 fn put_cards(line: &[u8], from: usize, records: &mut [u8]) -> Cards
-    requires { ⌜ (from ≤ length (now line)) × (length (now line) ≤ 65536) × (145660 ≤ length (now records)) ⌝ }
-    ensures { λ r. ⌜ cardBytes r ≤ 145660 ⌝ }
+    requires { ⌜ from ≤ length (now line) ⌝ }
+    ensures { λ r. ⌜ Puts r (areCards (behind (drop from (now (line .entry))))) 0 (recordsOf (behind (drop from (now (line .entry))))) (now (records .entry)) (now (records .exit)) ⌝ }
 {
     let n = line.len();
     let mut at = from;
     let mut len = 0;
     while at < n {
         let end = bytes::scan::find(line, at + 1, n, b' ');
-        if put_card(&line[at + 1..end], records, len) {
-            len += 20;
-            at = end;
-        } else {
+        let Cards::Bytes(next) = put_card(&line[at + 1..end], records, len) else {
             return Cards::Unreadable;
-        }
+        };
+        len = next;
+        at = end;
     }
     Cards::Bytes(len)
 }
 
-pub(crate) enum Cards {
-    Bytes(usize),
-    Unreadable,
-}
-
 // The round that the line says, its records at the start of the lent buffer.
 pub(crate) fn read_line(line: &[u8], records: &mut [u8]) -> Read
-    requires { ⌜ (length (now line) ≤ 65536) × (145660 ≤ length (now records)) ⌝ }
-    ensures { λ r. ⌜ readBytes r ≤ 145660 ⌝ }
+    requires { ⌜ (length (now line) ≤ lineLimit) × (recordsRoom ≤ length (now records)) ⌝ }
+    ensures { λ r. ⌜ (readIn r (now (records .exit)) ≡ saidOf (wordsOf (now (line .entry)))) × (readBytes r ≤ recordsRoom) ⌝ }
 {
     let n = line.len();
-    let first = bytes::scan::find(line, 0, n, b' ');
-    if n <= first {
+    let end = bytes::scan::find(line, 0, n, b' ');
+    if n <= end {
         return Read::Unreadable;
     }
-    if words::is(&line[..first], b"round") {
-        let second = bytes::scan::find(line, first + 1, n, b' ');
-        let Number::Value(number) = read_number(&line[first + 1..second]) else {
+    if words::is(&line[..end], b"round") {
+        let second = bytes::scan::find(line, end + 1, n, b' ');
+        let Number::Value(number) = number::read(&line[end + 1..second]) else {
             return Read::Unreadable;
         };
         let Cards::Bytes(len) = put_cards(line, second, records) else {

@@ -14,7 +14,7 @@ use Rattle.presence_list.specs.declared.list.Answer.{Answer}
 use Rattle.presence_list.specs.declared.list.Answer.the-variants.{Accepted, Refused}
 use Rattle.presence_list.specs.Keyed.{supersedeAll, without, Sorted}
 use Rattle.presence_list.specs.KeyedLaws.{all-sorted, all-grows, all-all}
-use Rattle.presence_list.specs.Kept.{Fit, Kept, PutAll}
+use Rattle.presence_list.specs.CardsAt.{Fit, CardsAt, PutAll}
 use Rattle.presence_list.specs.Memory.{pieces, laid, Whole, cardIn, lengthIn, longIn, aged, entries}
 use Rattle.presence_list.specs.MemoryLaws.{length-pieces, pieces-whole, pieces-laid, length-laid, laid-again}
 use Rattle.presence_list.specs.EntryLaws.{entries-whole}
@@ -25,7 +25,7 @@ use Rattle.presence_list.specs.Presence.{any}
 use Rattle.presence_list.specs.Rules.{at-true, at-false}
 use Rattle.presence_list.specs.Steps.{recordsOf, listAfter, after, acceptOf}
 
-module _ (s : State) (c b : Seq ℕ) (kept : Kept (s .count) c) (few : s .count ≤ 64) (short : any longIn (recordsOf b) ≡ false) where
+module _ (s : State) (c b : Seq ℕ) (cards-at : CardsAt (s .count) c) (few : s .count ≤ 64) (short : any longIn (recordsOf b) ≡ false) where
   abbrev es : Seq (Seq ℕ)
   es = pieces (s .count) c
 
@@ -33,7 +33,7 @@ module _ (s : State) (c b : Seq ℕ) (kept : Kept (s .count) c) (few : s .count 
   next = listAfter es (recordsOf b)
 
   whole-es : Whole es
-  whole-es = pieces-whole (s .count) c (kept .room)
+  whole-es = pieces-whole (s .count) c (cards-at .room)
 
   whole-found : Whole (recordsOf b)
   whole-found = pieces-whole (length b / 20) b (omega arith)
@@ -44,10 +44,10 @@ module _ (s : State) (c b : Seq ℕ) (kept : Kept (s .count) c) (few : s .count 
 
   pub fit-next : Fit next
   fit-next =
-      all-all cardIn (λ e. lengthIn e ≤ 16) (aged es) (entries (recordsOf b)) (aged-fit es (kept .fit)) (entries-fit (recordsOf b) whole-found (not-long (recordsOf b) short))
+      all-all cardIn (λ e. lengthIn e ≤ 16) (aged es) (entries (recordsOf b)) (aged-fit es (cards-at .fit)) (entries-fit (recordsOf b) whole-found (not-long (recordsOf b) short))
 
   sorted-next : Sorted cardIn next
-  sorted-next = all-sorted cardIn (aged es) (entries (recordsOf b)) (aged-sorted es (kept .fit) (kept .sorted))
+  sorted-next = all-sorted cardIn (aged es) (entries (recordsOf b)) (aged-sorted es (cards-at .fit) (cards-at .sorted))
 
   few-aged : length (aged es) ≤ 64
   few-aged = let a = aged-short es in let l = length-pieces (s .count) c in omega arith
@@ -62,12 +62,12 @@ module _ (s : State) (c b : Seq ℕ) (kept : Kept (s .count) c) (few : s .count 
     so-far : pieces k list₁ ≡ aged es
     so-far = ap (pieces k) (p .1) ∙ pieces-laid (aged es) (replicate 1280 0) k (aged-whole es whole-es) (p .0)
 
-    pub aged-kept : (any longIn (recordsOf b) ≡ false) × Kept k list₁ × (k ≤ 64) × (1280 ≤ length list₁)
-    aged-kept =
+    pub aged-cards-at : (any longIn (recordsOf b) ≡ false) × CardsAt k list₁ × (k ≤ 64) × (1280 ≤ length list₁)
+    aged-cards-at =
         let f = few-aged in
         let r = room in
         let e = p .0 in
-        (short, record { room = omega arith; fit = rw so-far (aged-fit es (kept .fit)); sorted = rw so-far (aged-sorted es (kept .fit) (kept .sorted)) }, omega arith, omega arith)
+        (short, record { room = omega arith; fit = rw so-far (aged-fit es (cards-at .fit)); sorted = rw so-far (aged-sorted es (cards-at .fit) (cards-at .sorted)) }, omega arith, omega arith)
 
     module _ (r : ℕ) (list₂ : Seq ℕ) (q : PutAll r (supersedeAll cardIn (pieces k list₁) (entries (recordsOf b))) list₁ list₂) where
       same-next : supersedeAll cardIn (pieces k list₁) (entries (recordsOf b)) ≡ next
@@ -98,8 +98,8 @@ module _ (s : State) (c b : Seq ℕ) (kept : Kept (s .count) c) (few : s .count 
         put-pieces : pieces r list₂ ≡ next
         put-pieces = ap (pieces r) put-list ∙ pieces-laid next (replicate 1280 0) r whole-next put-count
 
-        pub put-kept : Kept r list₂
-        put-kept = let m = put-room in record { room = omega arith; fit = rw put-pieces fit-next; sorted = rw put-pieces sorted-next }
+        pub put-cards-at : CardsAt r list₂
+        put-cards-at = let m = put-room in record { room = omega arith; fit = rw put-pieces fit-next; sorted = rw put-pieces sorted-next }
 
         pub accept-done : (a d c₁ a₁ d₁ : Seq ℕ) (n x y : ℕ) → length c ≡ 1280
             → (x ≡ length (without cardIn es (pieces r list₂))) × (a₁ ≡ laid (without cardIn es (pieces r list₂)) a)

@@ -16,8 +16,8 @@ use Rattle.presence_list.specs.declared.list.Answer.{Answer}
 use Rattle.presence_list.specs.declared.list.Answer.the-variants.{Refused as Failed}
 use Rattle.presence_list.specs.declared.list.Admission.{Admission}
 use Rattle.presence_list.specs.declared.list.Admission.the-variants.{Admitted, Refused}
-use Rattle.presence_list.specs.Kept.{Kept}
-use Rattle.presence_list.specs.Lookups.{kept-in-range}
+use Rattle.presence_list.specs.CardsAt.{CardsAt}
+use Rattle.presence_list.specs.Lookups.{cards-at-in-range}
 use Rattle.presence_list.specs.Memory.{pieces, longIn, inRangeIn, ascending}
 use Rattle.presence_list.specs.Presence.{any, every}
 use Rattle.presence_list.specs.Steps.{after, byAdmission, stepOf, inRange, recordsOf, admissionOf, readableIn, staleAt}
@@ -28,25 +28,25 @@ unfolding pick
 chosen true u h = (refl, h)
 chosen false u h = (cc, cc)
 
-pub range-kept : (s : State) (c : Seq ℕ) → length c ≡ 1280 → inRange s c ≡ true → Kept (s .count) c × (s .count ≤ 64)
+pub range-cards-at : (s : State) (c : Seq ℕ) → length c ≡ 1280 → inRange s c ≡ true → CardsAt (s .count) c × (s .count ≤ 64)
 unfolding inRange pick pieces every ascending
-range-kept s c l h = go (eqb (s .begun) 0) h
+range-cards-at s c l h = go (eqb (s .begun) 0) h
   where
-    none : (k : ℕ) → k ≡ 0 → Kept k c × (k ≤ 64)
+    none : (k : ℕ) → k ≡ 0 → CardsAt k c × (k ≤ 64)
     none k e = rw e (record { room = omega arith; fit = tt; sorted = tt }, omega arith)
 
     some : pick (eqb (s .begun) 1) (pick (leb (s .count) 64) (pick (every inRangeIn (pieces (s .count) c)) (ascending (pieces (s .count) c)) false) false) false ≡ true
-        → Kept (s .count) c × (s .count ≤ 64)
+        → CardsAt (s .count) c × (s .count ≤ 64)
     some h =
         let a = chosen (leb (s .count) 64) _ (chosen (eqb (s .begun) 1) _ h .1) in
         let b = chosen (every inRangeIn (pieces (s .count) c)) _ (a .1) in
         let m = leb-true (s .count) 64 (a .0) in
-        (kept-in-range (s .count) c (omega arith) (b .0) (b .1), m)
+        (cards-at-in-range (s .count) c (omega arith) (b .0) (b .1), m)
 
     go : (t : Bool)
         → pick t (eqb (s .count) 0)
         (pick (eqb (s .begun) 1) (pick (leb (s .count) 64) (pick (every inRangeIn (pieces (s .count) c)) (ascending (pieces (s .count) c)) false) false) false) ≡ true
-        → Kept (s .count) c × (s .count ≤ 64)
+        → CardsAt (s .count) c × (s .count ≤ 64)
     go true h = none (s .count) (eqb-true (s .count) 0 h)
     go false h = some h
 

@@ -11,7 +11,7 @@ use borrow.Author.Tests.{lt-ltb, le-ltb, ltb-true, ltb-false, le-leb, leb-true}
 use Rattle.errors.specs.Choice.{pick}
 use Rattle.presence_list.specs.Keyed.{All, supersede, supersedeAll, Sorted, only}
 use Rattle.presence_list.specs.KeyedLaws.{supersede-sorted, only-supersede, all-append}
-use Rattle.presence_list.specs.Kept.{Fit}
+use Rattle.presence_list.specs.CardsAt.{Fit}
 use Rattle.presence_list.specs.Memory.{Whole, cardIn, lengthIn, missedIn, foundIn, longIn, knownIn, inRangeIn, entryOf, entries, aged}
 use Rattle.presence_list.specs.EntryLaws.{entry-length, entry-bitrate, entry-seen, entry-card}
 use Rattle.presence_list.specs.AgedLaws.{missed-found, missed-length}

@@ -9,7 +9,7 @@ use lib.ListN.{take, getD, set}
 use lib.Seq.{take-set-le, getD-set-other}
 use Rattle.errors.specs.Choice.{pick}
 use Rattle.presence_list.specs.Keyed.{Below, Sorted}
-use Rattle.presence_list.specs.Kept.{Fit}
+use Rattle.presence_list.specs.CardsAt.{Fit}
 use Rattle.presence_list.specs.Memory.{cardIn, lengthIn, missedIn, foundIn, aged}
 use Rattle.presence_list.specs.Presence.{card}
 

@@ -7,7 +7,7 @@ use lib.ListN.{length, take, drop, getD, set, replicate, length-set, length-appe
 use lib.Seq.{getD-drop, take-all, take-length, length-take-le, take-set-le, take-at, getD-set-same, getD-set-other, getD-append-add}
 use Rattle.presence_list.specs.Memory.{cardIn, lengthIn, missedIn, entryOf, entries, Whole}
 use Rattle.presence_list.specs.Checks.{card-take}
-use Rattle.presence_list.specs.Kept.{Fit}
+use Rattle.presence_list.specs.CardsAt.{Fit}
 
 pub length-card : (e : List ℕ) → length e ≡ 20 → lengthIn e ≤ 16 → length (cardIn e) ≡ suc (lengthIn e)
 length-card e n h = ap length (card-take e (omega arith)) ∙ length-take-le (suc (lengthIn e)) e (omega arith)

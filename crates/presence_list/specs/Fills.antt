@@ -10,7 +10,7 @@ use borrow.Author.Tests.{ltb-false}
 use Rattle.errors.specs.Choice.{pick}
 use Rattle.presence_list.specs.Keyed.{All, supersede, supersedeAll, Sorted}
 use Rattle.presence_list.specs.KeyedLaws.{all-sorted, all-grows, all-all, all-append, supersede-grows}
-use Rattle.presence_list.specs.Kept.{Fit, Kept, PutAll}
+use Rattle.presence_list.specs.CardsAt.{Fit, CardsAt, PutAll}
 use Rattle.presence_list.specs.Memory.{pieces, laid, Whole, cardIn, lengthIn, longIn, entryOf, entries}
 use Rattle.presence_list.specs.MemoryLaws.{piece-at, length-pieces, pieces-whole, pieces-laid, length-laid, laid-again, laid-pieces}
 use Rattle.presence_list.specs.EntryLaws.{entry-length, entries-whole}
@@ -54,7 +54,7 @@ abbrev pub Filled : List ℕ → ℕ → List ℕ → ℕ → ℕ → ℕ → Li
 Filled b count records size i n cards =
     (i ≤ size) × (n ≤ 64) × (n ≡ length (filled b count records size i)) × (cards ≡ laid (filled b count records size i) b) × (length cards ≡ length b)
 
-module _ (b : List ℕ) (count : ℕ) (records : List ℕ) (size : ℕ) (kept : Kept count b) (few : count ≤ 64) (room : 1280 ≤ length b) (all : 20 * size ≤ length records)
+module _ (b : List ℕ) (count : ℕ) (records : List ℕ) (size : ℕ) (cards-at : CardsAt count b) (few : count ≤ 64) (room : 1280 ≤ length b) (all : 20 * size ≤ length records)
     (short : any longIn (pieces size records) ≡ false) where
   rs : List (List ℕ)
   rs = pieces size records
@@ -70,18 +70,18 @@ module _ (b : List ℕ) (count : ℕ) (records : List ℕ) (size : ℕ) (kept : 
   whole-filled : (i : ℕ) → Whole (filled b count records size i)
   unfolding filled rs
   whole-filled i =
-      all-all cardIn (λ e. length e ≡ 20) (pieces count b) (entries (take i rs)) (pieces-whole count b (kept .room))
+      all-all cardIn (λ e. length e ≡ 20) (pieces count b) (entries (take i rs)) (pieces-whole count b (cards-at .room))
       (entries-whole (take i rs) (take-whole i rs whole-rs) (take-all-of (λ e. lengthIn e ≤ 16) i rs fit-rs))
 
   fit-filled : (i : ℕ) → Fit (filled b count records size i)
   unfolding filled rs
   fit-filled i =
-      all-all cardIn (λ e. lengthIn e ≤ 16) (pieces count b) (entries (take i rs)) (kept .fit)
+      all-all cardIn (λ e. lengthIn e ≤ 16) (pieces count b) (entries (take i rs)) (cards-at .fit)
       (entries-fit (take i rs) (take-whole i rs whole-rs) (take-all-of (λ e. lengthIn e ≤ 16) i rs fit-rs))
 
   sorted-filled : (i : ℕ) → Sorted cardIn (filled b count records size i)
   unfolding filled rs
-  sorted-filled i = all-sorted cardIn (pieces count b) (entries (take i rs)) (kept .sorted)
+  sorted-filled i = all-sorted cardIn (pieces count b) (entries (take i rs)) (cards-at .sorted)
 
   next : (i : ℕ) → i < size → filled b count records size (i + 1) ≡ supersede cardIn (entryOf (take 20 (drop (20 * i) records))) (filled b count records size i)
   unfolding filled rs supersedeAll entries
@@ -111,8 +111,8 @@ module _ (b : List ℕ) (count : ℕ) (records : List ℕ) (size : ℕ) (kept : 
     so-far : pieces n cards ≡ filled b count records size i
     so-far = ap (pieces n) (inv .3) ∙ pieces-laid (filled b count records size i) b n (whole-filled i) (inv .2)
 
-    pub filled-kept : Kept n cards
-    filled-kept =
+    pub filled-cards-at : CardsAt n cards
+    filled-cards-at =
         record
         { room = let a = inv .1 in let z = inv .4 in omega arith; fit = rw so-far (fit-filled i); sorted = rw so-far (sorted-filled i) }
 

@@ -9,7 +9,7 @@ pub mod Growth
 pub mod Inserts
 pub mod Keyed
 pub mod KeyedLaws
-pub mod Kept
+pub mod CardsAt
 pub mod Latest
 pub mod Lookups
 pub mod Memory

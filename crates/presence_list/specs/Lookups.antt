@@ -11,7 +11,7 @@ use Rattle.errors.specs.Choice.{pick}
 use Rattle.presence_list.specs.Order.{before}
 use Rattle.presence_list.specs.Keyed.{place, has, Sorted, Below}
 use Rattle.presence_list.specs.KeyedLaws.{place-le, place-not, place-behind, has-at, has-not-end, below-trans}
-use Rattle.presence_list.specs.Kept.{Kept, Fit}
+use Rattle.presence_list.specs.CardsAt.{CardsAt, Fit}
 use Rattle.presence_list.specs.Memory.{pieces, cardIn, lengthIn, inRangeIn, knownIn, missedIn, ascending}
 use Rattle.presence_list.specs.MemoryLaws.{piece-at, length-pieces}
 use Rattle.presence_list.specs.Presence.{every}
@@ -22,12 +22,12 @@ fit-at [] i f h = absurd (omega arith)
 fit-at (e ∷ es) zero f h = f .0
 fit-at (e ∷ es) (suc i) f h = fit-at es i (f .1) (omega arith)
 
-module _ (b : List ℕ) (n : ℕ) (k : Kept n b) (i : ℕ) where
-  pub kept-room : i < n → 20 * i + 20 ≤ length b
-  kept-room h = let r = k .room in omega arith
+module _ (b : List ℕ) (n : ℕ) (k : CardsAt n b) (i : ℕ) where
+  pub cards-at-room : i < n → 20 * i + 20 ≤ length b
+  cards-at-room h = let r = k .room in omega arith
 
-  pub kept-fits : i < n → lengthIn (take 20 (drop (20 * i) b)) ≤ 16
-  kept-fits h = rw (piece-at n i b h) at (fit-at (pieces n b) i (k .fit) (rw (length-pieces n b) h))
+  pub cards-at-fit : i < n → lengthIn (take 20 (drop (20 * i) b)) ≤ 16
+  cards-at-fit h = rw (piece-at n i b h) at (fit-at (pieces n b) i (k .fit) (rw (length-pieces n b) h))
 
   -- what a look at the middle shows
   pub place-above : (c s : List ℕ) (r : Bool) → i < n → s ≡ cardIn (take 20 (drop (20 * i) b)) → r ≡ before s c → r ≡ true → i + 1 ≤ place cardIn c (pieces n b)
@@ -89,7 +89,7 @@ module _ (b : List ℕ) (n : ℕ) where
   pub order-end : (i : ℕ) → 1 ≤ i → ascending (pieces n b) ≡ ascending (drop (i - 1) (pieces n b)) → n ≤ i → true ≡ ascending (pieces n b)
   order-end i one rest h = ascending-end (pieces n b) (i - 1) rest (rw (length-pieces n b) (omega arith))
 
--- a list whose records are in range, and whose cards ascend, is kept
+-- records in range whose cards ascend are such a list
 module _ where
   ascends : (e : List ℕ) (es : List (List ℕ)) → ascending (e ∷ es) ≡ true → Below cardIn (cardIn e) es × Sorted cardIn es
   unfolding ascending pick
@@ -126,8 +126,8 @@ module _ where
           never : _≡_ {A = Bool} false true → ⊥
           never z = let w : _≡_ {A = ℕ} 0 1 = cc in omega arith
 
-  pub kept-in-range : (n : ℕ) (b : List ℕ) → 20 * n ≤ length b → every inRangeIn (pieces n b) ≡ true → ascending (pieces n b) ≡ true → Kept n b
-  kept-in-range n b r e a = record { room = r; fit = every-fit (pieces n b) e; sorted = ascending-sorted (pieces n b) a }
+  pub cards-at-in-range : (n : ℕ) (b : List ℕ) → 20 * n ≤ length b → every inRangeIn (pieces n b) ≡ true → ascending (pieces n b) ≡ true → CardsAt n b
+  cards-at-in-range n b r e a = record { room = r; fit = every-fit (pieces n b) e; sorted = ascending-sorted (pieces n b) a }
 
 pub place-within : (c b : List ℕ) (n : ℕ) → place cardIn c (pieces n b) ≤ n
 place-within c b n = let l = place-le cardIn c (pieces n b) in let m = length-pieces n b in omega arith

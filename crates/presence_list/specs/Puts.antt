@@ -8,7 +8,7 @@ use lib.ListN.{length, take, drop, getD, set, length-append, length-drop}
 use lib.Seq.{length-take-le}
 use Rattle.presence_list.specs.Keyed.{supersede, place, has}
 use Rattle.presence_list.specs.KeyedLaws.{place-le, supersede-new, supersede-old}
-use Rattle.presence_list.specs.Kept.{Kept}
+use Rattle.presence_list.specs.CardsAt.{CardsAt}
 use Rattle.presence_list.specs.Memory.{pieces, laid, cardIn, lengthIn, added, aged, entryOf}
 use Rattle.presence_list.specs.MemoryLaws.{length-pieces}
 use Rattle.presence_list.specs.EntryLaws.{whole-record, entry-whole, entry-card}
@@ -75,7 +75,7 @@ module _ (b out : List ℕ) (at n : ℕ) where
         )
 
 -- one record put into a list
-module _ (b f c : List ℕ) (count p : ℕ) (r : Bool) (n : length f ≡ 20) (h : lengthIn f ≤ 16) (kept : Kept count b) (u : c ≡ cardIn (take 20 (drop 0 f)))
+module _ (b f c : List ℕ) (count p : ℕ) (r : Bool) (n : length f ≡ 20) (h : lengthIn f ≤ 16) (cards-at : CardsAt count b) (u : c ≡ cardIn (take 20 (drop 0 f)))
     (v : p ≡ place cardIn c (pieces count b)) (w : r ≡ has cardIn c (pieces count b)) where
   abbrev after : List (List ℕ)
   after = supersede cardIn (entryOf f) (pieces count b)
@@ -90,22 +90,22 @@ module _ (b f c : List ℕ) (count p : ℕ) (r : Bool) (n : length f ≡ 20) (h 
   at-key = ap (λ (x : List ℕ). place cardIn x (pieces count b)) (sym key) ∙ sym v
 
   pub old-place : r ≡ true → p < count
-  old-place t = let o = supersede-old cardIn (entryOf f) (pieces count b) (kept .sorted) (has-key true t) .0 in let l = length-pieces count b in let a = at-key in omega arith
+  old-place t = let o = supersede-old cardIn (entryOf f) (pieces count b) (cards-at .sorted) (has-key true t) .0 in let l = length-pieces count b in let a = at-key in omega arith
 
   pub put-old : (e b₁ : List ℕ) → e ≡ entryOf f → r ≡ true → b₁ ≡ take (20 * p) b ++ (e ++ drop (20 * p + length e) b)
       → (count ≡ length (supersede cardIn (entryOf f) (pieces count b))) × (count ≤ 64 → b₁ ≡ laid (supersede cardIn (entryOf f) (pieces count b)) b)
   put-old e b₁ i t s =
       let lies : b₁ ≡ laid after b =
-      replaced b e b₁ count p (old-place t) (ap length i ∙ entry-whole f n h) (kept .room) s
+      replaced b e b₁ count p (old-place t) (ap length i ∙ entry-whole f n h) (cards-at .room) s
       ∙ ap (λ (l : List (List ℕ)). laid l b)
       (ap (λ (x : List ℕ). take p (pieces count b) ++ x ∷ drop (suc p) (pieces count b)) i
       ∙ ap (λ (k : ℕ). take k (pieces count b) ++ entryOf f ∷ drop (suc k) (pieces count b)) (sym at-key)
-      ∙ sym (supersede-old cardIn (entryOf f) (pieces count b) (kept .sorted) (has-key true t) .1)) in
+      ∙ sym (supersede-old cardIn (entryOf f) (pieces count b) (cards-at .sorted) (has-key true t) .1)) in
       (sized t, λ z. lies)
     where
       sized : r ≡ true → count ≡ length after
       sized t =
-          let o = supersede-old cardIn (entryOf f) (pieces count b) (kept .sorted) (has-key true t) in
+          let o = supersede-old cardIn (entryOf f) (pieces count b) (cards-at .sorted) (has-key true t) in
           let k : ℕ = place cardIn (cardIn (entryOf f)) (pieces count b) in
           let e = ap length (o .1) in
           let a = length-append (take k (pieces count b)) (entryOf f ∷ drop (suc k) (pieces count b)) in

@@ -13,7 +13,7 @@ unfolding pick
 at-false x a b t h e = rw h e
 
 -- a test that a call answered
-pub told : (r s t : Bool) → r ≡ s → r ≡ t → s ≡ t
-told r s t p q = sym p ∙ q
+pub same-value : (r s t : Bool) → r ≡ s → r ≡ t → s ≡ t
+same-value r s t p q = sym p ∙ q
 
-pub ruleset steps = (at-true, at-false, told, lt-ltb, le-ltb, lt-leb, le-leb, eq-eqb, ne-eqb)
+pub ruleset steps = (at-true, at-false, same-value, lt-ltb, le-ltb, lt-leb, le-leb, eq-eqb, ne-eqb)

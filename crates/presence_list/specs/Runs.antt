@@ -6,7 +6,7 @@ use lib.ListN.{length}
 use Rattle.errors.specs.Refusals.{roundNumbered}
 use Rattle.presence_list.specs.declared.list.Presence.{Presence}
 use Rattle.presence_list.specs.declared.list.Round.{Round as Result}
-use Rattle.presence_list.specs.declared.list.Answer.{Answer as Told}
+use Rattle.presence_list.specs.declared.list.Answer.{Answer as CodeAnswer}
 use Rattle.presence_list.specs.declared.list.Answer.the-variants.{Accepted, Refused}
 use Rattle.presence_list.specs.Memory.{pieces, foundIn}
 use Rattle.presence_list.specs.Presence.{Found, Round, Answer, accepted, refused}
@@ -26,7 +26,7 @@ abbrev pub presentIn : Presence → Seq Found
 presentIn l = map foundIn (pieces (l .state .count) (l .cards))
 
 -- what a round's answer says
-abbrev pub said : Presence → Told → Answer
+abbrev pub said : Presence → CodeAnswer → Answer
 said l (Accepted x y) =
     accepted (record { arrived = map foundIn (pieces x (l .arrived)); departed = map foundIn (pieces y (l .departed)); present = presentIn l })
 said l (Refused e) = refused (roundNumbered e .number)

@@ -49,8 +49,8 @@ few-after l n b = by-admission (admissionOf (l .state) (l .cards) n b) refl
         (listAfter (pieces (l .state .count) (l .cards)) (recordsOf b)) (ltb 64 (length (listAfter (pieces (l .state .count) (l .cards)) (recordsOf b)))) refl
 
 -- what a caller is told
-pub few-told : (l : Presence) (n : ℕ) (b : Seq ℕ) (r : Round) (x y : ℕ) → r ≡ roundOf l n b → r .answer ≡ Accepted x y
+pub few-known : (l : Presence) (n : ℕ) (b : Seq ℕ) (r : Round) (x y : ℕ) → r ≡ roundOf l n b → r .answer ≡ Accepted x y
     → (x ≤ 64) × (y ≤ 64) × (r .list .state .count ≤ 64)
-few-told l n b r x y p q =
+few-known l n b r x y p q =
     let f : FewAfter (r .answer) (r .list .state .count) = rw p (few-after l n b) in
     rw q at f

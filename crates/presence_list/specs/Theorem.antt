@@ -20,7 +20,7 @@ use Rattle.presence_list.specs.declared.list.Admission.{Admission}
 use Rattle.presence_list.specs.declared.list.Admission.the-variants.{Admitted, Refused as NotAdmitted}
 use Rattle.presence_list.specs.Keyed.{supersedeAll, without, only}
 use Rattle.presence_list.specs.KeyedLaws.{map-all, map-without, all-all, all-sorted}
-use Rattle.presence_list.specs.Kept.{Kept, Fit}
+use Rattle.presence_list.specs.CardsAt.{CardsAt, Fit}
 use Rattle.presence_list.specs.Memory.{pieces, laid, Whole, cardIn, longIn, knownIn, inRangeIn, ascending, foundIn, aged, entries}
 use Rattle.presence_list.specs.MemoryLaws.{pieces-whole, pieces-laid, length-laid}
 use Rattle.presence_list.specs.EntryLaws.{entries-whole}
@@ -28,7 +28,7 @@ use Rattle.presence_list.specs.Growth.{aged-whole, without-whole}
 use Rattle.presence_list.specs.AgedLaws.{aged-sorted}
 use Rattle.presence_list.specs.Fills.{not-long}
 use Rattle.presence_list.specs.Lookups.{sorted-ascending}
-use Rattle.presence_list.specs.Admissions.{range-kept}
+use Rattle.presence_list.specs.Admissions.{range-cards-at}
 use Rattle.presence_list.specs.Afresh.{seen, lastOf, last-present, entries-found, aged-found, aged-unseen, entries-seen, only-all, any-long, every-known, aged-range, entries-range, every-all, all-every}
 use Rattle.presence_list.specs.Presence.{Round, Answer, accepted, refused, card, any, every, readable, stale, full, listed, presentOf, reportOf, answerTo, keptBy, acceptedOf, answersOf}
 use Rattle.presence_list.specs.Steps.{inRange, staleAt, readableIn, recordsOf, admissionOf, listAfter, changed, unchanged, byAdmission, acceptOf, stepOf, listed as asList, roundOf, emptyList}
@@ -68,11 +68,11 @@ module _ (past : Seq Round) (l : Presence) (i : Input) (rep : Represents past l)
   abbrev next : Seq (Seq ℕ)
   next = listAfter es fs
 
-  kept : Kept (l .state .count) (l .cards)
-  kept = range-kept (l .state) (l .cards) (rep .room) (rep .range) .0
+  cards-at : CardsAt (l .state .count) (l .cards)
+  cards-at = range-cards-at (l .state) (l .cards) (rep .room) (rep .range) .0
 
   whole-es : Whole es
-  whole-es = pieces-whole (l .state .count) (l .cards) (kept .room)
+  whole-es = pieces-whole (l .state .count) (l .cards) (cards-at .room)
 
   whole-fs : Whole fs
   whole-fs = pieces-whole (length (i .records) / 20) (i .records) (omega arith)
@@ -87,7 +87,7 @@ module _ (past : Seq Round) (l : Presence) (i : Input) (rep : Represents past l)
   unfolding cardIn
   cards-next =
       map-all cardIn card foundIn (λ e. refl) (aged es) (entries fs)
-      ∙ ap₂ (supersedeAll card) (aged-found es (kept .fit) ∙ rep .last) (entries-found fs whole-fs fit-fs)
+      ∙ ap₂ (supersedeAll card) (aged-found es (cards-at .fit) ∙ rep .last) (entries-found fs whole-fs fit-fs)
       ∙ last-present past (roundIn i)
 
   pub size-next : length next ≡ length (presentOf (roundIn i ∷ past))
@@ -97,7 +97,7 @@ module _ (past : Seq Round) (l : Presence) (i : Input) (rep : Represents past l)
   unfolding cardIn listed
   seen-next =
       ap (map foundIn)
-      (only-all seen (aged es) (entries fs) (aged-sorted es (kept .fit) (kept .sorted)) (entries-seen fs whole-fs fit-fs)
+      (only-all seen (aged es) (entries fs) (aged-sorted es (cards-at .fit) (cards-at .sorted)) (entries-seen fs whole-fs fit-fs)
       ∙ ap (λ (m : Seq (Seq ℕ)). supersedeAll cardIn m (entries fs)) (aged-unseen es whole-es))
       ∙ map-all cardIn card foundIn (λ e. refl) [] (entries fs)
       ∙ ap (supersedeAll card []) (entries-found fs whole-fs fit-fs)
@@ -150,7 +150,7 @@ module _ (past : Seq Round) (l : Presence) (i : Input) (rep : Represents past l)
       ranges : (ps : Seq (Seq ℕ)) → ps ≡ next → length next ≤ 64
           → pick (eqb 1 0) (eqb (length next) 0) (pick (eqb 1 1) (pick (leb (length next) 64) (pick (every inRangeIn ps) (ascending ps) false) false) false) ≡ true
       ranges ps e h =
-          rw (e, le-leb (length next) 64 h, range-next) (sorted-ascending next (all-sorted cardIn (aged es) (entries fs) (aged-sorted es (kept .fit) (kept .sorted))))
+          rw (e, le-leb (length next) 64 h, range-next) (sorted-ascending next (all-sorted cardIn (aged es) (entries fs) (aged-sorted es (cards-at .fit) (cards-at .sorted))))
 
 -- one round: its answer, and the list after it
 pub record Agrees (past : Seq Round) (i : Input) (r : Result) : Type 0 where

@@ -10,11 +10,11 @@ ghost use Prim.Native.Nat.{_+_, _*_, _≤_};
 ghost use lib.ListN.{length, take, drop};
 ghost use Rattle.presence_list.specs.Keyed.{place as placeOf, has, without as withoutOf};
 ghost use Rattle.presence_list.specs.Memory.{pieces, laid, added, cardIn, lengthIn, aged};
-ghost use Rattle.presence_list.specs.Kept.{Kept};
+ghost use Rattle.presence_list.specs.CardsAt.{CardsAt};
 
 // Where a card's place is: behind all that come before it.
 pub(crate) fn place(cards: &[u8], count: usize, card: &[u8]) -> usize
-    requires { ⌜ Kept count (now cards) ⌝ }
+    requires { ⌜ CardsAt count (now cards) ⌝ }
     ensures { λ r. ⌜ r ≡ placeOf cardIn (now (card .entry)) (pieces count (now (cards .entry))) ⌝ }
 {
     let mut low = 0;
@@ -32,7 +32,7 @@ pub(crate) fn place(cards: &[u8], count: usize, card: &[u8]) -> usize
 
 // Whether the list has the card whose place this is.
 pub(crate) fn is_at(cards: &[u8], count: usize, place: usize, card: &[u8]) -> bool
-    requires { ⌜ Kept count (now cards) × (place ≡ placeOf cardIn (now card) (pieces count (now cards))) ⌝ }
+    requires { ⌜ CardsAt count (now cards) × (place ≡ placeOf cardIn (now card) (pieces count (now cards))) ⌝ }
     ensures { λ r. ⌜ r ≡ has cardIn (now (card .entry)) (pieces count (now (cards .entry))) ⌝ }
 {
     if place < count {
@@ -50,7 +50,7 @@ fn put_missing(
     out: &mut [u8],
     n: usize,
 ) -> usize
-    requires { ⌜ Kept size (now other) × (at + 20 ≤ length (now cards)) × (lengthIn (take 20 (drop at (now cards))) ≤ 16) × (20 * n + 20 ≤ length (now out)) ⌝ }
+    requires { ⌜ CardsAt size (now other) × (at + 20 ≤ length (now cards)) × (lengthIn (take 20 (drop at (now cards))) ≤ 16) × (20 * n + 20 ≤ length (now out)) ⌝ }
     ensures { λ r. ⌜ (r ≡ n + length (withoutOf cardIn (pieces size (now (other .entry))) (take 20 (drop at (now (cards .entry))) ∷ []))) × (now (out .exit) ≡ added n (withoutOf cardIn (pieces size (now (other .entry))) (take 20 (drop at (now (cards .entry))) ∷ [])) (now (out .entry))) ⌝ }
 {
     let card = card_at(cards, at);
@@ -70,7 +70,7 @@ pub(crate) fn without(
     count: usize,
     out: &mut [u8],
 ) -> usize
-    requires { ⌜ Kept size (now other) × Kept count (now cards) × (20 * count ≤ length (now out)) ⌝ }
+    requires { ⌜ CardsAt size (now other) × CardsAt count (now cards) × (20 * count ≤ length (now out)) ⌝ }
     ensures { λ r. ⌜ (r ≡ length (withoutOf cardIn (pieces size (now (other .entry))) (pieces count (now (cards .entry))))) × (now (out .exit) ≡ laid (withoutOf cardIn (pieces size (now (other .entry))) (pieces count (now (cards .entry)))) (now (out .entry))) ⌝ }
 {
     let mut n = 0;

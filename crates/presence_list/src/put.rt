@@ -13,7 +13,7 @@ ghost use lib.ListN.{length, take, drop};
 ghost use Rattle.presence_list.specs.Keyed.{supersede, supersedeAll};
 ghost use Rattle.presence_list.specs.Memory.{pieces, laid, cardIn, lengthIn, longIn, entryOf, entries};
 ghost use Rattle.presence_list.specs.Presence.{any};
-ghost use Rattle.presence_list.specs.Kept.{Kept, PutAll};
+ghost use Rattle.presence_list.specs.CardsAt.{CardsAt, PutAll};
 
 // How many cards a list takes.
 pub const ROOM: usize = 64;
@@ -42,7 +42,7 @@ fn insert(entry: &[u8; RECORD], cards: &mut [u8], count: usize, place: usize)
 
 // Puts a record into the list. The answer is how many cards the list has then; where they are more than it takes, nothing is put.
 fn put(found: &[u8], cards: &mut [u8], count: usize) -> usize
-    requires { ⌜ (length (now found) ≡ 20) × (lengthIn (now found) ≤ 16) × Kept count (now cards) × (count ≤ 64) × (1280 ≤ length (now cards)) ⌝ }
+    requires { ⌜ (length (now found) ≡ 20) × (lengthIn (now found) ≤ 16) × CardsAt count (now cards) × (count ≤ 64) × (1280 ≤ length (now cards)) ⌝ }
     ensures { λ r. ⌜ (r ≡ length (supersede cardIn (entryOf (now (found .entry))) (pieces count (now (cards .entry))))) × (r ≤ 64 → now (cards .exit) ≡ laid (supersede cardIn (entryOf (now (found .entry))) (pieces count (now (cards .entry)))) (now (cards .entry))) ⌝ }
 {
     let card = card_at(found, 0);
@@ -61,7 +61,7 @@ fn put(found: &[u8], cards: &mut [u8], count: usize) -> usize
 
 // Puts the records into the list, one after the other. The answer is how many cards the list has then, or more than it takes.
 pub(crate) fn put_all(records: &[u8], cards: &mut [u8], count: usize) -> usize
-    requires { ⌜ (any longIn (pieces (length (now records) / 20) (now records)) ≡ Bool.false) × Kept count (now cards) × (count ≤ 64) × (1280 ≤ length (now cards)) ⌝ }
+    requires { ⌜ (any longIn (pieces (length (now records) / 20) (now records)) ≡ Bool.false) × CardsAt count (now cards) × (count ≤ 64) × (1280 ≤ length (now cards)) ⌝ }
     ensures { λ r. ⌜ PutAll r (supersedeAll cardIn (pieces count (now (cards .entry))) (entries (pieces (length (now (records .entry)) / 20) (now (records .entry))))) (now (cards .entry)) (now (cards .exit)) ⌝ }
 {
     let size = records.len() / RECORD;

@@ -36,7 +36,7 @@ pub data Request : Type 0 where
 -- No bytes stand for an absent UID, SENSB_REQ, ATR_REQ or SEL_RES, which count as these do.
 pub data DeviceCall : Type 0 where
   detectTypeA : List ℕ → List ℕ → DeviceCall  -- bitrate, UID
-  detectTypeASplit : List ℕ → List ℕ → DeviceCall  -- the same, in the mode in which UID and ATS are told apart
+  detectTypeASplit : List ℕ → List ℕ → DeviceCall  -- the same, in the mode in which UID and ATS are known apart
   detectTypeB : List ℕ → List ℕ → DeviceCall  -- bitrate, SENSB_REQ
   detectTypeF : List ℕ → ℕ → ℕ → ℕ → DeviceCall  -- bitrate, system code, request code, time slots
   pollTypeF : List ℕ → List ℕ → DeviceCall  -- bitrate, the bytes of the system codes' words

@@ -12,7 +12,7 @@ use Rattle.protocol.specs.Scripts.{Byte, Answer}
 use Rattle.protocol.specs.Calls.{Call, isOpening}
 use Rattle.protocol.specs.Starts.{Start, refuses, starts, startOf}
 use Rattle.protocol.specs.Session.{Phase, CallResult, progress, begin, Running, idle, busy, Books, lastCaller, admits, booksFor, bookOrder, bookAnswer, Session, seen, packetLimit, Entry, call, event, Output, orders, answers, rejects}
-use Rattle.protocol.specs.Session.{Outcome, unchanged, runs, ends, outcome, bufferNeed, packetLength, admitted, eventOutcome, started, callOutcome, after, given, step, outputs, sessionAfter}
+use Rattle.protocol.specs.Session.{Effect, unchanged, runs, ends, effect, bufferNeed, packetLength, admitted, eventEffect, started, callEffect, after, given, step, outputs, sessionAfter}
 use Rattle.protocol.specs.Record.{Item, ordered, accepted, Record, Note, note, Observed, observed, addCall, addEvent, add, observe, linesOf, seenItem}
 use Rattle.protocol.specs.Laws.{split}
 use Rattle.protocol.specs.PollList.{EventAndRoom, eventEntry, idleWith}
@@ -109,8 +109,8 @@ module _ (c : Call) (t : Trace) where
     abbrev d : Event
     d = seen (b .padded) e
 
-    -- what an outcome of the event leads to
-    abbrev Goal : Outcome → Type 0
+    -- what an effect of the event leads to
+    abbrev Goal : Effect → Type 0
     Goal o =
         Followed c t (b .padded) ws
         (seenBehind (addEvent e l (y ∷ []) (given o)) (after (busyIn c phase b) (event e room) o) es)
@@ -161,12 +161,12 @@ module _ (c : Call) (t : Trace) where
         (sym (idle-seen (bookAnswer c a b) (w .lines) (w .notes) es))
         (subst (λ r. Followed c t (b .padded) ws w r outs) (sym (idle-after (bookAnswer c a b) es)) ended-here)
 
-    admitted-goal : (o : Outcome) → Goal o → Goal (admitted d room o)
+    admitted-goal : (o : Effect) → Goal o → Goal (admitted d room o)
     admitted-goal o g =
         split Goal (ltb room bufferNeed) _ _ (λ _. refused-goal ShortBuffer)
         (λ _. split Goal (ltb packetLimit (packetLength d)) _ _ (λ _. refused-goal OverLong) (λ _. g))
 
-    event-goal : (r : CallResult) → progress phase d ≡ r → Goal (eventOutcome c d room r)
+    event-goal : (r : CallResult) → progress phase d ≡ r → Goal (eventEffect c d room r)
     event-goal unfit p = refused-goal OutOfTurn
     event-goal (pending x new) p = admitted-goal (runs c x new) (runs-goal x new p)
     event-goal (ended a) p = admitted-goal (ends c a) (ends-goal a p)
@@ -197,13 +197,13 @@ module _ (caller : ℕ) (c : Call) (room : ℕ) where
   entry = call caller c room
 
   module _ (b : Books) where
-    abbrev Begun : Outcome → Type 0
+    abbrev Begun : Effect → Type 0
     Begun o = Begins (after (idleWith b) entry o) (addCall caller c [] [] (given o))
 
     refused-begins : (r : Refusal) → Begun (unchanged r)
     refused-begins r = silent b refl refl
 
-    result-begins : (r : CallResult) → Proper r → Begun (outcome c r)
+    result-begins : (r : CallResult) → Proper r → Begun (effect c r)
     result-begins unfit p = refused-begins OutOfTurn
     result-begins (pending x phase) p =
         let new : Books = bookOrder x (booksFor caller c b) in
@@ -215,7 +215,7 @@ module _ (caller : ℕ) (c : Call) (room : ℕ) where
     started-begins (refuses r) = refused-begins r
     started-begins (starts s) = result-begins (begin (isOpening c) s) (proper-begin (isOpening c) s)
 
-    call-begins : (isAdmitted : Bool) → Begun (callOutcome isAdmitted caller c room)
+    call-begins : (isAdmitted : Bool) → Begun (callEffect isAdmitted caller c room)
     call-begins isAdmitted =
         split Begun isAdmitted _ _
         (λ _. split Begun (ltb room bufferNeed) _ _ (λ _. refused-begins ShortBuffer)

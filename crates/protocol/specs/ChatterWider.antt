@@ -13,7 +13,7 @@ use Rattle.exchange.specs.Exchange.{write, read, drain, ok, pkt, time}
 use Rattle.protocol.specs.Scripts.{refused}
 use Rattle.protocol.specs.Calls.{Call, reader, request, version}
 use Rattle.protocol.specs.Session.{noCounts, Session, Output, orders, answers, outputs}
-use Rattle.protocol.specs.Follows.{plain}
+use Rattle.protocol.specs.Machine.{plain}
 use Rattle.protocol.specs.PollList.{EventAndRoom, idleWith}
 use Rattle.protocol.specs.Chatter.{unanswered, Alike, callEntries, linesFrom, answersIn, SameFor}
 use Rattle.protocol.specs.Sample.{formats}

@@ -15,7 +15,7 @@ use Rattle.protocol.specs.Scripts.{Byte, Answer}
 use Rattle.protocol.specs.Calls.{Call, opening, reader, isOpening}
 use Rattle.protocol.specs.Starts.{Start, refuses, starts, startOf}
 use Rattle.protocol.specs.Session.{CallResult, begin, progress, Running, idle, busy, Books, lastCaller, noCounts, admits, booksFor, ceiling, addFrame, counted, countedFor, Session, fresh, Entry, call, event}
-use Rattle.protocol.specs.Session.{Outcome, unchanged, runs, ends, outcome, bufferNeed, packetLimit, seen, packetLength, admitted, eventOutcome, started, callOutcome, outcomeOf, booksAfter, given, step, outputs, sessionAfter}
+use Rattle.protocol.specs.Session.{Effect, unchanged, runs, ends, effect, bufferNeed, packetLimit, seen, packetLength, admitted, eventEffect, started, callEffect, effectOf, booksAfter, given, step, outputs, sessionAfter}
 use Rattle.protocol.specs.Record.{Item, ordered, accepted, Record, Note, note, Observed, observed, addCall, addEvent, add, observe, recordOf, linesOf, seenLines, oneIf, frames, framesBy}
 use Rattle.protocol.specs.Laws.{split, lines-own, lines-other}
 use Rattle.protocol.specs.Theorem.{Agrees, AgreesWith, unused, agrees, fresh-agrees}
@@ -98,7 +98,7 @@ module _ (k : ℕ) (few : k ≤ lastCaller) where
     abbrev mine : Bool
     mine = eqb k caller
 
-    abbrev Starts : Outcome → Type 0
+    abbrev Starts : Effect → Type 0
     Starts o = Right (booksAfter b (call caller c room) o) (addCall caller c l ns (given o))
 
     -- the counts from which the call starts, and its first order
@@ -128,7 +128,7 @@ module _ (k : ℕ) (few : k ≤ lastCaller) where
     caller-of (opening mode) = refl
     caller-of (reader d) = refl
 
-    begin-right : (r : CallResult) → Starts (outcome c r)
+    begin-right : (r : CallResult) → Starts (effect c r)
     begin-right unfit = right
     begin-right (pending x phase) =
         rw (caller-of c) (length-counted caller x ((booksFor caller c b) .counts) ∙ eight c, ordered-right x)
@@ -138,7 +138,7 @@ module _ (k : ℕ) (few : k ≤ lastCaller) where
     started-right (refuses r) = right
     started-right (starts s) = begin-right (begin (isOpening c) s)
 
-    call-right : (isAdmitted : Bool) → Starts (callOutcome isAdmitted caller c room)
+    call-right : (isAdmitted : Bool) → Starts (callEffect isAdmitted caller c room)
     call-right isAdmitted =
         split Starts isAdmitted _ _
         (λ _. split Starts (ltb room bufferNeed) _ _ (λ _. right) (λ _. split Starts (leb caller lastCaller) _ _ (λ _. started-right (startOf c)) (λ _. right)))
@@ -147,14 +147,14 @@ module _ (k : ℕ) (few : k ≤ lastCaller) where
   -- ---- an event
 
   module _ (c : Call) (b : Books) (l : Record) (y : Note) (ns : List Note) (e : Event) (room : ℕ) (whose : b .caller ≡ y .caller) (right : Right b (observed l (y ∷ ns))) where
-    abbrev Goes : Outcome → Type 0
+    abbrev Goes : Effect → Type 0
     Goes o = Right (booksAfter b (event e room) o) (addEvent e l (y ∷ ns) (given o))
 
     accepted-right : (a : Option (Answer Byte)) → getD (b .counts) k 0 ≡ min (framesBy k ((length ns, accepted e) ∷ l) (note (y .caller) (y .call) a ∷ ns)) ceiling
     accepted-right a =
         rw (lines-own (length ns) l (accepted e) (linesOf (length ns) l) refl, older l (length ns) (accepted e) ns (omega arith), zero-add (frames (linesOf (length ns) l))) (right .1)
 
-    goes-right : (r : CallResult) → Goes (outcome c r)
+    goes-right : (r : CallResult) → Goes (effect c r)
     goes-right unfit = right
     goes-right (pending x new) =
         let n : ℕ = length ns in
@@ -173,19 +173,19 @@ module _ (k : ℕ) (few : k ≤ lastCaller) where
     goes-right (ended a) = (right .0, accepted-right (some a))
 
     -- d: the event as it is seen
-    admitted-right : (d : Event) (o : Outcome) → Goes o → Goes (admitted d room o)
+    admitted-right : (d : Event) (o : Effect) → Goes o → Goes (admitted d room o)
     admitted-right d o h =
         split Goes (ltb room bufferNeed) _ _ (λ _. right) (λ _. split Goes (ltb packetLimit (packetLength d)) _ _ (λ _. right) (λ _. h))
 
-    event-right : (d : Event) (r : CallResult) → Goes (eventOutcome c d room r)
+    event-right : (d : Event) (r : CallResult) → Goes (eventEffect c d room r)
     event-right d unfit = right
-    event-right d (pending x new) = admitted-right d (outcome c (pending x new)) (goes-right (pending x new))
-    event-right d (ended a) = admitted-right d (outcome c (ended a)) (goes-right (ended a))
+    event-right d (pending x new) = admitted-right d (effect c (pending x new)) (goes-right (pending x new))
+    event-right d (ended a) = admitted-right d (effect c (ended a)) (goes-right (ended a))
 
   -- ---- any list
 
   entry-right : (p : Running) (b : Books) (l : Record) (ns : List Note) (e : Entry) → Agrees p (seenLines l ns) ns → Unused l (length ns) → b .caller ≡ callerAt ns
-      → Right b (observed l ns) → Right (booksAfter b e (outcomeOf p b e)) (add (observed l ns) e (given (outcomeOf p b e)))
+      → Right b (observed l ns) → Right (booksAfter b e (effectOf p b e)) (add (observed l ns) e (given (effectOf p b e)))
   entry-right idle b l ns (call caller c room) i u w r = call-right b l ns caller c room u r (admits b c)
   entry-right idle b l [] (event e room) i u w r = r
   entry-right idle b l (y ∷ ns) (event e room) i u w r = r

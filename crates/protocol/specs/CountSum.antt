@@ -13,7 +13,7 @@ use Rattle.protocol.specs.Scripts.{Byte}
 use Rattle.protocol.specs.Calls.{Call, isOpening}
 use Rattle.protocol.specs.Starts.{Start, refuses, starts, startOf}
 use Rattle.protocol.specs.Session.{CallResult, begin, Running, idle, busy, Books, lastCaller, ceiling, admits, Session, fresh, Entry, call, event, Output, orders, answers, rejects}
-use Rattle.protocol.specs.Session.{Outcome, unchanged, runs, ends, outcome, bufferNeed, started, callOutcome, outcomeOf, given, step, outputs, sessionAfter}
+use Rattle.protocol.specs.Session.{Effect, unchanged, runs, ends, effect, bufferNeed, started, callEffect, effectOf, given, step, outputs, sessionAfter}
 use Rattle.protocol.specs.Record.{Record, Note, Observed, observed, addCall, addEvent, add, observe, recordOf, linesOf, frames, framesSinceOpening, framesBy}
 use Rattle.protocol.specs.Laws.{split}
 use Rattle.protocol.specs.Count.{counts-right}
@@ -35,10 +35,10 @@ event-known e l (x ∷ ns) (answers a) h = h
 event-known e l (x ∷ ns) (rejects r) h = h
 
 module _ (l : Record) (ns : List Note) (caller : ℕ) (c : Call) (room : ℕ) (known : Known ns) where
-  abbrev Starts : Outcome → Type 0
+  abbrev Starts : Effect → Type 0
   Starts o = Known ((addCall caller c l ns (given o)) .notes)
 
-  begin-known : caller ≤ lastCaller → (r : CallResult) → Starts (outcome c r)
+  begin-known : caller ≤ lastCaller → (r : CallResult) → Starts (effect c r)
   begin-known h unfit = known
   begin-known h (pending x phase) = (h, known)
   begin-known h (ended a) = (h, known)
@@ -47,14 +47,14 @@ module _ (l : Record) (ns : List Note) (caller : ℕ) (c : Call) (room : ℕ) (k
   started-known h (refuses r) = known
   started-known h (starts s) = begin-known h (begin (isOpening c) s)
 
-  call-known : (isAdmitted : Bool) → Starts (callOutcome isAdmitted caller c room)
+  call-known : (isAdmitted : Bool) → Starts (callEffect isAdmitted caller c room)
   call-known isAdmitted =
       split Starts isAdmitted _ _
       (λ _. split Starts (ltb room bufferNeed) _ _ (λ _. known)
       (λ _. split Starts (leb caller lastCaller) _ _ (λ h. started-known (leb-true caller lastCaller h) (startOf c)) (λ _. known)))
       (λ _. known)
 
-entry-known : (p : Running) (b : Books) (l : Record) (ns : List Note) (e : Entry) → Known ns → Known ((add (observed l ns) e (given (outcomeOf p b e))) .notes)
+entry-known : (p : Running) (b : Books) (l : Record) (ns : List Note) (e : Entry) → Known ns → Known ((add (observed l ns) e (given (effectOf p b e))) .notes)
 entry-known idle b l ns (call caller c room) h = call-known l ns caller c room h (admits b c)
 entry-known idle b l ns (event e room) h = event-known e l ns _ h
 entry-known (busy d phase) b l ns (call caller c room) h = h

@@ -14,12 +14,12 @@ pub mod Session
 pub mod Record
 pub mod Own
 pub mod Claim
--- the theorems; what follows the definitions has demand 3
+-- the theorems; what simulates the definitions has demand 3
 pub mod Demand3
-pub mod Follows
+pub mod Machine
 pub mod PollList
 pub mod PollEqual
-pub mod PollFollows
+pub mod PollMachine
 pub mod Chatter
 pub mod UidAndAts
 pub mod Sample
@@ -44,4 +44,4 @@ pub mod ChatterLaws
 pub mod ChatterSame
 pub mod ChatterPairs
 pub mod ChatterWider
-pub mod ChatterFollows
+pub mod ChatterMachine

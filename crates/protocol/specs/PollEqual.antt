@@ -25,7 +25,7 @@ use Rattle.protocol.specs.Calls.{Call, reader, device, pollTypeF}
 use Rattle.protocol.specs.Starts.{Start, refuses, starts, onCode, withBitrate, codeFor, typeFCode}
 use Rattle.protocol.specs.Session.{Phase, seen, lastCaller}
 use Rattle.protocol.specs.Session.{CallResult, enter, progress, idle, busy, Books, Session, call}
-use Rattle.protocol.specs.Session.{Outcome, unchanged, runs, ends, outcome, bufferNeed, packetLimit, packetLength, admitted, eventOutcome, bookOrder, outcomeOf, given, after}
+use Rattle.protocol.specs.Session.{Effect, unchanged, runs, ends, effect, bufferNeed, packetLimit, packetLength, admitted, eventEffect, bookOrder, effectOf, given, after}
 use Rattle.protocol.specs.Record.{Item, ordered, accepted, Record, Note, note, observed, addCall, addEvent, linesOf, oneIf, isCommand, frames}
 use Rattle.protocol.specs.Laws.{by-fault, frame-not-ack, lines-own}
 use Rattle.protocol.specs.Seen.{Unused, no-lines, more-unused}
@@ -36,7 +36,7 @@ use Rattle.protocol.specs.PollRuns.{frames-older, bytes-older, from, idl
 use Rattle.protocol.specs.Names.{ciuTxControl}
 
 -- an event that is admitted on both sides, or on none
-both-admitted : (P : Outcome → Outcome → Type 0) (e : Event) (room : ℕ) (o u : Outcome) → ((r : Refusal) → P (unchanged r) (unchanged r)) → P o u
+both-admitted : (P : Effect → Effect → Type 0) (e : Event) (room : ℕ) (o u : Effect) → ((r : Refusal) → P (unchanged r) (unchanged r)) → P o u
     → P (admitted e room o) (admitted e room u)
 both-admitted P e room o u h k = first (ltb room bufferNeed)
   where
@@ -51,7 +51,7 @@ both-admitted P e room o u h k = first (ltb room bufferNeed)
     first false = second (ltb packetLimit (packetLength e))
 
 -- a script that is entered fits every event
-entered-admitted : (c : Call) (e : Event) (room : ℕ) (s : Script) → eventOutcome c e room (enter s) ≡ admitted e room (outcome c (enter s))
+entered-admitted : (c : Call) (e : Event) (room : ℕ) (s : Script) → eventEffect c e room (enter s) ≡ admitted e room (effect c (enter s))
 entered-admitted c e room (finish a) = refl
 entered-admitted c e room (command code clock bytes g) = refl
 entered-admitted c e room (reset s) = refl
@@ -117,8 +117,8 @@ module _ (caller : ℕ) (known : leb caller lastCaller ≡ true) (text words : L
       from (observed m (note caller (single text systemCode) none ∷ ns)) x (busyWith (single text systemCode) q (hers b))
       (handOn caller room es (busyWith (single text systemCode) q (hers b)) (map (single text) codes))
 
-  -- the first where the event e has this outcome
-  abbrev oneStep : Books → Record → Phase → List Refusal → List EventAndRoom → EventAndRoom → Outcome → Run
+  -- the first where the event e has this effect
+  abbrev oneStep : Books → Record → Phase → List Refusal → List EventAndRoom → EventAndRoom → Effect → Run
   oneStep b l p x es e o =
       from (addEvent (e .0) l (note caller listCall none ∷ []) (given o)) (addRefusal (given o) x) (after (busyWith listCall p (hers b)) (eventEntry e) o) (map eventEntry es)
 
@@ -128,7 +128,7 @@ module _ (caller : ℕ) (known : leb caller lastCaller ≡ true) (text words : L
 
   -- the next single call is begun
   begun : (b : Books) → b .opened ≡ true → (systemCode : ℕ)
-      → outcomeOf idle (hers b) (call caller (single text systemCode) room) ≡ outcome (single text systemCode) (enter (discovery.detectTypeF code (sensfReq systemCode 0x01 0x00)))
+      → effectOf idle (hers b) (call caller (single text systemCode) room) ≡ effect (single text systemCode) (enter (discovery.detectTypeF code (sensfReq systemCode 0x01 0x00)))
   begun b o systemCode = rw (o, enough, known, takes (λ code. starts (discovery.detectTypeF code (sensfReq systemCode 0x01 0x00)))) refl
 
   -- an event e ends a code, and the list goes on, after k commands; a: the single call's answer
@@ -149,7 +149,7 @@ module _ (caller : ℕ) (known : leb caller lastCaller ≡ true) (text words : L
         rw (lines-own (suc (length ns)) (withEvent m ns e) (ordered askField) [] (no-lines (withEvent m ns e) (suc (length ns)) (suc (length ns)) (omega arith, unused) (omega arith))) (omega arith)
 
     goes-on : (codes : List ℕ) → suc (length ns) + length codes ≡ n → Equal n
-        (oneStep b l p x es e (outcome listCall (enter (pollCodes code k (suc (length ns)) found codes))))
+        (oneStep b l p x es e (effect listCall (enter (pollCodes code k (suc (length ns)) found codes))))
         (from (observed (withEvent m ns e) ns₁) x (idleWith (hers b)) (withNext caller room (map (single text) codes) (idleWith (hers b)) (handOn caller room es)))
     goes-on [] total =
         let all : eqb (length ns₁) n ≡ true = eq-eqb (length ns₁) n (omega arith) in
@@ -160,7 +160,7 @@ module _ (caller : ℕ) (known : leb caller lastCaller ≡ true) (text words : L
     goes-on (y ∷ codes) total =
         subst⁻¹
         (λ o. Equal n
-        (oneStep b l p x es e (outcome listCall (enter (pollCodes code k (suc (length ns)) found (y ∷ codes)))))
+        (oneStep b l p x es e (effect listCall (enter (pollCodes code k (suc (length ns)) found (y ∷ codes)))))
         (from
         (addCall caller (single text y) (withEvent m ns e) ns₁ (given o))
         (addRefusal (given o) x)
@@ -182,17 +182,17 @@ module _ (caller : ℕ) (known : leb caller lastCaller ≡ true) (text words : L
   -- an event e of a code
   module _ (es : List EventAndRoom) (ih : BusyEqual es) (b : Books) (l m : Record) (ns : List Note) (systemCode : ℕ) (codes : List ℕ) (p q : Phase) (x : List Refusal)
       (isOpen : b .opened ≡ true) (g : Polling p q l m ns codes) (e : EventAndRoom) where
-    abbrev oneAfter : Outcome → Run
+    abbrev oneAfter : Effect → Run
     oneAfter o = oneStep b l p x es e o
 
-    abbrev manyAfter : Outcome → Run
+    abbrev manyAfter : Effect → Run
     manyAfter o =
         let s : Session = after (busyWith (single text systemCode) q (hers b)) (eventEntry e) o in
         let cs : List Call = map (single text) codes in
         from (addEvent (e .0) m (note caller (single text systemCode) none ∷ ns) (given o)) (addRefusal (given o) x) s
         (cond (endsCode (given o)) (withNext caller room cs s (handOn caller room es)) (handOn caller room es s cs))
 
-    abbrev Both : Outcome → Outcome → Type 0
+    abbrev Both : Effect → Effect → Type 0
     Both o u = Equal n (oneAfter o) (manyAfter u)
 
     -- refused at once
@@ -239,10 +239,10 @@ module _ (caller : ℕ) (known : leb caller lastCaller ≡ true) (text words : L
     both-stop a r newest = idle-equal n caller room es (hers b) _ _ x _ record { lines = ap (λ (xs : List Item). accepted (e .0) ∷ xs) (g .lines); answer = sym (newest _) }
 
     abbrev AfterCode : Answer Byte → Type 0
-    AfterCode a = Both (outcome listCall (enter (follows (g .first) (length ns) (g .found) codes (g .k) a))) (ends (single text systemCode) a)
+    AfterCode a = Both (effect listCall (enter (follows (g .first) (length ns) (g .found) codes (g .k) a))) (ends (single text systemCode) a)
 
     both-go-on : (a : Answer Byte) → ((o : Option (Answer Byte)) → byNewest o (length ns) (some a) ≡ o) → Equal n
-        (oneAfter (outcome listCall (enter (pollCodes code (g .k) (suc (length ns)) (g .found ++ map (behind (g .first)) (codeBytes (some a))) codes))))
+        (oneAfter (effect listCall (enter (pollCodes code (g .k) (suc (length ns)) (g .found ++ map (behind (g .first)) (codeBytes (some a))) codes))))
         (from (observed (withEvent m ns e) (note caller (single text systemCode) (some a) ∷ ns)) x (idleWith (hers b))
         (withNext caller room (map (single text) codes) (idleWith (hers b)) (handOn caller room es)))
     both-go-on a newest = goes-on es ih b isOpen l m ns systemCode p x e a (g .k) _ (g .lines) (g .unused) (behind-more a) newest codes (g .total)
@@ -260,7 +260,7 @@ module _ (caller : ℕ) (known : leb caller lastCaller ≡ true) (text words : L
 
     -- d: the event as the mode sees it
     by-result : (d : Event) (r s : CallResult) → Goes (follows (g .first) (length ns) (g .found) codes) (g .k) r s
-        → Both (eventOutcome listCall d (e .1) r) (eventOutcome (single text systemCode) d (e .1) s)
+        → Both (eventEffect listCall d (e .1) r) (eventEffect (single text systemCode) d (e .1) s)
     by-result d r unfit i = rw i (both-unchanged OutOfTurn)
     by-result d r (pending y q′) (p′, i, h) = rw i (both-admitted Both d (e .1) _ _ both-unchanged (both-run y p′ q′ h))
     by-result d r (ended a) i =
@@ -295,21 +295,21 @@ module _ (caller : ℕ) (text words : List ℕ) (room : ℕ) (es : List EventAnd
   abbrev size : ℕ
   size = length (wordsIn words)
 
-  abbrev Started : Outcome → Outcome → Type 0
+  abbrev Started : Effect → Effect → Type 0
   Started o u = Equal size
       (from (addCall caller theList [] [] (given o)) (addRefusal (given o) []) (after (idleWith b) (call caller theList room) o) (map eventEntry es))
       (from (addCall caller (single text y) [] [] (given u)) (addRefusal (given u) []) (after (idleWith b) (call caller (single text y) room) u)
       (handOn caller room es (after (idleWith b) (call caller (single text y) room) u) (map (single text) ys)))
 
   abbrev Starts : Type 0
-  Starts = Started (outcomeOf idle b (call caller theList room)) (outcomeOf idle b (call caller (single text y) room))
+  Starts = Started (effectOf idle b (call caller theList room)) (effectOf idle b (call caller (single text y) room))
 
   start-refused : (r : Refusal) → Started (unchanged r) (unchanged r)
   start-refused r = idle-equal size caller room es b (observed [] []) (observed [] []) (r ∷ []) (map (single text) ys) record { lines = refl; answer = refl }
 
   start-runs : leb caller lastCaller ≡ true → (code : ℕ) → ((f : ℕ → Start) → codeFor typeFCode text f ≡ f code) → ltb room bufferNeed ≡ false → Started
-      (outcome theList (enter (pollCodes code 0 0 [] (y ∷ ys))))
-      (outcome (single text y) (enter (discovery.detectTypeF code (sensfReq y 0x01 0x00))))
+      (effect theList (enter (pollCodes code 0 0 [] (y ∷ ys))))
+      (effect (single text y) (enter (discovery.detectTypeF code (sensfReq y 0x01 0x00))))
   start-runs known code takes enough =
       busy-equal caller known text words room code takes enough es (bookOrder askField (hers caller known text words room code takes enough b)) ((0, ordered askField) ∷ []) ((0, ordered askField) ∷ []) [] y ys _ _ [] isOpen record {
         first = 0;
@@ -329,26 +329,26 @@ module _ (caller : ℕ) (text words : List ℕ) (room : ℕ) (es : List EventAnd
       by-room : (t : Bool) → ltb room bufferNeed ≡ t → Starts
       by-room true h =
           subst₂ Started
-          (let e : unchanged ShortBuffer ≡ outcomeOf idle b (call caller theList room) = rw (isOpen, h) refl in e)
-          (let e : unchanged ShortBuffer ≡ outcomeOf idle b (call caller (single text y) room) = rw (isOpen, h) refl in e)
+          (let e : unchanged ShortBuffer ≡ effectOf idle b (call caller theList room) = rw (isOpen, h) refl in e)
+          (let e : unchanged ShortBuffer ≡ effectOf idle b (call caller (single text y) room) = rw (isOpen, h) refl in e)
           (start-refused ShortBuffer)
       by-room false h = by-caller (leb caller lastCaller) refl
         where
           by-caller : (t : Bool) → leb caller lastCaller ≡ t → Starts
           by-caller false known =
               subst₂ Started
-              (let e : unchanged BadArgument ≡ outcomeOf idle b (call caller theList room) = rw (isOpen, h, known) refl in e)
-              (let e : unchanged BadArgument ≡ outcomeOf idle b (call caller (single text y) room) = rw (isOpen, h, known) refl in e)
+              (let e : unchanged BadArgument ≡ effectOf idle b (call caller theList room) = rw (isOpen, h, known) refl in e)
+              (let e : unchanged BadArgument ≡ effectOf idle b (call caller (single text y) room) = rw (isOpen, h, known) refl in e)
               (start-refused BadArgument)
           by-caller true known =
               by-bitrate Starts (choiceOf text)
               (λ none-taken. subst₂ Started
-              (let e : unchanged BadBitrate ≡ outcomeOf idle b (call caller theList room) = rw (isOpen, h, known, fits, none-taken (λ code. starts (discovery.pollTypeF code (wordsIn words)))) refl in e)
-              (let e : unchanged BadBitrate ≡ outcomeOf idle b (call caller (single text y) room) = rw (isOpen, h, known, none-taken (λ code. starts (discovery.detectTypeF code (sensfReq y 0x01 0x00)))) refl in e)
+              (let e : unchanged BadBitrate ≡ effectOf idle b (call caller theList room) = rw (isOpen, h, known, fits, none-taken (λ code. starts (discovery.pollTypeF code (wordsIn words)))) refl in e)
+              (let e : unchanged BadBitrate ≡ effectOf idle b (call caller (single text y) room) = rw (isOpen, h, known, none-taken (λ code. starts (discovery.detectTypeF code (sensfReq y 0x01 0x00)))) refl in e)
               (start-refused BadBitrate))
               (λ code takes. subst₂ Started
-              (let e : outcome theList (enter (pollCodes code 0 0 [] (y ∷ ys))) ≡ outcomeOf idle b (call caller theList room) = rw (isOpen, h, known, fits, takes (λ code. starts (discovery.pollTypeF code (wordsIn words))), codes) refl in e)
-              (let e : outcome (single text y) (enter (discovery.detectTypeF code (sensfReq y 0x01 0x00))) ≡ outcomeOf idle b (call caller (single text y) room) =
+              (let e : effect theList (enter (pollCodes code 0 0 [] (y ∷ ys))) ≡ effectOf idle b (call caller theList room) = rw (isOpen, h, known, fits, takes (λ code. starts (discovery.pollTypeF code (wordsIn words))), codes) refl in e)
+              (let e : effect (single text y) (enter (discovery.detectTypeF code (sensfReq y 0x01 0x00))) ≡ effectOf idle b (call caller (single text y) room) =
               rw (isOpen, h, known, takes (λ code. starts (discovery.detectTypeF code (sensfReq y 0x01 0x00)))) refl in e)
               (start-runs known code takes h))
 

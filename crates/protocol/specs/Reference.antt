@@ -14,9 +14,9 @@ use Rattle.exchange.specs.Exchange.{Event, ok, bad, pkt, time, fail, late, slep
 use Rattle.protocol.specs.Calls.{Call, opening, reader, isOpening}
 use Rattle.protocol.specs.Starts.{Start, refuses, starts, startOf, readerStart}
 use Rattle.protocol.specs.Session.{Phase, CallResult, enter, progress, Running, idle, busy, Books, lastCaller, admits, Session, fresh, packetLimit, seen, Entry, call, event, seenEntry, Output}
-use Rattle.protocol.specs.Session.{Outcome, unchanged, runs, ends, outcome, bufferNeed, withRoom, withCaller, packetLength, admitted, eventOutcome, started, callOutcome, outcomeOf, runningAfter, booksAfter, after, given, step, outputs, sessionAfter}
+use Rattle.protocol.specs.Session.{Effect, unchanged, runs, ends, effect, bufferNeed, withRoom, withCaller, packetLength, admitted, eventEffect, started, callEffect, effectOf, runningAfter, booksAfter, after, given, step, outputs, sessionAfter}
 use Rattle.protocol.specs.Laws.{split}
-use Rattle.protocol.specs.Follows.{plain, Machine, givenOut, stateAfter, entries, same-given, same-counts}
+use Rattle.protocol.specs.Machine.{plain, Machine, givenOut, stateAfter, entries, same-given, same-counts}
 
 -- ---- the same with the mode off
 
@@ -34,10 +34,10 @@ offBooks b = record { opened = b .opened; padded = false; caller = b .caller; co
 abbrev off : Session → Session
 off s = record { running = offRunning (s .running); books = offBooks (s .books) }
 
-abbrev offOutcome : Outcome → Outcome
-offOutcome (unchanged r) = unchanged r
-offOutcome (runs c x phase) = runs (offCall c) x phase
-offOutcome (ends c a) = ends (offCall c) a
+abbrev offEffect : Effect → Effect
+offEffect (unchanged r) = unchanged r
+offEffect (runs c x phase) = runs (offCall c) x phase
+offEffect (ends c a) = ends (offCall c) a
 
 abbrev pub offEntry : Entry → Entry
 offEntry (call k c room) = call k (offCall c) room
@@ -55,34 +55,34 @@ same-opening : (c : Call) → isOpening (offCall c) ≡ isOpening c
 same-opening (opening mode) = refl
 same-opening (reader c) = refl
 
-off-outcome : (c : Call) (r : CallResult) → outcome (offCall c) r ≡ offOutcome (outcome c r)
-off-outcome c unfit = refl
-off-outcome c (pending x phase) = refl
-off-outcome c (ended a) = refl
+off-effect : (c : Call) (r : CallResult) → effect (offCall c) r ≡ offEffect (effect c r)
+off-effect c unfit = refl
+off-effect c (pending x phase) = refl
+off-effect c (ended a) = refl
 
-off-if : (t : Bool) (o w : Outcome) → cond t (offOutcome o) (offOutcome w) ≡ offOutcome (cond t o w)
+off-if : (t : Bool) (o w : Effect) → cond t (offEffect o) (offEffect w) ≡ offEffect (cond t o w)
 off-if true o w = refl
 off-if false o w = refl
 
-off-admitted : (e : Event) (room : ℕ) (o : Outcome) → admitted e room (offOutcome o) ≡ offOutcome (admitted e room o)
+off-admitted : (e : Event) (room : ℕ) (o : Effect) → admitted e room (offEffect o) ≡ offEffect (admitted e room o)
 off-admitted e room o = rw (off-if (ltb packetLimit (packetLength e)) (unchanged _) o) (off-if (ltb room bufferNeed) (unchanged _) _)
 
-off-event : (c : Call) (e : Event) (room : ℕ) (r : CallResult) → eventOutcome (offCall c) e room r ≡ offOutcome (eventOutcome c e room r)
+off-event : (c : Call) (e : Event) (room : ℕ) (r : CallResult) → eventEffect (offCall c) e room r ≡ offEffect (eventEffect c e room r)
 off-event c e room unfit = refl
 off-event c e room (pending x phase) = off-admitted e room (runs c x phase)
 off-event c e room (ended a) = off-admitted e room (ends c a)
 
-off-started : (k : ℕ) (c : Call) (room : ℕ) → Fits (call k c room) → started (offCall c) (startOf (offCall c)) ≡ offOutcome (started c (startOf c))
+off-started : (k : ℕ) (c : Call) (room : ℕ) → Fits (call k c room) → started (offCall c) (startOf (offCall c)) ≡ offEffect (started c (startOf c))
 off-started k (opening mode) room h = rw h
 off-started k (reader c) room h = go (readerStart c)
   where
-    go : (s : Start) → started (reader c) s ≡ offOutcome (started (reader c) s)
+    go : (s : Start) → started (reader c) s ≡ offEffect (started (reader c) s)
     go (refuses r) = refl
-    go (starts s) = off-outcome (reader c) (enter s)
+    go (starts s) = off-effect (reader c) (enter s)
 
-off-call : (t : Bool) (k : ℕ) (c : Call) (room : ℕ) → Fits (call k c room) → callOutcome t k (offCall c) room ≡ offOutcome (callOutcome t k c room)
+off-call : (t : Bool) (k : ℕ) (c : Call) (room : ℕ) → Fits (call k c room) → callEffect t k (offCall c) room ≡ offEffect (callEffect t k c room)
 off-call t k c room h =
-    let off-caller : withCaller k (started (offCall c) (startOf (offCall c))) ≡ offOutcome (withCaller k (started c (startOf c))) =
+    let off-caller : withCaller k (started (offCall c) (startOf (offCall c))) ≡ offEffect (withCaller k (started c (startOf c))) =
     ap (withCaller k) (off-started k c room h) ∙ off-if (leb k lastCaller) (started c (startOf c)) (unchanged BadArgument) in
     ap (λ o. cond t (withRoom room o) (unchanged OutOfTurn)) off-caller
     ∙ ap (λ o. cond t o (unchanged OutOfTurn)) (off-if (ltb room bufferNeed) (unchanged ShortBuffer) (withCaller k (started c (startOf c))))
@@ -92,19 +92,19 @@ off-call t k c room h =
 abbrev offSeen : Session → Entry → Entry
 offSeen s e = offEntry (seenEntry (s .books .padded) e)
 
-off-outcome-of : (p : Running) (b : Books) (e : Entry) → Fits e
-    → outcomeOf (offRunning p) (offBooks b) (offEntry (seenEntry (b .padded) e)) ≡ offOutcome (outcomeOf p b e)
-off-outcome-of idle b (call k c room) h = rw (same-opening c) (off-call (admits b c) k c room h)
-off-outcome-of idle b (event e room) h = refl
-off-outcome-of (busy c phase) b (call k d room) h = refl
-off-outcome-of (busy c phase) b (event e room) h = off-event c (seen (b .padded) e) room (progress phase (seen (b .padded) e))
+off-effect-of : (p : Running) (b : Books) (e : Entry) → Fits e
+    → effectOf (offRunning p) (offBooks b) (offEntry (seenEntry (b .padded) e)) ≡ offEffect (effectOf p b e)
+off-effect-of idle b (call k c room) h = rw (same-opening c) (off-call (admits b c) k c room h)
+off-effect-of idle b (event e room) h = refl
+off-effect-of (busy c phase) b (call k d room) h = refl
+off-effect-of (busy c phase) b (event e room) h = off-event c (seen (b .padded) e) room (progress phase (seen (b .padded) e))
 
-off-running : (p : Running) (o : Outcome) → runningAfter (offRunning p) (offOutcome o) ≡ offRunning (runningAfter p o)
+off-running : (p : Running) (o : Effect) → runningAfter (offRunning p) (offEffect o) ≡ offRunning (runningAfter p o)
 off-running p (unchanged r) = refl
 off-running p (runs c x phase) = refl
 off-running p (ends c a) = refl
 
-off-books : (b : Books) (t : Bool) (e : Entry) (o : Outcome) → booksAfter (offBooks b) (offEntry (seenEntry t e)) (offOutcome o) ≡ offBooks (booksAfter b e o)
+off-books : (b : Books) (t : Bool) (e : Entry) (o : Effect) → booksAfter (offBooks b) (offEntry (seenEntry t e)) (offEffect o) ≡ offBooks (booksAfter b e o)
 off-books b t (call k c room) (unchanged r) = refl
 off-books b t (call k (opening mode) room) (runs c x phase) = refl
 off-books b t (call k (opening mode) room) (ends c a) = rw (same-opening c)
@@ -114,15 +114,15 @@ off-books b t (event e room) (unchanged r) = refl
 off-books b t (event e room) (runs c x phase) = refl
 off-books b t (event e room) (ends c a) = rw (same-opening c)
 
-off-given : (o : Outcome) → given (offOutcome o) ≡ given o
+off-given : (o : Effect) → given (offEffect o) ≡ given o
 off-given (unchanged r) = refl
 off-given (runs c x phase) = refl
 off-given (ends c a) = refl
 
 off-step : (s : Session) (e : Entry) → Fits e → step (off s) (offSeen s e) ≡ (off ((step s e) .0), (step s e) .1)
 off-step s e h =
-    let o : Outcome = outcomeOf (s .running) (s .books) e in
-    let is : outcomeOf (offRunning (s .running)) (offBooks (s .books)) (offSeen s e) ≡ offOutcome o = off-outcome-of (s .running) (s .books) e h in
+    let o : Effect = effectOf (s .running) (s .books) e in
+    let is : effectOf (offRunning (s .running)) (offBooks (s .books)) (offSeen s e) ≡ offEffect o = off-effect-of (s .running) (s .books) e h in
     ap (λ x. (after (off s) (offSeen s e) x, given x)) is
     ∙ (λ i. (record { running = off-running (s .running) o i; books = off-books (s .books) (s .books .padded) e o i }, off-given o i))
 
@@ -212,7 +212,7 @@ padded-fits (call k (opening mode) room) h = rw h
 padded-fits (call k (reader c) room) h = tt
 padded-fits (event e room) h = tt
 
-padded-after : (b : Books) (e : Entry) (o : Outcome) → b .padded ≡ true → PaddedEntry e → (booksAfter b e o) .padded ≡ true
+padded-after : (b : Books) (e : Entry) (o : Effect) → b .padded ≡ true → PaddedEntry e → (booksAfter b e o) .padded ≡ true
 padded-after b e (unchanged r) p h = p
 padded-after b (call k (opening mode) room) (runs c x phase) p h = rw h
 padded-after b (call k (opening mode) room) (ends c a) p h = rw h
@@ -226,7 +226,7 @@ padded-off s [] p h = tt
 padded-off s (e ∷ es) p h = (
   padded-fits e (h .0),
   ap (λ t. step (off s) (offEntry (seenEntry t e))) (sym p),
-  padded-off ((step s e) .0) es (padded-after (s .books) e (outcomeOf (s .running) (s .books) e) p (h .0)) (h .1),
+  padded-off ((step s e) .0) es (padded-after (s .books) e (effectOf (s .running) (s .books) e) p (h .0)) (h .1),
 )
 
 -- before the first opening is accepted every event is out of turn
@@ -265,7 +265,7 @@ givenOthers (e ∷ es) [] = []
 givenOthers (e ∷ es) (o ∷ outs) = cond (isLong e) (givenOthers es outs) (o ∷ givenOthers es outs)
 
 -- one is refused, and the session stays as it was
-abbrev Refuses : Outcome → Type 0
+abbrev Refuses : Effect → Type 0
 Refuses o = (r : Refusal) × (o ≡ unchanged r)
 
 long-seen : (t : Bool) (e : Event) → ltb packetLimit (packetLength e) ≡ true → seen t e ≡ e
@@ -278,18 +278,18 @@ long-seen true fail h = refl
 long-seen true late h = refl
 long-seen true slept h = refl
 
-long-admitted : (e : Event) (room : ℕ) (o : Outcome) → ltb packetLimit (packetLength e) ≡ true → Refuses (admitted e room o)
+long-admitted : (e : Event) (room : ℕ) (o : Effect) → ltb packetLimit (packetLength e) ≡ true → Refuses (admitted e room o)
 long-admitted e room o h = rw h (split Refuses (ltb room bufferNeed) _ _ (λ _. (ShortBuffer, refl)) (λ _. (OverLong, refl)))
 
-long-refused : (c : Call) (e : Event) (room : ℕ) (r : CallResult) → ltb packetLimit (packetLength e) ≡ true → Refuses (eventOutcome c e room r)
+long-refused : (c : Call) (e : Event) (room : ℕ) (r : CallResult) → ltb packetLimit (packetLength e) ≡ true → Refuses (eventEffect c e room r)
 long-refused c e room unfit h = (OutOfTurn, refl)
 long-refused c e room (pending x phase) h = long-admitted e room (runs c x phase) h
 long-refused c e room (ended a) h = long-admitted e room (ends c a) h
 
-long-outcome : (p : Running) (b : Books) (e : Entry) → isLong e ≡ true → Refuses (outcomeOf p b e)
-long-outcome p b (call k c room) h = absurd (false≢true h)
-long-outcome idle b (event e room) h = (OutOfTurn, refl)
-long-outcome (busy c phase) b (event e room) h = rw (long-seen (b .padded) e h) (long-refused c e room (progress phase e) h)
+long-effect : (p : Running) (b : Books) (e : Entry) → isLong e ≡ true → Refuses (effectOf p b e)
+long-effect p b (call k c room) h = absurd (false≢true h)
+long-effect idle b (event e room) h = (OutOfTurn, refl)
+long-effect (busy c phase) b (event e room) h = rw (long-seen (b .padded) e h) (long-refused c e room (progress phase e) h)
 
 -- the list without them
 pub record LeavesOut (s : Session) (es : List Entry) : Type 0 where
@@ -301,7 +301,7 @@ leaves-out s [] = record { given = refl; after = refl }
 leaves-out s (e ∷ es) = go (isLong e) refl (leaves-out ((step s e) .0) es)
   where
     stays : isLong e ≡ true → (step s e) .0 ≡ s
-    stays h = ap (after s e) ((long-outcome (s .running) (s .books) e h) .1)
+    stays h = ap (after s e) ((long-effect (s .running) (s .books) e h) .1)
 
     go : (t : Bool) → isLong e ≡ t → LeavesOut ((step s e) .0) es → LeavesOut s (e ∷ es)
     go true h next = record {
@@ -330,7 +330,7 @@ as-reference es h =
     let p = padded-same (withoutLong es) (padded-others es h) in
     record { given = sym (p .given ∙ l .given); counted = sym (p .counted ∙ ap (λ s. s .books .counts) (l .after)) }
 
--- ---- the same of a machine that follows the definitions
+-- ---- the same of a machine that simulates the definitions
 
 others-map : {X Y : Type 0} (f : X → Y) (es : List Entry) (outs : List X) → givenOthers es (map f outs) ≡ map f (givenOthers es outs)
 others-map f [] outs = refl

@@ -21,7 +21,7 @@ use Rattle.protocol.specs.Calls.{opening, reader, request, version, devi
 use Rattle.framing.specs.declared.LengthEncoding.the-variants.{NormalOrExtendedBigEndian}
 use Rattle.protocol.specs.Session.{Entry, call, event, Output, orders, answers, rejects, fresh, outputs, sessionAfter}
 use Rattle.protocol.specs.Record.{Item, recordOf, linesOf, frames, events, resets, idleReads, allowed}
-use Rattle.protocol.specs.Follows.{plain}
+use Rattle.protocol.specs.Machine.{plain}
 
 -- an entry, and what is given out for it
 abbrev Pair : Type 0
@@ -228,9 +228,9 @@ splitBy list o =
     ((call 0 (reader (device (detectTypeASplit (0x31 ∷ 0x30 ∷ 0x36 ∷ 0x41 ∷ []) []))) 1024, sends 0x4A (0x01 ∷ 0x00 ∷ [])) ∷ [])
     ++ answeredBy 0 1000 (responds 0x4A list) o
 
-told-apart : Runs (openingRun 0 0 ++ splitBy (listedWith 7 (uid ++ ats)) (answers (uidAndAts (0x44 ∷ 0x03 ∷ 0x20 ∷ uid ++ ats) 7 6)))
+known-apart : Runs (openingRun 0 0 ++ splitBy (listedWith 7 (uid ++ ats)) (answers (uidAndAts (0x44 ∷ 0x03 ∷ 0x20 ∷ uid ++ ats) 7 6)))
 unfolding formats texts isTargetData isUidLength isAts pick
-told-apart = refl
+known-apart = refl
 
 no-layout : Runs (openingRun 0 0 ++ splitBy (listedWith 5 (take 5 uid)) (answers (refused UidLayout)))
 unfolding formats texts isTargetData isUidLength isAts pick

@@ -10,7 +10,7 @@ use lib.Dec.{eqb}
 use lib.ListN.{length}
 use Rattle.protocol.specs.Scripts.{Byte, Answer}
 use Rattle.protocol.specs.Calls.{Call, opening, reader, isPaddedMode}
-use Rattle.protocol.specs.Session.{Books, seenEntry, Entry, call, event, Output, orders, answers, rejects, Outcome, unchanged, runs, ends, booksAfter, given}
+use Rattle.protocol.specs.Session.{Books, seenEntry, Entry, call, event, Output, orders, answers, rejects, Effect, unchanged, runs, ends, booksAfter, given}
 use Rattle.protocol.specs.Record.{Item, ordered, accepted, Record, Note, note, observed, add, linesOf, modeBy, modeAt, modeOf, seenItem, seenLines, asSeen}
 use Rattle.protocol.specs.Laws.{split, lines-other}
 
@@ -51,7 +51,7 @@ add-seen l (x ∷ ns) (event e room) (answers a) u = rw (eq-eqb (length ns) (len
 add-seen l (x ∷ ns) (event e room) (rejects r) u = refl
 
 -- the session's mode is that of the newest opening in the notes
-pub mode-after : (b : Books) (l : Record) (ns : List Note) (e : Entry) (o : Outcome) → b .padded ≡ modeAt ns
+pub mode-after : (b : Books) (l : Record) (ns : List Note) (e : Entry) (o : Effect) → b .padded ≡ modeAt ns
     → (booksAfter b e o) .padded ≡ modeAt ((add (observed l ns) e (given o)) .notes)
 mode-after b l ns (call k c room) (unchanged r) h = h
 mode-after b l ns (call k (opening m) room) (runs d x phase) h = refl
@@ -70,7 +70,7 @@ abbrev pub callerAt : List Note → ℕ
 callerAt [] = 0
 callerAt (x ∷ ns) = x .caller
 
-pub caller-after : (b : Books) (l : Record) (ns : List Note) (e : Entry) (o : Outcome) → b .caller ≡ callerAt ns
+pub caller-after : (b : Books) (l : Record) (ns : List Note) (e : Entry) (o : Effect) → b .caller ≡ callerAt ns
     → (booksAfter b e o) .caller ≡ callerAt ((add (observed l ns) e (given o)) .notes)
 caller-after b l ns (call k c room) (unchanged r) h = h
 caller-after b l ns (call k (opening m) room) (runs d x phase) h = refl

@@ -183,54 +183,54 @@ pub data Output (B : Type 0) : Type 0 where
   rejects : Refusal → Output B
 
 -- what an entry does: it is refused and nothing changes, or its call goes on with an order, or ends
-pub data Outcome : Type 0 where
-  unchanged : Refusal → Outcome
-  runs : Call → Order → Phase → Outcome
-  ends : Call → Answer Byte → Outcome
+pub data Effect : Type 0 where
+  unchanged : Refusal → Effect
+  runs : Call → Order → Phase → Effect
+  ends : Call → Answer Byte → Effect
 
-abbrev pub outcome : Call → CallResult → Outcome
-outcome c unfit = unchanged OutOfTurn
-outcome c (pending x phase) = runs c x phase
-outcome c (ended a) = ends c a
+abbrev pub effect : Call → CallResult → Effect
+effect c unfit = unchanged OutOfTurn
+effect c (pending x phase) = runs c x phase
+effect c (ended a) = ends c a
 
 -- the engine's buffer, at least
 abbrev pub bufferNeed : ℕ
 bufferNeed = 1024
 
-abbrev pub withRoom : ℕ → Outcome → Outcome
+abbrev pub withRoom : ℕ → Effect → Effect
 withRoom room o = cond (ltb room bufferNeed) (unchanged ShortBuffer) o
 
 abbrev pub packetLength : Event → ℕ
 packetLength e = onRead 0 length 0 0 0 e
 
 -- an event: 1, 2, 3
-abbrev pub admitted : Event → ℕ → Outcome → Outcome
+abbrev pub admitted : Event → ℕ → Effect → Effect
 admitted e room o = withRoom room (cond (ltb packetLimit (packetLength e)) (unchanged OverLong) o)
 
-abbrev pub eventOutcome : Call → Event → ℕ → CallResult → Outcome
-eventOutcome c e room unfit = unchanged OutOfTurn
-eventOutcome c e room (pending x phase) = admitted e room (outcome c (pending x phase))
-eventOutcome c e room (ended a) = admitted e room (outcome c (ended a))
+abbrev pub eventEffect : Call → Event → ℕ → CallResult → Effect
+eventEffect c e room unfit = unchanged OutOfTurn
+eventEffect c e room (pending x phase) = admitted e room (effect c (pending x phase))
+eventEffect c e room (ended a) = admitted e room (effect c (ended a))
 
 -- a call: 1, 2, then 4 for a caller that there is not, then its own refusals
-abbrev pub started : Call → Start → Outcome
+abbrev pub started : Call → Start → Effect
 started c (refuses r) = unchanged r
-started c (starts s) = outcome c (begin (isOpening c) s)
+started c (starts s) = effect c (begin (isOpening c) s)
 
-abbrev pub withCaller : ℕ → Outcome → Outcome
+abbrev pub withCaller : ℕ → Effect → Effect
 withCaller caller o = cond (leb caller lastCaller) o (unchanged BadArgument)
 
-abbrev pub callOutcome : Bool → ℕ → Call → ℕ → Outcome
-callOutcome isAdmitted caller c room = cond isAdmitted (withRoom room (withCaller caller (started c (startOf c)))) (unchanged OutOfTurn)
+abbrev pub callEffect : Bool → ℕ → Call → ℕ → Effect
+callEffect isAdmitted caller c room = cond isAdmitted (withRoom room (withCaller caller (started c (startOf c)))) (unchanged OutOfTurn)
 
-abbrev pub outcomeOf : Running → Books → Entry → Outcome
-outcomeOf idle b (call caller c room) = callOutcome (admits b c) caller c room
-outcomeOf idle b (event e room) = unchanged OutOfTurn
-outcomeOf (busy c phase) b (call caller d room) = unchanged OutOfTurn
-outcomeOf (busy c phase) b (event e room) = eventOutcome c (seen (b .padded) e) room (progress phase (seen (b .padded) e))
+abbrev pub effectOf : Running → Books → Entry → Effect
+effectOf idle b (call caller c room) = callEffect (admits b c) caller c room
+effectOf idle b (event e room) = unchanged OutOfTurn
+effectOf (busy c phase) b (call caller d room) = unchanged OutOfTurn
+effectOf (busy c phase) b (event e room) = eventEffect c (seen (b .padded) e) room (progress phase (seen (b .padded) e))
 
 -- the running call after it, and the books
-abbrev pub runningAfter : Running → Outcome → Running
+abbrev pub runningAfter : Running → Effect → Running
 runningAfter p (unchanged r) = p
 runningAfter p (runs c x phase) = busy c phase
 runningAfter p (ends c a) = idle
@@ -239,26 +239,26 @@ abbrev pub booksOf : Entry → Books → Books
 booksOf (call caller c room) b = booksFor caller c b
 booksOf (event e room) b = b
 
-abbrev pub bookOutcome : Outcome → Books → Books
-bookOutcome (unchanged r) b = b
-bookOutcome (runs c x phase) b = bookOrder x b
-bookOutcome (ends c a) b = bookAnswer c a b
+abbrev pub bookEffect : Effect → Books → Books
+bookEffect (unchanged r) b = b
+bookEffect (runs c x phase) b = bookOrder x b
+bookEffect (ends c a) b = bookAnswer c a b
 
-abbrev pub booksAfter : Books → Entry → Outcome → Books
+abbrev pub booksAfter : Books → Entry → Effect → Books
 booksAfter b e (unchanged r) = b
-booksAfter b e (runs c x phase) = bookOutcome (runs c x phase) (booksOf e b)
-booksAfter b e (ends c a) = bookOutcome (ends c a) (booksOf e b)
+booksAfter b e (runs c x phase) = bookEffect (runs c x phase) (booksOf e b)
+booksAfter b e (ends c a) = bookEffect (ends c a) (booksOf e b)
 
-abbrev pub after : Session → Entry → Outcome → Session
+abbrev pub after : Session → Entry → Effect → Session
 after s e o = record { running = runningAfter (s .running) o; books = booksAfter (s .books) e o }
 
-abbrev pub given : Outcome → Output Byte
+abbrev pub given : Effect → Output Byte
 given (unchanged r) = rejects r
 given (runs c x phase) = orders x
 given (ends c a) = answers a
 
 abbrev pub step : Session → Entry → Session × Output Byte
-step s e = (after s e (outcomeOf (s .running) (s .books) e), given (outcomeOf (s .running) (s .books) e))
+step s e = (after s e (effectOf (s .running) (s .books) e), given (effectOf (s .running) (s .books) e))
 
 -- what a list gives out, and the session after it
 abbrev pub outputs : Session → List Entry → List (Output Byte)

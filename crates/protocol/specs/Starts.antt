@@ -114,7 +114,7 @@ abbrev pub isSendable : List ℕ → Bool
 isSendable [] = false
 isSendable (b ∷ bs) = eqb b 0x00 || eqb b 0x01 || eqb b 0x1A || eqb b 0x53 || eqb b 0x72
 
--- what transceive waits for a card where it is not told, and what the chip gets beside it
+-- what transceive waits for a card where no time is given, and what the chip gets beside it
 abbrev pub standardMs : ℕ
 standardMs = 1000
 

@@ -13,7 +13,7 @@ use Rattle.protocol.specs.Scripts.{Byte, Answer, Script}
 use Rattle.protocol.specs.Calls.{Call, isOpening, limit}
 use Rattle.protocol.specs.Starts.{Start, refuses, starts, startOf}
 use Rattle.protocol.specs.Session.{Phase, CallResult, begin, progress, Running, idle, busy, Books, lastCaller, admits, Session, fresh, Entry, call, event}
-use Rattle.protocol.specs.Session.{Outcome, outcome, bufferNeed, packetLimit, seen, seenEntry, withRoom, packetLength, admitted, eventOutcome, started, callOutcome, outcomeOf, runningAfter, given, step, outputs}
+use Rattle.protocol.specs.Session.{Effect, effect, bufferNeed, packetLimit, seen, seenEntry, withRoom, packetLength, admitted, eventEffect, started, callEffect, effectOf, runningAfter, given, step, outputs}
 use Rattle.protocol.specs.Record.{Item, ordered, accepted, Record, Note, Observed, observed, addCall, addEvent, add, observe, recordOf, linesOf, modeAt, asSeen, frames, allowed}
 use Rattle.protocol.specs.Claim.{Running as Claimed, CardByte, Claim, Claims}
 use Rattle.protocol.specs.Own.{formOf}
@@ -77,7 +77,7 @@ unused s w i = unused-seen (w .lines) (w .notes) _ (none-unused (s .running) _ (
 
 -- a call begins
 begun : (caller : ℕ) (l : Record) (ns : List Note) (c : Call) (r : CallResult) → Claims l ns → Unused l (length ns)
-    → Preserved (length ns) c l [] r → AgreesAt (runningAfter idle (outcome c r)) (addCall caller c l ns (given (outcome c r)))
+    → Preserved (length ns) c l [] r → AgreesAt (runningAfter idle (effect c r)) (addCall caller c l ns (given (effect c r)))
 begun caller l ns c unfit h u q = (h, u)
 begun caller l ns c (pending x phase) h u q = (
   record { sameCall = refl; unanswered = refl; ownLines = ordered x ∷ []; invariant = q },
@@ -91,7 +91,7 @@ module _ (c : Call) (phase : Phase) (l : Record) (y : Note) (ns : List Note) (e 
   abbrev n : ℕ
   n = length ns
 
-  abbrev Agreed : Outcome → Type 0
+  abbrev Agreed : Effect → Type 0
   Agreed o = AgreesAt (runningAfter (busy c phase) o) (addEvent e l (y ∷ ns) (given o))
 
   one-later : Claims ((n, accepted e) ∷ l) ns
@@ -100,7 +100,7 @@ module _ (c : Call) (phase : Phase) (l : Record) (y : Note) (ns : List Note) (e 
   none-used : Unused ((n, accepted e) ∷ l) (suc n)
   none-used = (omega arith, i .2)
 
-  result-agrees : (r : CallResult) → KeptBy n c l (i .0 .ownLines) e r → Agreed (outcome c r)
+  result-agrees : (r : CallResult) → KeptBy n c l (i .0 .ownLines) e r → Agreed (effect c r)
   result-agrees unfit q = i
   result-agrees (pending x new) q = (
     record { sameCall = i .0 .sameCall; unanswered = i .0 .unanswered; ownLines = ordered x ∷ accepted e ∷ i .0 .ownLines; invariant = q },
@@ -110,21 +110,21 @@ module _ (c : Call) (phase : Phase) (l : Record) (y : Note) (ns : List Note) (e 
   result-agrees (ended a) q = ((rw (i .0 .sameCall) q, one-later), none-used)
 
   -- refused with 2 or 3, nothing changes
-  room-agrees : (room : ℕ) (o : Outcome) → Agreed o → Agreed (withRoom room o)
+  room-agrees : (room : ℕ) (o : Effect) → Agreed o → Agreed (withRoom room o)
   room-agrees room o h = split Agreed (ltb room bufferNeed) _ _ (λ _. i) (λ _. h)
 
-  admitted-agrees : (room : ℕ) (o : Outcome) → Agreed o → Agreed (admitted e room o)
+  admitted-agrees : (room : ℕ) (o : Effect) → Agreed o → Agreed (admitted e room o)
   admitted-agrees room o h = room-agrees room _ (split Agreed (ltb packetLimit (packetLength e)) _ _ (λ _. i) (λ _. h))
 
-  event-result-agrees : (room : ℕ) (r : CallResult) → KeptBy n c l (i .0 .ownLines) e r → Agreed (eventOutcome c e room r)
+  event-result-agrees : (room : ℕ) (r : CallResult) → KeptBy n c l (i .0 .ownLines) e r → Agreed (eventEffect c e room r)
   event-result-agrees room unfit q = i
-  event-result-agrees room (pending x new) q = admitted-agrees room (outcome c (pending x new)) (result-agrees (pending x new) q)
-  event-result-agrees room (ended a) q = admitted-agrees room (outcome c (ended a)) (result-agrees (ended a) q)
+  event-result-agrees room (pending x new) q = admitted-agrees room (effect c (pending x new)) (result-agrees (pending x new) q)
+  event-result-agrees room (ended a) q = admitted-agrees room (effect c (ended a)) (result-agrees (ended a) q)
 
 event-agrees : (c : Call) (phase : Phase) (l : Record) (ns : List Note) (e : Event) (room : ℕ) → Agrees (busy c phase) l ns
     → AgreesAt
-    (runningAfter (busy c phase) (eventOutcome c e room (progress phase e)))
-    (addEvent e l ns (given (eventOutcome c e room (progress phase e))))
+    (runningAfter (busy c phase) (eventEffect c e room (progress phase e)))
+    (addEvent e l ns (given (eventEffect c e room (progress phase e))))
 event-agrees c phase l [] e room i = absurd i
 event-agrees c phase l (y ∷ ns) e room i =
     event-result-agrees c phase l y ns e i room (progress phase e) (kept (length ns) c l (i .0 .ownLines) phase (i .0 .invariant) e)
@@ -132,7 +132,7 @@ event-agrees c phase l (y ∷ ns) e room i =
 -- ---- a call
 
 module _ (caller : ℕ) (l : Record) (ns : List Note) (c : Call) (i : Agrees idle l ns) where
-  abbrev Starts : Outcome → Type 0
+  abbrev Starts : Effect → Type 0
   Starts o = AgreesAt (runningAfter idle o) (addCall caller c l ns (given o))
 
   no-source : Sourced (length ns) c l []
@@ -162,7 +162,7 @@ module _ (caller : ℕ) (l : Record) (ns : List Note) (c : Call) (i : Agrees idl
   started-agrees (refuses r) h = i
   started-agrees (starts s) h = begun caller l ns c (begin (isOpening c) s) (i .0) (i .1) (begin-kept (isOpening c) s refl h)
 
-  call-agrees : (isAdmitted : Bool) (room : ℕ) → Starts (callOutcome isAdmitted caller c room)
+  call-agrees : (isAdmitted : Bool) (room : ℕ) → Starts (callEffect isAdmitted caller c room)
   call-agrees isAdmitted room =
       split Starts isAdmitted _ _
       (λ _. split Starts (ltb room bufferNeed) _ _ (λ _. i) (λ _. split Starts (leb caller lastCaller) _ _ (λ _. started-agrees (startOf c) (sound c)) (λ _. i)))
@@ -171,7 +171,7 @@ module _ (caller : ℕ) (l : Record) (ns : List Note) (c : Call) (i : Agrees idl
 -- ---- any list
 
 step-agrees : (p : Running) (b : Books) (l : Record) (ns : List Note) (e : Entry) → Agrees p l ns
-    → AgreesAt (runningAfter p (outcomeOf p b e)) (add (observed l ns) (seenEntry (b .padded) e) (given (outcomeOf p b e)))
+    → AgreesAt (runningAfter p (effectOf p b e)) (add (observed l ns) (seenEntry (b .padded) e) (given (effectOf p b e)))
 step-agrees idle b l ns (call caller c room) i = call-agrees caller l ns c i (admits b c) room
 step-agrees idle b l [] (event e room) i = i
 step-agrees idle b l (y ∷ ns) (event e room) i = i
@@ -186,8 +186,8 @@ agrees s w e i =
     let by-notes : AgreesAt p (add (asSeen w) (seenEntry (modeAt (w .notes)) e) out) = subst (λ t. AgreesAt p (add (asSeen w) (seenEntry t e) out)) (i .mode) seen-step in
     record {
       running = subst (AgreesAt p) (sym (add-seen (w .lines) (w .notes) e out (unused s w i))) by-notes;
-      mode = mode-after (s .books) (w .lines) (w .notes) e (outcomeOf (s .running) (s .books) e) (i .mode);
-      caller = caller-after (s .books) (w .lines) (w .notes) e (outcomeOf (s .running) (s .books) e) (i .caller);
+      mode = mode-after (s .books) (w .lines) (w .notes) e (effectOf (s .running) (s .books) e) (i .mode);
+      caller = caller-after (s .books) (w .lines) (w .notes) e (effectOf (s .running) (s .books) e) (i .caller);
     }
 
 -- what the invariant says of the running call

@@ -1,9 +1,9 @@
 // Sessions with any fields, each handed a call or an event with a buffer of some length: what comes of it, counted.
+mod check;
 mod draw;
-mod judge;
 mod made;
 
-use judge::Tally;
+use check::Tally;
 
 const SESSIONS: u64 = 50000;
 
@@ -14,7 +14,7 @@ fn turn(seed: u64, tally: Tally) -> Tally {
     let step = made::handed(session, seed, size);
     let output = step.output;
     let after = step.session;
-    tally.judged(draw::is_call(seed), session, after, output, size)
+    tally.checked(draw::is_call(seed), session, after, output, size)
 }
 
 fn main() {

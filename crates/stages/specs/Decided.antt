@@ -73,7 +73,7 @@ pub record DecisionRefines (f b : List ℕ) (r : Decision) (d : stages.Decision)
 
 -- whatever the found bytes are
 pub record AnswerRefines (b : List ℕ) (r : Decision) (a : Answer ℕ) : Type 0 where
-  pub decides : (f : List ℕ) → DecisionRefines f b r (ends a)
+  pub decision : (f : List ℕ) → DecisionRefines f b r (ends a)
 
 -- whatever the bytes are
 abbrev pub Always : Decision → stages.Decision → Type 0

@@ -158,16 +158,16 @@ module _ (b : List ℕ) (r : Decision) (x y : Answer ℕ) (t : Bool) where
 
 module _ (b : List ℕ) where
   pub answer-nothing : AnswerRefines b Nothing nothing
-  answer-nothing = record { decides = λ f. decision-nothing f b }
+  answer-nothing = record { decision = λ f. decision-nothing f b }
 
   pub answer-refused : (x : Fault) → AnswerRefines b (Refused x) (refused x)
-  answer-refused x = record { decides = λ f. decision-refused f b x }
+  answer-refused x = record { decision = λ f. decision-refused f b x }
 
   pub answer-status : (s x : ℕ) → s ≡ x → AnswerRefines b (Refused (Status s)) (refused (Status x))
-  answer-status s x e = record { decides = λ f. record { is = ap (λ y. refuse (Status y)) e; fits = tt } }
+  answer-status s x e = record { decision = λ f. record { is = ap (λ y. refuse (Status y)) e; fits = tt } }
 
   pub answer-done : (l : Layout) (bytes : List ℕ) → ((f : List ℕ) → Lays f b l bytes) → AnswerRefines b (Done l) (done bytes)
-  answer-done l bytes h = record { decides = λ f. decision-done f b l bytes (h f) }
+  answer-done l bytes h = record { decision = λ f. decision-done f b l bytes (h f) }
 
 pub ruleset answers-by-tests = (answer-true, answer-false, answer-nothing, answer-refused, answer-status, tests)
 

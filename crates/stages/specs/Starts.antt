@@ -100,7 +100,7 @@ module _ (r : code.Start) (c₀ c₁ : List ℕ) where
   pub same-staged : (kind : ℕ) (l m : List ℕ) → l ≡ m → Starts r c₀ c₁ (stagedLimited kind l) → Starts r c₀ c₁ (stagedLimited kind m)
   same-staged kind l m e h = rw (← e) h
 
--- a start of a command, and one of stages, as the code's variant tells
+-- a start of a command, and one of stages, as the code's variant gives
 pub record Commanded (f : First) (c₀ c₁ : List ℕ) (s : Start) : Type 0 where
   pub bytes : List ℕ
   pub few : length bytes ≤ 512

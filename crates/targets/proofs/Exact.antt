@@ -17,14 +17,14 @@ use Rattle.targets.specs.Bitrates.{ascii, choiceOf, chosen, codeOf, isBi
 use Rattle.targets.specs.Form.{Rate, Sends, allDigits, inRange, isCapital, isDigit, one, rate, two}
 use Rattle.targets.proofs.Laws.{and-l, and-r, send-le, same-is, sent}
 
-rate-yes : {t : List ℕ} → Rate t → isRate t ≡ true
+pub rate-yes : {t : List ℕ} → Rate t → isRate t ≡ true
 unfolding isRate
 rate-yes (rate ds l h d c) =
     let n : length (ds ++ l ∷ []) ≡ length ds + 1 = length-append ds (l ∷ []) in
     let k : length (ds ++ l ∷ []) - 1 ≡ length ds = omega arith in
     rw (le-leb 2 (length (ds ++ l ∷ [])) (omega arith), k, take-at ds (l ∷ []) (length ds) refl, getD-at ds l [] 0 (length ds) refl, d, c)
 
-rate-only : (t : List ℕ) → isRate t ≡ true → Rate t
+pub rate-only : (t : List ℕ) → isRate t ≡ true → Rate t
 unfolding isRate
 rate-only t e =
     let k = length t - 1 in
@@ -78,10 +78,10 @@ slash (b ∷ bs) h = go (eqb b 47) refl (slash bs) h
 
 -- a text whose first m bytes are a rate
 module _ (t : List ℕ) (m : ℕ) (send : Rate (take m t)) where
-  alone : m ≡ length t → Sends t m
+  pub alone : m ≡ length t → Sends t m
   alone e = rw e (one (rw (e, take-length) at send))
 
-  both : m < length t → getD t m 0 ≡ 47 → Rate (drop (m + 1) t) → Sends t m
+  pub both : m < length t → getD t m 0 ≡ 47 → Rate (drop (m + 1) t) → Sends t m
   both h e r =
       let w : take m t ++ 47 ∷ drop (m + 1) t ≡ t = sym (split-at t m 0 h ∙ rw (e, add-one)) in
       let n : length (take m t) ≡ m = length-take-le m t (omega arith) in

@@ -1,3 +1,4 @@
 mod Exact
 mod Laws
+mod RateLaws
 mod TypeALaws

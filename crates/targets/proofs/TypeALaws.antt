@@ -36,17 +36,17 @@ module _ (l : List ℕ) where
   unfolding isTargetData pick
   few-bytes h = rw (lt-ltb (length l) 4 h)
 
-  module _ (n : ℕ) (at : n ≡ getD l 3 0) (long : 4 ≤ length l) (t : Bool) (told : t ≡ isUidLength n) where
+  module _ (n : ℕ) (at : n ≡ getD l 3 0) (long : 4 ≤ length l) (t : Bool) (known : t ≡ isUidLength n) where
     pub other-length : t ≡ false → false ≡ isTargetData l
     unfolding isTargetData pick
-    other-length h = rw (le-ltb (length l) 4 long, ← at, ← told, h)
+    other-length h = rw (le-ltb (length l) 4 long, ← at, ← known, h)
 
     pub short-uid : t ≡ true → length l < 4 + n → false ≡ isTargetData l
     unfolding isTargetData pick
-    short-uid h k = rw (le-ltb (length l) 4 long, ← at, ← told, h, lt-ltb (length l) (4 + n) k)
+    short-uid h k = rw (le-ltb (length l) 4 long, ← at, ← known, h, lt-ltb (length l) (4 + n) k)
 
     pub uid-then : (r : Bool) (p : List ℕ) → t ≡ true → 4 + n ≤ length l → p ≡ take (length l - (4 + n)) (drop (4 + n) l) → r ≡ isAts p → r ≡ isTargetData l
     unfolding isTargetData pick
     uid-then r p h k q e =
         let d : take (length l - (4 + n)) (drop (4 + n) l) ≡ drop (4 + n) l = take-all (length l - (4 + n)) (drop (4 + n) l) (rw (length-drop (4 + n) l) (omega arith)) in
-        rw (le-ltb (length l) 4 long, ← at, ← told, h, le-ltb (length l) (4 + n) k) (e ∙ ap isAts (q ∙ d))
+        rw (le-ltb (length l) 4 long, ← at, ← known, h, le-ltb (length l) (4 + n) k) (e ∙ ap isAts (q ∙ d))

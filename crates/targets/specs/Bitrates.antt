@@ -1,6 +1,7 @@
 -- What the functions answer. That `isRate` and `parseOf` take exactly the texts of `Form` is proved in `proofs/Exact`.
 use mathlib.Core.Bool.{Bool, cond, _&&_, _||_}
-use mathlib.Core.List.{List, [], _∷_}
+use mathlib.Core.List.{List, [], _∷_, _++_}
+use mathlib.Core.Path.{_≡_}
 use Prim.Native.Nat.{ℕ, _+_, _-_, _≤_}
 use Prim.Native.Char.{code}
 use Prim.Native.String.{String, [] as empty, _∷_ as _then_}
@@ -8,14 +9,14 @@ use lib.Dec.{leb, eqb}
 use lib.ListN.{length, take, drop, getD}
 use Rattle.errors.specs.Choice.{same}
 use Rattle.errors.specs.declared.Numbered.{Numbered}
-use Rattle.errors.specs.Refusals.{Outcome, answered, refused, plain, numbered}
+use Rattle.errors.specs.Refusals.{Returned, answered, refused, plain, numbered}
 use Rattle.targets.specs.declared.Bitrate.{Bitrate}
 use Rattle.targets.specs.declared.Bitrate.the-variants.{B106A, B212F, B424F, B106B, B212B, B424B, B848B, Other}
 use Rattle.targets.specs.declared.Coded.{Coded}
 use Rattle.targets.specs.declared.Coded.the-variants.{Code, Refused as Uncoded}
 use Rattle.targets.specs.declared.Parsed.{Parsed}
 use Rattle.targets.specs.declared.Parsed.the-variants.{Send, Refused}
-use Rattle.targets.specs.Form.{allDigits, isCapital}
+use Rattle.targets.specs.Form.{Rate, allDigits, isCapital}
 
 -- One rate, as a test: at least two bytes, all digits but the last, and that a capital letter.
 unfoldable pub isRate : List ℕ → Bool
@@ -31,11 +32,11 @@ unfoldable pub isBitrate : List ℕ → Bool
 isBitrate t = isRate (take (sendLength t) t) && (eqb (sendLength t) (length t) || isRate (drop (sendLength t + 1) t))
 
 -- `Parsed`: the length of the send part, or refusal 5.
-abbrev pub parsed : Parsed → Outcome
+abbrev pub parsed : Parsed → Returned
 parsed (Send n) = answered n
 parsed (Refused e) = refused (numbered e)
 
-unfoldable pub parseOf : List ℕ → Outcome
+unfoldable pub parseOf : List ℕ → Returned
 parseOf t = cond (isBitrate t) (answered (sendLength t)) (refused (plain 5))
 
 -- The bytes of a text in quotes.
@@ -64,13 +65,15 @@ abbrev pub coded : Coded → Choice
 coded (Code b) = chosen b
 coded (Uncoded e) = noCode (numbered e)
 
-abbrev pub choiceOn : List ℕ → Outcome → Choice
+abbrev pub choiceOn : List ℕ → Returned → Choice
 choiceOn t (answered n) = chosen (codeOf (take n t))
 choiceOn t (refused k) = noCode k
 
 unfoldable pub choiceOf : List ℕ → Choice
 choiceOf t = choiceOn t (parseOf t)
 
--- A digit, as two bounds.
-abbrev pub Digit : ℕ → Type 0
-Digit b = (48 ≤ b) × (b ≤ 57)
+-- `rate_length`: the rate that a text starts with has n bytes; where n is under 2 there is none.
+pub record StartsWith (t : List ℕ) (n : ℕ) : Type 0 where
+  pub within : n ≤ length t
+  pub rated : 2 ≤ n → Rate (take n t)
+  pub only : (s u : List ℕ) → Rate s → t ≡ s ++ u → length s ≡ n

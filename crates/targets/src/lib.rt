@@ -4,9 +4,7 @@ pub mod type_a;
 use errors::Refusal;
 ghost use mathlib.Core.List.{[], _∷_};
 ghost use mathlib.Core.Path.{_≡_};
-ghost use Prim.Native.Nat.{_≤_};
-ghost use lib.ListN.{length};
-ghost use Rattle.targets.specs.Bitrates.{Digit, choiceOf, coded, codeOf, isRate, parsed, parseOf, sendLength};
+ghost use Rattle.targets.specs.Bitrates.{choiceOf, coded, codeOf, isRate, parsed, parseOf, StartsWith};
 ghost use Rattle.targets.specs.Form.{inRange};
 
 // The length of a text's send part, which the text starts with.
@@ -39,48 +37,44 @@ fn in_range(byte: u8, low: u8, high: u8) -> bool
     low <= byte && byte <= high
 }
 
+// The length of the digits that the text starts with and a capital letter behind them; 0 where none follows.
+fn rate_length(text: &[u8]) -> usize
+    ensures { λ r. ⌜ StartsWith (now (text .entry)) r ⌝ }
+{
+    let mut i = 0;
+    while i < text.len() {
+        if !in_range(text[i], b'0', b'9') {
+            if in_range(text[i], b'A', b'Z') {
+                return i + 1;
+            }
+            return 0;
+        }
+        i += 1;
+    }
+    0
+}
+
 // One rate: one or more digits, then one capital letter.
 pub fn is_valid_bitrate(text: &[u8]) -> bool
     ensures { λ r. ⌜ r ≡ isRate (now (text .entry)) ⌝ }
 {
-    if text.len() < 2 {
-        return false;
-    }
-    let last = text.len() - 1;
-    let mut i = 0;
-    while i < last {
-        if !in_range(text[i], b'0', b'9') {
-            return false;
-        }
-        i += 1;
-    }
-    in_range(text[last], b'A', b'Z')
-}
-
-// How many bytes stand before the first `/`: all, where there is none.
-fn send_length(text: &[u8]) -> usize
-    ensures { λ r. ⌜ (r ≡ sendLength (now (text .entry))) × (r ≤ length (now (text .entry))) ⌝ }
-{
-    let mut i = 0;
-    while i < text.len() {
-        if text[i] == b'/' {
-            return i;
-        }
-        i += 1;
-    }
-    i
+    let n = rate_length(text);
+    if n < 2 { false } else { n == text.len() }
 }
 
 // One rate, or two with `/` between; the send part is the first.
 pub fn parse(text: &[u8]) -> Parsed
     ensures { λ r. ⌜ parsed r ≡ parseOf (now (text .entry)) ⌝ }
 {
-    let n = send_length(text);
-    if !is_valid_bitrate(&text[..n]) {
+    let n = rate_length(text);
+    if n < 2 {
         return Parsed::Refused(Refusal::Bitrate);
     }
     if n == text.len() {
         return Parsed::Send(n);
+    }
+    if text[n] != b'/' {
+        return Parsed::Refused(Refusal::Bitrate);
     }
     if is_valid_bitrate(&text[n + 1..]) {
         Parsed::Send(n)
@@ -89,40 +83,34 @@ pub fn parse(text: &[u8]) -> Parsed
     }
 }
 
-// The code of a rate of three digits, by its number and its suffix.
-fn bitrate_code(hundreds: u8, tens: u8, ones: u8, suffix: u8) -> Bitrate
-    requires { ⌜ Digit hundreds × Digit tens × Digit ones ⌝ }
-    ensures { λ r. ⌜ r ≡ codeOf (hundreds ∷ tens ∷ ones ∷ suffix ∷ []) ⌝ }
+// The code of a rate of four bytes, which are compared as one number: 0x31303641 is `106A`.
+fn bitrate_code(a: u8, b: u8, c: u8, d: u8) -> Bitrate
+    ensures { λ r. ⌜ r ≡ codeOf (a ∷ b ∷ c ∷ d ∷ []) ⌝ }
 {
-    let number = (hundreds - b'0') as u16 * 100 + (tens - b'0') as u16 * 10 + (ones - b'0') as u16;
+    let number = ((a as u32 * 256 + b as u32) * 256 + c as u32) * 256 + d as u32;
     match number {
-        106 => match suffix {
-            b'A' => Bitrate::B106A,
-            b'B' => Bitrate::B106B,
-            _ => Bitrate::Other,
-        },
-        212 => match suffix {
-            b'B' => Bitrate::B212B,
-            b'F' => Bitrate::B212F,
-            _ => Bitrate::Other,
-        },
-        424 => match suffix {
-            b'B' => Bitrate::B424B,
-            b'F' => Bitrate::B424F,
-            _ => Bitrate::Other,
-        },
-        848 => match suffix {
-            b'B' => Bitrate::B848B,
-            _ => Bitrate::Other,
-        },
+        0x31303641 => Bitrate::B106A,
+        0x32313246 => Bitrate::B212F,
+        0x34323446 => Bitrate::B424F,
+        0x31303642 => Bitrate::B106B,
+        0x32313242 => Bitrate::B212B,
+        0x34323442 => Bitrate::B424B,
+        0x38343842 => Bitrate::B848B,
         _ => Bitrate::Other,
     }
 }
 
-// The code of the send part. The calls compare texts, so `0106A` is not `106A`.
+// The code of the send part. The calls compare texts, so `0106A` is not `106A`. One of the seven texts is well-formed and needs no parse.
 pub fn code(text: &[u8]) -> Coded
     ensures { λ r. ⌜ coded r ≡ choiceOf (now (text .entry)) ⌝ }
 {
+    if text.len() == 4 {
+        let rate = bitrate_code(text[0], text[1], text[2], text[3]);
+        match rate {
+            Bitrate::Other => {}
+            _ => return Coded::Code(rate),
+        }
+    }
     let Parsed::Send(n) = parse(text) else {
         return Coded::Refused(Refusal::Bitrate);
     };

@@ -1,4 +1,4 @@
-//! Links libpresence_host.a, which `rt staticlib presence_host` writes to target/staticlib/. PRESENCE_ARCHIVE names another folder of it.
+//! Links libpresence_c.a, which `rt staticlib presence_c` writes to target/staticlib/. PRESENCE_ARCHIVE names another folder of it.
 
 use std::{env, path::PathBuf};
 
@@ -6,9 +6,9 @@ fn main() {
     println!("cargo::rerun-if-env-changed=PRESENCE_ARCHIVE");
     let here = PathBuf::from(env::var("CARGO_MANIFEST_DIR").unwrap());
     let folder = env::var("PRESENCE_ARCHIVE").map_or_else(|_| here.join("../../../target/staticlib"), PathBuf::from);
-    let archive = folder.join("libpresence_host.a");
-    assert!(archive.exists(), "no {}: `rt staticlib presence_host` comes first", archive.display());
+    let archive = folder.join("libpresence_c.a");
+    assert!(archive.exists(), "no {}: `rt staticlib presence_c` comes first", archive.display());
     println!("cargo::rerun-if-changed={}", archive.display());
     println!("cargo::rustc-link-search=native={}", folder.display());
-    println!("cargo::rustc-link-lib=static=presence_host");
+    println!("cargo::rustc-link-lib=static=presence_c");
 }

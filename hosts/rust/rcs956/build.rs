@@ -1,4 +1,4 @@
-//! Links libhost.a, which `rt staticlib host` writes to target/staticlib/. RCS956_ARCHIVE names another folder of it.
+//! Links libsession_c.a, which `rt staticlib session_c` writes to target/staticlib/. RCS956_ARCHIVE names another folder of it.
 
 use std::{env, path::PathBuf};
 
@@ -6,9 +6,9 @@ fn main() {
     println!("cargo::rerun-if-env-changed=RCS956_ARCHIVE");
     let here = PathBuf::from(env::var("CARGO_MANIFEST_DIR").unwrap());
     let folder = env::var("RCS956_ARCHIVE").map_or_else(|_| here.join("../../../target/staticlib"), PathBuf::from);
-    let archive = folder.join("libhost.a");
-    assert!(archive.exists(), "no {}: `rt staticlib host` comes first", archive.display());
+    let archive = folder.join("libsession_c.a");
+    assert!(archive.exists(), "no {}: `rt staticlib session_c` comes first", archive.display());
     println!("cargo::rerun-if-changed={}", archive.display());
     println!("cargo::rustc-link-search=native={}", folder.display());
-    println!("cargo::rustc-link-lib=static=host");
+    println!("cargo::rustc-link-lib=static=session_c");
 }

@@ -9,6 +9,6 @@ answer-spec =
     tie.close
     (tie.spec
     (λ c κs. search needs)
-    (λ c. answer-done _ _ _ _ (search needs) (search (answer-long, needs)))
+    (λ c. (answer-done _ _ _ _ (search needs) (search (answer-long, needs)), search needs))
     (λ c κs. search needs)
-    (λ c. answer-done _ _ _ _ (search needs) (search (answer-words, needs))))
+    (λ c. (answer-done _ _ _ _ (search needs) (search (answer-words, needs)), search needs)))

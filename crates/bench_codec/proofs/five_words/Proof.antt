@@ -1,5 +1,5 @@
 -- `five_words` meets its contract.
-use Rattle.framing.specs.Rules.{told}
+use Rattle.framing.specs.Rules.{same-value}
 use Rattle.bench.specs.TextLaws.{when-true, when-false}
 use borrow.Author.Needs.{needs}
 use Rattle.bench_codec.proofs.five_words.Statement.{statement}
@@ -13,7 +13,7 @@ five-words-spec =
     (λ c κs. search needs)
     (λ c κs. search needs)
     (λ c. search needs)
-    (λ c. search (when-true, when-false, told, needs) depth 14)
+    (λ c. search (when-true, when-false, same-value, needs) depth 14)
     (λ c κs. search needs)
     (λ c. search needs)
-    (λ c. search (when-true, when-false, told, needs) depth 14))
+    (λ c. search (when-true, when-false, same-value, needs) depth 14))

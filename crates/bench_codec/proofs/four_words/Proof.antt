@@ -1,5 +1,5 @@
 -- `four_words` meets its contract.
-use Rattle.framing.specs.Rules.{told}
+use Rattle.framing.specs.Rules.{same-value}
 use Rattle.bench.specs.TextLaws.{when-true, when-false}
 use borrow.Author.Needs.{needs}
 use Rattle.bench_codec.proofs.four_words.Statement.{statement}
@@ -14,13 +14,13 @@ four-words-spec =
     (λ c. search needs)
     (λ c κs. search needs)
     (λ c. search needs)
-    (λ c. search (when-true, when-false, told, needs) depth 14)
+    (λ c. search (when-true, when-false, same-value, needs) depth 14)
     (λ c. search needs)
     (λ c κs. search needs)
     (λ c. search needs)
     (λ c κs. search needs)
     (λ c. search needs)
-    (λ c. search (when-true, when-false, told, needs) depth 14)
+    (λ c. search (when-true, when-false, same-value, needs) depth 14)
     (λ c κs. search needs)
     (λ c. search needs)
-    (λ c. search (when-true, when-false, told, needs) depth 14))
+    (λ c. search (when-true, when-false, same-value, needs) depth 14))

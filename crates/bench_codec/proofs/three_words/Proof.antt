@@ -1,5 +1,5 @@
 -- `three_words` meets its contract.
-use Rattle.framing.specs.Rules.{told}
+use Rattle.framing.specs.Rules.{same-value}
 use Rattle.bench.specs.TextLaws.{when-true, when-false}
 use Rattle.bench_codec.proofs.CodecLaws.{no-setting, some-setting, read-refused, read-format, read-fits, read-part}
 use borrow.Author.Needs.{needs}
@@ -16,13 +16,13 @@ three-words-spec =
     (λ c. search needs)
     (λ c κs. search needs)
     (λ c. search needs)
-    (λ c. search (when-true, told, needs))
+    (λ c. search (when-true, same-value, needs))
     (λ c κs. search needs)
     (λ c. search needs)
     (λ c. search needs)
     (λ c κs. search needs)
     (λ c. search needs)
-    (λ c. search (when-false, told, no-setting, needs) depth 8)
+    (λ c. search (when-false, same-value, no-setting, needs) depth 8)
     (λ c κs. search needs)
     (λ c. search needs)
     (λ c κs. search needs)
@@ -30,9 +30,9 @@ three-words-spec =
     (λ c. search needs)
     (λ c κs. search needs)
     (λ c. search needs)
-    (λ c. search (when-false, told, some-setting, read-refused, needs) depth 10)
+    (λ c. search (when-false, same-value, some-setting, read-refused, needs) depth 10)
     (λ c. search (read-fits, needs))
     (λ c. search (read-part, needs))
     (λ c κs. search needs)
     (λ c. search needs)
-    (λ c. search (when-false, told, some-setting, read-format, needs) depth 10))
+    (λ c. search (when-false, same-value, some-setting, read-format, needs) depth 10))

@@ -1,5 +1,5 @@
 -- `two_words` meets its contract.
-use Rattle.framing.specs.Rules.{told}
+use Rattle.framing.specs.Rules.{same-value}
 use Rattle.bench.specs.TextLaws.{when-true, when-false}
 use Rattle.bench_codec.proofs.CodecLaws.{read-refused, read-bytes, read-fits, read-part, read-short}
 use borrow.Author.Needs.{needs}
@@ -14,7 +14,7 @@ two-words-spec =
     (λ c κs. search needs)
     (λ c κs. search needs)
     (λ c. search needs)
-    (λ c. search (when-true, told, needs))
+    (λ c. search (when-true, same-value, needs))
     (λ c κs. search needs)
     (λ c. search needs)
     (λ c κs. search needs)
@@ -22,9 +22,9 @@ two-words-spec =
     (λ c. search needs)
     (λ c κs. search needs)
     (λ c. search needs)
-    (λ c. search (when-false, told, read-refused, needs) depth 8)
+    (λ c. search (when-false, same-value, read-refused, needs) depth 8)
     (λ c. search (read-fits, needs))
     (λ c. search (read-part, needs))
     (λ c κs. search (read-short, needs))
     (λ c. search needs)
-    (λ c. search (when-false, told, read-bytes, needs) depth 8))
+    (λ c. search (when-false, same-value, read-bytes, needs) depth 8))

@@ -1,14 +1,14 @@
 use Rattle.errors.specs.Choice.{pick}
 use borrow.Author.Tests.{ne-eqb}
 use Rattle.calls.specs.Tables.{failedOf}
-use Rattle.stages.specs.Laws.{decision-refused}
+use Rattle.stages.specs.Laws.{decision-false, decision-refused}
 use borrow.Author.Needs.{needs}
 use Rattle.calls.proofs.failed.Statement.{statement}
 use Rattle.calls.proofs.failed.Tie as tie
 
 returns-6 : tie.Need-returns-6
-unfolding failedOf pick
-returns-6 c = λ b. let r = c .match .rest in rw (ne-eqb _ 17 (r .0 .0 .0 .0 .1), ne-eqb _ 18 (r .0 .0 .0 .1), ne-eqb _ 20 (r .0 .0 .1), ne-eqb _ 21 (r .0 .1), ne-eqb _ 22 (r .1)) (decision-refused _ _ _)
+unfolding failedOf
+returns-6 c = λ b. search (decision-false, ne-eqb, decision-refused, needs) depth 12
 
 pub failed-spec : {M : Type 1} → statement M
 unfolding failedOf pick

@@ -1,6 +1,6 @@
 -- `framing::build` meets its contract.
 use Rattle.framing.specs.Enclose.{build-copied}
-use Rattle.framing.specs.Build.{outcome}
+use Rattle.framing.specs.Build.{returned}
 use mathlib.Core.Path.{sym, _∙_}
 use native.Mathlib.Omega.{arith}
 use Rattle.framing.specs.Enclose.{place-fits, build-refused}
@@ -45,13 +45,13 @@ add-t13 c =
     omega arith
 
 returns : tie.Need-returns
-unfolding outcome
+unfolding returned
 returns c =
     let x = sym (c .before .before .before .before .before .before .before .before .before .start .given .1) ∙ c .before .before .before .before .before .before .before .before .before .before .before .room-for .ensures in
     build-copied _ _ _ _ _ _ x (c .before .before .before .before .before .before .copy .ensures .1) (c .before .before .enclose .ensures)
 
 returns-2 : tie.Need-returns-2
-unfolding outcome
+unfolding returned
 returns-2 c =
     let x = sym (c .before .refusal .given .1) ∙ c .before .before .before .room-for .ensures in
     build-refused _ _ _ _ x

@@ -1,6 +1,6 @@
 -- `framing::parse` meets its contract.
 use Rattle.framing.specs.Parse.{parseOf}
-use Rattle.framing.specs.Rules.{told, steps}
+use Rattle.framing.specs.Rules.{same-value, steps}
 use borrow.Author.Needs.{needs}
 use Rattle.framing.proofs.parse.Statement.{statement}
 use Rattle.framing.proofs.parse.Tie as tie
@@ -16,6 +16,6 @@ parse-spec =
     (λ c. search (steps, needs) depth 8)
     (λ c κs. search needs)
     (λ c. search (steps, needs) depth 8)
-    (λ c κs. search (told, needs))
+    (λ c κs. search (same-value, needs))
     (λ c. search (steps, needs) depth 8)
     (λ c. search (steps, needs) depth 8))

@@ -1,18 +1,23 @@
--- `code` meets its contract: a parsed text of four bytes has three digits in front, and any other length is none of the seven texts.
+-- `code` meets its contract: one of the seven texts is well-formed, and a send part of another length than four is none of them.
 use borrow.Author.Needs.{needs}
-use Rattle.targets.proofs.Laws.{refused-too, other-length, four-place, four-digits, four-code}
+use Rattle.targets.proofs.Laws.{refused-too, other-length, four-place, four-code, known-code}
 use Rattle.targets.proofs.code.Statement.{statement}
 use Rattle.targets.proofs.code.Tie as tie
 
-bitrate-code-requires : tie.Need-bitrate-code-requires
-bitrate-code-requires c κs =
-    let entry = c .before .before .before .before .before .before .before .before .before .before in
-    search (four-digits (entry .args .text .now), needs)
+returns : tie.Need-returns
+returns c = known-code _ _ (search needs) (c .before .bitrate-code .ensures) (c .match .keys2)
 
 pub code-spec : {M : Type 1} → statement M
 code-spec =
     tie.close
     (tie.spec
+    (λ c. search needs)
+    (λ c. search needs)
+    (λ c. search needs)
+    (λ c. search needs)
+    (λ c κs. search needs)
+    (λ c. search needs)
+    returns
     (λ c κs. search needs)
     (λ c. search needs)
     (λ c. search needs)
@@ -22,5 +27,5 @@ code-spec =
     (λ c. search (four-place, needs))
     (λ c. search (four-place, needs))
     (λ c. search (four-place, needs))
-    bitrate-code-requires
+    (λ c κs. search needs)
     (λ c. search (four-code, needs)))

@@ -1,9 +1,6 @@
 -- `parse` meets its contract, by a law for each return.
-use mathlib.Core.Path.{sym}
-use borrow.Author.Tests.{not-true, not-false}
+use Rattle.targets.proofs.RateLaws.{no-send, send-alone, no-slash, send-both, receive-bad}
 use borrow.Author.Needs.{needs}
-use lib.Seq.{length-take-le}
-use Rattle.targets.proofs.Laws.{send-bad, send-alone, both-good, receive-bad}
 use Rattle.targets.proofs.parse.Statement.{statement}
 use Rattle.targets.proofs.parse.Tie as tie
 
@@ -12,14 +9,14 @@ parse-spec =
     tie.close
     (tie.spec
     (λ c κs. search needs)
-    (λ c. sym (length-take-le _ _ (search needs)))
-    (λ c κs. search needs)
-    (λ c. search (send-bad, not-true, needs))
-    (λ c. search (send-alone, not-false, needs))
+    (λ c. search (no-send, needs))
+    (λ c. search (send-alone, needs))
+    (λ c. search needs)
+    (λ c. search (no-slash, needs))
     (λ c. search needs)
     (λ c. search needs)
     (λ c. search needs)
     (λ c. search needs)
     (λ c κs. search needs)
-    (λ c. search (both-good, not-false, needs))
-    (λ c. search (receive-bad, not-false, needs)))
+    (λ c. send-both _ _ (c .before .before .before .before .before .before .before .rate-length .ensures) (c .before .before .before .before .before .before .if1 .left) (c .before .before .before .before .before .if2 .left) _ (c .before .is-valid-bitrate .ensures) (c .before .before .before .if3 .left) (c .if4 .taken))
+    (λ c. search (receive-bad, needs)))

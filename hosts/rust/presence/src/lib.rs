@@ -1,4 +1,4 @@
-//! The list of present cards for Rust, over the proved archive libpresence_host.a (include/presence.h).
+//! The list of present cards for Rust, over the proved archive libpresence_c.a (include/presence.h).
 //!
 //! ```
 //! use presence::{Bitrate, Card, Kind, List, Refusal};

@@ -37,16 +37,6 @@ pub enum Call<'a> {
 }
 
 impl<'a> Arguments<'a> {
-    /// A call with no arguments.
-    fn of(number: u8) -> Self {
-        Arguments { number, ..Arguments::default() }
-    }
-
-    /// A call with one argument of bytes.
-    fn with(number: u8, first: &'a [u8]) -> Self {
-        Arguments { number, first, ..Arguments::default() }
-    }
-
     fn ms(self, ms: u32) -> Self {
         Arguments { numbers: Numbers { ms, ..self.numbers }, ..self }
     }
@@ -63,6 +53,10 @@ impl<'a> Arguments<'a> {
         Arguments { numbers: Numbers { y, ..self.numbers }, ..self }
     }
 
+    fn first(self, first: &'a [u8]) -> Self {
+        Arguments { first, ..self }
+    }
+
     fn second(self, second: &'a [u8]) -> Self {
         Arguments { second, ..self }
     }
@@ -73,6 +67,11 @@ impl<'a> Arguments<'a> {
 
     fn fourth(self, fourth: &'a [u8]) -> Self {
         Arguments { fourth, ..self }
+    }
+
+    /// The ms of `transceive`, where they are given.
+    fn timeout(self, ms: Option<u16>) -> Self {
+        ms.map_or(self, |ms| self.word(ms).y(1))
     }
 
     /// The ms of a FeliCa call, where they are given.
@@ -87,51 +86,76 @@ impl<'a> Arguments<'a> {
 }
 
 impl<'a> Call<'a> {
+    fn number(self) -> u8 {
+        match self {
+            Call::Open { .. } => 0,
+            Call::Version => 1,
+            Call::ResetMode => 2,
+            Call::SetParameters { .. } => 3,
+            Call::RfConfiguration { .. } => 4,
+            Call::ReadRegister { .. } => 5,
+            Call::WriteRegister { .. } => 6,
+            Call::ReadSingleRegister { .. } => 7,
+            Call::WriteSingleRegister { .. } => 8,
+            Call::InListPassiveTarget { .. } => 9,
+            Call::InDataExchange { .. } => 10,
+            Call::InCommunicateThru { .. } => 11,
+            Call::InJumpForDep { .. } => 12,
+            Call::TgInitTarget { .. } => 13,
+            Call::TgSetGeneralBytes { .. } => 14,
+            Call::TgGetInitiatorCommand { .. } => 15,
+            Call::TgResponseToInitiator { .. } => 16,
+            Call::TgGetTargetStatus => 17,
+            Call::RfFieldOff => 18,
+            Call::DetectTypeA { split: false, .. } => 19,
+            Call::DetectTypeB { .. } => 20,
+            Call::DetectTypeF { .. } => 21,
+            Call::DetectDep { .. } => 22,
+            Call::Transceive { .. } => 23,
+            Call::PollTypeF { .. } => 24,
+            Call::DetectTypeA { split: true, .. } => 25,
+            Call::ReadWithoutEncryption { .. } => 26,
+            Call::WriteWithoutEncryption { .. } => 27,
+        }
+    }
+
     /// The call's number and arguments.
     pub fn arguments(self) -> Arguments<'a> {
+        let call = Arguments { number: self.number(), ..Arguments::default() };
         match self {
-            Call::Open { padded } => Arguments::of(0).x(padded as u8),
-            Call::Version => Arguments::of(1),
-            Call::ResetMode => Arguments::of(2),
-            Call::SetParameters { flags } => Arguments::of(3).x(flags),
-            Call::RfConfiguration { item, data } => Arguments::with(4, data).x(item),
-            Call::ReadRegister { addresses } => Arguments::with(5, addresses),
-            Call::WriteRegister { registers } => Arguments::with(6, registers),
-            Call::ReadSingleRegister { address } => Arguments::of(7).word(address),
-            Call::WriteSingleRegister { address, value } => Arguments::of(8).word(address).x(value),
-            Call::InListPassiveTarget { max_tg, bitrate, initiator } => {
-                Arguments::with(9, initiator).x(max_tg).y(bitrate)
-            }
-            Call::InDataExchange { data, ms } => Arguments::with(10, data).ms(ms),
-            Call::InCommunicateThru { data, ms } => Arguments::with(11, data).ms(ms),
+            Call::Version | Call::ResetMode | Call::TgGetTargetStatus | Call::RfFieldOff => call,
+            Call::Open { padded } => call.x(padded as u8),
+            Call::SetParameters { flags } => call.x(flags),
+            Call::RfConfiguration { item, data } => call.first(data).x(item),
+            Call::ReadRegister { addresses } => call.first(addresses),
+            Call::WriteRegister { registers } => call.first(registers),
+            Call::ReadSingleRegister { address } => call.word(address),
+            Call::WriteSingleRegister { address, value } => call.word(address).x(value),
+            Call::InListPassiveTarget { max_tg, bitrate, initiator } => call.first(initiator).x(max_tg).y(bitrate),
+            Call::InDataExchange { data, ms } | Call::InCommunicateThru { data, ms } => call.first(data).ms(ms),
             Call::InJumpForDep { active, br, passive, nfcid3, gi } => {
-                Arguments::with(12, passive).second(nfcid3).third(gi).x(active as u8).y(br)
+                call.first(passive).second(nfcid3).third(gi).x(active as u8).y(br)
             }
             Call::TgInitTarget { mode, mifare, felica, nfcid3t, gt, ms } => {
-                Arguments::with(13, mifare).second(felica).third(nfcid3t).fourth(gt).x(mode).ms(ms)
+                call.first(mifare).second(felica).third(nfcid3t).fourth(gt).x(mode).ms(ms)
             }
-            Call::TgSetGeneralBytes { data } => Arguments::with(14, data),
-            Call::TgGetInitiatorCommand { ms } => Arguments::of(15).ms(ms),
-            Call::TgResponseToInitiator { data } => Arguments::with(16, data),
-            Call::TgGetTargetStatus => Arguments::of(17),
-            Call::RfFieldOff => Arguments::of(18),
-            Call::DetectTypeA { bitrate, uid, split: false } => Arguments::with(19, bitrate).second(uid),
-            Call::DetectTypeA { bitrate, uid, split: true } => Arguments::with(25, bitrate).second(uid),
-            Call::DetectTypeB { bitrate, sensb_req } => Arguments::with(20, bitrate).second(sensb_req),
+            Call::TgSetGeneralBytes { data } | Call::TgResponseToInitiator { data } => call.first(data),
+            Call::TgGetInitiatorCommand { ms } => call.ms(ms),
+            Call::DetectTypeA { bitrate, uid, .. } => call.first(bitrate).second(uid),
+            Call::DetectTypeB { bitrate, sensb_req } => call.first(bitrate).second(sensb_req),
             Call::DetectTypeF { bitrate, system_code, request_code, time_slots } => {
-                Arguments::with(21, bitrate).word(system_code).x(request_code).y(time_slots)
+                call.first(bitrate).word(system_code).x(request_code).y(time_slots)
             }
-            Call::DetectDep { bitrate, atr_req } => Arguments::with(22, bitrate).second(atr_req),
+            Call::DetectDep { bitrate, atr_req } => call.first(bitrate).second(atr_req),
             Call::Transceive { bitrate, sel_res, rid_res, data, ms } => {
-                let given = Arguments::with(23, bitrate).second(sel_res).third(data).x(rid_res as u8);
-                ms.map_or(given, |ms| given.word(ms).y(1))
+                call.first(bitrate).second(sel_res).third(data).x(rid_res as u8).timeout(ms)
             }
-            Call::PollTypeF { bitrate, codes } => Arguments::with(24, bitrate).second(codes),
+            Call::PollTypeF { bitrate, codes } => call.first(bitrate).second(codes),
             Call::ReadWithoutEncryption { idm, service, blocks, ms } => {
-                Arguments::with(26, idm).second(blocks).word(service).waiting(ms)
+                call.first(idm).second(blocks).word(service).waiting(ms)
             }
             Call::WriteWithoutEncryption { idm, service, blocks, data, ms } => {
-                Arguments::with(27, idm).second(blocks).third(data).word(service).waiting(ms)
+                call.first(idm).second(blocks).third(data).word(service).waiting(ms)
             }
         }
     }

@@ -1,4 +1,4 @@
-//! The RC-S956 reader engine for Rust, over the proved archive libhost.a.
+//! The RC-S956 reader engine for Rust, over the proved archive libsession_c.a.
 //!
 //! The engine does no transport itself. [`Reader::call`] gives a [`Step`]: an order, or the call's end. Each order takes the events
 //! that fit it, and no others; an event uses the order up and gives the next step.

@@ -22,7 +22,39 @@ enum Entry {
 /// Bitrate texts, and none.
 const BITRATES: [&[u8]; 9] = [b"106A", b"106B", b"212F", b"424F", b"212F/424F", b"848B", b"106A/", b"\xFF", b""];
 
-/// A call with any number and any arguments, most of them such as the call takes.
+/// The arguments of some calls, most of them such as the call takes.
+fn fit(draw: &mut Draw, number: u64, x: &mut u64, bytes: &mut [Box<[u8]>; 4]) {
+    match number {
+        13 if !draw.once(3) => {
+            *x = draw.pick(&[0, 2]);
+            for (argument, len) in bytes.iter_mut().zip([6, 18, 10]) {
+                *argument = draw.bytes(len);
+            }
+        }
+        22 if draw.once(2) => {
+            let len = 16 + draw.below(49) as usize;
+            bytes[1] = draw.bytes(len);
+        }
+        23 => {
+            bytes[1] = draw.pick::<&[u8]>(&[b"", b"\x00", b"\x20", b"\x60"]).into();
+            let first = draw.pick(&[0x00, 0x01, 0x1A, 0x53, 0x72, 0x78]);
+            bytes[2].iter_mut().take(1).for_each(|byte| *byte = first);
+        }
+        24 if !draw.once(4) => {
+            let len = 2 * draw.below(18) as usize;
+            bytes[1] = draw.bytes(len);
+        }
+        26 | 27 => {
+            bytes[0] = if draw.once(4) { draw.bytes(8) } else { draw::IDM.into() };
+            let blocks = 1 + draw.below(4) as usize;
+            bytes[1] = draw.bytes(blocks);
+            bytes[2] = draw.bytes(16 * blocks);
+        }
+        _ => {}
+    }
+}
+
+/// A call with any number and any arguments.
 fn drawn_call(draw: &mut Draw) -> Entry {
     let number = if draw.once(24) { draw.byte() as u64 } else { draw.below(29) };
     let bitrate = draw.pick(&BITRATES);
@@ -34,31 +66,7 @@ fn drawn_call(draw: &mut Draw) -> Entry {
     if number >= 19 && !draw.once(8) {
         bytes[0] = bitrate.into();
     }
-    if number == 13 && !draw.once(3) {
-        x = draw.pick(&[0, 2]);
-        for (argument, len) in bytes.iter_mut().zip([6, 18, 10]) {
-            *argument = draw.bytes(len);
-        }
-    }
-    if number == 22 && draw.once(2) {
-        let len = 16 + draw.below(49) as usize;
-        bytes[1] = draw.bytes(len);
-    }
-    if number == 23 {
-        bytes[1] = draw.pick::<&[u8]>(&[b"", b"\x00", b"\x20", b"\x60"]).into();
-        let first = draw.pick(&[0x00, 0x01, 0x1A, 0x53, 0x72, 0x78]);
-        bytes[2].iter_mut().take(1).for_each(|byte| *byte = first);
-    }
-    if number == 24 && !draw.once(4) {
-        let len = 2 * draw.below(18) as usize;
-        bytes[1] = draw.bytes(len);
-    }
-    if number == 26 || number == 27 {
-        bytes[0] = if draw.once(4) { draw.bytes(8) } else { draw::IDM.into() };
-        let blocks = 1 + draw.below(4) as usize;
-        bytes[1] = draw.bytes(blocks);
-        bytes[2] = draw.bytes(16 * blocks);
-    }
+    fit(draw, number, &mut x, &mut bytes);
     let ms = draw.pick(&[0, 1, 100, 65535, u32::MAX as u64]);
     let caller = if draw.once(24) { draw.byte() as u64 } else { draw.below(8) };
     Entry::Call { arguments: [number, ms, draw.number(), x, draw.below(4), caller], bytes }

@@ -1,6 +1,6 @@
 -- `Entry::frame` meets its contract.
 use mathlib.Core.Path.{sym, _∙_}
-use Rattle.framing.specs.Build.{outcome}
+use Rattle.framing.specs.Build.{returned}
 use Rattle.acceptance.specs.LineLaws.{built-format, built-none}
 use borrow.Author.Needs.{needs}
 use Rattle.acceptance.proofs.Entry.frame.Statement.{statement}
@@ -12,7 +12,7 @@ returns c =
     built-format _ _ _ _ s (c .before .before .build .ensures)
 
 returns-2 : tie.Need-returns-2
-unfolding outcome
+unfolding returned
 returns-2 c = built-none _ _ (sym (c .enum-told .given .1) ∙ c .before .before .by-number .ensures)
 
 pub frame-spec : {M : Type 1} → statement M

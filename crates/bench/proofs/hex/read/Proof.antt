@@ -1,12 +1,12 @@
 -- `hex::read` meets its contract.
-use Rattle.bench.specs.Texts.{outcome}
+use Rattle.bench.specs.Texts.{returned}
 use Rattle.bench.specs.HexLaws.{read-bad, read-short, read-done, may-read}
 use borrow.Author.Needs.{needs}
 use Rattle.bench.proofs.hex.read.Statement.{statement}
 use Rattle.bench.proofs.hex.read.Tie as tie
 
 pub read-spec : {M : Type 1} → statement M
-unfolding outcome
+unfolding returned
 read-spec =
     tie.close
     (tie.spec

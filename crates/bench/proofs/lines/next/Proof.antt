@@ -1,6 +1,6 @@
 -- `lines::next` meets its contract.
-use Rattle.bench.specs.LineLaws.{held-order, held-inside}
-use Rattle.bench.proofs.NextLaws.{held-fed, held-line, held-none, held-put}
+use Rattle.bench.specs.LineLaws.{unread-order, unread-inside}
+use Rattle.bench.proofs.NextLaws.{unread-fed, unread-line, unread-none, unread-put}
 use mathlib.Core.Path.{refl}
 use native.Mathlib.Omega.{arith}
 use borrow.Author.Needs.{needs}
@@ -12,8 +12,8 @@ returns c =
     let rest = c .before .before .before .before .before .before .before .before .before .before .before .within in
     let is = c .before .before .before .before .before .before .before .before .before-feed .ensures .0 in
     let added = c .before .before .before .before .before .add .ensures in (
-      λ _. held-line _ _ _ _ _ _ _ (rest .ensures) is added _ _ (search needs) (c .told .ensures) refl,
-      held-fed _ _ _ _ _ _ _ (rest .ensures) is added _ _ (search needs) (c .told .ensures) refl,
+      λ _. unread-line _ _ _ _ _ _ _ (rest .ensures) is added _ _ (search needs) (c .line-of .ensures) refl,
+      unread-fed _ _ _ _ _ _ _ (rest .ensures) is added _ _ (search needs) (c .line-of .ensures) refl,
     )
 
 returns-2 : tie.Need-returns-2
@@ -21,17 +21,17 @@ returns-2 c =
     let rest = c .before .before .before .before .before .before .before .before .before .before .before .before .before .before .before .before .within in
     let is = c .before .before .before .before .before .before .before .before .before .before .before .before .before .before-feed .ensures .0 in
     let added = c .before .before .before .before .before .before .before .before .before .before .add .ensures in
-    let none = held-none _ _ _ _ _ _ _ (rest .ensures) is added (search needs) in
-    (λ h. absurd (omega (arith, none)), c .before .before .before .before .read-on .ensures _ _ none (held-put _ _ _ _ _ _ _ (rest .ensures) is added (search needs)))
+    let none = unread-none _ _ _ _ _ _ _ (rest .ensures) is added (search needs) in
+    (λ h. absurd (omega (arith, none)), c .before .before .before .before .read-on .ensures _ _ none (unread-put _ _ _ _ _ _ _ (rest .ensures) is added (search needs)))
 
 pub next-spec : {M : Type 1} → statement M
 next-spec =
     tie.close
     (tie.spec
     (λ c κs. search needs)
-    (λ c. search (held-order, needs))
-    (λ c. search (held-order, needs))
-    (λ c. search (held-inside, needs))
+    (λ c. search (unread-order, needs))
+    (λ c. search (unread-order, needs))
+    (λ c. search (unread-inside, needs))
     (λ c κs. search needs)
     (λ c. search needs)
     (λ c κs. search needs)

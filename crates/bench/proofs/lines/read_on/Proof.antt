@@ -21,7 +21,7 @@ returns-2 c =
     let added = c .before .before .before .before .before in
     let counted = c .before .before .before .before .before .before .before .before in
     let filled = c .before .before .before .before .before .before .before .before .before .before .before .before .before in
-    λ t l none b. sofar-fed t l _ _ (c .before .before .before .before .before .before .before .before .before .before .before .before .before .before .before .before .loop .inv .2 t l none b) _ _ _ _ _ (filled .fill .ensures .0) (counted .before-feed .ensures .0) (added .add .ensures) (search needs) _ (c .told .ensures)
+    λ t l none b. sofar-fed t l _ _ (c .before .before .before .before .before .before .before .before .before .before .before .before .before .before .before .before .loop .inv .2 t l none b) _ _ _ _ _ (filled .fill .ensures .0) (counted .before-feed .ensures .0) (added .add .ensures) (search needs) _ (c .line-of .ensures)
 
 loop-again : tie.Need-loop-again Inv-loop μ-loop
 loop-again c =

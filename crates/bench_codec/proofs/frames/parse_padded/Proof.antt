@@ -1,5 +1,5 @@
 -- `frames::parse_padded` meets its contract.
-use Rattle.framing.specs.Rules.{told}
+use Rattle.framing.specs.Rules.{same-value}
 use Rattle.bench_codec.proofs.FrameLaws.{padded-none, zeros-done}
 use borrow.Author.Needs.{needs}
 use Rattle.bench_codec.proofs.frames.parse_padded.Statement.{statement}
@@ -16,6 +16,6 @@ parse-padded-spec =
     (λ c κs. search needs)
     (λ c κs. search needs)
     (λ c. search needs)
-    (λ c. search (zeros-done, told, needs) depth 8)
+    (λ c. search (zeros-done, same-value, needs) depth 8)
     (λ c. search needs)
-    (λ c. search (padded-none, told, needs) depth 8))
+    (λ c. search (padded-none, same-value, needs) depth 8))

@@ -1,5 +1,5 @@
 -- `frames::yes_or_no` meets its contract.
-use Rattle.bench_codec.proofs.FrameLaws.{told-yes, told-no}
+use Rattle.bench_codec.proofs.FrameLaws.{known-yes, known-no}
 use borrow.Author.Needs.{needs}
 use Rattle.bench_codec.proofs.frames.yes_or_no.Statement.{statement}
 use Rattle.bench_codec.proofs.frames.yes_or_no.Tie as tie
@@ -13,6 +13,6 @@ yes-or-no-spec =
     (λ c. search needs)
     (λ c κs. search needs)
     (λ c. search needs)
-    (λ c. search (told-yes, needs))
+    (λ c. search (known-yes, needs))
     (λ c. search needs)
-    (λ c. search (told-no, needs)))
+    (λ c. search (known-no, needs)))

@@ -6,4 +6,4 @@ use Rattle.chipset.proofs.response.from.Statement.{statement}
 use Rattle.chipset.proofs.response.from.Tie as tie
 
 pub from-spec : {M : Type 1} → statement M
-from-spec = tie.close (tie.spec (λ c. search needs) (λ c. record { decides = λ f. decision-rest f _ _ _ (c .if1 .taken) refl }) (λ c. record { decides = λ f. decision-none f _ _ (c .if1 .left) }))
+from-spec = tie.close (tie.spec (λ c. search needs) (λ c. record { decision = λ f. decision-rest f _ _ _ (c .if1 .taken) refl }) (λ c. record { decision = λ f. decision-none f _ _ (c .if1 .left) }))

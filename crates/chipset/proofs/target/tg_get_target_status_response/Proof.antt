@@ -1,7 +1,7 @@
 -- `chipset::target::tg_get_target_status_response` meets its contract.
 use Rattle.chipset.specs.Responses.{withLength, targetAnswer}
 use Rattle.stages.specs.Laws.{answers-by-tests, answer-true, answer-false}
-use Rattle.chipset.specs.Laws.{comes-rates}
+use Rattle.chipset.specs.Laws.{answer-rates}
 use native.Mathlib.Omega.{arith}
 use borrow.Author.Needs.{needs}
 use Rattle.chipset.proofs.target.tg_get_target_status_response.Statement.{statement}
@@ -9,7 +9,7 @@ use Rattle.chipset.proofs.target.tg_get_target_status_response.Tie as t
 
 returns-4 : tie.Need-returns-4
 unfolding targetAnswer withLength
-returns-4 c = answer-false _ _ _ _ _ (search (answers-by-tests, needs)) (answer-true _ _ _ _ _ (search (answers-by-tests, needs)) (answer-false _ _ _ _ _ (search (answers-by-tests, needs)) (answer-false _ _ _ _ _ (search (answers-by-tests, needs)) (comes-rates _ _ _ _ _ _ (c .before .before .rate .ensures) (c .before .rate2 .ensures) (c .with-rates .ensures _ (omega arith))))))
+returns-4 c = answer-false _ _ _ _ _ (search (answers-by-tests, needs)) (answer-true _ _ _ _ _ (search (answers-by-tests, needs)) (answer-false _ _ _ _ _ (search (answers-by-tests, needs)) (answer-false _ _ _ _ _ (search (answers-by-tests, needs)) (answer-rates _ _ _ _ _ _ (c .before .before .rate .ensures) (c .before .rate2 .ensures) (c .with-rates .ensures _ (omega arith))))))
 
 returns-5 : tie.Need-returns-5
 unfolding targetAnswer withLength

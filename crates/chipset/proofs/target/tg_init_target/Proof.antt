@@ -1,5 +1,5 @@
 use Rattle.chipset.specs.Commands.{firstOf}
-use Rattle.framing.specs.Rules.{told}
+use Rattle.framing.specs.Rules.{same-value}
 use Rattle.stages.specs.Starts.{asserted, starts-true, starts-false}
 use borrow.Author.Needs.{needs}
 use Rattle.chipset.proofs.target.tg_init_target.Statement.{statement}
@@ -15,5 +15,5 @@ tg-init-target-spec =
     (λ c κs. search needs)
     (λ c κs. search needs)
     (λ c κs. search needs)
-    (λ c. starts-true _ _ _ _ _ _ (search (told, needs)) (c .command .ensures _ _ _ (c .before .put-all .ensures)))
-    (λ c. starts-false _ _ _ _ _ _ (search (told, needs)) (c .refused .ensures _)))
+    (λ c. starts-true _ _ _ _ _ _ (search (same-value, needs)) (c .command .ensures _ _ _ (c .before .put-all .ensures)))
+    (λ c. starts-false _ _ _ _ _ _ (search (same-value, needs)) (c .refused .ensures _)))

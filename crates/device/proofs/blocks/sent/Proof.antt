@@ -1,18 +1,18 @@
 -- `device::blocks::sent` meets its contract.
 use mathlib.Core.Path.{sym, ap, _∙_}
-use Rattle.framing.specs.Build.{outcome, left}
+use Rattle.framing.specs.Build.{returned, left}
 use Rattle.device.specs.Blocks.{built-sent, built-refused}
 use borrow.Author.Needs.{needs}
 use Rattle.device.proofs.blocks.sent.Statement.{statement}
 use Rattle.device.proofs.blocks.sent.Tie as tie
 
 returns : tie.Need-returns
-unfolding outcome
-returns c = λ fits p c₀ c₁ few e. built-sent c₀ c₁ p _ _ _ _ fits few (ap (λ b. left (outcome b) c₁) (sym (c .before .before .built .given .1)) ∙ e) (c .command .ensures)
+unfolding returned
+returns c = λ fits p c₀ c₁ few e. built-sent c₀ c₁ p _ _ _ _ fits few (ap (λ b. left (returned b) c₁) (sym (c .before .before .built .given .1)) ∙ e) (c .command .ensures)
 
 returns-2 : tie.Need-returns-2
-unfolding outcome
-returns-2 c = λ fits p c₀ c₁ few e. built-refused c₀ c₁ p _ _ _ _ fits few (ap (λ b. left (outcome b) c₁) (sym (c .before .before .built2 .given .1)) ∙ e) (c .refused .ensures)
+unfolding returned
+returns-2 c = λ fits p c₀ c₁ few e. built-refused c₀ c₁ p _ _ _ _ fits few (ap (λ b. left (returned b) c₁) (sym (c .before .before .built2 .given .1)) ∙ e) (c .refused .ensures)
 
 pub sent-spec : {M : Type 1} → statement M
 sent-spec =

@@ -4,7 +4,7 @@ use Rattle.chipset.specs.Responses.{withStatus}
 use Rattle.device.specs.Transceive.{type2Answer}
 use Rattle.stages.specs.Laws.{answers-by-tests, answer-true}
 use Rattle.chipset.specs.Laws.{has-first}
-use Rattle.device.specs.Transceive.{check-told}
+use Rattle.device.specs.Transceive.{check-known}
 use borrow.Author.Needs.{needs}
 use Rattle.device.proofs.transceive.type2_response.Statement.{statement}
 use Rattle.device.proofs.transceive.type2_response.Tie as tie
@@ -17,11 +17,11 @@ unfolding type2Answer withStatus
 returns c =
     answer-true _ _ _ _ _ (search (answers-by-tests, needs))
     (answer-true _ _ _ _ _ (search (answers-by-tests, needs))
-    (answer-true _ _ _ _ _ (search (check-told, needs)) (c .part .ensures _ (omega arith))))
+    (answer-true _ _ _ _ _ (search (check-known, needs)) (c .part .ensures _ (omega arith))))
 
 returns-2 : tie.Need-returns-2
 unfolding type2Answer withStatus
-returns-2 c = search (check-told, answers-by-tests, needs) depth 10
+returns-2 c = search (check-known, answers-by-tests, needs) depth 10
 
 returns-3 : tie.Need-returns-3
 unfolding type2Answer withStatus

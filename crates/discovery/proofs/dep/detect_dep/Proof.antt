@@ -1,4 +1,5 @@
-use Rattle.stages.specs.Bitrates.{codeFor, rate-refused, rate-chosen}
+-- `discovery::dep::detect_dep` meets its contract.
+use mathlib.Core.Path.{refl}
 use Rattle.stages.specs.Starts.{asserted, starts-true, starts-false}
 use Rattle.discovery.specs.Firsts.{depAsserted}
 use Rattle.discovery.specs.FirstLaws.{under-16, over-64, from-16-to-64, not-supported, supported}
@@ -7,19 +8,19 @@ use Rattle.discovery.proofs.dep.detect_dep.Statement.{statement}
 use Rattle.discovery.proofs.dep.detect_dep.Tie as tie
 
 returns-3 : tie.Need-returns-3
-unfolding depAsserted asserted codeFor
-returns-3 c = starts-true _ _ _ _ _ _ (search (from-16-to-64, needs)) (rate-refused _ _ _ _ _ _ (c .before .before .before .code .ensures) _ (c .before .enum-told .given .1) (c .refused3 .ensures _))
+unfolding depAsserted asserted
+returns-3 c =
+    starts-true _ _ _ _ _ _ (search (from-16-to-64, needs))
+    (not-supported _ _ _ _ _ _ _ _ (c .before .before .before .before .rate .ensures) refl (c .before .before .before .dep-code .ensures) (c .before .enum-told .given .1) (c .refused3 .ensures _))
 
 returns-4 : tie.Need-returns-4
-unfolding depAsserted asserted codeFor
-returns-4 c = starts-true _ _ _ _ _ _ (search (from-16-to-64, needs)) (rate-chosen _ _ _ _ _ _ (c .before .before .before .before .before .before .before .code .ensures) _ (c .before .before .before .before .before .rate .given .1) (not-supported _ _ _ _ _ _ (c .before .before .before .dep-code .ensures) (c .before .enum-told2 .given .1) (c .refused4 .ensures _)))
-
-returns-5 : tie.Need-returns-5
-unfolding depAsserted asserted codeFor
-returns-5 c = starts-true _ _ _ _ _ _ (search (from-16-to-64, needs)) (rate-chosen _ _ _ _ _ _ (c .before .before .before .before .before .before .before .before .before .code .ensures) _ (c .before .before .before .before .before .before .before .rate .given .1) (supported _ _ _ _ _ _ (c .before .before .before .before .before .dep-code .ensures) _ (c .before .before .before .code2 .given .1) (c .jump .ensures)))
+unfolding depAsserted asserted
+returns-4 c =
+    starts-true _ _ _ _ _ _ (search (from-16-to-64, needs))
+    (supported _ _ _ _ _ _ _ _ (c .before .before .before .before .before .before .rate .ensures) refl (c .before .before .before .before .before .dep-code .ensures) _ (c .before .before .before .code .given .1) (c .jump .ensures))
 
 pub detect-dep-spec : {M : Type 1} → statement M
-unfolding asserted codeFor depAsserted
+unfolding asserted depAsserted
 detect-dep-spec =
     tie.close
     (tie.spec
@@ -28,14 +29,10 @@ detect-dep-spec =
     (λ c κs. search needs)
     (λ c. starts-false _ _ _ _ _ _ (search (over-64, needs)) (c .refused2 .ensures _))
     (λ c κs. search needs)
+    (λ c κs. search needs)
     (λ c. search needs)
     (λ c. search needs)
     (λ c κs. search needs)
     returns-3
     (λ c κs. search needs)
-    (λ c. search needs)
-    (λ c. search needs)
-    (λ c κs. search needs)
-    returns-4
-    (λ c κs. search needs)
-    returns-5)
+    returns-4)

@@ -3,7 +3,7 @@ use Rattle.stages.specs.Stages.{withLength}
 use Rattle.discovery.specs.Decisions.{jumpedTo}
 use native.Mathlib.Omega.{arith}
 use Rattle.stages.specs.Laws.{decided, decision-true, decision-false, decision-keep}
-use Rattle.discovery.specs.Laws.{decides-partner}
+use Rattle.discovery.specs.Laws.{decision-partner}
 use borrow.Author.Needs.{needs}
 use Rattle.discovery.proofs.dep.jumped.Statement.{statement}
 use Rattle.discovery.proofs.dep.jumped.Tie as tie
@@ -14,7 +14,7 @@ returns-2 c = λ f. decision-true _ _ _ _ _ _ (search (decided, needs)) (decisio
 
 returns-3 : tie.Need-returns-3
 unfolding jumpedTo withLength
-returns-3 c = λ f. decision-false _ _ _ _ _ _ (search (decided, needs)) (decides-partner _ _ _ _ _ (c .before .before .byte-or .ensures) (c .no-partner .ensures f _))
+returns-3 c = λ f. decision-false _ _ _ _ _ _ (search (decided, needs)) (decision-partner _ _ _ _ _ (c .before .before .byte-or .ensures) (c .no-partner .ensures f _))
 
 pub jumped-spec : {M : Type 1} → statement M
 unfolding jumpedTo withLength

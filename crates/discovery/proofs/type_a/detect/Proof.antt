@@ -1,31 +1,19 @@
-use Rattle.stages.specs.Bitrates.{codeFor, rate-refused, rate-chosen}
+-- `discovery::type_a::detect` meets its contract.
+use mathlib.Core.Path.{refl}
 use Rattle.discovery.specs.FirstLaws.{not-supported, supported}
 use borrow.Author.Needs.{needs}
 use Rattle.discovery.proofs.type_a.detect.Statement.{statement}
 use Rattle.discovery.proofs.type_a.detect.Tie as tie
 
-returns-2 : tie.Need-returns-2
-unfolding codeFor
-returns-2 c = rate-chosen _ _ _ _ _ _ (c .before .before .before .before .before .before .before .code .ensures) _ (c .before .before .before .before .before .rate .given .1) (not-supported _ _ _ _ _ _ (c .before .before .before .type-a-code .ensures) (c .before .enum-told2 .given .1) (c .refused2 .ensures _))
-
-returns-3 : tie.Need-returns-3
-unfolding codeFor
-returns-3 c = rate-chosen _ _ _ _ _ _ (c .before .before .before .before .before .before .before .before .before .code .ensures) _ (c .before .before .before .before .before .before .before .rate .given .1) (supported _ _ _ _ _ _ (c .before .before .before .before .before .type-a-code .ensures) _ (c .before .before .before .code2 .given .1) (c .list .ensures))
-
 pub detect-spec : {M : Type 1} → statement M
-unfolding codeFor
 detect-spec =
     tie.close
     (tie.spec
     (λ c κs. search needs)
-    (λ c. search needs)
-    (λ c. search needs)
-    (λ c κs. search needs)
-    (λ c. rate-refused _ _ _ _ _ _ (c .before .before .before .code .ensures) _ (c .before .enum-told .given .1) (c .refused .ensures _))
     (λ c κs. search needs)
     (λ c. search needs)
     (λ c. search needs)
     (λ c κs. search needs)
-    returns-2
+    (λ c. not-supported _ _ _ _ _ _ _ _ (c .before .before .before .before .rate .ensures) refl (c .before .before .before .type-a-code .ensures) (c .before .enum-told .given .1) (c .refused .ensures _))
     (λ c κs. search needs)
-    returns-3)
+    (λ c. supported _ _ _ _ _ _ _ _ (c .before .before .before .before .before .before .rate .ensures) refl (c .before .before .before .before .before .type-a-code .ensures) _ (c .before .before .before .code .given .1) (c .list .ensures)))

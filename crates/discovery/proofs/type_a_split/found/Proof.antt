@@ -3,7 +3,7 @@ use native.Mathlib.Omega.{arith}
 use borrow.Author.Needs.{needs}
 use Rattle.stages.specs.Laws.{decided, decision-true, decision-false, decision-next}
 use Rattle.discovery.specs.Decisions.{splitFound}
-use Rattle.discovery.specs.SplitLaws.{data-told, decides-lengths}
+use Rattle.discovery.specs.SplitLaws.{data-known, decision-lengths}
 use Rattle.discovery.proofs.type_a_split.found.Statement.{statement}
 use Rattle.discovery.proofs.type_a_split.found.Tie as tie
 
@@ -15,15 +15,15 @@ add-byte-or c = omega (arith, c .before .before .shared-slice-known2 .given 5)
 
 returns : tie.Need-returns
 unfolding splitFound
-returns c = λ f. decision-true _ _ _ _ _ _ (search (data-told, needs)) (decision-true _ _ _ _ _ _ (search (decided, needs)) (decision-next _ _ _ _ _ _ (c .card .ensures f)))
+returns c = λ f. decision-true _ _ _ _ _ _ (search (data-known, needs)) (decision-true _ _ _ _ _ _ (search (decided, needs)) (decision-next _ _ _ _ _ _ (c .card .ensures f)))
 
 returns-2 : tie.Need-returns-2
 unfolding splitFound
-returns-2 c = λ f. decision-true _ _ _ _ _ _ (search (data-told, needs)) (decision-false _ _ _ _ _ _ (search (decided, needs)) (decides-lengths _ _ _ _ _ _ _ (c .card2 .ensures f) (search needs)))
+returns-2 c = λ f. decision-true _ _ _ _ _ _ (search (data-known, needs)) (decision-false _ _ _ _ _ _ (search (decided, needs)) (decision-lengths _ _ _ _ _ _ _ (c .card2 .ensures f) (search needs)))
 
 returns-3 : tie.Need-returns-3
 unfolding splitFound
-returns-3 c = λ f. decision-false _ _ _ _ _ _ (search (data-told, needs)) (search (decided, needs))
+returns-3 c = λ f. decision-false _ _ _ _ _ _ (search (data-known, needs)) (search (decided, needs))
 
 pub found-spec : {M : Type 1} → statement M
 found-spec =

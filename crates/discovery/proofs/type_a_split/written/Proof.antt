@@ -1,9 +1,9 @@
 -- `type_a_split::written` meets its contract.
 use borrow.Author.Needs.{needs}
-use Rattle.framing.specs.Rules.{told}
+use Rattle.framing.specs.Rules.{same-value}
 use Rattle.stages.specs.Laws.{decided, decision-false}
 use Rattle.discovery.specs.Decisions.{splitWritten}
-use Rattle.discovery.specs.SplitLaws.{decides-lengths}
+use Rattle.discovery.specs.SplitLaws.{decision-lengths}
 use Rattle.discovery.proofs.type_a_split.written.Statement.{statement}
 use Rattle.discovery.proofs.type_a_split.written.Tie as tie
 
@@ -11,4 +11,4 @@ pub written-spec : {M : Type 1} → statement M
 unfolding splitWritten
 written-spec =
     tie.close
-    (tie.spec (λ c κs. search needs) (λ c. search needs) (λ c κs. search needs) (λ c κs. search needs) (λ c. search (told, decided, needs) depth 8) (λ c. decision-false _ _ _ _ _ _ (search (told, needs)) (decides-lengths _ _ _ _ _ _ _ (c .found .ensures _) (search needs))))
+    (tie.spec (λ c κs. search needs) (λ c. search needs) (λ c κs. search needs) (λ c κs. search needs) (λ c. search (same-value, decided, needs) depth 8) (λ c. decision-false _ _ _ _ _ _ (search (same-value, needs)) (decision-lengths _ _ _ _ _ _ _ (c .found .ensures _) (search needs))))

@@ -1,5 +1,6 @@
+-- `discovery::type_b::detect_type_b` meets its contract.
+use mathlib.Core.Path.{refl}
 use native.Mathlib.Omega.{arith}
-use Rattle.stages.specs.Bitrates.{codeFor, rate-refused, rate-chosen}
 use Rattle.stages.specs.Starts.{short-staged}
 use Rattle.discovery.specs.Firsts.{typeBFirst}
 use Rattle.discovery.specs.FirstLaws.{not-supported, supported, same-afi}
@@ -8,31 +9,24 @@ use Rattle.discovery.proofs.type_b.detect_type_b.Statement.{statement}
 use Rattle.discovery.proofs.type_b.detect_type_b.Tie as tie
 
 returns-2 : tie.Need-returns-2
-unfolding codeFor typeBFirst
-returns-2 c = rate-chosen _ _ _ _ _ _ (c .before .before .before .before .before .before .before .code .ensures) _ (c .before .before .before .before .before .rate .given .1) (not-supported _ _ _ _ _ _ (c .before .before .before .type-b-code .ensures) (c .before .enum-told2 .given .1) (c .refused2 .ensures _))
-
-returns-3 : tie.Need-returns-3
-unfolding codeFor typeBFirst
-returns-3 c = rate-chosen _ _ _ _ _ _ (c .before .before .before .before .before .before .before .before .before .before .before .before .before .code .ensures) _ (c .before .before .before .before .before .before .before .before .before .before .before .rate .given .1) (supported _ _ _ _ _ _ (c .before .before .before .before .before .before .before .before .before .type-b-code .ensures) _ (c .before .before .before .before .before .before .before .code2 .given .1) (same-afi _ _ _ _ _ _ (c .before .before .before .before .before .byte-or .ensures) (short-staged _ _ _ _ _ (omega arith) (c .staged .ensures _ _ _ (c .before .put-two .ensures)))))
+unfolding typeBFirst
+returns-2 c =
+    supported _ _ _ _ _ _ _ _ (c .before .before .before .before .before .before .before .before .before .before .rate .ensures) refl (c .before .before .before .before .before .before .before .before .before .type-b-code .ensures) _ (c .before .before .before .before .before .before .before .code .given .1)
+    (same-afi _ _ _ _ _ _ (c .before .before .before .before .before .byte-or .ensures) (short-staged _ _ _ _ _ (omega arith) (c .staged .ensures _ _ _ (c .before .put-two .ensures))))
 
 pub detect-type-b-spec : {M : Type 1} → statement M
-unfolding codeFor typeBFirst
 detect-type-b-spec =
     tie.close
     (tie.spec
     (λ c κs. search needs)
-    (λ c. search needs)
-    (λ c. search needs)
-    (λ c κs. search needs)
-    (λ c. rate-refused _ _ _ _ _ _ (c .before .before .before .code .ensures) _ (c .before .enum-told .given .1) (c .refused .ensures _))
     (λ c κs. search needs)
     (λ c. search needs)
     (λ c. search needs)
     (λ c κs. search needs)
-    returns-2
+    (λ c. not-supported _ _ _ _ _ _ _ _ (c .before .before .before .before .rate .ensures) refl (c .before .before .before .type-b-code .ensures) (c .before .enum-told .given .1) (c .refused .ensures _))
     (λ c κs. search needs)
     (λ c. search needs)
     (λ c. search needs)
     (λ c κs. search needs)
     (λ c κs. search needs)
-    returns-3)
+    returns-2)

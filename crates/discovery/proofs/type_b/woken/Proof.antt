@@ -7,4 +7,4 @@ use Rattle.discovery.proofs.type_b.woken.Tie as tie
 
 pub woken-spec : {M : Type 1} → statement M
 unfolding wokenUp
-woken-spec = tie.close (tie.spec (λ c κs. search needs) (λ c κs. search needs) (λ c. λ f. decision-true _ _ _ _ _ _ (search (decided, needs)) (c .from .ensures .decides f)) (λ c. λ f. search (decided, needs) depth 8))
+woken-spec = tie.close (tie.spec (λ c κs. search needs) (λ c κs. search needs) (λ c. λ f. decision-true _ _ _ _ _ _ (search (decided, needs)) (c .from .ensures .decision f)) (λ c. λ f. search (decided, needs) depth 8))

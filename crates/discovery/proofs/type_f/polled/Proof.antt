@@ -18,7 +18,7 @@ returns-2 c = λ f. decision-false _ _ _ _ _ _ (search (decided, needs)) (short-
 
 returns-3 : tie.Need-returns-3
 unfolding polled withLength
-returns-3 c = λ f. decision-false _ _ _ _ _ _ (search (decided, needs)) (decision-false _ _ _ _ _ _ (search (not-short, needs)) (decision-false _ _ _ _ _ _ (search (decided, needs)) (c .from .ensures .decides f)))
+returns-3 c = λ f. decision-false _ _ _ _ _ _ (search (decided, needs)) (decision-false _ _ _ _ _ _ (search (not-short, needs)) (decision-false _ _ _ _ _ _ (search (decided, needs)) (c .from .ensures .decision f)))
 
 pub polled-spec : {M : Type 1} → statement M
 polled-spec = tie.close (tie.spec (λ c κs. search needs) returns (λ c κs. search needs) returns-2 returns-3)

@@ -1,4 +1,4 @@
--- `engine::state::is_long` meets its contract.
+-- `engine::core::is_long` meets its contract.
 use Rattle.engine.specs.Core.{isLong}
 use borrow.Author.Needs.{needs}
 use Rattle.engine.proofs.core.is_long.Statement.{statement}

@@ -1,7 +1,7 @@
 use mathlib.Core.Path.{_≡_, sym, ap}
-use Prim.Native.Nat.{_+_, _-_, _≤_}
+use Prim.Native.Nat.{_+_, _-_}
 use native.Mathlib.Omega.{arith}
-use lib.ListN.{length, take, drop, length-take}
+use lib.ListN.{take, drop, length-take}
 use lib.Seq.{length-take-le}
 use Rattle.stages.specs.Decided.{headBytes, tailBytes}
 use Rattle.stages.specs.Put.{laid}

@@ -1,12 +1,12 @@
 -- `felica::reply::build_write_reply` meets its contract.
-use Rattle.framing.specs.Build.{outcome}
+use Rattle.framing.specs.Build.{returned}
 use Rattle.felica.specs.Laid.{as-built, as-refused}
 use borrow.Author.Needs.{needs}
 use Rattle.felica.proofs.reply.build_write_reply.Statement.{statement}
 use Rattle.felica.proofs.reply.build_write_reply.Tie as tie
 
 returns-2 : tie.Need-returns-2
-unfolding outcome
+unfolding returned
 returns-2 c = search (as-refused, needs)
 
 pub build-write-reply-spec : {M : Type 1} → statement M

@@ -1,6 +1,6 @@
 -- `felica::reply::is_reply` meets its contract.
 use Rattle.felica.specs.Fields.{isReply}
-use Rattle.felica.specs.Rules.{tests, told-is}
+use Rattle.felica.specs.Rules.{tests, known-is}
 use Rattle.felica.specs.Taken.{not-length}
 use borrow.Author.Needs.{needs}
 use Rattle.felica.proofs.reply.is_reply.Statement.{statement}
@@ -15,4 +15,4 @@ is-reply-spec =
     (λ c κs. search needs)
     (λ c. search (not-length, needs))
     (λ c κs. search needs)
-    (λ c. search (told-is, tests, needs) depth 10))
+    (λ c. search (known-is, tests, needs) depth 10))

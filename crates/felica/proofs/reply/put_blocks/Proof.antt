@@ -1,12 +1,12 @@
 -- `felica::reply::put_blocks` meets its contract.
-use Rattle.framing.specs.Build.{outcome}
+use Rattle.framing.specs.Build.{returned}
 use Rattle.felica.specs.Laid.{blocks-no-room, blocks-put}
 use borrow.Author.Needs.{needs}
 use Rattle.felica.proofs.reply.put_blocks.Statement.{statement}
 use Rattle.felica.proofs.reply.put_blocks.Tie as tie
 
 pub put-blocks-spec : {M : Type 1} → statement M
-unfolding outcome
+unfolding returned
 put-blocks-spec =
     tie.close
     (tie.spec

@@ -1,12 +1,12 @@
 -- `felica::reply::put_flags` meets its contract.
-use Rattle.framing.specs.Build.{outcome}
+use Rattle.framing.specs.Build.{returned}
 use Rattle.felica.specs.Laid.{reply-no-room, flags-put}
 use borrow.Author.Needs.{needs}
 use Rattle.felica.proofs.reply.put_flags.Statement.{statement}
 use Rattle.felica.proofs.reply.put_flags.Tie as tie
 
 pub put-flags-spec : {M : Type 1} → statement M
-unfolding outcome
+unfolding returned
 put-flags-spec =
     tie.close
     (tie.spec

@@ -1,7 +1,7 @@
 -- `felica::reply::reads_blocks` meets its contract.
 use Rattle.felica.specs.Fields.{readsBlocks}
 use Rattle.felica.specs.Rules.{bounds}
-use Rattle.felica.specs.Taken.{told-blocks}
+use Rattle.felica.specs.Taken.{known-blocks}
 use borrow.Author.Needs.{needs}
 use Rattle.felica.proofs.reply.reads_blocks.Statement.{statement}
 use Rattle.felica.proofs.reply.reads_blocks.Tie as tie
@@ -16,5 +16,5 @@ reads-blocks-spec =
     (λ c. search (bounds, needs) depth 10)
     (λ c. search (bounds, needs) depth 10)
     (λ c κs. search needs)
-    (λ c. search (told-blocks, bounds, needs) depth 10)
+    (λ c. search (known-blocks, bounds, needs) depth 10)
     (λ c. search (bounds, needs) depth 10))

@@ -1,5 +1,5 @@
 -- `felica::request::build_write_request` meets its contract.
-use Rattle.framing.specs.Build.{outcome}
+use Rattle.framing.specs.Build.{returned}
 use Rattle.felica.specs.Laid.{built, not-built}
 use Rattle.felica.specs.Laid.{write-idm, write-few, write-few-bytes}
 use borrow.Author.Needs.{needs}
@@ -7,7 +7,7 @@ use Rattle.felica.proofs.request.build_write_request.Statement.{stateme
 use Rattle.felica.proofs.request.build_write_request.Tie as tie
 
 returns-2 : tie.Need-returns-2
-unfolding outcome
+unfolding returned
 returns-2 c = search (not-built, needs)
 
 pub build-write-request-spec : {M : Type 1} → statement M

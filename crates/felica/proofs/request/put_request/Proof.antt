@@ -1,12 +1,12 @@
 -- `felica::request::put_request` meets its contract.
-use Rattle.framing.specs.Build.{outcome}
+use Rattle.framing.specs.Build.{returned}
 use Rattle.felica.specs.Laid.{request-no-room, request-put}
 use borrow.Author.Needs.{needs}
 use Rattle.felica.proofs.request.put_request.Statement.{statement}
 use Rattle.felica.proofs.request.put_request.Tie as tie
 
 pub put-request-spec : {M : Type 1} → statement M
-unfolding outcome
+unfolding returned
 put-request-spec =
     tie.close
     (tie.spec

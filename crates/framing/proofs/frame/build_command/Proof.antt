@@ -3,7 +3,7 @@ use native.Mathlib.Numerals.{add-two}
 use mathlib.Core.Path.{_≡_, sym, _∙_}
 use native.Mathlib.Omega.{arith}
 use lib.ListN.{length, length-set, length-take, length-drop}
-use Rattle.framing.specs.Build.{outcome, placeOf}
+use Rattle.framing.specs.Build.{returned, placeOf}
 use Rattle.framing.specs.Enclose.{Fits, place-fits, build-refused, command-placed}
 use Rattle.framing.specs.Settings.{rcs956}
 use Rattle.framing.specs.declared.Place.the-variants.{At}
@@ -70,11 +70,11 @@ add-t14 c =
     omega arith
 
 returns : tie.Need-returns
-unfolding outcome
+unfolding returned
 returns c = command-placed _ _ _ _ _ _ _ _ (placed (c .before .before .before .before .before .before .before .before .before)) (c .before .before .before .before .before .before .copy .ensures .1) (c .before .before .enclose .ensures)
 
 returns-2 : tie.Need-returns-2
-unfolding outcome
+unfolding returned
 returns-2 c =
     build-refused _ _ _ _
     (rw (c .before .before .before .before .format .ensures, add-two) at (sym (c .before .refusal .given .1) ∙ c .before .before .before .room-for .ensures))

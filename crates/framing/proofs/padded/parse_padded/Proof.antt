@@ -1,6 +1,6 @@
 -- `framing::padded::parse_padded` meets its contract.
 use native.Mathlib.Omega.{arith}
-use Rattle.framing.specs.PaddedAnswers.{start-low, zeros-most, zeros-fit, padded-told}
+use Rattle.framing.specs.PaddedAnswers.{start-low, zeros-most, zeros-fit, padded-known}
 use borrow.Author.Needs.{needs}
 use Rattle.framing.proofs.padded.parse_padded.Statement.{statement}
 use Rattle.framing.proofs.padded.parse_padded.Tie as tie
@@ -23,7 +23,7 @@ behind-requires c κs =
 returns : tie.Need-returns
 returns c =
     let a = c .before .before .before .before .before .args in
-    padded-told (a .format) (a .padded) (a .packet .now) _ _ _ (c .before .before .before .zeros-in .ensures) (c .before .parse .ensures) (c .behind .ensures)
+    padded-known (a .format) (a .padded) (a .packet .now) _ _ _ (c .before .before .before .zeros-in .ensures) (c .before .parse .ensures) (c .behind .ensures)
 
 pub parse-padded-spec : {M : Type 1} → statement M
 parse-padded-spec =

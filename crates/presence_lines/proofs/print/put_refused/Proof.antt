@@ -1,5 +1,5 @@
 -- `print::put_refused` meets its contract.
-use Rattle.presence_lines.specs.Bounds.{number-behind}
+use Rattle.presence_lines.proofs.PrintLaws.{refused-done}
 use borrow.Author.Needs.{needs}
 use Rattle.presence_lines.proofs.print.put_refused.Statement.{statement}
 use Rattle.presence_lines.proofs.print.put_refused.Tie as tie
@@ -14,4 +14,4 @@ put-refused-spec =
     (λ c. search needs)
     (λ c κs. search needs)
     (λ c. search needs)
-    (λ c. search (number-behind, needs)))
+    (λ c. search (refused-done, needs)))

@@ -1,11 +1,17 @@
--- `read::place` is safe and ends: the words left are one fewer at each turn.
-use Prim.Native.Nat.{_≤_, _-_}
+-- `read::place` meets its contract.
+use mathlib.Core.Path.{_≡_}
+use Prim.Native.Nat.{_≤_, _-_, _+_}
+use lib.ListN.{length, drop}
+use Rattle.bench.specs.Words.{wordsOf}
+use Rattle.presence_lines.specs.Lines.{placeOf}
+use native.Mathlib.Omega.{arith}
+use Rattle.presence_lines.proofs.ReadLaws.{place-begin, place-found, place-next, place-end}
 use borrow.Author.Needs.{needs}
 use Rattle.presence_lines.proofs.read.place.Statement.{statement}
 use Rattle.presence_lines.proofs.read.place.Tie as tie
 
 abbrev Inv-loop : tie.InvT-loop
-Inv-loop word text n i₀ i = i ≤ n
+Inv-loop word text n i₀ i = (n ≡ length (wordsOf text)) × (i ≤ n) × (placeOf word (wordsOf text) ≡ i + placeOf word (drop i (wordsOf text)))
 
 abbrev μ-loop : tie.MeasureT-loop
 μ-loop word text n i₀ i = n - i
@@ -17,11 +23,11 @@ place-spec =
     Inv-loop
     μ-loop
     (λ c κs. search needs)
-    (λ c. search needs)
+    (λ c. (search needs, search needs, place-begin _ _))
     (λ c κs. search needs)
     (λ c κs. search needs)
+    (λ c. let at-loop = c .before .before .before .before in place-found _ _ _ (at-loop .loop .inv .2) _ _ (omega (arith, at-loop .loop .inv .0)) (c .before .before .word .ensures) (c .before .is .ensures) (c .if1 .taken))
     (λ c. search needs)
     (λ c. search needs)
-    (λ c. search needs)
-    (λ c. search needs)
-    (λ c. search needs))
+    (λ c. let at-loop = c .before .before .before .before in (search needs, search needs, place-next _ _ _ (at-loop .loop .inv .2) _ _ (omega (arith, at-loop .loop .inv .0)) (c .before .before .word .ensures) (c .before .is .ensures) (c .if1 .left)))
+    (λ c. place-end _ _ _ (c .before .loop .inv .2) (omega (arith, c .before .loop .inv .0))))

@@ -1,11 +1,11 @@
 -- `lists::is_at` meets its contract.
-use Rattle.presence_list.specs.Lookups.{kept-room, kept-fits, there, not-there}
+use Rattle.presence_list.specs.Lookups.{cards-at-room, cards-at-fit, there, not-there}
 use borrow.Author.Needs.{needs}
 use Rattle.presence_list.proofs.lists.is_at.Statement.{statement}
 use Rattle.presence_list.proofs.lists.is_at.Tie as tie
 
 card-at-requires : tie.Need-card-at-requires
-card-at-requires c κs = (search (kept-room, needs), search (kept-fits, needs))
+card-at-requires c κs = (search (cards-at-room, needs), search (cards-at-fit, needs))
 
 returns : tie.Need-returns
 returns c = search (there, needs)

@@ -3,7 +3,7 @@ use native.Mathlib.Omega.{arith}
 use Rattle.presence_list.specs.Memory.{pieces, cardIn}
 use Rattle.presence_list.specs.Keyed.{place as placeOf}
 use Prim.Native.Nat.{_≤_, _-_, _+_, _/_, _<_}
-use Rattle.presence_list.specs.Lookups.{kept-room, kept-fits, place-above, place-below, place-within, place-found}
+use Rattle.presence_list.specs.Lookups.{cards-at-room, cards-at-fit, place-above, place-below, place-within, place-found}
 use borrow.Author.Needs.{needs}
 use Rattle.presence_list.proofs.lists.place.Statement.{statement}
 use Rattle.presence_list.proofs.lists.place.Tie as tie
@@ -23,7 +23,7 @@ card-at-requires c κs =
     let l = c .before .loop in
     let m = l .low + (l .high - l .low) / 2 in
     let h : m < a .count = omega arith in
-    (kept-room (a .cards .now) (a .count) (c .before .before .before .before .pre) m h, kept-fits (a .cards .now) (a .count) (c .before .before .before .before .pre) m h)
+    (cards-at-room (a .cards .now) (a .count) (c .before .before .before .before .pre) m h, cards-at-fit (a .cards .now) (a .count) (c .before .before .before .before .pre) m h)
 
 loop-again : tie.Need-loop-again Inv-loop μ-loop
 loop-again c =

@@ -1,6 +1,6 @@
 -- `lists::without` meets its contract.
 use Rattle.presence_list.specs.Growth.{Grown, without-grows, grown-none, grown-more, grown-all}
-use Rattle.presence_list.specs.Lookups.{kept-room, kept-fits}
+use Rattle.presence_list.specs.Lookups.{cards-at-room, cards-at-fit}
 use Rattle.presence_list.specs.Memory.{cardIn, pieces}
 use Rattle.presence_list.specs.Keyed.{without as withoutOf}
 use Prim.Native.Nat.{_-_}
@@ -25,7 +25,7 @@ put-missing-requires c κs =
     let p = c .before .before .before .before .before .before .pre in
     let l = c .before .before .loop in
     let h = c .before .loop-test .taken in
-    (p .0, kept-room (a .cards .now) (a .count) (p .1) (l .i) h, kept-fits (a .cards .now) (a .count) (p .1) (l .i) h, omega arith)
+    (p .0, cards-at-room (a .cards .now) (a .count) (p .1) (l .i) h, cards-at-fit (a .cards .now) (a .count) (p .1) (l .i) h, omega arith)
 
 loop-again : tie.Need-loop-again Inv-loop μ-loop
 loop-again c =

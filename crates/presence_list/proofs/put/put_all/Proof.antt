@@ -1,5 +1,5 @@
 -- `put::put_all` meets its contract.
-use Rattle.presence_list.specs.Fills.{Filled, filled-none, filled-kept, filled-fit, filled-more, filled-over, filled-all}
+use Rattle.presence_list.specs.Fills.{Filled, filled-none, filled-cards-at, filled-fit, filled-more, filled-over, filled-all}
 use lib.Seq.{length-take-le}
 use lib.ListN.{length, drop, length-drop}
 use Prim.Native.Nat.{_-_, _/_, _*_}
@@ -27,7 +27,7 @@ put-requires c κs =
     let h = c .before .before .loop-test .taken in
     let t = ap length (twenty (a .records .now) (20 * l .i)) in
     let w = length-take-le 20 (drop (20 * l .i) (a .records .now)) (rw (length-drop (20 * l .i) (a .records .now)) (omega arith)) in
-    (omega arith, filled-fit (a .cards .now) (a .count) (a .records .now) (length (a .records .now) / 20) (p .1) (p .2) (p .3) (omega arith) (p .0) (l .i) (l .n) (l .cards) (l .inv .1) h, filled-kept (a .cards .now) (a .count) (a .records .now) (length (a .records .now) / 20) (p .1) (p .2) (p .3) (omega arith) (p .0) (l .i) (l .n) (l .cards) (l .inv .1), l .inv .1 .1, omega arith)
+    (omega arith, filled-fit (a .cards .now) (a .count) (a .records .now) (length (a .records .now) / 20) (p .1) (p .2) (p .3) (omega arith) (p .0) (l .i) (l .n) (l .cards) (l .inv .1) h, filled-cards-at (a .cards .now) (a .count) (a .records .now) (length (a .records .now) / 20) (p .1) (p .2) (p .3) (omega arith) (p .0) (l .i) (l .n) (l .cards) (l .inv .1), l .inv .1 .1, omega arith)
 
 returns : tie.Need-returns Inv-loop μ-loop
 returns c =

@@ -1,38 +1,96 @@
 -- `engine::core::Core::replied` meets its contract.
-use mathlib.Core.Path.{sym, ap, _∙_, subst}
-use Prim.Native.Nat.{_≤_}
-use lib.ListN.{length, drop}
+use mathlib.Core.Logic.{⊎-elim}
+use mathlib.Core.Path.{sym, ap, _∙_}
+use native.Mathlib.Omega.{arith}
+use denote.Ref.{now}
+use lib.ListN.{take}
+use lib.Seq.{length-take-le}
+use Rattle.exchange.specs.Responses.{its-response}
+use Rattle.stages.specs.Decided.{DecisionRefines}
 use Rattle.engine.specs.Core.{arrays, followsOf, replyDecision}
-use Rattle.engine.specs.Ends.{endReply, response-few, end-follows}
+use Rattle.engine.specs.Ends.{endReply, Checked, without-response, with-response, end-follows}
+use Rattle.engine.proofs.Ends.{no-packet, decides-fault, decides-response}
 use borrow.Author.Needs.{needs}
 use Rattle.engine.proofs.core.Core.replied.Statement.{statement}
 use Rattle.engine.proofs.core.Core.replied.Tie as tie
+
+slice-aggregate-pending : tie.Need-slice-aggregate-pending
+slice-aggregate-pending c =
+    let a = c .before .before .before .before .before .before .before .before .before .args in
+    let p = c .before .before .before .before .before .before .before .before .before .pre in
+    sym (length-take-le (a .self .command) (a .command .now) (omega (arith, p .2, p .3)))
+
+slice-aggregate-kept : tie.Need-slice-aggregate-kept
+slice-aggregate-kept c =
+    let a = c .before .before .before .before .before .before .before .before .before .before .args in
+    let p = c .before .before .before .before .before .before .before .before .before .before .pre in
+    sym (length-take-le (a .self .found) (a .found .now) (omega (arith, p .1, p .4)))
 
 followed-requires : tie.Need-followed-requires
 followed-requires c κs =
     let a = c .before .before .before .before .before .before .before .before .before .before .before .before .before .before .args in
     let p = c .before .before .before .before .before .before .before .before .before .before .before .before .before .before .pre in
-    let few = response-few (a .self .exchange .code) (a .packet .now) _ (a .end) (c .before .before .before .before .before .before .before .before .payload .ensures) (p .0) in
-    (subst (λ l. length l ≤ 1022) (sym (c .before .before .before .before .before .before .before .behind-code .ensures)) few, p .1, p .2, p .3, p .4, p .5, c .before .before .before .decided .ensures .fits)
+    let to = c .before .before .before .before .before .before .match .end in
+    let response = c .before .before .before .before .before .before .match .response .now in
+    let checked : Checked (a .self .exchange .code) (a .packet .now) response (a .end) to
+    = ⊎-elim
+    (λ w. without-response _ _ _ _ _ _ (w .3 .ensures) (w .1 .given .1) _ (w .4 .taken) (w .5 .ensures) (w .6) (ap now (w .7)))
+    (⊎-elim
+    (λ w. with-response _ _ _ _ _ _ (w .3 .ensures) (w .1 .given .1) (w .4 .left) (p .0) (w .6) (ap now (w .7)))
+    (λ w. no-packet _ _ _ _ _ (w .0 .keys2) (w .1) (ap now (w .2))))
+    (c .before .before .before .before .before .before .match .came) in
+    let h = arrays (a .command .now) (a .found .now) in
+    let refines : DecisionRefines (take (a .self .found) (a .found .now)) response (c .before .before .before .match2 .decision) (replyDecision (a .self) h (endReply response to))
+    = ⊎-elim
+    (λ w. decides-fault (a .self) h _ _ _ _ to (w .4) _ (w .1 .given .1) (w .3 .ensures _))
+    (λ w. decides-response (a .self) h _ _ _ _ to (w .2) (w .0 .keys2) (w .1 .ensures))
+    (c .before .before .before .match2 .came) in
+    (checked .few, p .1, p .2, p .3, p .4, p .5, refines .fits)
 
 returns : tie.Need-returns
 returns c =
     let a = c .before .before .before .before .before .before .before .before .before .before .before .before .before .before .before .before .before .before .before .before .before .args in
+    let p = c .before .before .before .before .before .before .before .before .before .before .before .before .before .before .before .before .before .before .before .before .before .pre in
+    let to = c .before .before .before .before .before .before .before .before .before .before .before .before .before .match .end in
+    let response = c .before .before .before .before .before .before .before .before .before .before .before .before .before .match .response .now in
+    let checked : Checked (a .self .exchange .code) (a .packet .now) response (a .end) to
+    = ⊎-elim
+    (λ w. without-response _ _ _ _ _ _ (w .3 .ensures) (w .1 .given .1) _ (w .4 .taken) (w .5 .ensures) (w .6) (ap now (w .7)))
+    (⊎-elim
+    (λ w. with-response _ _ _ _ _ _ (w .3 .ensures) (w .1 .given .1) (w .4 .left) (p .0) (w .6) (ap now (w .7)))
+    (λ w. no-packet _ _ _ _ _ (w .0 .keys2) (w .1) (ap now (w .2))))
+    (c .before .before .before .before .before .before .before .before .before .before .before .before .before .match .came) in
     let h = arrays (a .command .now) (a .found .now) in
-    let code = a .self .exchange .code in
-    let reply = ap (λ l. endReply l (c .before .before .before .before .before .before .before .before .before .before .before .before .before .checked .result)) (c .before .before .before .before .before .before .before .before .before .before .before .before .before .before .behind-code .ensures) ∙ c .before .before .before .before .before .before .before .before .before .before .before .before .before .checked .ensures code (c .before .before .before .before .before .before .before .before .before .before .before .before .before .before .before .payload .ensures) in
+    let refines : DecisionRefines (take (a .self .found) (a .found .now)) response (c .before .before .before .before .before .before .before .before .before .before .match2 .decision) (replyDecision (a .self) h (endReply response to))
+    = ⊎-elim
+    (λ w. decides-fault (a .self) h _ _ _ _ to (w .4) _ (w .1 .given .1) (w .3 .ensures _))
+    (λ w. decides-response (a .self) h _ _ _ _ to (w .2) (w .0 .keys2) (w .1 .ensures))
+    (c .before .before .before .before .before .before .before .before .before .before .match2 .came) in
     c .before .before .before .before .before .before .followed .ensures
-    ∙ ap (λ d. followsOf (a .self) h d (a .buffer .now)) (c .before .before .before .before .before .before .before .before .before .before .decided .ensures .is ∙ ap (replyDecision (a .self) h) reply)
-    ∙ end-follows (a .self) h code (a .packet .now) (a .end) (a .buffer .now)
+    ∙ ap (λ d. followsOf (a .self) h d (a .buffer .now)) (refines .is ∙ ap (replyDecision (a .self) h) (checked .reply))
+    ∙ end-follows (a .self) h (a .self .exchange .code) (a .packet .now) (a .end) (a .buffer .now)
 
 pub replied-spec : {M : Type 1} → statement M
 replied-spec =
     tie.close
     (tie.spec
+    (λ c. search needs)
+    (λ c. search needs)
+    (λ c. search needs)
+    (λ c. search needs)
+    (λ c. search needs)
     (λ c κs. search needs)
     (λ c κs. search needs)
+    (λ c. omega (arith, its-response _ _ _ (c .before .response-payload .ensures) (c .if1 .left) .long))
+    (λ c. omega (arith, its-response _ _ _ (c .before .response-payload .ensures) (c .if1 .left) .long))
+    (λ c. search needs)
+    (λ c. search needs)
+    slice-aggregate-pending
+    (λ c. search needs)
+    slice-aggregate-kept
+    (λ c. search needs)
     (λ c κs. search needs)
-    (λ c κs. let p = c .before .before .before .before .before .before .before .before .before .before .pre in (p .1, p .2, p .3, p .4))
+    (λ c κs. search needs)
     followed-requires
     (λ c. search needs)
     (λ c. search needs)

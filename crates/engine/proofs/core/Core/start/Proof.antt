@@ -1,14 +1,13 @@
 use mathlib.Core.Path.{_≡_, sym, ap, ap₂, _∙_, subst}
 use Prim.Native.Nat.{_≤_}
 use native.Mathlib.Omega.{arith}
-use lib.ListN.{length, take, length-take}
+use lib.ListN.{take, length-take}
 use lib.Seq.{length-take-le}
-use Rattle.stages.specs.Put.{put, take-put}
+use Rattle.stages.specs.Put.{take-put}
 use Rattle.stages.specs.Stages.{cmd}
 use Rattle.stages.specs.Starts.{Starts, StartFits, commanded, as-staged, at-once}
 use Rattle.engine.specs.declared.core.Core.{Core}
 use Rattle.engine.specs.Core.{arrays, withCommand, sendsOf, stageOf, unchanged, startOn}
-use Rattle.engine.specs.Transitions.{firstCall}
 use borrow.Author.Needs.{needs}
 use Rattle.engine.proofs.core.Core.start.Statement.{statement}
 use Rattle.engine.proofs.core.Core.start.Tie as tie

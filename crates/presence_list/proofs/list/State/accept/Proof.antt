@@ -1,6 +1,6 @@
 -- `list::State::accept` meets its contract.
-use Rattle.presence_list.specs.Admissions.{range-kept}
-use Rattle.presence_list.specs.Accepts.{aged-kept, accept-full, put-kept, accept-done}
+use Rattle.presence_list.specs.Admissions.{range-cards-at}
+use Rattle.presence_list.specs.Accepts.{aged-cards-at, accept-full, put-cards-at, accept-done}
 use lib.ListN.{length}
 use native.Mathlib.Omega.{arith}
 use mathlib.Core.Path.{_≡_}
@@ -9,41 +9,41 @@ use Rattle.presence_list.proofs.list.State.accept.Statement.{statement}
 use Rattle.presence_list.proofs.list.State.accept.Tie as tie
 
 age-requires : tie.Need-age-requires
-age-requires c κs = let a = c .before .before .before .before .before .args in let p = c .before .before .before .before .before .pre in let k = range-kept (a .self) (a .cards .now) (search needs) (p .0) in let r = k .0 .room in omega arith
+age-requires c κs = let a = c .before .before .before .before .before .args in let p = c .before .before .before .before .before .pre in let k = range-cards-at (a .self) (a .cards .now) (search needs) (p .0) in let r = k .0 .room in omega arith
 
 put-all-requires : tie.Need-put-all-requires
-put-all-requires c κs = let a = c .before .before .before .before .before .before .before .before .args in let p = c .before .before .before .before .before .before .before .before .pre in let k = range-kept (a .self) (a .cards .now) (search needs) (p .0) in aged-kept (a .self) (a .cards .now) (a .records .now) (k .0) (k .1) (p .1) _ _ (c .before .before .age .ensures)
+put-all-requires c κs = let a = c .before .before .before .before .before .before .before .before .args in let p = c .before .before .before .before .before .before .before .before .pre in let k = range-cards-at (a .self) (a .cards .now) (search needs) (p .0) in aged-cards-at (a .self) (a .cards .now) (a .records .now) (k .0) (k .1) (p .1) _ _ (c .before .before .age .ensures)
 
 returns : tie.Need-returns
 returns c =
     let a = c .before .before .before .before .before .before .before .before .before .before .before .before .args in
     let p = c .before .before .before .before .before .before .before .before .before .before .before .before .pre in
-    let k = range-kept (a .self) (a .cards .now) (search needs) (p .0) in
+    let k = range-cards-at (a .self) (a .cards .now) (search needs) (p .0) in
     accept-full (a .self) (a .cards .now) (a .records .now) (k .0) (k .1) (p .1) _ _ (c .before .before .before .before .before .before .age .ensures) _ _ (c .before .before .before .put-all .ensures) (a .arrived .now) (a .departed .now) (a .number) _ _ (c .before .if1 .taken) (c .refused .ensures)
 
 without-requires : tie.Need-without-requires
 without-requires c κs =
     let a = c .before .before .before .before .before .before .before .before .before .before .before .before .before .before .before .args in
     let p = c .before .before .before .before .before .before .before .before .before .before .before .before .before .before .before .pre in
-    let k = range-kept (a .self) (a .cards .now) (search needs) (p .0) in
+    let k = range-cards-at (a .self) (a .cards .now) (search needs) (p .0) in
     let l : length (a .arrived .now) ≡ 1280 = search needs in
     let h = c .before .before .before .before .if1 .left in
-    (k .0, put-kept (a .self) (a .cards .now) (a .records .now) (k .0) (k .1) (p .1) _ _ (c .before .before .before .before .before .before .before .before .before .age .ensures) _ _ (c .before .before .before .before .before .before .put-all .ensures) h, omega arith)
+    (k .0, put-cards-at (a .self) (a .cards .now) (a .records .now) (k .0) (k .1) (p .1) _ _ (c .before .before .before .before .before .before .before .before .before .age .ensures) _ _ (c .before .before .before .before .before .before .put-all .ensures) h, omega arith)
 
 without-requires-2 : tie.Need-without-requires-2
 without-requires-2 c κs =
     let a = c .before .before .before .before .before .before .before .before .before .before .before .before .before .before .before .before .before .before .before .before .args in
     let p = c .before .before .before .before .before .before .before .before .before .before .before .before .before .before .before .before .before .before .before .before .pre in
-    let k = range-kept (a .self) (a .cards .now) (search needs) (p .0) in
+    let k = range-cards-at (a .self) (a .cards .now) (search needs) (p .0) in
     let l : length (a .departed .now) ≡ 1280 = search needs in
     let h = c .before .before .before .before .before .before .before .before .before .if1 .left in
-    (put-kept (a .self) (a .cards .now) (a .records .now) (k .0) (k .1) (p .1) _ _ (c .before .before .before .before .before .before .before .before .before .before .before .before .before .before .age .ensures) _ _ (c .before .before .before .before .before .before .before .before .before .before .before .put-all .ensures) h, k .0, omega arith)
+    (put-cards-at (a .self) (a .cards .now) (a .records .now) (k .0) (k .1) (p .1) _ _ (c .before .before .before .before .before .before .before .before .before .before .before .before .before .before .age .ensures) _ _ (c .before .before .before .before .before .before .before .before .before .before .before .put-all .ensures) h, k .0, omega arith)
 
 returns-2 : tie.Need-returns-2
 returns-2 c =
     let a = c .before .before .before .before .before .before .before .before .before .before .before .before .before .before .before .before .before .before .before .before .before .before .before .before .args in
     let p = c .before .before .before .before .before .before .before .before .before .before .before .before .before .before .before .before .before .before .before .before .before .before .before .before .pre in
-    let k = range-kept (a .self) (a .cards .now) (search needs) (p .0) in
+    let k = range-cards-at (a .self) (a .cards .now) (search needs) (p .0) in
     let l : length (a .cards .now) ≡ 1280 = search needs in
     accept-done (a .self) (a .cards .now) (a .records .now) (k .0) (k .1) (p .1) _ _ (c .before .before .before .before .before .before .before .before .before .before .before .before .before .before .before .before .before .before .age .ensures) _ _ (c .before .before .before .before .before .before .before .before .before .before .before .before .before .before .before .put-all .ensures) (c .before .before .before .before .before .before .before .before .before .before .before .before .before .if1 .left) (a .arrived .now) (a .departed .now) _ _ _ (a .number) _ _ l
     (c .before .before .before .before .before .before .before .before .without .ensures) (c .before .before .before .without2 .ensures) (c .copy .ensures .1)

@@ -1,0 +1,4 @@
+mod AnswerLaws
+mod PrintLaws
+mod ReadLaws
+mod RoundLaws
