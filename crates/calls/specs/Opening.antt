@@ -20,6 +20,7 @@ use Rattle.stages.specs.Stages.{send, ends, withLength}
 use Rattle.chipset.specs.Responses.{foundWritten}
 use Rattle.device.specs.Names.{hexDigit, hex, dotted, nameBytes, openedBytes}
 use Rattle.device.specs.Opening.{openingCommand, settingsCommand, isResetStage, versionKept, openingDecision}
+use Rattle.stages.specs.Decided.{foundLimit}
 use Rattle.calls.specs.Tables.{commandOf, isResetOf, decidedOf, failedOf}
 use Rattle.calls.specs.Refines.{Refines, refines-reset, refines-keep, Awaits, refines-if, ending, refusal, by-length, go-on}
 use Rattle.protocol.specs.Names.{commandClock, registerWriteFailed, registersClock, rfCfgRam07}
@@ -61,7 +62,7 @@ hex-few n = go (ltb n 16)
     go true = omega arith
     go false = omega arith
 
-opened-few : (a b c : ℕ) → length (openedBytes a b c) ≤ 1024
+opened-few : (a b c : ℕ) → length (openedBytes a b c) ≤ foundLimit
 unfolding nameBytes dotted
 opened-few a b c = omega (arith, length-append (hex b) (0x2E ∷ hex c), hex-few b, hex-few c)
 

@@ -21,6 +21,7 @@ use Rattle.stages.specs.Stages.{cmd, Decision, send, ends, withLength}
 use Rattle.discovery.specs.Decisions.{typeFCommand, txControlRead, polled, typeFDecision, pollOf, pollCommand, soFar, hasNext, codeFinished, pollFailure, onEnd, pollDecision}
 use Rattle.discovery.specs.FirstLaws.{list-few}
 use Rattle.discovery.specs.PollLaws.{none-yet, all-found}
+use Rattle.stages.specs.Decided.{foundLimit}
 use Rattle.calls.specs.Tables.{commandOf, isResetOf, decidedOf, failedOf}
 use Rattle.calls.specs.Refines.{Refines, refines-next, refines-pause, Awaits, ending, go-on}
 use Rattle.protocol.specs.Values.{rest-values}
@@ -165,7 +166,7 @@ module _ (code : ℕ) (words : List ℕ) (few : length words ≤ 32) where
         → Refines pollTypeFKind cursor pending found (codeFinished cursor pending found (map value add)) s
     unfolding codeFinished pick
     list-goes-on add s short h l =
-        let n : length (soFar cursor found ++ map value add) ≤ 1024
+        let n : length (soFar cursor found ++ map value add) ≤ foundLimit
         = omega (arith, short, count, few, at .within, ap length (sym (values-added cursor first found bytes add (at .same))), length-map (added add) value, length-added cursor first found bytes add (at .same)) in
         let one : cursor + 1 ≡ suc cursor = omega arith in
         rw (has-next cursor pending (omega (arith, h, count, few)) (omega (arith, h, count)), one) (refines-next fieldStage (suc cursor) _ s n l)

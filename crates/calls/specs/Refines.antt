@@ -14,6 +14,7 @@ use Rattle.exchange.specs.Packets.{Reply, response, failed, resetCode, resetDat
 use Rattle.protocol.specs.Scripts.{Byte, Answer, nothing, refused, Script, finish, command, reset, fieldPause, refuse, ifElse}
 use Rattle.protocol.specs.Machine.{plainAnswer}
 use Rattle.stages.specs.Stages.{cmd, Decision, send, keep, next, put, pause, ends, withLength}
+use Rattle.stages.specs.Decided.{foundLimit, responseLimit}
 use Rattle.calls.specs.Tables.{commandOf, isResetOf, decidedOf, failedOf}
 use Rattle.protocol.specs.Names.{fieldPauseTime}
 use Rattle.calls.specs.Kinds.{lastStage}
@@ -24,15 +25,15 @@ pub data Refines (kind : ℕ) : ℕ → List ℕ → List ℕ → Decision → S
   refines-end : {cursor : ℕ} {pending found : List ℕ} (a : Answer Byte) (b : Answer ℕ) → plainAnswer a ≡ b → Refines kind cursor pending found (ends b) (finish a)
   refines-send : {cursor : ℕ} {pending found : List ℕ} (n code clock : ℕ) (bytes : List ℕ) (k : Reply → Script) → leb n lastStage ≡ true → isResetOf kind n ≡ false
       → commandOf kind n cursor pending ≡ cmd code clock bytes
-      → ((cs : List ℕ) → length cs ≤ 1022 → Refines kind cursor pending found (decidedOf kind n cursor pending found cs) (k (response cs)))
+      → ((cs : List ℕ) → length cs ≤ responseLimit → Refines kind cursor pending found (decidedOf kind n cursor pending found cs) (k (response cs)))
       → ((r : Fault) → Refines kind cursor pending found (failedOf kind n cursor pending found r) (k (failed r)))
       → Refines kind cursor pending found (send n) (command code clock bytes k)
   refines-reset : {cursor : ℕ} {pending found : List ℕ} (n : ℕ) (s : Script) → leb n lastStage ≡ true → isResetOf kind n ≡ true
       → commandOf kind n cursor pending ≡ cmd resetCode 100 resetData
       → Refines kind cursor pending found (decidedOf kind n cursor pending found []) s → Refines kind cursor pending found (send n) (reset s)
-  refines-keep : {cursor : ℕ} {pending found : List ℕ} (n : ℕ) (l : List ℕ) (s : Script) → length l ≤ 1024 → Refines kind cursor pending l (send n) s
+  refines-keep : {cursor : ℕ} {pending found : List ℕ} (n : ℕ) (l : List ℕ) (s : Script) → length l ≤ foundLimit → Refines kind cursor pending l (send n) s
       → Refines kind cursor pending found (keep n l) s
-  refines-next : {cursor : ℕ} {pending found : List ℕ} (n later : ℕ) (l : List ℕ) (s : Script) → length l ≤ 1024 → Refines kind later pending l (send n) s
+  refines-next : {cursor : ℕ} {pending found : List ℕ} (n later : ℕ) (l : List ℕ) (s : Script) → length l ≤ foundLimit → Refines kind later pending l (send n) s
       → Refines kind cursor pending found (next n later l) s
   refines-put : {cursor : ℕ} {pending found : List ℕ} (n : ℕ) (l : List ℕ) (s : Script) → length l ≤ 512 → Refines kind cursor l found (send n) s
       → Refines kind cursor pending found (put n l) s
@@ -41,7 +42,7 @@ pub data Refines (kind : ℕ) : ℕ → List ℕ → List ℕ → Decision → S
 
 -- the command of a stage was sent: both its response and its failure lead on
 pub record Awaits (kind stage cursor : ℕ) (pending found : List ℕ) (k : Reply → Script) : Type 0 where
-  pub answered : (cs : List ℕ) → length cs ≤ 1022 → Refines kind cursor pending found (decidedOf kind stage cursor pending found cs) (k (response cs))
+  pub answered : (cs : List ℕ) → length cs ≤ responseLimit → Refines kind cursor pending found (decidedOf kind stage cursor pending found cs) (k (response cs))
   pub failing : (r : Fault) → Refines kind cursor pending found (failedOf kind stage cursor pending found r) (k (failed r))
 
 -- ---- rules

@@ -21,6 +21,7 @@ use Rattle.protocol.specs.Values.{rest-values}
 use Rattle.stages.specs.Stages.{Decision, send, ends, withLength}
 use Rattle.chipset.specs.Responses.{foundWritten}
 use Rattle.discovery.specs.Decisions.{typeACommand, cardBytes, listedA, fifoRead, sensRes, listedType1, ridOf, rxModeRead, typeADecision, ridFailure, typeAFailure, splitFound, splitListed, splitWritten, splitDecision}
+use Rattle.stages.specs.Decided.{foundLimit}
 use Rattle.calls.specs.Tables.{commandOf, isResetOf, decidedOf, failedOf}
 use Rattle.calls.specs.Refines.{Refines, refines-keep, refines-next, refines-put, Awaits, refines-if, refines-status, ending, none-found, refusal, by-length, go-on}
 use Rattle.calls.specs.Single.{empty-length}
@@ -54,11 +55,11 @@ abbrev listAnswered : (List ℕ → Script) → Reply → Script
 listAnswered found = either (λ list. ifElse (eqb (getD list 0 0) 0) noTarget (ifElse (ltb (length list) 2) (refuse ShortResponse) (found list))) refuse
 
 -- SENS_RES is kept, or nothing of a list that is too short for it
-sens-res-few : (list : List ℕ) → length (sensRes list) ≤ 1024
+sens-res-few : (list : List ℕ) → length (sensRes list) ≤ foundLimit
 unfolding sensRes pick
 sens-res-few list = go (ltb (length list) 4)
   where
-    go : (t : Bool) → length (pick t [] (getD list 3 0 ∷ getD list 2 0 ∷ [])) ≤ 1024
+    go : (t : Bool) → length (pick t [] (getD list 3 0 ∷ getD list 2 0 ∷ [])) ≤ foundLimit
     go true = omega arith
     go false = omega arith
 

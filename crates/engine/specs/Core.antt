@@ -1,7 +1,8 @@
 -- What a call or an event does to the running call, its arrays and the buffer: the contracts of core.rt and reply.rt.
+use mathlib.Core.Path.{_≡_}
 use mathlib.Core.Bool.{Bool}
 use mathlib.Core.List.{List, []}
-use Prim.Native.Nat.{ℕ}
+use Prim.Native.Nat.{ℕ, _≤_}
 use lib.Dec.{eqb, leb, ltb}
 use lib.ListN.{length, take}
 use Rattle.errors.specs.Choice.{pick}
@@ -22,6 +23,7 @@ use Rattle.stages.specs.Put.{put}
 use Rattle.stages.specs.Stages.{Command, Decision, send, keep, next, put as putBy, pause as pauseFor, ends}
 use Rattle.stages.specs.Starts.{Start, staged, sends as sendsFirst, refuses as refusesAtOnce}
 use Rattle.calls.specs.Tables.{commandOf, decidedOf, failedOf}
+use Rattle.stages.specs.Decided.{foundLimit}
 use Rattle.engine.specs.Transitions.{phaseOf, openingAckPhase, noCall, firstCall, validCall, packetLength, fits, at, toStage, toCursor, Transitioned, unfitting, orders, sends, resetDone, replies, refuses, transitionOf}
 use Rattle.engine.specs.declared.call.Call.{Call}
 use Rattle.engine.specs.declared.core.Core.{Core}
@@ -31,13 +33,13 @@ use Rattle.engine.specs.declared.core.Output.the-variants as out
 use Rattle.calls.specs.Kinds.{noCallKind}
 use Rattle.device.specs.Kinds.{openingKind, resetStage}
 
--- so many found bytes are kept at most
-abbrev pub foundLimit : ℕ
-foundLimit = 1024
-
 -- every field is in its range
 unfoldable pub isValid : Core → Bool
 isValid s = both (leb (s .command) dataLimit) (both (leb (s .found) foundLimit) (both (leb (s .exchange .phase) (phaseOf draining)) (validCall (s .call))))
+
+-- the bytes in use are within their limits, the lent arrays have their sizes, and the buffer has room
+abbrev pub Lent : Core → List ℕ → List ℕ → List ℕ → Type 0
+Lent s command found buffer = (s .found ≤ foundLimit) × (s .command ≤ dataLimit) × (length command ≡ dataLimit) × (length found ≡ foundLimit) × (bufferNeed ≤ length buffer)
 
 -- ---- the numbers with some fields anew
 

@@ -10,6 +10,8 @@ use Rattle.exchange.specs.Spans.{partAt, responseSpan, faultOf}
 use Rattle.exchange.specs.Responses.{no-response, its-response}
 use Rattle.stages.specs.declared.Decision.{Decision}
 use Rattle.stages.specs.declared.Decision.the-variants.{Send, Keep, Next, Put, Pause, Done, Part, Type1, UidAndAts, Nothing, Refused, RefusedAfter}
+use Rattle.stages.specs.Decided.{responseLimit}
+use Rattle.protocol.specs.Session.{packetLimit}
 use Rattle.engine.specs.Core.{Arrays, followsOf, replyDecision, repliesOf, failsOf, transitionedOf}
 use Rattle.engine.specs.Transitions.{endTransition, replyTransition, replyLength}
 use Rattle.engine.specs.declared.call.End.{End}
@@ -59,7 +61,7 @@ end-follows s f code packet (Failed r) b = refl
 
 -- what is left of an end: the bytes of the response, and the end upon which is decided
 pub record Checked (code : ℕ) (packet bytes : List ℕ) (e to : End) : Type 0 where
-  pub few : length bytes ≤ 1022
+  pub few : length bytes ≤ responseLimit
   pub reply : endReply bytes to ≡ replyIn code packet e
 
 -- a packet without a response, and one with its response
@@ -68,10 +70,10 @@ module _ (code : ℕ) (packet payload bytes : List ℕ) (e to : End) (is : paylo
   without-response fault h q t z =
       record { few = rw z (omega arith); reply = rw (t, a) (ap failed q ∙ sym (no-response code packet payload is h)) }
 
-  pub with-response : (length payload ≡ 0 → ⊥) → replyLength (endTransition code packet e) ≤ 1024 → to ≡ e → bytes ≡ take (length payload - 2) (drop 2 payload)
+  pub with-response : (length payload ≡ 0 → ⊥) → replyLength (endTransition code packet e) ≤ packetLimit → to ≡ e → bytes ≡ take (length payload - 2) (drop 2 payload)
       → Checked code packet bytes e to
   with-response h short t z =
       let r = its-response code packet payload is h in
-      let n = subst (λ d. replyLength (endTransition code packet d) ≤ 1024) a short in
-      let m = subst (λ d. replyLength (replyTransition d) ≤ 1024) (r .rest) n in
+      let n = subst (λ d. replyLength (endTransition code packet d) ≤ packetLimit) a short in
+      let m = subst (λ d. replyLength (replyTransition d) ≤ packetLimit) (r .rest) n in
       record { few = rw z (omega (arith, m)); reply = rw (t, a, z) (sym (r .rest)) }

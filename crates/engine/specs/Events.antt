@@ -17,7 +17,7 @@ use Rattle.protocol.specs.Scripts.{Script, refused}
 use Rattle.protocol.specs.Device.{deviceNew}
 use Rattle.protocol.specs.Calls.{ReaderCall, opening, reader}
 use Rattle.protocol.specs.Starts.{Start, starts, readerStart}
-use Rattle.protocol.specs.Session.{byReply, ofReset, enter, afterReply, progress, idle, packetLength, admitted, eventEffect, started}
+use Rattle.protocol.specs.Session.{byReply, ofReset, enter, afterReply, progress, idle, packetLength, admitted, eventEffect, started, packetLimit}
 use Rattle.protocol.specs.Session.{runs as runsOf}
 use Rattle.stages.specs.Stages.{Decision, send, refuse}
 use Rattle.stages.specs.Put.{take-put}
@@ -27,6 +27,7 @@ use Rattle.calls.specs.Refines.{Refines}
 use Rattle.calls.specs.Opening.{opening-script-refines, opening-fails, reset-fails}
 use Rattle.calls.specs.Firsts.{startFor}
 use Rattle.calls.specs.Starts.{Kind, Starting, refusedNow, first, leading, reader-begins}
+use Rattle.stages.specs.Decided.{responseLimit}
 use Rattle.engine.specs.Transitions.{exchangePhase, resetAckPhase, pausePhase, noCall, Transitioned, orders as goesOn, sends, resetDone, replies, refuses, fits, replyLength, transitionOf, overTransition, endedTransition, validCall}
 use Rattle.engine.specs.Core.{stageOf, admittedOf, transitionedOf, followsOf, failsOf, repliesOf, eventCore, openCore, startOn}
 use Rattle.engine.specs.Relation.{Position, Wait, reply, resetReply, resetAck, resetPause, openingAck, openingReads, pausing, phaseNumber, callAt, phaseAt, Fields, coreWith, arraysAt, Agrees, coreAt, free}
@@ -51,7 +52,7 @@ module _ (p : Position) (w : Wait p) (v : Fields) (agrees : Agrees p v) where
   -- what is decided leads to the script
   advances-lead : (mv : Transitioned) (d : Decision) (s : Script) → fits mv ≡ true
       → ((b : List ℕ) → transitionedOf (coreAt p w v) (arraysAt v) mv b ≡ followsOf (coreAt p w v) (arraysAt v) d b)
-      → (replyLength mv ≤ 1024 → Refines (p .kind) (p .cursor) (p .pending) (p .found) d s) → Advances p w v agrees mv (enter s)
+      → (replyLength mv ≤ packetLimit → Refines (p .kind) (p .cursor) (p .pending) (p .found) d s) → Advances p w v agrees mv (enter s)
   advances-lead mv d s h is l =
       advances-enter p w v agrees mv s h (λ b few. rw (is b) (lead-sims p _ v (p .stage) _ d s b (agrees .pending) (agrees .found) (l few)))
 
@@ -69,7 +70,7 @@ module _ (p : Position) (w : Wait p) (v : Fields) (agrees : Agrees p v) where
 
   -- the reply to a command
   reply-ends : (k : Reply → Script) → isResetOf (p .kind) (p .stage) ≡ false
-      → ((cs : List ℕ) → length cs ≤ 1022 → Refines (p .kind) (p .cursor) (p .pending) (p .found) (decidedOf (p .kind) (p .stage) (p .cursor) (p .pending) (p .found) cs) (k (response cs)))
+      → ((cs : List ℕ) → length cs ≤ responseLimit → Refines (p .kind) (p .cursor) (p .pending) (p .found) (decidedOf (p .kind) (p .stage) (p .cursor) (p .pending) (p .found) cs) (k (response cs)))
       → ((r : Fault) → Refines (p .kind) (p .cursor) (p .pending) (p .found) (failedOf (p .kind) (p .stage) (p .cursor) (p .pending) (p .found) r) (k (failed r)))
       → (r : Reply) → Advances p w v agrees (endedTransition (callAt p w) (v .exchange) r) (afterReply (byReply k) r)
   unfolding overTransition transitionedOf repliesOf failsOf pick

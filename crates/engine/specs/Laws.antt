@@ -25,13 +25,14 @@ use Rattle.exchange.specs.Steps.{exchangeAt, eventOf}
 use Rattle.exchange.specs.declared.Event.{Event}
 use Rattle.exchange.specs.declared.Event.the-variants.{Ok, Bad, Packet, Time, Fail, Late, Slept}
 use Rattle.exchange.specs.declared.Exchange.{Exchange}
-use Rattle.stages.specs.Decided.{Fitting}
+use Rattle.stages.specs.Decided.{Fitting, foundLimit, responseLimit}
 use Rattle.stages.specs.Put.{put, Appends, puts-none}
 use Rattle.stages.specs.declared.Layout.{Layout}
 use Rattle.stages.specs.Stages.{Command}
 use Rattle.protocol.specs.Scripts.{type1, uidAndAts}
 use Rattle.protocol.specs.Calls.{isPaddedMode}
-use Rattle.protocol.specs.Session.{seen}
+use Rattle.protocol.specs.Session.{seen, bufferNeed}
+use Rattle.protocol.specs.Starts.{dataLimit}
 use Rattle.engine.specs.Books.{Books, booksOf, callerIn, booked, extraIn}
 use Rattle.engine.specs.declared.core.Progress.{Progress}
 use Rattle.engine.specs.Booking.{range-caller}
@@ -43,12 +44,12 @@ use Rattle.engine.specs.declared.core.Output.the-variants.{Command as Se
 
 -- ---- a command's frame fits a buffer of 1,024 bytes
 
-command-length : (code : ℕ) (bytes : List ℕ) → length bytes ≤ 512 → length (commandFrame code bytes) ≤ 1024
+command-length : (code : ℕ) (bytes : List ℕ) → length bytes ≤ dataLimit → length (commandFrame code bytes) ≤ bufferNeed
 unfolding commandFrame
 command-length code bytes h =
     omega (arith, length-frame (rcs956 .length) (commandPayload code bytes), start-most (rcs956 .length) (length (commandPayload code bytes)))
 
-pub command-built : (code : ℕ) (bytes b : List ℕ) → length bytes ≤ 512 → 1024 ≤ length b
+pub command-built : (code : ℕ) (bytes b : List ℕ) → length bytes ≤ dataLimit → bufferNeed ≤ length b
     → buildOf rcs956 (commandPayload code bytes) b ≡ left (answered (length (commandFrame code bytes))) (put (commandFrame code bytes) b)
 unfolding buildOf putFrame limitOf commandFrame pick
 command-built code bytes b h room =
@@ -57,7 +58,7 @@ command-built code bytes b h room =
     rw (le-ltb 65535 (length (commandPayload code bytes)) n, le-ltb (length b) (length (commandFrame code bytes)) (omega (arith, m)))
 
 -- the frame of a command was built, and nothing else can be
-module _ (s : Core) (f : Arrays) (c : Call) (m : Command) (b b₁ : List ℕ) (h : length (m .bytes) ≤ 512) (room : 1024 ≤ length b) where
+module _ (s : Core) (f : Arrays) (c : Call) (m : Command) (b b₁ : List ℕ) (h : length (m .bytes) ≤ dataLimit) (room : bufferNeed ≤ length b) where
   pub sent-frame : (core : Core) (built : Built) (n : ℕ) (x : Exchange) → built ≡ Frame n → left (returned built) b₁ ≡ buildOf rcs956 (commandPayload (m .code) (m .bytes)) b
       → x ≡ exchangeAt 0 (m .code) (m .clock) → core ≡ running s c x → after core f (Sends n) b₁ ≡ sendsOf s f c m b
   unfolding returned
@@ -93,7 +94,7 @@ pub lengths-copied : (s : Core) (f : Arrays) (bytes b b₁ : List ℕ) (n uid at
 lengths-copied s f bytes b b₁ n uid ats a p q e = e ∙ (λ i. endsOf s f (UidAndAts (p i) uid ats) (q i))
 
 -- done with a part of the response
-pub part-copied : (s : Core) (f : Arrays) (bs b b₁ : List ℕ) (n : ℕ) (a : After Core) (start len : ℕ) → start + len ≤ length bs → length bs ≤ 1022 → 1024 ≤ length b
+pub part-copied : (s : Core) (f : Arrays) (bs b b₁ : List ℕ) (n : ℕ) (a : After Core) (start len : ℕ) → start + len ≤ length bs → length bs ≤ responseLimit → bufferNeed ≤ length b
     → Appends (take (start + len - start) (drop start bs)) b b₁ 0 n → a ≡ endsOf s f (Done n) b₁ → a ≡ doneOf s f (take len (drop start bs)) b
 part-copied s f bs b b₁ n a start len within few room laid e =
     let size : start + len - start ≡ len = omega arith in
@@ -103,7 +104,7 @@ part-copied s f bs b b₁ n a start len within few room laid e =
     done-copied s f (take len (drop start bs)) b b₁ n a (p .count ∙ ap length part) (p .is ∙ ap (λ l. put l b) part) e
 
 -- the bytes of an answer fit a buffer
-pub answer-fits : (n : ℕ) (found bs b : List ℕ) (l : Layout) → length found ≡ 1024 → length bs ≤ 1022 → 1024 ≤ length b → Fitting (take n found) bs l
+pub answer-fits : (n : ℕ) (found bs b : List ℕ) (l : Layout) → length found ≡ foundLimit → length bs ≤ responseLimit → bufferNeed ≤ length b → Fitting (take n found) bs l
     → Fitting (take n found) bs l × (l .kept + (l .«head_len» + (l .len + l .«tail_len»)) ≤ length b)
 answer-fits n found bs b l h few room f =
     let most : length (take n found) ≤ 1024 = omega (arith, length-take n found) in
@@ -114,7 +115,7 @@ pub valid-command : (s : Core) → isValid s ≡ true → s .command ≤ 512
 unfolding isValid
 valid-command s h = leb-true (s .command) 512 (both-left (leb (s .command) 512) _ h)
 
-pub valid-found : (s : Core) → isValid s ≡ true → s .found ≤ 1024
+pub valid-found : (s : Core) → isValid s ≡ true → s .found ≤ foundLimit
 unfolding isValid
 valid-found s h = leb-true (s .found) 1024 (both-left (leb (s .found) 1024) _ (both-right (leb (s .command) 512) _ h))
 

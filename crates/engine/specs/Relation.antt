@@ -15,6 +15,8 @@ use Rattle.protocol.specs.Session as Spec
 use Rattle.stages.specs.Stages.{send}
 use Rattle.calls.specs.Tables.{isResetOf, decidedOf}
 use Rattle.calls.specs.Refines.{Refines, Awaits}
+use Rattle.stages.specs.Decided.{foundLimit}
+use Rattle.protocol.specs.Starts.{dataLimit}
 use Rattle.engine.specs.Booking.{bookNumbers, Bounded}
 use Rattle.engine.specs.Core.{Arrays, arrays}
 use Rattle.engine.specs.Transitions.{exchangePhase, resetAckPhase, resetPausePhase, openingAckPhase, openingReadsPhase, pausePhase, noCall}
@@ -78,8 +80,8 @@ pub record Fields : Type 0 where
   pub pending : ℕ
   pub kept : ℕ
   pub exchange : Exchange
-  pub pendingFits : leb pending 512 ≡ true
-  pub keptFits : leb kept 1024 ≡ true
+  pub pendingFits : leb pending dataLimit ≡ true
+  pub keptFits : leb kept foundLimit ≡ true
   pub phaseFits : leb (exchange .phase) 6 ≡ true
 
 abbrev pub coreWith : Fields → Call → Core

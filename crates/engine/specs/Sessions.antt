@@ -12,8 +12,9 @@ use Rattle.protocol.specs.Calls.{isPaddedMode}
 use Rattle.protocol.specs.Session.{seen, bufferNeed}
 use Rattle.protocol.specs.Starts.{dataLimit}
 use Rattle.stages.specs.Starts.{Start}
+use Rattle.stages.specs.Decided.{foundLimit}
 use Rattle.engine.specs.Books.{lastCaller, Books, booksOf, openedIn, modeIn, callerIn, noBooks, inRange, booked}
-use Rattle.engine.specs.Core.{foundLimit, noCore, Arrays, arrays, progressed, After, after, unchanged, eventCore, openCore, startOn}
+use Rattle.engine.specs.Core.{noCore, Arrays, arrays, progressed, After, after, unchanged, eventCore, openCore, startOn}
 use Rattle.engine.specs.Core.{isValid as validCore}
 use Rattle.engine.specs.declared.core.Core.{Core}
 use Rattle.engine.specs.declared.core.Output.{Output}

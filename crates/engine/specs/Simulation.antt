@@ -18,7 +18,7 @@ use Rattle.exchange.specs.Steps.{stepOf, exchangeAt}
 use Rattle.exchange.specs.declared.Exchange.{Exchange}
 use Rattle.protocol.specs.Scripts.{Byte, value, Answer, done, type1, uidAndAts, nothing, refused, refusedAfter, Script, finish, command, reset, fieldPause}
 use Rattle.protocol.specs.Calls.{Call as CallOf, isOpening}
-use Rattle.protocol.specs.Session.{exchange, Rest, CallResult, enter, afterReply, afterExchange, Running, busy, packetLength, admitted, eventEffect, Effect, effect, runningAfter}
+use Rattle.protocol.specs.Session.{exchange, Rest, CallResult, enter, afterReply, afterExchange, Running, busy, packetLength, admitted, eventEffect, Effect, effect, runningAfter, packetLimit}
 use Rattle.protocol.specs.Session.{orders, answers, given, unchanged as unchangedOf, runs as runsOf, ends as endsIn}
 use Rattle.protocol.specs.Session as Spec
 use Rattle.protocol.specs.Machine.{plain, plainAnswer}
@@ -26,6 +26,7 @@ use Rattle.stages.specs.Put.{put, take-put}
 use Rattle.stages.specs.Stages.{cmd, Decision, send}
 use Rattle.calls.specs.Tables.{commandOf}
 use Rattle.calls.specs.Refines.{Refines, refines-end, refines-send, refines-reset, refines-keep, refines-next, refines-put, refines-pause}
+use Rattle.stages.specs.Decided.{foundLimit}
 use Rattle.engine.specs.Books.{booked as bookedBy}
 use Rattle.engine.specs.Booking.{bookNumbers, Bounded, bookBy, quiet-booked, ack-counts, frame-booked, end-booked}
 use Rattle.engine.specs.Core.{Arrays, After, unchanged, running, ordersOf, sendsOf, stageOf, endsOf, answersOf, followsOf, admittedOf, isLong, transitionedOf}
@@ -150,7 +151,7 @@ atStage p stage cursor later found h =
       stageFits = h;
     }
 
-abbrev pub with-found : (v : Fields) (l : List ℕ) → length l ≤ 1024 → Fields
+abbrev pub with-found : (v : Fields) (l : List ℕ) → length l ≤ foundLimit → Fields
 with-found v l h =
     record {
       command = v .command;
@@ -235,7 +236,7 @@ module _ (p : Position) (w : Wait p) (v : Fields) (agrees : Agrees p v) where
   advances-none e b l = stays OutOfTurn b
 
   -- buffer and packet are looked at first
-  pub advances : (mv : Transitioned) (o : Effect) → fits mv ≡ true → ((b : List ℕ) → replyLength mv ≤ 1024 → SimulatesHere (transitionedOf (coreAt p w v) (arraysAt v) mv b) o)
+  pub advances : (mv : Transitioned) (o : Effect) → fits mv ≡ true → ((b : List ℕ) → replyLength mv ≤ packetLimit → SimulatesHere (transitionedOf (coreAt p w v) (arraysAt v) mv b) o)
       → (e : Event) (b : List ℕ) → replyLength mv ≤ packetLength e → SimulatesHere (admittedOf (coreAt p w v) (arraysAt v) mv e b) (admitted e (length b) o)
   unfolding admittedOf isLong pick
   advances mv o h k e b l =
@@ -244,7 +245,7 @@ module _ (p : Position) (w : Wait p) (v : Fields) (agrees : Agrees p v) where
       (λ _. sim-pick (ltb 1024 (packetLength e)) (stays OverLong b) (λ n. k b (omega (arith, l, ltb-false 1024 (packetLength e) n)))))
 
   -- a script is entered
-  pub advances-enter : (mv : Transitioned) (s : Script) → fits mv ≡ true → ((b : List ℕ) → replyLength mv ≤ 1024 → SimulatesHere (transitionedOf (coreAt p w v) (arraysAt v) mv b) (effect (p .call) (enter s)))
+  pub advances-enter : (mv : Transitioned) (s : Script) → fits mv ≡ true → ((b : List ℕ) → replyLength mv ≤ packetLimit → SimulatesHere (transitionedOf (coreAt p w v) (arraysAt v) mv b) (effect (p .call) (enter s)))
       → Advances mv (enter s)
   advances-enter mv (finish a) h k = advances mv _ h k
   advances-enter mv (command code clock bytes n) h k = advances mv _ h k

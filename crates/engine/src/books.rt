@@ -6,7 +6,7 @@ use framing::padded;
 ghost use mathlib.Core.List.{List};
 ghost use mathlib.Core.Path.{_≡_};
 ghost use Prim.Native.Nat.{ℕ, _≤_};
-ghost use Rattle.engine.specs.Books.{booksOf, inRange, noBooks, extraIn, oneMore, countedIn, byCaller, ended, booked};
+ghost use Rattle.engine.specs.Books.{booksOf, inRange, noBooks, extraIn, oneMore, countedIn, byCaller, ended, booked, lastCaller};
 
 // The places of the three numbers: whether the reader is open, the mode that the last opening chose, whose call runs or ran last.
 pub const OPENED: usize = 0;
@@ -74,7 +74,7 @@ fn one_more(frames: u32) -> u32
 
 // A command frame counts for a caller.
 fn count(frames: &mut [u32; 8], caller: u8)
-    requires { ⌜ caller ≤ 7 ⌝ }
+    requires { ⌜ caller ≤ lastCaller ⌝ }
     ensures { λ _. ⌜ now (frames .exit) ≡ countedIn caller (now (frames .entry)) ⌝ }
 {
     let at = caller as usize;
@@ -100,7 +100,7 @@ pub(crate) fn book(
     opening: bool,
     output: Output,
 )
-    requires { ⌜ caller ≤ 7 ⌝ }
+    requires { ⌜ caller ≤ lastCaller ⌝ }
     ensures { λ _. ⌜ booksOf (now (books .exit)) (now (frames .exit)) ≡ booked caller opening output (booksOf (now (books .entry)) (now (frames .entry))) ⌝ }
 {
     match output {

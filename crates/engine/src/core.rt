@@ -25,6 +25,9 @@ ghost use lib.ListN.{length};
 ghost use Rattle.exchange.specs.Steps.{eventOf, orderOf};
 ghost use Rattle.stages.specs.Stages.{cmd};
 ghost use Rattle.stages.specs.Starts.{Starts, StartFits, Start as StartOf};
+ghost use Rattle.protocol.specs.Session.{bufferNeed};
+ghost use Rattle.protocol.specs.Starts.{dataLimit};
+ghost use Rattle.stages.specs.Decided.{foundLimit};
 ghost use Rattle.engine.specs.Core.{noCore, isValid, Arrays, arrays, running, unchanged, withFound, withCommand, progressed, ordersOf, sendsOf, stageOf, endsOf, isLong, eventCore, openCore, startOn};
 
 // A buffer has so many bytes at least, a packet so many at most, and so have the found bytes.
@@ -165,7 +168,7 @@ impl Core {
         exchange: Exchange,
         buffer: &mut [u8],
     ) -> Progress
-        requires { ⌜ 1024 ≤ length (now buffer) ⌝ }
+        requires { ⌜ bufferNeed ≤ length (now buffer) ⌝ }
         ensures { λ r. ⌜ ((f : Arrays) → progressed r f (now (buffer .exit)) ≡ ordersOf self f (orderOf order) call exchange (now (buffer .entry))) ⌝ }
     {
         let core = self.running(call, exchange);
@@ -199,7 +202,7 @@ impl Core {
         bytes: &[u8],
         buffer: &mut [u8],
     ) -> Progress
-        requires { ⌜ (length (now bytes) ≤ 512) × (1024 ≤ length (now buffer)) ⌝ }
+        requires { ⌜ (length (now bytes) ≤ dataLimit) × (bufferNeed ≤ length (now buffer)) ⌝ }
         ensures { λ r. ⌜ ((f : Arrays) → progressed r f (now (buffer .exit)) ≡ sendsOf self f call (cmd code clock (now (bytes .entry))) (now (buffer .entry))) ⌝ }
     {
         match build_command(code, bytes, buffer) {
@@ -214,7 +217,7 @@ impl Core {
 
     // The command of the call's stage is ordered, which may be the pending one.
     pub(crate) fn send(self, call: Call, command: &[u8], buffer: &mut [u8]) -> Progress
-        requires { ⌜ (self .command ≤ 512) × (length (now command) ≡ 512) × (1024 ≤ length (now buffer)) ⌝ }
+        requires { ⌜ (self .command ≤ dataLimit) × (length (now command) ≡ dataLimit) × (bufferNeed ≤ length (now buffer)) ⌝ }
         ensures { λ r. ⌜ ((f : List ℕ) → progressed r (arrays (now (command .entry)) f) (now (buffer .exit)) ≡ stageOf self (arrays (now (command .entry)) f) call (now (buffer .entry))) ⌝ }
     {
         let n = self.command;
@@ -254,7 +257,7 @@ impl Core {
         found: &mut [u8],
         buffer: &mut [u8],
     ) -> Progress
-        requires { ⌜ (isValid self ≡ true) × (length (now command) ≡ 512) × (length (now found) ≡ 1024) ⌝ }
+        requires { ⌜ (isValid self ≡ true) × (length (now command) ≡ dataLimit) × (length (now found) ≡ foundLimit) ⌝ }
         ensures { λ r. ⌜ progressed r (arrays (now (command .exit)) (now (found .exit))) (now (buffer .exit)) ≡ eventCore self (arrays (now (command .entry)) (now (found .entry))) (eventOf event (now (packet .entry))) (now (buffer .entry)) ⌝ }
     {
         let call = self.call;
@@ -285,7 +288,7 @@ impl Core {
 
     // `Chipset::new` begins: ACK is written.
     pub(crate) fn open(self, buffer: &mut [u8]) -> Progress
-        requires { ⌜ 1024 ≤ length (now buffer) ⌝ }
+        requires { ⌜ bufferNeed ≤ length (now buffer) ⌝ }
         ensures { λ r. ⌜ ((f : Arrays) → progressed r f (now (buffer .exit)) ≡ openCore self f (now (buffer .entry))) ⌝ }
     {
         let exchange = self.exchange;
@@ -301,7 +304,7 @@ impl Core {
 
     // A call starts, whose bytes have been put by: it is refused, or its first command is ordered.
     pub(crate) fn start(self, start: Start, command: &[u8], buffer: &mut [u8]) -> Progress
-        requires { ⌜ StartFits start × (length (now command) ≡ 512) × (1024 ≤ length (now buffer)) ⌝ }
+        requires { ⌜ StartFits start × (length (now command) ≡ dataLimit) × (bufferNeed ≤ length (now buffer)) ⌝ }
         ensures { λ r. ⌜ ((f c₀ : List ℕ) (s : StartOf) → Starts start c₀ (now (command .entry)) s → progressed r (arrays (now (command .entry)) f) (now (buffer .exit)) ≡ startOn self (arrays c₀ f) s (now (buffer .entry))) ⌝ }
     {
         match start {

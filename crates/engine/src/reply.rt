@@ -16,10 +16,12 @@ ghost use Prim.Native.Nat.{ℕ, _+_, _≤_};
 ghost use lib.ListN.{length, take};
 ghost use Rattle.stages.specs.Stages.{put as putBy};
 ghost use Rattle.stages.specs.Put.{put, Puts};
-ghost use Rattle.stages.specs.Decided.{headBytes, layoutBytes, Fitting, decisionIn, DecisionFits};
+ghost use Rattle.stages.specs.Decided.{headBytes, layoutBytes, Fitting, decisionIn, DecisionFits, responseLimit};
+ghost use Rattle.protocol.specs.Session.{packetLimit, bufferNeed};
+ghost use Rattle.protocol.specs.Starts.{dataLimit};
 ghost use Rattle.engine.specs.Transitions.{endTransition, replyLength};
 ghost use Rattle.engine.specs.Ends.{GoesOn};
-ghost use Rattle.engine.specs.Core.{arrays, progressed, keepsOf, followsOf, transitionedOf};
+ghost use Rattle.engine.specs.Core.{Lent, arrays, progressed, keepsOf, followsOf, transitionedOf};
 
 // Puts a layout behind the found bytes that it keeps, which stand at the target's start already.
 fn lay(layout: Layout, response: &[u8], target: &mut [u8]) -> usize
@@ -61,7 +63,7 @@ impl Core {
         found: &mut [u8],
         buffer: &mut [u8],
     ) -> Progress
-        requires { ⌜ (length (now response) ≤ 1022) × (self .found ≤ 1024) × (self .command ≤ 512) × (length (now command) ≡ 512) × (length (now found) ≡ 1024) × (1024 ≤ length (now buffer)) × Fitting (take (self .found) (now found)) (now response) layout ⌝ }
+        requires { ⌜ (length (now response) ≤ responseLimit) × Fitting (take (self .found) (now found)) (now response) layout × Lent self (now command) (now found) (now buffer) ⌝ }
         ensures { λ r. ⌜ progressed r (arrays (now (command .entry)) (now (found .exit))) (now (buffer .exit)) ≡ keepsOf self (arrays (now (command .entry)) (now (found .entry))) call (layoutBytes (take (self .found) (now (found .entry))) (now (response .entry)) layout) (now (buffer .entry)) ⌝ }
     {
         let n = lay(layout, response, found);
@@ -70,7 +72,7 @@ impl Core {
 
     // Three bytes become the pending command, and the command of a stage follows.
     fn put_by(self, stage: u8, bytes: Head, command: &mut [u8], buffer: &mut [u8]) -> Progress
-        requires { ⌜ (length (now command) ≡ 512) × (1024 ≤ length (now buffer)) ⌝ }
+        requires { ⌜ (length (now command) ≡ dataLimit) × (bufferNeed ≤ length (now buffer)) ⌝ }
         ensures { λ r. ⌜ ((f : List ℕ) → progressed r (arrays (now (command .exit)) f) (now (buffer .exit)) ≡ followsOf self (arrays (now (command .entry)) f) (putBy stage (headBytes bytes)) (now (buffer .entry))) ⌝ }
     {
         let call = self.call;
@@ -89,7 +91,7 @@ impl Core {
         found: &mut [u8],
         buffer: &mut [u8],
     ) -> Progress
-        requires { ⌜ (length (now response) ≤ 1022) × (self .found ≤ 1024) × (self .command ≤ 512) × (length (now command) ≡ 512) × (length (now found) ≡ 1024) × (1024 ≤ length (now buffer)) × DecisionFits (take (self .found) (now found)) (now response) decision ⌝ }
+        requires { ⌜ (length (now response) ≤ responseLimit) × DecisionFits (take (self .found) (now found)) (now response) decision × Lent self (now command) (now found) (now buffer) ⌝ }
         ensures { λ r. ⌜ (GoesOn decision → progressed r (arrays (now (command .exit)) (now (found .exit))) (now (buffer .exit)) ≡ followsOf self (arrays (now (command .entry)) (now (found .entry))) (decisionIn (take (self .found) (now (found .entry))) (now (response .entry)) decision) (now (buffer .entry))) ⌝ }
     {
         let call = self.call;
@@ -122,7 +124,7 @@ impl Core {
         found: &mut [u8],
         buffer: &mut [u8],
     ) -> Progress
-        requires { ⌜ (length (now response) ≤ 1022) × (self .found ≤ 1024) × (self .command ≤ 512) × (length (now command) ≡ 512) × (length (now found) ≡ 1024) × (1024 ≤ length (now buffer)) × DecisionFits (take (self .found) (now found)) (now response) decision ⌝ }
+        requires { ⌜ (length (now response) ≤ responseLimit) × DecisionFits (take (self .found) (now found)) (now response) decision × Lent self (now command) (now found) (now buffer) ⌝ }
         ensures { λ r. ⌜ progressed r (arrays (now (command .exit)) (now (found .exit))) (now (buffer .exit)) ≡ followsOf self (arrays (now (command .entry)) (now (found .entry))) (decisionIn (take (self .found) (now (found .entry))) (now (response .entry)) decision) (now (buffer .entry)) ⌝ }
     {
         let kept = self.found;
@@ -163,7 +165,7 @@ impl Core {
         found: &mut [u8],
         buffer: &mut [u8],
     ) -> Progress
-        requires { ⌜ (replyLength (endTransition (self .exchange .code) (now packet) end) ≤ 1024) × (self .found ≤ 1024) × (self .command ≤ 512) × (length (now command) ≡ 512) × (length (now found) ≡ 1024) × (1024 ≤ length (now buffer)) ⌝ }
+        requires { ⌜ (replyLength (endTransition (self .exchange .code) (now packet) end) ≤ packetLimit) × Lent self (now command) (now found) (now buffer) ⌝ }
         ensures { λ r. ⌜ progressed r (arrays (now (command .exit)) (now (found .exit))) (now (buffer .exit)) ≡ transitionedOf self (arrays (now (command .entry)) (now (found .entry))) (endTransition (self .exchange .code) (now (packet .entry)) end) (now (buffer .entry)) ⌝ }
     {
         let call = self.call;

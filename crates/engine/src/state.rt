@@ -18,6 +18,8 @@ ghost use Prim.Native.Nat.{ℕ};
 ghost use lib.ListN.{length};
 ghost use Rattle.exchange.specs.Steps.{eventOf};
 ghost use Rattle.calls.specs.Numbers.{callOf};
+ghost use Rattle.protocol.specs.Starts.{dataLimit};
+ghost use Rattle.stages.specs.Decided.{foundLimit};
 ghost use Rattle.engine.specs.Core.{Arrays, arrays};
 ghost use Rattle.engine.specs.Sessions.{stateOf, valid, free, admitted, effected, eventAfter, openAfter};
 ghost use Rattle.engine.specs.Inputs.{afterInput};
@@ -68,7 +70,7 @@ pub(crate) fn event(
     packet: &[u8],
     buffer: &mut [u8],
 ) -> Progress
-    requires { ⌜ (length (now command) ≡ 512) × (length (now found) ≡ 1024) ⌝ }
+    requires { ⌜ (length (now command) ≡ dataLimit) × (length (now found) ≡ foundLimit) ⌝ }
     ensures { λ r. ⌜ effected r (now (books .exit)) (now (frames .exit)) (arrays (now (command .exit)) (now (found .exit))) (now (buffer .exit)) ≡ eventAfter (stateOf core (now (books .entry)) (now (frames .entry))) (arrays (now (command .entry)) (now (found .entry))) (eventOf event (now (packet .entry))) (now (buffer .entry)) ⌝ }
 {
     let mode = books[books::MODE];

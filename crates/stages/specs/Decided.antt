@@ -25,13 +25,20 @@ abbrev pub layoutBytes : List ℕ → List ℕ → Layout → List ℕ
 layoutBytes f b l =
     take (l .kept) f ++ (take (l .«head_len») (headBytes (l .head)) ++ (take (l .len) (drop (l .start) b) ++ take (l .«tail_len») (tailBytes (l .tail))))
 
--- each part lies in its bytes, and a found array and a buffer of 1,024 bytes hold them all
+-- so many found bytes are kept at most, and so many bytes has the response in a packet at most
+abbrev pub foundLimit : ℕ
+foundLimit = 1024
+
+abbrev pub responseLimit : ℕ
+responseLimit = 1022
+
+-- each part lies in its bytes, and the found bytes and a buffer have room for them all
 pub record Fitting (f b : List ℕ) (l : Layout) : Type 0 where
   pub kept : l .kept ≤ length f
   pub head : l .«head_len» ≤ 3
   pub part : l .start + l .len ≤ length b
   pub tail : l .«tail_len» ≤ 12
-  pub room : length f ≤ 1024 → length b ≤ 1022 → l .kept + (l .«head_len» + (l .len + l .«tail_len»)) ≤ 1024
+  pub room : length f ≤ foundLimit → length b ≤ responseLimit → l .kept + (l .«head_len» + (l .len + l .«tail_len»)) ≤ foundLimit
 
 -- a layout of these bytes
 pub record Lays (f b : List ℕ) (r : Layout) (bytes : List ℕ) : Type 0 where

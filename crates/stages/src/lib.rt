@@ -7,7 +7,7 @@ ghost use mathlib.Core.List.{List, [], _∷_, _++_};
 ghost use mathlib.Core.Path.{_≡_};
 ghost use Prim.Native.Nat.{ℕ, _+_, _≤_};
 ghost use lib.ListN.{length, take, drop, getD};
-ghost use Rattle.stages.specs.Decided.{Lays, headBytes, tailBytes, Commands};
+ghost use Rattle.stages.specs.Decided.{Lays, headBytes, tailBytes, Commands, foundLimit, responseLimit};
 ghost use Rattle.stages.specs.Stages.{cmd};
 
 // The command of a stage: its code, its clock in ms, whether its data is the pending command, the bytes of any other data, and how many
@@ -143,7 +143,7 @@ impl Layout {
 
     // A part of the response, and some bytes behind it.
     pub fn tailed(start: usize, len: usize, tail: Tail, tail_len: usize) -> Layout
-        ensures { λ r. ⌜ ((f b : List ℕ) → start + len ≤ length b → «tail_len» ≤ 12 → (length b ≤ 1022 → len + «tail_len» ≤ 1024) → Lays f b r (take len (drop start b) ++ take «tail_len» (tailBytes tail))) ⌝ }
+        ensures { λ r. ⌜ ((f b : List ℕ) → start + len ≤ length b → «tail_len» ≤ 12 → (length b ≤ responseLimit → len + «tail_len» ≤ foundLimit) → Lays f b r (take len (drop start b) ++ take «tail_len» (tailBytes tail))) ⌝ }
     {
         Layout {
             kept: 0,
@@ -158,7 +158,7 @@ impl Layout {
 
     // Found bytes, and a part of the response behind them.
     pub fn behind(kept: usize, start: usize, len: usize) -> Layout
-        ensures { λ r. ⌜ ((f b : List ℕ) → kept ≤ length f → start + len ≤ length b → (length f ≤ 1024 → length b ≤ 1022 → kept + len ≤ 1024) → Lays f b r (take kept f ++ take len (drop start b))) ⌝ }
+        ensures { λ r. ⌜ ((f b : List ℕ) → kept ≤ length f → start + len ≤ length b → (length f ≤ foundLimit → length b ≤ responseLimit → kept + len ≤ foundLimit) → Lays f b r (take kept f ++ take len (drop start b))) ⌝ }
     {
         Layout {
             kept,
@@ -173,7 +173,7 @@ impl Layout {
 
     // Found bytes, a mark, and a part of the response behind them.
     pub fn marked(kept: usize, mark: u8, start: usize, len: usize) -> Layout
-        ensures { λ r. ⌜ ((f b : List ℕ) → kept ≤ length f → start + len ≤ length b → kept + (len + 1) ≤ 1024 → Lays f b r (take kept f ++ (mark ∷ take len (drop start b)))) ⌝ }
+        ensures { λ r. ⌜ ((f b : List ℕ) → kept ≤ length f → start + len ≤ length b → kept + (len + 1) ≤ foundLimit → Lays f b r (take kept f ++ (mark ∷ take len (drop start b)))) ⌝ }
     {
         Layout {
             kept,

@@ -14,13 +14,13 @@ kept-requires : tie.Need-kept-requires
 kept-requires c κs =
     let a = c .before .before .before .before .before .before .before .before .before .before .before .before .before .args in
     let p = c .before .before .before .before .before .before .before .before .before .before .before .before .before .pre in
-    (p .0, p .1, p .2, p .3, p .4, p .5, subst (DecisionFits (take (a .self .found) (a .found .now)) (a .response .now)) (c .before .before .before .before .before .decision2 .given .1) (p .6))
+    (p .0, subst (DecisionFits (take (a .self .found) (a .found .now)) (a .response .now)) (c .before .before .before .before .before .decision2 .given .1) (p .1), p .2)
 
 kept-requires-2 : tie.Need-kept-requires-2
 kept-requires-2 c κs =
     let a = c .before .before .before .before .before .before .before .before .before .before .before .before .before .args in
     let p = c .before .before .before .before .before .before .before .before .before .before .before .before .before .pre in
-    (p .0, p .1, p .2, p .3, p .4, p .5, subst (DecisionFits (take (a .self .found) (a .found .now)) (a .response .now)) (c .before .before .before .before .before .decision3 .given .1) (p .6))
+    (p .0, subst (DecisionFits (take (a .self .found) (a .found .now)) (a .response .now)) (c .before .before .before .before .before .decision3 .given .1) (p .1), p .2)
 
 returns : tie.Need-returns
 unfolding followsOf
@@ -61,7 +61,7 @@ continued-spec =
     (tie.spec
     (λ c. search needs)
     (λ c κs. search needs)
-    (λ c κs. let p = c .before .before .before .before .before .before .before .before .before .before .before .before .pre in (p .2, p .3, p .5))
+    (λ c κs. let p = c .before .before .before .before .before .before .before .before .before .before .before .before .pre in (p .2 .1, p .2 .2, p .2 .4))
     (λ c. search needs)
     (λ c κs. search needs)
     kept-requires
@@ -69,11 +69,11 @@ continued-spec =
     (λ c κs. search needs)
     kept-requires-2
     (λ c. search needs)
-    (λ c κs. let p = c .before .before .before .before .before .before .before .before .before .before .before .pre in (p .3, p .5))
+    (λ c κs. let p = c .before .before .before .before .before .before .before .before .before .before .before .pre in (p .2 .2, p .2 .4))
     (λ c. search needs)
     (λ c κs. search needs)
     (λ c κs. search needs)
-    (λ c κs. c .before .before .before .before .before .before .before .before .before .before .before .before .pre .5)
+    (λ c κs. c .before .before .before .before .before .before .before .before .before .before .before .before .pre .2 .4)
     (λ c κs. search needs)
     (λ c. search needs)
     (λ c. search needs)

@@ -12,52 +12,52 @@ use Rattle.engine.proofs.core.Core.followed.Statement.{statement}
 use Rattle.engine.proofs.core.Core.followed.Tie as tie
 
 add-end : tie.Need-add-end
-add-end c = let a = c .before .before .before .before .before .before .before .args in let p = c .before .before .before .before .before .before .before .pre in let n = subst (DecisionFits (take (a .self .found) (a .found .now)) (a .response .now)) (c .before .decision .given .1) (p .6) in omega (arith, n, p .0)
+add-end c = let a = c .before .before .before .before .before .before .before .args in let p = c .before .before .before .before .before .before .before .pre in let n = subst (DecisionFits (take (a .self .found) (a .found .now)) (a .response .now)) (c .before .decision .given .1) (p .1) in omega (arith, n, p .0)
 
 sub-append : tie.Need-sub-append
-sub-append c = let a = c .before .before .before .before .before .before .before .args in let n = subst (DecisionFits (take (a .self .found) (a .found .now)) (a .response .now)) (c .before .decision .given .1) (c .before .before .before .before .before .before .before .pre .6) in omega (arith, n)
+sub-append c = let a = c .before .before .before .before .before .before .before .args in let n = subst (DecisionFits (take (a .self .found) (a .found .now)) (a .response .now)) (c .before .decision .given .1) (c .before .before .before .before .before .before .before .pre .1) in omega (arith, n)
 
 part-append-start : tie.Need-part-append-start
-part-append-start c = let a = c .before .before .before .before .before .before .before .args in let n = subst (DecisionFits (take (a .self .found) (a .found .now)) (a .response .now)) (c .before .decision .given .1) (c .before .before .before .before .before .before .before .pre .6) in omega (arith, n)
+part-append-start c = let a = c .before .before .before .before .before .before .before .args in let n = subst (DecisionFits (take (a .self .found) (a .found .now)) (a .response .now)) (c .before .decision .given .1) (c .before .before .before .before .before .before .before .pre .1) in omega (arith, n)
 
 part-append-end : tie.Need-part-append-end
-part-append-end c = let a = c .before .before .before .before .before .before .before .args in let n = subst (DecisionFits (take (a .self .found) (a .found .now)) (a .response .now)) (c .before .decision .given .1) (c .before .before .before .before .before .before .before .pre .6) in omega (arith, n)
+part-append-end c = let a = c .before .before .before .before .before .before .before .args in let n = subst (DecisionFits (take (a .self .found) (a .found .now)) (a .response .now)) (c .before .decision .given .1) (c .before .before .before .before .before .before .before .pre .1) in omega (arith, n)
 
 slice-reshare-prefix-answer : tie.Need-slice-reshare-prefix-answer
-slice-reshare-prefix-answer c = let p = c .before .before .before .before .before .before .before .pre in omega (arith, p .1, p .4)
+slice-reshare-prefix-answer c = let p = c .before .before .before .before .before .before .before .pre in omega (arith, p .2 .0, p .2 .3)
 
 slice-aggregate-answer : tie.Need-slice-aggregate-answer
-slice-aggregate-answer c = let a = c .before .before .before .before .before .before .before .before .args in let p = c .before .before .before .before .before .before .before .before .pre in sym (length-take-le (a .self .found) (a .found .now) (omega (arith, p .1, p .4)))
+slice-aggregate-answer c = let a = c .before .before .before .before .before .before .before .before .args in let p = c .before .before .before .before .before .before .before .before .pre in sym (length-take-le (a .self .found) (a .found .now) (omega (arith, p .2 .0, p .2 .3)))
 
 answer-requires : tie.Need-answer-requires
 answer-requires c κs =
     let a = c .before .before .before .before .before .before .before .before .before .args in
     let p = c .before .before .before .before .before .before .before .before .before .pre in
-    answer-fits (a .self .found) (a .found .now) (a .response .now) (a .buffer .now) _ (p .4) (p .0) (p .5) (subst (DecisionFits (take (a .self .found) (a .found .now)) (a .response .now)) (c .before .before .before .decision2 .given .1) (p .6))
+    answer-fits (a .self .found) (a .found .now) (a .response .now) (a .buffer .now) _ (p .2 .3) (p .0) (p .2 .4) (subst (DecisionFits (take (a .self .found) (a .found .now)) (a .response .now)) (c .before .before .before .decision2 .given .1) (p .1))
 
 slice-reshare-prefix-answer-2 : tie.Need-slice-reshare-prefix-answer-2
-slice-reshare-prefix-answer-2 c = let p = c .before .before .before .before .before .before .before .pre in omega (arith, p .1, p .4)
+slice-reshare-prefix-answer-2 c = let p = c .before .before .before .before .before .before .before .pre in omega (arith, p .2 .0, p .2 .3)
 
 slice-aggregate-answer-2 : tie.Need-slice-aggregate-answer-2
-slice-aggregate-answer-2 c = let a = c .before .before .before .before .before .before .before .before .args in let p = c .before .before .before .before .before .before .before .before .pre in sym (length-take-le (a .self .found) (a .found .now) (omega (arith, p .1, p .4)))
+slice-aggregate-answer-2 c = let a = c .before .before .before .before .before .before .before .before .args in let p = c .before .before .before .before .before .before .before .before .pre in sym (length-take-le (a .self .found) (a .found .now) (omega (arith, p .2 .0, p .2 .3)))
 
 answer-requires-2 : tie.Need-answer-requires-2
 answer-requires-2 c κs =
     let a = c .before .before .before .before .before .before .before .before .before .args in
     let p = c .before .before .before .before .before .before .before .before .before .pre in
-    answer-fits (a .self .found) (a .found .now) (a .response .now) (a .buffer .now) _ (p .4) (p .0) (p .5) (subst (DecisionFits (take (a .self .found) (a .found .now)) (a .response .now)) (c .before .before .before .decision3 .given .1) (p .6))
+    answer-fits (a .self .found) (a .found .now) (a .response .now) (a .buffer .now) _ (p .2 .3) (p .0) (p .2 .4) (subst (DecisionFits (take (a .self .found) (a .found .now)) (a .response .now)) (c .before .before .before .decision3 .given .1) (p .1))
 
 slice-reshare-prefix-answer-3 : tie.Need-slice-reshare-prefix-answer-3
-slice-reshare-prefix-answer-3 c = let p = c .before .before .before .before .before .before .before .pre in omega (arith, p .1, p .4)
+slice-reshare-prefix-answer-3 c = let p = c .before .before .before .before .before .before .before .pre in omega (arith, p .2 .0, p .2 .3)
 
 slice-aggregate-answer-3 : tie.Need-slice-aggregate-answer-3
-slice-aggregate-answer-3 c = let a = c .before .before .before .before .before .before .before .before .args in let p = c .before .before .before .before .before .before .before .before .pre in sym (length-take-le (a .self .found) (a .found .now) (omega (arith, p .1, p .4)))
+slice-aggregate-answer-3 c = let a = c .before .before .before .before .before .before .before .before .args in let p = c .before .before .before .before .before .before .before .before .pre in sym (length-take-le (a .self .found) (a .found .now) (omega (arith, p .2 .0, p .2 .3)))
 
 answer-requires-3 : tie.Need-answer-requires-3
 answer-requires-3 c κs =
     let a = c .before .before .before .before .before .before .before .before .before .args in
     let p = c .before .before .before .before .before .before .before .before .before .pre in
-    answer-fits (a .self .found) (a .found .now) (a .response .now) (a .buffer .now) _ (p .4) (p .0) (p .5) (subst (DecisionFits (take (a .self .found) (a .found .now)) (a .response .now)) (c .before .before .before .decision4 .given .1) (p .6))
+    answer-fits (a .self .found) (a .found .now) (a .response .now) (a .buffer .now) _ (p .2 .3) (p .0) (p .2 .4) (subst (DecisionFits (take (a .self .found) (a .found .now)) (a .response .now)) (c .before .before .before .decision4 .given .1) (p .1))
 
 continued-requires : tie.Need-continued-requires
 continued-requires c κs = c .before .before .before .before .before .before .before .before .pre
@@ -68,8 +68,8 @@ returns c =
     let a = c .before .before .before .before .before .before .before .before .before .before .before .before .before .args in
     let p = c .before .before .before .before .before .before .before .before .before .before .before .before .before .pre in
     let d = c .before .before .before .before .before .before .before .decision .given in
-    let n = subst (DecisionFits (take (a .self .found) (a .found .now)) (a .response .now)) (d .1) (p .6) in
-    rw (d .1) (part-copied (a .self) _ (a .response .now) (a .buffer .now) _ _ _ (d .0 .0) (d .0 .1 .0) n (p .0) (p .5) (c .before .before .before .append .ensures) (c .ended .ensures _ _))
+    let n = subst (DecisionFits (take (a .self .found) (a .found .now)) (a .response .now)) (d .1) (p .1) in
+    rw (d .1) (part-copied (a .self) _ (a .response .now) (a .buffer .now) _ _ _ (d .0 .0) (d .0 .1 .0) n (p .0) (p .2 .4) (c .before .before .before .append .ensures) (c .ended .ensures _ _))
 
 returns-2 : tie.Need-returns-2
 unfolding followsOf

@@ -11,18 +11,18 @@ use Rattle.engine.proofs.core.Core.kept.Tie as tie
 
 lay-requires : tie.Need-lay-requires
 lay-requires c κs =
-    let f = c .before .before .before .before .before .pre .6 in
+    let f = c .before .before .before .before .before .pre .1 in
     let a = c .before .before .before .before .before .args in
-    let n : length (take (a .self .found) (a .found .now)) ≤ 1024 = omega (arith, length-take (a .self .found) (a .found .now), c .before .before .before .before .before .pre .4) in
-    ((f .head, f .part, f .tail), omega (arith, f .room n (c .before .before .before .before .before .pre .0), c .before .before .before .before .before .pre .4))
+    let n : length (take (a .self .found) (a .found .now)) ≤ 1024 = omega (arith, length-take (a .self .found) (a .found .now), c .before .before .before .before .before .pre .2 .3) in
+    ((f .head, f .part, f .tail), omega (arith, f .room n (c .before .before .before .before .before .pre .0), c .before .before .before .before .before .pre .2 .3))
 
 send-requires : tie.Need-send-requires
-send-requires c κs = (subst (λ (s : Core). s .command ≤ 512) (sym (c .before .with-found .ensures)) (c .before .before .before .before .before .before .before .before .before .before .pre .2), c .before .before .before .before .before .before .before .before .before .before .pre .3, c .before .before .before .before .before .before .before .before .before .before .pre .5)
+send-requires c κs = (subst (λ (s : Core). s .command ≤ 512) (sym (c .before .with-found .ensures)) (c .before .before .before .before .before .before .before .before .before .before .pre .2 .1), c .before .before .before .before .before .before .before .before .before .before .pre .2 .2, c .before .before .before .before .before .before .before .before .before .before .pre .2 .4)
 
 returns : tie.Need-returns
 returns c =
     let a = c .before .before .before .before .before .before .before .before .before .before .before .before .before .args in
-    let h = c .before .before .before .before .before .before .before .lay .ensures (take (a .self .found) (a .found .now)) (a .found .now) (puts-found (a .found .now) (a .self .found) (a .layout .kept) (c .before .before .before .before .before .before .before .before .before .before .before .before .before .pre .6 .kept)) in
+    let h = c .before .before .before .before .before .before .before .lay .ensures (take (a .self .found) (a .found .now)) (a .found .now) (puts-found (a .found .now) (a .self .found) (a .layout .kept) (c .before .before .before .before .before .before .before .before .before .before .before .before .before .pre .1 .kept)) in
     c .before .before .send .ensures _
     ∙ (λ i. stageOf ((c .before .before .before .before .with-found .ensures ∙ ap (withFound (a .self)) (h .count)) i) (arrays (a .command .now) (h .is i)) (a .call) (a .buffer .now))
 

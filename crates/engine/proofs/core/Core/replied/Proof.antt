@@ -18,13 +18,13 @@ slice-aggregate-pending : tie.Need-slice-aggregate-pending
 slice-aggregate-pending c =
     let a = c .before .before .before .before .before .before .before .before .before .args in
     let p = c .before .before .before .before .before .before .before .before .before .pre in
-    sym (length-take-le (a .self .command) (a .command .now) (omega (arith, p .2, p .3)))
+    sym (length-take-le (a .self .command) (a .command .now) (omega (arith, p .1 .1, p .1 .2)))
 
 slice-aggregate-kept : tie.Need-slice-aggregate-kept
 slice-aggregate-kept c =
     let a = c .before .before .before .before .before .before .before .before .before .before .args in
     let p = c .before .before .before .before .before .before .before .before .before .before .pre in
-    sym (length-take-le (a .self .found) (a .found .now) (omega (arith, p .1, p .4)))
+    sym (length-take-le (a .self .found) (a .found .now) (omega (arith, p .1 .0, p .1 .3)))
 
 followed-requires : tie.Need-followed-requires
 followed-requires c κs =
@@ -45,7 +45,7 @@ followed-requires c κs =
     (λ w. decides-fault (a .self) h _ _ _ _ to (w .4) _ (w .1 .given .1) (w .3 .ensures _))
     (λ w. decides-response (a .self) h _ _ _ _ to (w .2) (w .0 .keys2) (w .1 .ensures))
     (c .before .before .before .match2 .came) in
-    (checked .few, p .1, p .2, p .3, p .4, p .5, refines .fits)
+    (checked .few, refines .fits, p .1)
 
 returns : tie.Need-returns
 returns c =
