@@ -5,8 +5,8 @@ use Prim.Native.Nat.{ℕ, _+_, _-_, _*_, _%_, _/_}
 use lib.Dec.{leb, ltb, eqb}
 use lib.ListN.{length}
 use Rattle.errors.specs.Refusals.{refused, plain}
-use Rattle.errors.specs.Choice.{pick}
-use Rattle.framing.specs.Lists.{both, same}
+use Rattle.errors.specs.Choice.{pick, same}
+use Rattle.framing.specs.Lists.{both}
 use Rattle.bench.specs.Texts.{Left, left, putOf}
 
 abbrev pub inRange : ℕ → ℕ → ℕ → Bool

@@ -6,14 +6,14 @@ use Prim.Native.Nat.{ℕ, zero, suc, _+_, _-_, _*_, _/_, _%_, _≤_, _<_}
 use native.Mathlib.Nat.{add-assoc}
 use native.Mathlib.Numerals.{add-one}
 use native.Mathlib.Omega.{arith}
-use borrow.Author.Tests.{lt-ltb, le-ltb, ltb-true, ne-eqb, le-leb, lt-leb}
+use borrow.Author.Tests.{lt-ltb, le-ltb, ltb-true, le-leb, lt-leb}
 use lib.Dec.{ltb, eqb}
 use lib.ListN.{length, getD, set, drop, drop-of-length-le}
 use lib.Seq.{drop-cons, paste}
 use Rattle.errors.specs.Refusals.{answered, refused, plain}
-use Rattle.errors.specs.Choice.{pick}
+use Rattle.errors.specs.Choice.{pick, same-not}
 use Rattle.errors.specs.declared.Refusal.{Refusal}
-use Rattle.framing.specs.Lists.{both, same}
+use Rattle.framing.specs.Lists.{both}
 use Rattle.bench.specs.Texts.{returned, over, left, putOf, Placed, placed, putAt}
 use Rattle.bench.specs.TextLaws.{paste-step, paste-all, put-short, put-done, put-none, put-there}
 use Rattle.bench.specs.declared.Put.{Put}
@@ -135,10 +135,10 @@ digit-value (x ∷ w) (suc i) t h = digit-value w i (both-right (ltb (valueOf x)
 
 -- a word that can be read and has a pair is all digits
 hex-digits : (w : List ℕ) → isHex w ≡ true → 2 ≤ length w → allDigits w ≡ true
-unfolding isHex pick same
+unfolding isHex pick
 hex-digits w t h =
-    let n : length w ≡ 1 → ⊥ = λ e. omega arith in
-    both-right (eqb (length w % 2) 0) (allDigits w) (both-right (ltb 0 (length w)) (both (eqb (length w % 2) 0) (allDigits w)) (rw (ne-eqb (length w) 1 n) at t))
+    let n : dash ≡ w → ⊥ = λ e. omega (arith, ap length e) in
+    both-right (eqb (length w % 2) 0) (allDigits w) (both-right (ltb 0 (length w)) (both (eqb (length w % 2) 0) (allDigits w)) (rw (same-not dash w n) at t))
 
 pub high-value : (w : List ℕ) (i : ℕ) → isHex w ≡ true → i < length w / 2 → valueOf (getD w (2 * i) 0) < 16
 high-value w i t h = digit-value w (2 * i) (hex-digits w t (omega arith)) (omega arith)
@@ -224,7 +224,3 @@ module _ (w b o : List ℕ) (r : Put) (room : length w / 2 ≤ length b) (known 
       go true h =
           let z : _≡_ {A = ℕ} 0 1 = cc (ap (λ l. l .result) (read-by true h), ap returned q) in
           absurd (omega arith)
-
-  pub not-put : (e : Refusal) → r ≡ Refused e → o ≡ b
-  unfolding pick
-  not-put e q = ap (λ l. l .buffer) (read-by false (not-read e q))

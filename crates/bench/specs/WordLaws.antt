@@ -65,26 +65,26 @@ module _ (l : List ℕ) (i : ℕ) where
     count-end h = let f = ap length (at-end h) in omega arith
 
   -- `left` words more are to be passed to come to the word w
-  module _ (left : ℕ) (w : List ℕ) (sought : getD (wordsOf (drop i l)) left [] ≡ w) where
+  module _ (left : ℕ) (w : List ℕ) (is-word : getD (wordsOf (drop i l)) left [] ≡ w) where
     pub start-space : (m : ℕ) → i < length l → (left ≡ 0 → ⊥) → getD l i 0 ≡ 32 → m ≡ left - 1 → getD (wordsOf (drop (i + 1) l)) m [] ≡ w
-    start-space m h some e g = rw g (go left some (sym (ap (λ x. getD x left []) (at-space h e)) ∙ sought))
+    start-space m h some e g = rw g (go left some (sym (ap (λ x. getD x left []) (at-space h e)) ∙ is-word))
       where
         go : (k : ℕ) → (k ≡ 0 → ⊥) → getD ([] ∷ wordsOf (drop (i + 1) l)) k [] ≡ w → getD (wordsOf (drop (i + 1) l)) (k - 1) [] ≡ w
         go zero n f = absurd (n refl)
         go (suc k) n f = let m : suc k - 1 ≡ k = omega arith in rw m f
 
     pub start-other : (m : ℕ) → i < length l → (left ≡ 0 → ⊥) → (getD l i 0 ≡ 32 → ⊥) → m ≡ left → getD (wordsOf (drop (i + 1) l)) m [] ≡ w
-    start-other m h some e g = rw g (go left some (sym (ap (λ x. getD x left []) (at-other h e)) ∙ sought))
+    start-other m h some e g = rw g (go left some (sym (ap (λ x. getD x left []) (at-other h e)) ∙ is-word))
       where
         go : (k : ℕ) → (k ≡ 0 → ⊥) → getD (ahead (getD l i 0) (wordsOf (drop (i + 1) l))) k [] ≡ w → getD (wordsOf (drop (i + 1) l)) k [] ≡ w
         go zero n f = absurd (n refl)
         go (suc k) n f = sym (later-ahead (getD l i 0) k (wordsOf (drop (i + 1) l))) ∙ f
 
     pub start-here : left ≡ 0 → getD (wordsOf (drop i l)) 0 [] ≡ w
-    start-here e = ap (λ k. getD (wordsOf (drop i l)) k []) (sym e) ∙ sought
+    start-here e = ap (λ k. getD (wordsOf (drop i l)) k []) (sym e) ∙ is-word
 
     pub start-end : length l ≤ i → getD (wordsOf (drop i l)) 0 [] ≡ w
-    start-end h = ap (λ x. getD x 0 []) (at-end h) ∙ go left ∙ sym (ap (λ x. getD x left []) (at-end h)) ∙ sought
+    start-end h = ap (λ x. getD x 0 []) (at-end h) ∙ go left ∙ sym (ap (λ x. getD x left []) (at-end h)) ∙ is-word
       where
         go : (k : ℕ) → getD {A = List ℕ} ([] ∷ []) 0 [] ≡ getD ([] ∷ []) k []
         go zero = refl

@@ -1,7 +1,6 @@
 // HEX: pairs of hex digits of either case, printed in upper case. `-` stands for no bytes.
 use super::Put;
 use super::text;
-use super::words;
 use errors::Refusal;
 ghost use mathlib.Core.Path.{_≡_};
 ghost use mathlib.Core.Bool.{Bool};
@@ -39,7 +38,7 @@ fn all_digits(word: &[u8]) -> bool
 pub fn is_hex(word: &[u8]) -> bool
     ensures { λ r. ⌜ r ≡ isHex (now (word .entry)) ⌝ }
 {
-    if words::is(word, b"-") {
+    if framing::is_exactly(word, b"-") {
         return true;
     }
     if 0 < word.len() {

@@ -3,7 +3,6 @@ ghost use mathlib.Core.Path.{_≡_};
 ghost use mathlib.Core.List.{[]};
 ghost use Prim.Native.Nat.{_-_, _≤_};
 ghost use lib.ListN.{length, getD, take, drop};
-ghost use Rattle.framing.specs.Lists.{same};
 ghost use Rattle.bench.specs.Words.{wordsOf};
 
 // How many words the line has.
@@ -61,14 +60,4 @@ pub fn word(line: &[u8], k: usize) -> &[u8]
     let from = start(line, k);
     let to = end(line, from);
     &line[from..to]
-}
-
-// Whether the word is this text, no more and no less.
-pub fn is(word: &[u8], text: &[u8]) -> bool
-    ensures { λ r. ⌜ r ≡ same (now (text .entry)) (now (word .entry)) ⌝ }
-{
-    if word.len() != text.len() {
-        return false;
-    }
-    framing::starts_with(word, text)
 }

@@ -3,7 +3,6 @@ use super::room;
 use super::unreadable;
 use bench::hex;
 use bench::text;
-use bench::words;
 use crc::Added;
 use framing::Built;
 use framing::FrameFormat;
@@ -162,7 +161,7 @@ pub(crate) fn bitrate(word: &[u8], out: &mut [u8]) -> usize
     if word.len() == 0 {
         return unreadable(out);
     }
-    if words::is(word, b"-") {
+    if framing::is_exactly(word, b"-") {
         send_part(&word[0..0], out)
     } else {
         send_part(word, out)

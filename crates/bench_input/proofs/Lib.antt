@@ -2,5 +2,5 @@ mod ArgumentLaws
 mod ReadLaws
 mod WordsLaws
 mod PartLaws
-mod StandLaws
+mod EndLaws
 mod TableLaws

@@ -7,12 +7,12 @@ use Prim.Native.Nat.{ℕ, _+_, _-_, _*_, _/_, _%_, _≤_}
 use native.Mathlib.Nat.{zero-add}
 use native.Mathlib.Omega.{arith}
 use borrow.Author.Tests.{eq-eqb, ne-eqb}
+use lib.Dec.{eqb}
 use borrow.Rule.Slice.PartMut.{putMid, postOf, take-put}
 use lib.ListN.{length, take, drop, length-append, length-take, length-drop, drop-of-length-le}
 use lib.Seq.{slice, take-at, drop-at, take-append-add, length-take-le, take-length, length-slice}
-use Rattle.errors.specs.Choice.{pick}
+use Rattle.errors.specs.Choice.{pick, same}
 use Rattle.errors.specs.declared.Refusal.{Refusal}
-use Rattle.framing.specs.Lists.{same}
 use Rattle.framing.specs.Copied.{copied}
 use Rattle.bench.specs.Hex.{dash, pairsOf, readOf}
 use Rattle.bench.specs.Numbers.{numberFrom, isNumber, numberOf, numberIn}
@@ -22,8 +22,13 @@ use Rattle.bench.specs.HexLaws.{length-pairs, was-read, read-count, read-into, 
 use Rattle.bench.specs.Texts.{returned, over, left}
 use Rattle.bench.specs.declared.Put.{Put}
 use Rattle.bench.specs.declared.Put.the-variants.{Bytes, Refused}
-use Rattle.bench_input.specs.Arguments.{Read, hexArg, textArg, msArg}
+use Rattle.bench_input.specs.Arguments.{Read, hexArg, pairsArg, textArg, msArg}
 use Rattle.bench_input.specs.Readings.{msIn, Between}
+
+-- a word of another length than m pairs
+pub pairs-other : (w u : List ℕ) (m : ℕ) → w ≡ u → (length w ≡ 2 * m → ⊥) → (f : List ℕ → Read) → none ≡ pairsArg m u f
+unfolding pairsArg pick
+pairs-other w u m is other f = rw (ne-eqb (length u) (2 * m) (λ h. other (ap length is ∙ h)))
 
 -- a buffer that the word's m bytes fill
 module _ (w u p part : List ℕ) (q : Put) (m : ℕ) (is : w ≡ u) (size : length w ≡ 2 * m) (filled : length p ≡ m) (read : left (returned q) part ≡ readOf w p) where
@@ -33,16 +38,19 @@ module _ (w u p part : List ℕ) (q : Put) (m : ℕ) (is : w ≡ u) (size : leng
   pairs-room : length u / 2 ≤ length p
   pairs-room = omega (arith, ap length is)
 
-  pub pairs-read : (n : ℕ) → q ≡ Bytes n → (f : List ℕ → Read) → f part ≡ hexArg u f
-  unfolding hexArg pick over
+  pairs-size : eqb (length u) (2 * m) ≡ true
+  pairs-size = eq-eqb (length u) (2 * m) (sym (ap length is) ∙ size)
+
+  pub pairs-read : (n : ℕ) → q ≡ Bytes n → (f : List ℕ → Read) → f part ≡ pairsArg m u f
+  unfolding pairsArg hexArg pick over
   pairs-read n given f =
       let k : length p ≤ 0 + length (pairsOf u) = omega (arith, ap length is, length-pairs u) in
       let e : part ≡ pairsOf u = read-into u p part q pairs-room known n given ∙ rw (drop-of-length-le p {i = 0 + length (pairsOf u)} k, append-nil) in
-      rw (was-read u p part q pairs-room known n given) (ap f e)
+      rw (pairs-size, was-read u p part q pairs-room known n given) (ap f e)
 
-  pub pairs-unread : (e : Refusal) → q ≡ Refused e → (f : List ℕ → Read) → none ≡ hexArg u f
-  unfolding hexArg pick
-  pairs-unread e given f = rw (not-read u p part q pairs-room known e given)
+  pub pairs-unread : (e : Refusal) → q ≡ Refused e → (f : List ℕ → Read) → none ≡ pairsArg m u f
+  unfolding pairsArg hexArg pick
+  pairs-unread e given f = rw (pairs-size, not-read u p part q pairs-room known e given)
 
 -- a list behind another
 placed-here : (a p x : List ℕ) (i n : ℕ) → length a ≡ i → n ≡ length p → slice i (i + n) (a ++ (p ++ x)) ≡ p

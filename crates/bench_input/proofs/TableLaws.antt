@@ -10,11 +10,11 @@ use borrow.Author.Tests.{lt-ltb, lt-leb, le-leb, ltb-true, ltb-false, eqb-true}
 use lib.Dec.{ltb, leb}
 use lib.ListN.{length, getD, drop, drop-of-length-le}
 use lib.Seq.{drop-cons}
-use Rattle.errors.specs.Choice.{pick}
-use Rattle.framing.specs.Lists.{both, both-false-r, same}
-use Rattle.bench.specs.Hex.{valueOf, allDigits, isHex, pairsOf, digitOf, digitsOf}
+use Rattle.errors.specs.Choice.{pick, same, same-not}
+use Rattle.framing.specs.Lists.{both, both-false-r}
+use Rattle.bench.specs.Hex.{valueOf, dash, allDigits, isHex, pairsOf, digitOf, digitsOf}
 use Rattle.bench.specs.Words.{wordsOf}
-use Rattle.bench_input.specs.Arguments.{arguments, Read, word, hexArg, byteArg}
+use Rattle.bench_input.specs.Arguments.{arguments, Read, word, hexArg, pairsArg, byteArg}
 use Rattle.bench_input.specs.Letters.{withX, argumentsOf, noNumbers, noArguments}
 use Rattle.bench_input.specs.Table.{Row, table, noRow, rowAt, isFor, rowFor, Said, unreadable, saidOf, byRow}
 use Rattle.bench_input.specs.Readings.{byteIn, texts, foundIn, Within}
@@ -75,12 +75,13 @@ number-fits i h = fits-at table refl i h
 
 -- the number of a row, read as BYTE
 pub number-read : (n : ℕ) (f : ℕ → Read) → n < 256 → byteArg (digitsOf (n ∷ [])) f ≡ f n
-unfolding byteArg hexArg isHex same pairsOf digitsOf allDigits pick
+unfolding byteArg pairsArg hexArg isHex pairsOf digitsOf allDigits pick
 number-read n f h =
     let a : valueOf (digitOf (n / 16)) ≡ n / 16 = digit-value (n / 16) (omega arith) in
     let b : valueOf (digitOf (n % 16)) ≡ n % 16 = digit-value (n % 16) (omega arith) in
     let e : n / 16 * 16 + n % 16 ≡ n = omega arith in
-    rw (a, b, lt-ltb (n / 16) 16 (omega arith), lt-ltb (n % 16) 16 (omega arith), e)
+    let two : same dash (digitOf (n / 16) ∷ digitOf (n % 16) ∷ []) ≡ false = same-not _ _ (λ z. omega (arith, ap length z)) in
+    rw (two, a, b, lt-ltb (n / 16) 16 (omega arith), lt-ltb (n % 16) 16 (omega arith), e)
 
 -- the row i is looked at
 module _ (name : List ℕ) (n i : ℕ) where

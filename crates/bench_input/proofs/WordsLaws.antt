@@ -17,7 +17,7 @@ use Rattle.bench_input.specs.Readings.{Ended, takenIn, nextIn, Grown, Ta
 use Rattle.bench_input.specs.declared.letters.Taken.{Taken}
 use Rattle.bench_input.specs.declared.letters.Next.{Next}
 use Rattle.bench_input.specs.declared.letters.Next.the-variants.{Value as NextValue, Unreadable as NoNext}
-use Rattle.bench_input.proofs.StandLaws.{grown-at, drop-more}
+use Rattle.bench_input.proofs.EndLaws.{grown-at, drop-more}
 
 unfoldable pub total : List (List ℕ) → ℕ
 total [] = 0
@@ -86,7 +86,7 @@ module _ (l letters b o : List ℕ) (t : Taken) (k : ℕ) (i : Begun l letters b
 
       pub next-begun : length o′ ≡ length o → (u : Taken) → r ≡ NextValue u → Begun l letters b o′ u (k + 1)
       next-begun same u e =
-          let g : Grown (t .ends .fourth) (length (word l (k + 1))) o o′ (NextValue u) = grown-at _ _ o o′ r u (read .stands) e in
+          let g : Grown (t .ends .fourth) (length (word l (k + 1))) o o′ (NextValue u) = grown-at _ _ o o′ r u (read .inOrder) e in
           record {
             inside = omega arith;
             held = g .0;

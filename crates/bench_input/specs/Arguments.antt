@@ -5,8 +5,7 @@ use mathlib.Core.Option.{Option, none}
 use Prim.Native.Nat.{ℕ, _+_, _*_, _%_}
 use lib.Dec.{eqb, ltb}
 use lib.ListN.{length, getD}
-use Rattle.errors.specs.Choice.{pick}
-use Rattle.framing.specs.Lists.{same}
+use Rattle.errors.specs.Choice.{pick, same}
 use Rattle.targets.specs.Bitrates.{ascii}
 use Rattle.bench.specs.Hex.{dash, isHex, pairsOf}
 use Rattle.bench.specs.Numbers.{isNumber, numberFrom}
@@ -44,9 +43,13 @@ hexArg w f = pick (isHex w) (f (pairsOf w)) none
 unfoldable pub wholeArg : ℕ → List ℕ → (List ℕ → Read) → Read
 wholeArg size w f = hexArg w (λ p. pick (eqb (length p % size) 0) (f p) none)
 
+-- so many pairs
+unfoldable pub pairsArg : ℕ → List ℕ → (List ℕ → Read) → Read
+pairsArg n w f = pick (eqb (length w) (2 * n)) (hexArg w f) none
+
 -- BYTE: one pair
 unfoldable pub byteArg : List ℕ → (ℕ → Read) → Read
-byteArg w f = pick (eqb (length w) 2) (hexArg w (λ p. f (getD p 0 0))) none
+byteArg w f = pairsArg 1 w (λ p. f (getD p 0 0))
 
 -- 00 or 01
 unfoldable pub flagArg : List ℕ → (ℕ → Read) → Read
@@ -54,7 +57,7 @@ flagArg w f = byteArg w (λ b. pick (ltb 1 b) none (f b))
 
 -- WORD: two pairs, high byte first
 unfoldable pub wordArg : List ℕ → (ℕ → Read) → Read
-wordArg w f = pick (eqb (length w) 4) (hexArg w (λ p. f (getD p 0 0 * 256 + getD p 1 0))) none
+wordArg w f = pairsArg 2 w (λ p. f (getD p 0 0 * 256 + getD p 1 0))
 
 -- MS: a number
 unfoldable pub msArg : List ℕ → (ℕ → Read) → Read

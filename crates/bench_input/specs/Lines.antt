@@ -2,7 +2,7 @@
 -- letters, is read by that row: it says the row's number with the arguments that the letters read of the words (`row-read`). No two
 -- rows have the same name and the same number of words (`distinct`). A line whose name and number of words no row has cannot be read
 -- (`no-row`), and neither can one over the limit (`too-long`).
-use mathlib.Core.Path.{_≡_, refl, ap, ap₂, _∙_}
+use mathlib.Core.Path.{_≡_, refl, ap, _∙_}
 use mathlib.Core.Bool.{Bool, true, false, not}
 use mathlib.Core.List.{List, [], _∷_, _++_}
 use mathlib.Core.Option.{none, some}
@@ -11,8 +11,8 @@ use native.Mathlib.Omega.{arith}
 use borrow.Author.Tests.{eq-eqb, eqb-true, lt-ltb, le-ltb}
 use lib.Dec.{eqb, ltb}
 use lib.ListN.{length, getD}
-use Rattle.errors.specs.Choice.{pick}
-use Rattle.framing.specs.Lists.{both, starts, same}
+use Rattle.errors.specs.Choice.{pick, same, same-self, same-is}
+use Rattle.framing.specs.Lists.{both}
 use Rattle.bench.specs.Words.{ahead, wordsOf}
 use Rattle.bench_input.specs.Arguments.{Arguments, lineLimit, word}
 use Rattle.bench_input.specs.Letters.{argumentsOf, noArguments}
@@ -43,7 +43,7 @@ areDistinct [] = true
 areDistinct (r ∷ rows) = both (isAlone r rows) (areDistinct rows)
 
 pub distinct : areDistinct table ≡ true
-unfolding areDistinct isAlone isFor same starts table
+unfolding areDistinct isAlone isFor same table
 distinct = refl
 
 -- ---- laws
@@ -78,31 +78,15 @@ words-joined w (v ∷ ws) h k =
     let p = both-parts (spaceless v) (allSpaceless ws) k in
     first-word w (joined (v ∷ ws)) h ∙ ap (λ z. w ∷ z) (words-joined v ws (p .0) (p .1))
 
--- a text is the same as itself alone
-starts-self : (w : List ℕ) → starts w w ≡ true
-unfolding starts
-starts-self [] = refl
-starts-self (b ∷ w) = rw (eq-eqb b b refl) (starts-self w)
-
-starts-all : (f p : List ℕ) → starts f p ≡ true → length p ≡ length f → f ≡ p
-unfolding starts
-starts-all [] [] h e = refl
-starts-all [] (y ∷ p) h e = absurd (omega arith)
-starts-all (x ∷ f) [] h e = absurd (omega arith)
-starts-all (x ∷ f) (y ∷ p) h e =
-    let q = both-parts (eqb x y) (starts f p) h in
-    ap₂ _∷_ (eqb-true x y (q .0)) (starts-all f p (q .1) (omega arith))
-
 own-row : (r : Row) → isFor r (r .name) (length (r .letters) + 1) ≡ true
-unfolding isFor same
-own-row r = rw (eq-eqb (length (r .name)) (length (r .name)) refl, starts-self (r .name), eq-eqb (length (r .letters) + 1) (length (r .letters) + 1) refl)
+unfolding isFor
+own-row r = rw (same-self (r .name), eq-eqb (length (r .letters) + 1) (length (r .letters) + 1) refl)
 
 row-has : (r : Row) (name : List ℕ) (n : ℕ) → isFor r name n ≡ true → (r .name ≡ name) × (length (r .letters) + 1 ≡ n)
-unfolding isFor same
+unfolding isFor
 row-has r name n h =
     let p = both-parts (same (r .name) name) (eqb (length (r .letters) + 1) n) h in
-    let q = both-parts (eqb (length name) (length (r .name))) (starts (r .name) name) (p .0) in
-    (starts-all (r .name) name (q .1) (eqb-true (length name) (length (r .name)) (q .0)), eqb-true (length (r .letters) + 1) n (p .1))
+    (same-is (r .name) name (p .0), eqb-true (length (r .letters) + 1) n (p .1))
 
 -- each row is found by its own name and number of words
 alone-at : (r : Row) (rows : List Row) → isAlone r rows ≡ true → (k : ℕ) → k < length rows

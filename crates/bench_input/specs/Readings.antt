@@ -45,15 +45,15 @@ InOrder at [] b o = (at ≤ bytesRoom) × (drop at o ≡ drop at b)
 InOrder at (i ∷ ends) b o = (at ≤ i) × InOrder i ends b o
 
 -- what holds of the ends and of the buffer: nothing where the line cannot be read
-abbrev pub Stands : Input → List ℕ → List ℕ → Type 0
-Stands (Call number n e) b o = InOrder 0 (e .first ∷ e .second ∷ e .third ∷ e .fourth ∷ []) b o
-Stands (Event number n) b o = InOrder 0 (n ∷ []) b o
-Stands Unreadable b o = Unit {0}
+abbrev pub EndsInOrder : Input → List ℕ → List ℕ → Type 0
+EndsInOrder (Call number n e) b o = InOrder 0 (e .first ∷ e .second ∷ e .third ∷ e .fourth ∷ []) b o
+EndsInOrder (Event number n) b o = InOrder 0 (n ∷ []) b o
+EndsInOrder Unreadable b o = Unit {0}
 
 -- what a line says was read, with the bytes of its arguments in the buffer b, which became o
 pub record Reads (b o : List ℕ) (r : Input) (s : Said) : Type 0 where
   pub says : inputIn o r ≡ s
-  pub stands : Stands r b o
+  pub inOrder : EndsInOrder r b o
 
 -- what is read with an argument that was read
 abbrev pub byteIn : Byte → (ℕ → Read) → Read
@@ -126,7 +126,7 @@ Grown at size b o NoNext = Unit {0}
 -- a word w was read by its letter, behind what was taken before
 pub record Takes (letter : ℕ) (w : List ℕ) (t : Taken) (b o : List ℕ) (r : Next) : Type 0 where
   pub says : (f : Arguments → Read) → nextIn o r f ≡ argument letter w (takenIn b t) f
-  pub stands : Grown (t .ends .fourth) (length w) b o r
+  pub inOrder : Grown (t .ends .fourth) (length w) b o r
 
 -- the rows as words of a text: each is its name, its letters and its number as BYTE
 unfoldable pub texts : List Row → List (List ℕ)

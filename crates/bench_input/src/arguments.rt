@@ -111,7 +111,7 @@ pub(crate) fn read_text(line: &[u8], k: usize, bytes: &mut [u8], at: usize) -> P
     if word.len() == 0 {
         return Put::Refused(Refusal::BadArgument);
     }
-    if words::is(word, b"-") {
+    if framing::is_exactly(word, b"-") {
         return Put::Bytes(at);
     }
     bytes::copy(word, &mut bytes[at..]);
@@ -122,7 +122,7 @@ pub(crate) fn read_text(line: &[u8], k: usize, bytes: &mut [u8], at: usize) -> P
 fn is_none(line: &[u8], k: usize) -> bool
     ensures { λ r. ⌜ r ≡ isNone (word (now (line .entry)) k) ⌝ }
 {
-    words::is(words::word(line, k), b"none")
+    framing::is_exactly(words::word(line, k), b"none")
 }
 
 // HEX, or `none` for no bytes, from a place on.
@@ -154,7 +154,7 @@ pub(crate) fn read_flag(line: &[u8], k: usize) -> Byte
 pub(crate) fn read_name(line: &[u8], k: usize, name: &[u8]) -> Byte
     ensures { λ r. ⌜ ((f : ℕ → Read) → byteIn r f ≡ nameArg (now (name .entry)) (word (now (line .entry)) k) f) ⌝ }
 {
-    if words::is(words::word(line, k), name) {
+    if framing::is_exactly(words::word(line, k), name) {
         return Byte::Value(1);
     }
     Byte::Unreadable

@@ -14,7 +14,7 @@ ghost use mathlib.Core.Option.{some};
 ghost use Prim.Native.Nat.{ℕ, _+_, _≤_, _<_};
 ghost use lib.ListN.{length, drop};
 ghost use Rattle.bench.specs.Words.{wordsOf};
-ghost use Rattle.bench_input.specs.Arguments.{Arguments, Read, word, lineLimit, bytesRoom};
+ghost use Rattle.bench_input.specs.Arguments.{Read, word, lineLimit, bytesRoom};
 ghost use Rattle.bench_input.specs.Letters.{withMs, withWord, withX, withY, numberArg, stringArg, argumentsOf, noArguments};
 ghost use Rattle.bench_input.specs.Readings.{byteIn, wordIn, msIn, waitIn, numberIn, hexIn, Behind, Ended, endedAt, nextIn, Grown, Takes};
 

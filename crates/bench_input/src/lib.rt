@@ -19,7 +19,7 @@ ghost use lib.Seq.{slice};
 ghost use Rattle.bench.specs.Words.{wordsOf};
 ghost use Rattle.bench_input.specs.Arguments.{word, lineLimit, bytesRoom};
 ghost use Rattle.bench_input.specs.Table.{table as tableOf, rowFor, said, byRow, inputOf};
-ghost use Rattle.bench_input.specs.Readings.{Ended, takenIn, texts, inputIn, Stands, Reads};
+ghost use Rattle.bench_input.specs.Readings.{Ended, takenIn, texts, inputIn, EndsInOrder, Reads};
 
 // The longest line, without its line feed, and room for its bytes: a BITRATE has as many as its word.
 pub const LINE: usize = 8192;
@@ -69,7 +69,7 @@ pub fn part(bytes: &[u8], from: usize, to: usize) -> &[u8]
 fn by_number(number: u8, taken: Taken) -> Input
     requires { ⌜ Ended (taken .count) (taken .ends) ⌝ }
     ensures { λ r. ⌜ ((b : List ℕ) → inputIn b r ≡ said number (takenIn b taken)) ⌝ }
-    ensures { λ r. ⌜ ((b o : List ℕ) → (taken .ends .fourth ≤ bytesRoom) → drop (taken .ends .fourth) o ≡ drop (taken .ends .fourth) b → Stands r b o) ⌝ }
+    ensures { λ r. ⌜ ((b o : List ℕ) → (taken .ends .fourth ≤ bytesRoom) → drop (taken .ends .fourth) o ≡ drop (taken .ends .fourth) b → EndsInOrder r b o) ⌝ }
 {
     let ends = taken.ends;
     let numbers = taken.numbers;

@@ -1,44 +1,45 @@
 -- A read and a write of FeliCa blocks: the response, held against the request, leads to what the script has.
 use mathlib.Core.Path.{_≡_, refl, sym, ap, _∙_}
 use mathlib.Core.Bool.{true}
-use mathlib.Core.List.{List, [], map}
+use mathlib.Core.List.{List, []}
 use Prim.Native.Nat.{ℕ, _+_, _*_, _≤_}
 use native.Mathlib.Omega.{arith}
 use lib.ListN.{length, drop, length-drop, drop-of-length-le}
 use lib.Seq.{take-all}
 use Rattle.felica.specs.Accepted.{good-read}
 use Rattle.felica.specs.Checks.{readCheck, writeCheck}
-use Rattle.felica.specs.Fields.{idmIn, countIn}
 use Rattle.felica.specs.Laid.{request-length, fits-idm, fits-few, write-idm, write-few, write-few-bytes}
+use Rattle.felica.specs.Names.{blockSize, blocksOffset}
 use Rattle.felica.specs.Packets.{readCode, writeCode, readRequest, writeRequest, requestFits, writeFits}
 use Rattle.felica.specs.Requests.{parts}
 use Rattle.felica.specs.declared.check.Checked.{Checked}
 use Rattle.felica.specs.declared.check.Checked.the-variants.{Good, Faulty}
-use Rattle.protocol.specs.Blocks.{byCheck, blockBytes}
+use Rattle.protocol.specs.Blocks.{byCheck, blockBytes, responseBlocksOffset}
 use Rattle.protocol.specs.Rules.{withStatus as statusThen}
 use Rattle.protocol.specs.Scripts.{done, finish, part}
 use Rattle.device.specs.Blocks.{ifGood, readAnswer, writeAnswer}
-use Rattle.calls.specs.Single.{Interprets, ends, refusing, by-status, empty}
+use Rattle.calls.specs.Single.{Interprets, ends, refusing, by-status}
 use Rattle.protocol.specs.Values.{part-values}
+use Rattle.protocol.specs.Starts.{dataLimit}
 
-pub read-length : (idm : List ℕ) (service : ℕ) (blocks : List ℕ) → requestFits idm blocks ≡ true → length (readRequest idm service blocks) ≤ 512
+pub read-length : (idm : List ℕ) (service : ℕ) (blocks : List ℕ) → requestFits idm blocks ≡ true → length (readRequest idm service blocks) ≤ dataLimit
 read-length idm service blocks h =
     omega (arith, request-length readCode service idm blocks [] (fits-idm idm blocks true (sym h) refl), fits-few idm blocks true (sym h) refl)
 
-pub write-length : (idm : List ℕ) (service : ℕ) (blocks bytes : List ℕ) → writeFits idm blocks bytes ≡ true → length (writeRequest idm service blocks bytes) ≤ 512
+pub write-length : (idm : List ℕ) (service : ℕ) (blocks bytes : List ℕ) → writeFits idm blocks bytes ≡ true → length (writeRequest idm service blocks bytes) ≤ dataLimit
 write-length idm service blocks bytes h =
     omega (arith, request-length writeCode service idm blocks bytes (write-idm idm blocks bytes true (sym h) refl), write-few idm blocks bytes true (sym h) refl, write-few-bytes idm blocks bytes true (sym h) refl)
 
 -- by the check of the reply
-read-by : (idm : List ℕ) (n : ℕ) (bs : List ℕ) → Interprets (byCheck (blockBytes n bs) (readCheck idm n (drop 1 bs))) (ifGood 14 bs (readCheck idm n (drop 1 bs)))
+read-by : (idm : List ℕ) (n : ℕ) (bs : List ℕ) → Interprets (byCheck (blockBytes n bs) (readCheck idm n (drop 1 bs))) (ifGood responseBlocksOffset bs (readCheck idm n (drop 1 bs)))
 read-by idm n bs = go (readCheck idm n (drop 1 bs)) refl
   where
-    go : (c : Checked) → readCheck idm n (drop 1 bs) ≡ c → Interprets (byCheck (blockBytes n bs) c) (ifGood 14 bs c)
+    go : (c : Checked) → readCheck idm n (drop 1 bs) ≡ c → Interprets (byCheck (blockBytes n bs) c) (ifGood responseBlocksOffset bs c)
     go Good e =
-        let long : length (drop 1 bs) ≡ 13 + 16 * n = good-read idm n (drop 1 bs) e .long in
-        let size : length bs ≡ 14 + 16 * n = omega (arith, length-drop 1 bs, long) in
-        ends (done (part 0 bs 14 (16 * n)))
-        (ap done (part-values 0 bs 14 (16 * n) (omega arith) ∙ take-all (16 * n) (drop 14 bs) (omega (arith, length-drop 14 bs))))
+        let long : length (drop 1 bs) ≡ blocksOffset + blockSize * n = good-read idm n (drop 1 bs) e .long in
+        let size : length bs ≡ responseBlocksOffset + blockSize * n = omega (arith, length-drop 1 bs, long) in
+        ends (done (part 0 bs responseBlocksOffset (blockSize * n)))
+        (ap done (part-values 0 bs responseBlocksOffset (blockSize * n) (omega arith) ∙ take-all (blockSize * n) (drop responseBlocksOffset bs) (omega (arith, length-drop responseBlocksOffset bs))))
     go (Faulty r) e = refusing r
 
 written-by : (bs : List ℕ) (c : Checked) → Interprets (byCheck (finish (done [])) c) (ifGood (length bs) bs c)

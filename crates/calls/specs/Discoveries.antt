@@ -2,7 +2,7 @@
 use mathlib.Core.Path.{refl, ap}
 use mathlib.Core.Bool.{_||_}
 use mathlib.Core.List.{List, [], _∷_, _++_}
-use Prim.Native.Nat.{ℕ, _/_, _%_}
+use Prim.Native.Nat.{ℕ, _/_, _%_, _+_}
 use native.Mathlib.Omega.{arith}
 use lib.Dec.{eqb, ltb}
 use lib.ListN.{length, take, drop, getD, length-drop}
@@ -11,7 +11,7 @@ use Rattle.errors.specs.declared.Fault.the-variants.{Status, ShortResponse, NoC
 use Rattle.exchange.specs.Packets.{Reply}
 use Rattle.protocol.specs.Scripts.{own, done, nothing, refused, Script, finish, command, fieldPause, either, refuse, ifElse, rest}
 use Rattle.protocol.specs.Rules.{anyNonzero, statusByte}
-use Rattle.protocol.specs.Arguments.{jumpData, word}
+use Rattle.protocol.specs.Arguments.{jumpData, word, shortestAtrReq, nfcid3Size}
 use Rattle.protocol.specs.Discovery.{detectTypeB, detectTypeF, detectDep, wakeUp, foundB, poll, noPartner as noPartnerScript}
 use Rattle.stages.specs.Stages.{send}
 use Rattle.chipset.specs.Responses.{foundWritten}
@@ -19,7 +19,7 @@ use Rattle.discovery.specs.Decisions.{typeBCommand, isoDep, listedB, wokenUp, t
 use Rattle.calls.specs.Tables.{commandOf, isResetOf, decidedOf, failedOf}
 use Rattle.calls.specs.Refines.{Refines, refines-keep, refines-put, refines-pause, Awaits, refines-if, refines-status, ending, none-found, refusal, by-length, go-on}
 use Rattle.protocol.specs.Values.{rest-values}
-use Rattle.protocol.specs.Names.{ciuMode, commandClock, inJumpForDepClock, inListPassiveTargetClock, registerWriteFailed, registersClock, rfNotActivated, timeoutStatus, typeBClock}
+use Rattle.protocol.specs.Names.{ciuMode, commandClock, inJumpForDepClock, inListPassiveTargetClock, registerWriteFailed, registersClock, rfNotActivated, timeoutStatus, typeBClock, listedIdmOffset, pmmEnd, protocolOffset, wupbCode, wupbParameter}
 use Rattle.protocol.specs.Calls.{inCommunicateThruCode, inJumpForDepCode, inListPassiveTargetCode, readRegisterCode, rfConfigurationCode, writeRegisterCode}
 use Rattle.discovery.specs.Kinds.{typeBKind, typeFKind, depKind, listStage, deselectStage, wakeUpStage, fieldStage, rfOnStage, pollStage, timeoutsStage, jumpStage, writeModeStage}
 
@@ -27,7 +27,7 @@ use Rattle.discovery.specs.Kinds.{typeBKind, typeFKind, depKind, listStage, des
 
 module _ (afi : ℕ) where
   abbrev wakes : List ℕ
-  wakes = 0x05 ∷ afi ∷ 0x08 ∷ []
+  wakes = wupbCode ∷ afi ∷ wupbParameter ∷ []
 
   typeB-2 : (found : List ℕ)
       → Awaits typeBKind wakeUpStage 0 wakes found (either (λ bs. ifElse (eqb (statusByte bs) 0) (finish (done (rest 2 bs 1))) (finish nothing)) (λ _. finish nothing))
@@ -51,9 +51,9 @@ module _ (afi : ℕ) where
     answered = λ cs few.
         refines-if (eqb (getD cs 0 0) 0) (λ _. none-found)
         (λ _. by-length cs 2
-        (λ _. refines-if (ltb (length cs) 13) (λ _. none-found)
-        (λ _. refines-if (eqb (getD cs 12 0 % 2) 1)
-        (λ _. refines-if (eqb (getD cs 12 0 / 8 % 2) 0)
+        (λ _. refines-if (ltb (length cs) (protocolOffset + 1)) (λ _. none-found)
+        (λ _. refines-if (eqb (getD cs protocolOffset 0 % 2) 1)
+        (λ _. refines-if (eqb (getD cs protocolOffset 0 / 8 % 2) 0)
         (λ _. refines-put deselectStage _ _ (omega arith) (go-on deselectStage inCommunicateThruCode typeBClock _ refl refl refl (typeB-1 found))) (λ _. none-found))
         (λ _. none-found))));
     failing = λ r. refusal r;
@@ -64,12 +64,12 @@ module _ (afi : ℕ) where
 module _ (code : ℕ) (req : List ℕ) where
   -- the poll is command j of the call
   typeF-2 : (j : ℕ) (found : List ℕ)
-      → Awaits typeFKind pollStage 0 (1 ∷ code ∷ req) found (either (λ list. ifElse (eqb (getD list 0 0) 0) (refuse NoCard) (ifElse (ltb (length list) 2) (refuse ShortResponse) (ifElse (ltb (length list) 20) (refuse ShortResponse) (finish (done (rest j list 4)))))) refuse)
+      → Awaits typeFKind pollStage 0 (1 ∷ code ∷ req) found (either (λ list. ifElse (eqb (getD list 0 0) 0) (refuse NoCard) (ifElse (ltb (length list) 2) (refuse ShortResponse) (ifElse (ltb (length list) pmmEnd) (refuse ShortResponse) (finish (done (rest j list listedIdmOffset)))))) refuse)
   unfolding decidedOf failedOf typeFDecision polled pick
   typeF-2 j found = record {
     answered = λ cs few.
         refines-if (eqb (getD cs 0 0) 0) (λ _. refusal NoCard)
-        (λ _. by-length cs 2 (λ _. by-length cs 20 (λ _. ending _ (ap done (rest-values j cs 4)))));
+        (λ _. by-length cs 2 (λ _. by-length cs pmmEnd (λ _. ending _ (ap done (rest-values j cs listedIdmOffset)))));
     failing = λ r. refusal r;
   }
 
@@ -132,6 +132,6 @@ unfolding commandOf isResetOf typeFCommand pick
 typeF-refines code req found = go-on fieldStage readRegisterCode registersClock _ refl refl refl (typeF-0 code req found)
 
 pub dep-refines : (code : ℕ) (req found : List ℕ)
-    → Refines depKind 0 (jumpData 1 code [] (take 10 (drop 2 req)) (drop 16 req)) found (send timeoutsStage) (detectDep code req)
+    → Refines depKind 0 (jumpData 1 code [] (take nfcid3Size (drop 2 req)) (drop shortestAtrReq req)) found (send timeoutsStage) (detectDep code req)
 unfolding commandOf isResetOf depCommand pick
-dep-refines code req found = go-on timeoutsStage rfConfigurationCode commandClock _ refl refl refl (dep-0 code (take 10 (drop 2 req)) (drop 16 req) found)
+dep-refines code req found = go-on timeoutsStage rfConfigurationCode commandClock _ refl refl refl (dep-0 code (take nfcid3Size (drop 2 req)) (drop shortestAtrReq req) found)

@@ -1,5 +1,4 @@
 -- How each call starts.
-use mathlib.Core.List.{List}
 use lib.ListN.{getD}
 use Rattle.errors.specs.declared.Refusal.the-variants.{BadArgument}
 use Rattle.protocol.specs.Discovery.{sensfReq}

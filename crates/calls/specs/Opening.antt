@@ -9,14 +9,13 @@ use lib.Dec.{eqb, ltb}
 use lib.ListN.{length, getD, length-append}
 use Rattle.errors.specs.Choice.{pick}
 use Rattle.errors.specs.declared.Fault.{Fault}
-use Rattle.errors.specs.declared.Fault.the-variants.{ShortResponse, Status}
-use Rattle.exchange.specs.Packets.{Reply}
+use Rattle.errors.specs.declared.Fault.the-variants.{Status}
 use Rattle.protocol.specs.Scripts.{own, value, Script, finish, reset, either, refuse, done, refused}
 use Rattle.protocol.specs.Rules.{versionBytes, anyNonzero}
 use Rattle.protocol.specs.Chipset.{getFirmwareVersion, rfFieldOff, rfConfiguration, setParameters, writeRegister}
 use Rattle.protocol.specs.Arguments.{word}
 use Rattle.protocol.specs.Device.{deviceNew, chipsetName, hexDigit as hexDigitOf, hex as hexOf}
-use Rattle.stages.specs.Stages.{send, ends, withLength}
+use Rattle.stages.specs.Stages.{send, ends}
 use Rattle.chipset.specs.Responses.{foundWritten}
 use Rattle.device.specs.Names.{hexDigit, hex, dotted, nameBytes, openedBytes}
 use Rattle.device.specs.Opening.{openingCommand, settingsCommand, isResetStage, versionKept, openingDecision}

@@ -12,20 +12,19 @@ use Rattle.errors.specs.Choice.{pick}
 use Rattle.errors.specs.declared.Fault.{Fault}
 use Rattle.errors.specs.declared.Fault.the-variants.{ShortResponse, NoCard}
 use Rattle.framing.specs.Valid.{both-left, both-right}
-use Rattle.exchange.specs.Packets.{Reply}
 use Rattle.protocol.specs.Scripts.{Byte, own, card, value, behind, Answer, done, refused, refusedAfter, Script, finish, command, fieldPause, either, refuse, ifElse, andThen, rest}
 use Rattle.protocol.specs.Discovery.{sensfReq, poll, byNoCard, cardMet, noCardMet, detectTypeF, codeEnd, pollCodes, pollTypeF}
 use Rattle.protocol.specs.Arguments.{systemCodesFit, wordsIn}
 use Rattle.protocol.specs.Laws.{by-fault}
 use Rattle.stages.specs.Stages.{cmd, Decision, send, ends, withLength}
-use Rattle.discovery.specs.Decisions.{typeFCommand, txControlRead, polled, typeFDecision, pollOf, pollCommand, soFar, hasNext, codeFinished, pollFailure, onEnd, pollDecision}
+use Rattle.discovery.specs.Decisions.{typeFCommand, txControlRead, polled, typeFDecision, pollOf, pollCommand, soFarLimit, soFar, lastCode, hasNext, codeFinished, pollFailure, onEnd, pollDecision}
 use Rattle.discovery.specs.FirstLaws.{list-few}
 use Rattle.discovery.specs.PollLaws.{none-yet, all-found}
 use Rattle.stages.specs.Decided.{foundLimit}
 use Rattle.calls.specs.Tables.{commandOf, isResetOf, decidedOf, failedOf}
 use Rattle.calls.specs.Refines.{Refines, refines-next, refines-pause, Awaits, ending, go-on}
 use Rattle.protocol.specs.Values.{rest-values}
-use Rattle.protocol.specs.Names.{commandClock, inListPassiveTargetClock, registersClock}
+use Rattle.protocol.specs.Names.{commandClock, inListPassiveTargetClock, registersClock, idmAndPmm, listedIdmOffset, pmmEnd}
 use Rattle.protocol.specs.Calls.{inListPassiveTargetCode, readRegisterCode, rfConfigurationCode}
 use Rattle.discovery.specs.Kinds.{pollTypeFKind, fieldStage, rfOnStage, pollStage}
 
@@ -37,11 +36,11 @@ module _ (cursor : ℕ) (pending found : List ℕ) (f : ℕ → Answer Byte → 
 
   -- Type F's decision with the ends of a code
   abbrev ended : Decision → Decision
-  ended = onEnd (λ bytes. codeFinished cursor pending found (0x01 ∷ take 16 bytes)) (pollFailure cursor pending found)
+  ended = onEnd (λ bytes. codeFinished cursor pending found (0x01 ∷ take idmAndPmm bytes)) (pollFailure cursor pending found)
 
   -- f code-ends the ends of a code
   record CodeEnds : Type 0 where
-    met : (k : ℕ) (bytes : List Byte) → RefinesHere (codeFinished cursor pending found (0x01 ∷ take 16 (map value bytes))) (f k (done bytes))
+    met : (k : ℕ) (bytes : List Byte) → RefinesHere (codeFinished cursor pending found (0x01 ∷ take idmAndPmm (map value bytes))) (f k (done bytes))
     fails : (k : ℕ) (r : Fault) → RefinesHere (pollFailure cursor pending found r) (f k (refused r))
 
   then-if : (t : Bool) (k : ℕ) (x y : Decision) (s u : Script) → RefinesHere (ended x) (andThen s k f) → RefinesHere (ended y) (andThen u k f)
@@ -59,12 +58,12 @@ module _ (cursor : ℕ) (pending found : List ℕ) (f : ℕ → Answer Byte → 
     module _ (code : ℕ) (req : List ℕ) (polls : pollOf cursor pending ≡ 1 ∷ code ∷ req) where
       -- the poll is command j of the code, and k commands of the call are through behind it
       poll-2 : (j k : ℕ)
-          → Awaits pollTypeFKind pollStage cursor pending found (λ r. andThen (either (λ list. ifElse (eqb (getD list 0 0) 0) (refuse NoCard) (ifElse (ltb (length list) 2) (refuse ShortResponse) (ifElse (ltb (length list) 20) (refuse ShortResponse) (finish (done (rest j list 4)))))) refuse r) k f)
+          → Awaits pollTypeFKind pollStage cursor pending found (λ r. andThen (either (λ list. ifElse (eqb (getD list 0 0) 0) (refuse NoCard) (ifElse (ltb (length list) 2) (refuse ShortResponse) (ifElse (ltb (length list) pmmEnd) (refuse ShortResponse) (finish (done (rest j list listedIdmOffset)))))) refuse r) k f)
       unfolding decidedOf failedOf pollDecision typeFDecision polled pick
       poll-2 j k = record {
         answered = λ cs few.
             then-if (eqb (getD cs 0 0) 0) k _ _ _ _ (code-ends .fails k NoCard)
-            (then-long cs 2 k _ _ (then-long cs 20 k (ends (done (drop 4 cs))) (finish (done (rest j cs 4))) (rw (rest-values j cs 4) at (code-ends .met k (rest j cs 4)))));
+            (then-long cs 2 k _ _ (then-long cs pmmEnd k (ends (done (drop listedIdmOffset cs))) (finish (done (rest j cs listedIdmOffset))) (rw (rest-values j cs listedIdmOffset) at (code-ends .met k (rest j cs listedIdmOffset)))));
         failing = λ r. code-ends .fails k r;
       }
 
@@ -115,13 +114,13 @@ module _ (cursor first : ℕ) (found : List ℕ) (bytes add : List Byte) (is : m
   length-added = length-append bytes (map (behind first) add) ∙ ap (λ n. length bytes + n) (length-map add (behind first))
 
 module _ (cursor : ℕ) (pending : List ℕ) where
-  has-next : cursor < 15 → 2 * cursor + 5 ≤ length pending → hasNext cursor pending ≡ true
+  has-next : cursor < lastCode → 2 * cursor + 5 ≤ length pending → hasNext cursor pending ≡ true
   unfolding hasNext
-  has-next h k = rw (lt-ltb cursor 15 h, le-leb (2 * cursor + 5) (length pending) k)
+  has-next h k = rw (lt-ltb cursor lastCode h, le-leb (2 * cursor + 5) (length pending) k)
 
   has-no-next : length pending < 2 * cursor + 5 → hasNext cursor pending ≡ false
   unfolding hasNext
-  has-no-next k = go (ltb cursor 15)
+  has-no-next k = go (ltb cursor lastCode)
     where
       go : (t : Bool) → Rattle.framing.specs.Lists.both t (leb (2 * cursor + 5) (length pending)) ≡ false
       go true = lt-leb (2 * cursor + 5) (length pending) k
@@ -178,7 +177,7 @@ module _ (code : ℕ) (words : List ℕ) (few : length words ≤ 32) where
     code-step codes finishes =
         let f : ℕ → Answer Byte → Script = λ k a. codeEnd (λ add. pollCodes code k (suc cursor) (added add) codes) (λ r. finish (refusedAfter r cursor)) a in
         let code-ends : CodeEnds cursor pending found f = record {
-          met = λ k bs. rw (values-taken 16 bs) at (finishes k (cardMet bs) (omega (arith, length-take 16 bs)));
+          met = λ k bs. rw (values-taken idmAndPmm bs) at (finishes k (cardMet bs) (omega (arith, length-take idmAndPmm bs)));
           fails = λ k r. by-no-card (finishes k noCardMet (omega arith)) (ending (refusedAfter r cursor) refl) r;
         } in
         code-refines cursor pending found f code-ends code _ (polls-code code words cursor high low ws (at .left)) first
@@ -191,7 +190,7 @@ module _ (code : ℕ) (words : List ℕ) (few : length words ≤ 32) where
       let v = values-added cursor first found bytes add (at .same) in
       let n = length-added cursor first found bytes add (at .same) in
       let c = count cursor first high low (x ∷ y ∷ ws) found bytes at in
-      let m : length (soFar cursor found ++ map value add) ≤ 255
+      let m : length (soFar cursor found ++ map value add) ≤ soFarLimit
       = omega (arith, short, few, c, n, at .within, ap length (sym v), length-map (bytes ++ map (behind first) add) value) in
       record {
         left = ap (λ k. drop k words) two ∙ sym (drop-drop 2 (2 * cursor) words) ∙ ap (drop 2) (at .left);
@@ -199,16 +198,16 @@ module _ (code : ℕ) (words : List ℕ) (few : length words ≤ 32) where
         within = omega (arith, n, short, at .within);
       }
 
-  codes-lead : (ws : List ℕ) (cursor first high low : ℕ) (found : List ℕ) (bytes : List Byte) → At cursor high low ws found bytes
+  codes-refine : (ws : List ℕ) (cursor first high low : ℕ) (found : List ℕ) (bytes : List Byte) → At cursor high low ws found bytes
       → Refines pollTypeFKind cursor (code ∷ words) found (send fieldStage) (pollCodes code first cursor bytes ((256 * high + low) ∷ wordsIn ws))
-  codes-lead [] cursor first high low found bytes at =
+  codes-refine [] cursor first high low found bytes at =
       code-step cursor first high low [] found bytes at [] (λ k add short. list-ends cursor first high low [] found bytes at add (omega arith))
-  codes-lead (x ∷ []) cursor first high low found bytes at =
+  codes-refine (x ∷ []) cursor first high low found bytes at =
       code-step cursor first high low (x ∷ []) found bytes at [] (λ k add short. list-ends cursor first high low (x ∷ []) found bytes at add (omega arith))
-  codes-lead (x ∷ y ∷ ws) cursor first high low found bytes at =
+  codes-refine (x ∷ y ∷ ws) cursor first high low found bytes at =
       code-step cursor first high low (x ∷ y ∷ ws) found bytes at ((256 * x + y) ∷ wordsIn ws)
       (λ k add short. list-goes-on cursor first high low (x ∷ y ∷ ws) found bytes at add _ short (omega arith)
-      (codes-lead ws (suc cursor) k x y (soFar cursor found ++ map value add) (bytes ++ map (behind first) add) (next-at cursor first high low x y ws found bytes add at short)))
+      (codes-refine ws (suc cursor) k x y (soFar cursor found ++ map value add) (bytes ++ map (behind first) add) (next-at cursor first high low x y ws found bytes add at short)))
 
 pub poll-refines : (code : ℕ) (words : List ℕ) → systemCodesFit words ≡ true → (found : List ℕ) → Refines pollTypeFKind 0 (code ∷ words) found (send fieldStage) (pollTypeF code (wordsIn words))
 poll-refines code words fits found = go words (list-few words fits) some-code
@@ -220,4 +219,4 @@ poll-refines code words fits found = go words (list-few words fits) some-code
     go [] few h = absurd (omega (arith, h))
     go (x ∷ []) few h = absurd (omega (arith, h))
     go (x ∷ y ∷ ws) few h =
-        codes-lead code (x ∷ y ∷ ws) few ws 0 0 x y found [] record { left = refl; same = none-yet 0 found refl; within = omega arith }
+        codes-refine code (x ∷ y ∷ ws) few ws 0 0 x y found [] record { left = refl; same = none-yet 0 found refl; within = omega arith }

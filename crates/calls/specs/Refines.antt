@@ -4,7 +4,7 @@ use mathlib.Core.Bool.{Bool, true, false}
 use mathlib.Core.List.{List, []}
 use Prim.Native.Nat.{ℕ, _≤_}
 use borrow.Author.Tests.{ltb-false}
-use lib.Dec.{eqb, leb, ltb}
+use lib.Dec.{leb, ltb}
 use lib.ListN.{length}
 use Rattle.errors.specs.Choice.{pick}
 use Rattle.errors.specs.Refusals.{byStatus}
@@ -16,7 +16,8 @@ use Rattle.protocol.specs.Machine.{plainAnswer}
 use Rattle.stages.specs.Stages.{cmd, Decision, send, keep, next, put, pause, ends, withLength}
 use Rattle.stages.specs.Decided.{foundLimit, responseLimit}
 use Rattle.calls.specs.Tables.{commandOf, isResetOf, decidedOf, failedOf}
-use Rattle.protocol.specs.Names.{fieldPauseTime}
+use Rattle.protocol.specs.Names.{fieldPauseTime, commandClock}
+use Rattle.protocol.specs.Starts.{dataLimit}
 use Rattle.calls.specs.Kinds.{lastStage}
 
 -- A decision of a call of this kind, with its cursor, its pending command and its found bytes, leads to the script: both end with the same answer, or
@@ -29,13 +30,13 @@ pub data Refines (kind : ℕ) : ℕ → List ℕ → List ℕ → Decision → S
       → ((r : Fault) → Refines kind cursor pending found (failedOf kind n cursor pending found r) (k (failed r)))
       → Refines kind cursor pending found (send n) (command code clock bytes k)
   refines-reset : {cursor : ℕ} {pending found : List ℕ} (n : ℕ) (s : Script) → leb n lastStage ≡ true → isResetOf kind n ≡ true
-      → commandOf kind n cursor pending ≡ cmd resetCode 100 resetData
+      → commandOf kind n cursor pending ≡ cmd resetCode commandClock resetData
       → Refines kind cursor pending found (decidedOf kind n cursor pending found []) s → Refines kind cursor pending found (send n) (reset s)
   refines-keep : {cursor : ℕ} {pending found : List ℕ} (n : ℕ) (l : List ℕ) (s : Script) → length l ≤ foundLimit → Refines kind cursor pending l (send n) s
       → Refines kind cursor pending found (keep n l) s
   refines-next : {cursor : ℕ} {pending found : List ℕ} (n later : ℕ) (l : List ℕ) (s : Script) → length l ≤ foundLimit → Refines kind later pending l (send n) s
       → Refines kind cursor pending found (next n later l) s
-  refines-put : {cursor : ℕ} {pending found : List ℕ} (n : ℕ) (l : List ℕ) (s : Script) → length l ≤ 512 → Refines kind cursor l found (send n) s
+  refines-put : {cursor : ℕ} {pending found : List ℕ} (n : ℕ) (l : List ℕ) (s : Script) → length l ≤ dataLimit → Refines kind cursor l found (send n) s
       → Refines kind cursor pending found (put n l) s
   refines-pause : {cursor : ℕ} {pending found : List ℕ} (n : ℕ) (s : Script) → leb n lastStage ≡ true → Refines kind cursor pending found (send n) s
       → Refines kind cursor pending found (pause fieldPauseTime n) (fieldPause s)

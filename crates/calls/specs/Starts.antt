@@ -22,8 +22,8 @@ use Rattle.protocol.specs.Discovery.{cascaded, sensfReq, detectDep as depScript
 use Rattle.protocol.specs.Blocks.{readBlocks, writeBlocks}
 use Rattle.protocol.specs.Calls.{Row, row, resets, rowOf, inCommunicateThruCode, inDataExchangeCode, ReaderCall, request, device, unknown}
 use Rattle.protocol.specs.Calls.{DeviceCall, detectTypeA, detectTypeASplit, detectTypeB, detectTypeF, pollTypeF, detectDep, transceive, readWithoutEncryption, writeWithoutEncryption}
-use Rattle.protocol.specs.Starts.{Start, starts, rowStart, deviceStart, readerStart, typeACode, typeBCode, typeFCode, depCode, is106A, type2SelRes, isSendable, clockOf, transceiveStart}
-use Rattle.protocol.specs.Arguments.{systemCodesFit, atrReqFits}
+use Rattle.protocol.specs.Starts.{Start, starts, rowStart, deviceStart, readerStart, typeACode, typeBCode, typeFCode, depCode, is106A, type2SelRes, isSendable, clockOf, transceiveStart, dataLimit}
+use Rattle.protocol.specs.Arguments.{systemCodesFit, atrReqFits, shortestAtrReq, longestAtrReq}
 use Rattle.protocol.specs.Starts.{refuses as refusesStart, limited as limitedStart, asserted as assertedStart, onCode as codeStart, withBitrate as bitrateStart}
 use Rattle.stages.specs.Stages.{Decision, cmd, send, ends, refuse as refuseWith}
 use Rattle.stages.specs.Starts.{refuses, sends, staged, limited, stagedLimited, asserted}
@@ -60,20 +60,20 @@ a-kind p q r = record { running = p; noOpening = q; within = r }
 -- both refuse; the script's first command is the one sent; or the command of stage 0 leads to the script
 pub data Starting : Start → stages.Start → Type 0 where
   refusedNow : (r : Refusal) → Starting (refusesStart r) (refuses r)
-  first : (kind code clock : ℕ) (bytes : List ℕ) (k : Reply → Script) → Kind kind → isResetOf kind firstStage ≡ false → length bytes ≤ 512
+  first : (kind code clock : ℕ) (bytes : List ℕ) (k : Reply → Script) → Kind kind → isResetOf kind firstStage ≡ false → length bytes ≤ dataLimit
       → ((found : List ℕ) → Awaits kind firstStage 0 bytes found k) → Starting (starts (command code clock bytes k)) (sends kind (cmd code clock bytes))
-  leading : (kind : ℕ) (pending : List ℕ) (s : Script) → Kind kind → length pending ≤ 512 → ((found : List ℕ) → Refines kind 0 pending found (send firstStage) s)
+  fromStage : (kind : ℕ) (pending : List ℕ) (s : Script) → Kind kind → length pending ≤ dataLimit → ((found : List ℕ) → Refines kind 0 pending found (send firstStage) s)
       → Starting (starts s) (staged kind pending)
 
 -- data over 512 bytes are refused
-begins-limited : (bytes : List ℕ) {s : Script} {l : stages.Start} → (length bytes ≤ 512 → Starting (starts s) l)
-    → Starting (limitedStart bytes s) (pick (ltb 512 (length bytes)) (refuses OverLong) l)
+begins-limited : (bytes : List ℕ) {s : Script} {l : stages.Start} → (length bytes ≤ dataLimit → Starting (starts s) l)
+    → Starting (limitedStart bytes s) (pick (ltb dataLimit (length bytes)) (refuses OverLong) l)
 unfolding pick
-begins-limited bytes {s} {l} h = go (ltb 512 (length bytes)) refl
+begins-limited bytes {s} {l} h = go (ltb dataLimit (length bytes)) refl
   where
-    go : (t : Bool) → ltb 512 (length bytes) ≡ t → Starting (cond t (refusesStart OverLong) (starts s)) (pick t (refuses OverLong) l)
+    go : (t : Bool) → ltb dataLimit (length bytes) ≡ t → Starting (cond t (refusesStart OverLong) (starts s)) (pick t (refuses OverLong) l)
     go true e = refusedNow OverLong
-    go false e = h (ltb-false 512 (length bytes) e)
+    go false e = h (ltb-false dataLimit (length bytes) e)
 
 begins-asserted : (t : Bool) {x : Start} {l : stages.Start} → (t ≡ true → Starting x l) → Starting (assertedStart t x) (asserted t l)
 unfolding asserted pick
@@ -116,7 +116,7 @@ reads : {kind : ℕ} {bytes : List ℕ} {f : List ℕ → Script} {a : List ℕ 
 reads e h = record { answer = _; stage = e; interprets = h }
 
 module _ {kind : ℕ} {bytes : List ℕ} {f : List ℕ → Script} (code clock : ℕ) (k : Reads kind bytes f) where
-  single : length bytes ≤ 512 → Starting (starts (command code clock bytes (either f refuse))) (sends kind (cmd code clock bytes))
+  single : length bytes ≤ dataLimit → Starting (starts (command code clock bytes (either f refuse))) (sends kind (cmd code clock bytes))
   single few =
       first kind code clock bytes (either f refuse)
       (a-kind (ap (λ s. s .noCall) (k .stage)) (ap (λ s. s .opening) (k .stage)) (ap (λ s. s .within) (k .stage)))
@@ -149,7 +149,7 @@ rule-reads bytes targetStatus = reads refl interprets-target
 row-begins : (w : Row) → Starting (rowStart w) (rowFirst w)
 unfolding isResetOf commandOf decidedOf pick
 row-begins (row holds code clock bytes q) = begins-asserted holds (λ _. single-limited code clock (rule-reads bytes q))
-row-begins resets = leading resetModeKind [] _ (a-kind refl refl refl) (omega arith) (λ found. refines-reset firstStage _ refl refl refl (answer-refines empty))
+row-begins resets = fromStage resetModeKind [] _ (a-kind refl refl refl) (omega arith) (λ found. refines-reset firstStage _ refl refl refl (answer-refines empty))
 
 -- ---- a discovery, or transceive
 
@@ -170,11 +170,11 @@ by-code takes text f g h = go (choiceOf text)
 list-begins : (kind : ℕ) → Kind kind → (uid : List ℕ) (code : ℕ) (s : Script) → ((found : List ℕ) → Refines kind 0 (1 ∷ code ∷ cascaded uid) found (send firstStage) s)
     → Starting (limitedStart (1 ∷ code ∷ cascaded uid) s) (listFirst kind uid code)
 unfolding listFirst stagedLimited
-list-begins kind h uid code s k = begins-limited (1 ∷ code ∷ cascaded uid) (λ few. leading kind _ _ h few k)
+list-begins kind h uid code s k = begins-limited (1 ∷ code ∷ cascaded uid) (λ few. fromStage kind _ _ h few k)
 
-dep-begins : (req : List ℕ) → length req ≤ 64 → (code : ℕ) → Starting (starts (depScript code req)) (depFirst req code)
+dep-begins : (req : List ℕ) → length req ≤ longestAtrReq → (code : ℕ) → Starting (starts (depScript code req)) (depFirst req code)
 unfolding depFirst
-dep-begins req h code = leading depKind _ _ (a-kind refl refl refl) (jump-few req code h) (dep-refines code req)
+dep-begins req h code = fromStage depKind _ _ (a-kind refl refl refl) (jump-few req code h) (dep-refines code req)
 
 transceive-begins : (rate : Bitrate) (selRes : List ℕ) (ridRes : Bool) (bytes : List ℕ) (ms : ℕ)
     → Starting (transceiveStart rate selRes ridRes bytes ms) (pick ridRes (type1First bytes ms) (thruFirst rate selRes bytes ms))
@@ -211,16 +211,16 @@ unfolding deviceFirst typeBFirst typeFFirst pollAsserted pollFirst depAsserted t
 device-begins (detectTypeA text uid) = by-code typeACode text _ _ (λ code. list-begins typeAKind (a-kind refl refl refl) uid code _ (typeA-refines code uid))
 device-begins (detectTypeASplit text uid) = by-code typeACode text _ _ (λ code. list-begins typeASplitKind (a-kind refl refl refl) uid code _ (split-refines code uid))
 device-begins (detectTypeB text sensbReq) =
-    by-code typeBCode text _ _ (λ code. leading typeBKind _ _ (a-kind refl refl refl) (omega arith) (typeB-refines code (getD sensbReq 0 0)))
+    by-code typeBCode text _ _ (λ code. fromStage typeBKind _ _ (a-kind refl refl refl) (omega arith) (typeB-refines code (getD sensbReq 0 0)))
 device-begins (detectTypeF text systemCode requestCode timeSlots) =
     by-code typeFCode text _ _
-    (λ code. leading typeFKind _ _ (a-kind refl refl refl) (omega arith) (typeF-refines code (sensfReq systemCode requestCode timeSlots)))
+    (λ code. fromStage typeFKind _ _ (a-kind refl refl refl) (omega arith) (typeF-refines code (sensfReq systemCode requestCode timeSlots)))
 device-begins (pollTypeF text words) =
     begins-asserted (systemCodesFit words)
-    (λ h. by-code typeFCode text _ _ (λ code. leading pollTypeFKind _ _ (a-kind refl refl refl) (omega (arith, list-few words h)) (poll-refines code words h)))
+    (λ h. by-code typeFCode text _ _ (λ code. fromStage pollTypeFKind _ _ (a-kind refl refl refl) (omega (arith, list-few words h)) (poll-refines code words h)))
 device-begins (detectDep text atrReq) =
     begins-asserted (atrReqFits atrReq)
-    (λ h. by-code depCode text _ _ (dep-begins atrReq (leb-true (length atrReq) 64 (both-right (leb 16 (length atrReq)) _ h))))
+    (λ h. by-code depCode text _ _ (dep-begins atrReq (leb-true (length atrReq) longestAtrReq (both-right (leb shortestAtrReq (length atrReq)) _ h))))
 device-begins (transceive text selRes ridRes bytes ms) = go (choiceOf text)
   where
     go : (c : Choice)

@@ -25,20 +25,20 @@ use Rattle.stages.specs.Decided.{foundLimit}
 use Rattle.calls.specs.Tables.{commandOf, isResetOf, decidedOf, failedOf}
 use Rattle.calls.specs.Refines.{Refines, refines-keep, refines-next, refines-put, Awaits, refines-if, refines-status, ending, none-found, refusal, by-length, go-on}
 use Rattle.calls.specs.Single.{empty-length}
-use Rattle.protocol.specs.Names.{ciuRxMode, inListPassiveTargetClock, registerWriteFailed, registersClock, ridClock}
+use Rattle.protocol.specs.Names.{ciuRxMode, inListPassiveTargetClock, registerWriteFailed, registersClock, ridClock, ridCode, selResOffset, sensReq, sensResOffset, targetOffset, uidOffset}
 use Rattle.protocol.specs.Calls.{inDataExchangeCode, inListPassiveTargetCode, readRegisterCode, writeRegisterCode}
 use Rattle.discovery.specs.Kinds.{typeAKind, typeASplitKind, listStage, fifoStage, listType1Stage, ridStage, readRxModeStage, writeRxModeStage}
 
 -- the answer without places, at once and where its bytes were kept
 card-plain : (list : List ℕ) → plainAnswer (done (cardA list)) ≡ done (cardBytes list)
-card-plain list = ap (λ l. done (getD list 3 0 ∷ getD list 2 0 ∷ getD list 4 0 ∷ l)) (rest-values 0 list 6)
+card-plain list = ap (λ l. done (getD list (sensResOffset + 1) 0 ∷ getD list sensResOffset 0 ∷ getD list selResOffset 0 ∷ l)) (rest-values 0 list uidOffset)
 
 split-plain : (list : List ℕ) → plainAnswer (uidAndAts (cardA list) (uidLength list) (atsLength list)) ≡ uidAndAts (cardBytes list) (uidLength list) (atsLength list)
-split-plain list = ap (λ l. uidAndAts (getD list 3 0 ∷ getD list 2 0 ∷ getD list 4 0 ∷ l) (uidLength list) (atsLength list)) (rest-values 0 list 6)
+split-plain list = ap (λ l. uidAndAts (getD list (sensResOffset + 1) 0 ∷ getD list sensResOffset 0 ∷ getD list selResOffset 0 ∷ l) (uidLength list) (atsLength list)) (rest-values 0 list uidOffset)
 
 ats-kept : (list : List ℕ) → atsLength list ≡ getD (cardBytes list) (3 + uidLength list) 0
 ats-kept list =
-    sym (getD-append-add (getD list 3 0 ∷ getD list 2 0 ∷ getD list 4 0 ∷ []) (drop 6 list) (uidLength list) 0 ∙ getD-drop 6 list (uidLength list) 0)
+    sym (getD-append-add (getD list (sensResOffset + 1) 0 ∷ getD list sensResOffset 0 ∷ getD list selResOffset 0 ∷ []) (drop uidOffset list) (uidLength list) 0 ∙ getD-drop uidOffset list (uidLength list) 0)
 
 -- the scripts behind each of its commands; a is the answer behind the RX mode
 abbrev rxWritten : Answer Byte → Reply → Script
@@ -59,7 +59,7 @@ sens-res-few : (list : List ℕ) → length (sensRes list) ≤ foundLimit
 unfolding sensRes pick
 sens-res-few list = go (ltb (length list) 4)
   where
-    go : (t : Bool) → length (pick t [] (getD list 3 0 ∷ getD list 2 0 ∷ [])) ≤ foundLimit
+    go : (t : Bool) → length (pick t [] (getD list (sensResOffset + 1) 0 ∷ getD list sensResOffset 0 ∷ [])) ≤ foundLimit
     go true = omega arith
     go false = omega arith
 
@@ -81,10 +81,10 @@ module _ (kind : ℕ) (like : LikeTypeA kind) where
   rid-done pending list cs = go (ltb (length list) 4)
     where
       go : (t : Bool)
-          → Refines kind 0 pending (sensRes list) (pick (ltb (length (pick t [] (getD list 3 0 ∷ getD list 2 0 ∷ []))) 2) (ends (refused ShortResponse)) (ends (type1 (take 2 (pick t [] (getD list 3 0 ∷ getD list 2 0 ∷ [])) ++ drop 1 cs))))
-          (ifElse t (refuse ShortResponse) (finish (type1 (byteAt 2 list 3 ∷ byteAt 2 list 2 ∷ rest 3 cs 1))))
+          → Refines kind 0 pending (sensRes list) (pick (ltb (length (pick t [] (getD list (sensResOffset + 1) 0 ∷ getD list sensResOffset 0 ∷ []))) 2) (ends (refused ShortResponse)) (ends (type1 (take 2 (pick t [] (getD list (sensResOffset + 1) 0 ∷ getD list sensResOffset 0 ∷ [])) ++ drop 1 cs))))
+          (ifElse t (refuse ShortResponse) (finish (type1 (byteAt 2 list (sensResOffset + 1) ∷ byteAt 2 list sensResOffset ∷ rest 3 cs 1))))
       go true = refusal ShortResponse
-      go false = ending _ (ap (λ l. type1 (getD list 3 0 ∷ getD list 2 0 ∷ l)) (rest-values 3 cs 1))
+      go false = ending _ (ap (λ l. type1 (getD list (sensResOffset + 1) 0 ∷ getD list sensResOffset 0 ∷ l)) (rest-values 3 cs 1))
 
   stage-3 : (pending list : List ℕ) → Awaits kind ridStage 0 pending (sensRes list) (ridAnswered list)
   unfolding typeAFailure ridOf ridFailure pick
@@ -108,7 +108,7 @@ module _ (kind : ℕ) (like : LikeTypeA kind) where
   }
 
   stage-2 : (pending found : List ℕ)
-      → Awaits kind listType1Stage 0 pending found (either (λ list. ifElse (eqb (getD list 0 0) 0) (finish nothing) (ifElse (ltb (length list) 2) (refuse ShortResponse) (command inDataExchangeCode ridClock (0x01 ∷ 0x78 ∷ 0x00 ∷ 0x00 ∷ 0x00 ∷ 0x00 ∷ 0x00 ∷ 0x00 ∷ []) (ridAnswered list)))) refuse)
+      → Awaits kind listType1Stage 0 pending found (either (λ list. ifElse (eqb (getD list 0 0) 0) (finish nothing) (ifElse (ltb (length list) 2) (refuse ShortResponse) (command inDataExchangeCode ridClock (0x01 ∷ ridCode ∷ 0x00 ∷ 0x00 ∷ 0x00 ∷ 0x00 ∷ 0x00 ∷ 0x00 ∷ []) (ridAnswered list)))) refuse)
   unfolding typeAFailure listedType1 typeACommand pick
   stage-2 pending found = record {
     answered = λ cs few.
@@ -118,12 +118,12 @@ module _ (kind : ℕ) (like : LikeTypeA kind) where
     failing = λ r. rw (like .fails 2 0 pending found r) (refusal r);
   }
 
-  stage-1 : (pending found : List ℕ) → Awaits kind fifoStage 0 pending found (either (λ bs. ifElse (eqb (getD bs 0 0) 0x26) (finish nothing) tryType1) (λ _. tryType1))
+  stage-1 : (pending found : List ℕ) → Awaits kind fifoStage 0 pending found (either (λ bs. ifElse (eqb (getD bs 0 0) sensReq) (finish nothing) tryType1) (λ _. tryType1))
   unfolding fifoRead typeAFailure typeACommand pick
   stage-1 pending found =
       let type1Try = go-on listType1Stage inListPassiveTargetCode inListPassiveTargetClock _ refl (like .noReset 2) (like .commands 2 0 _) (stage-2 pending found) in
       record {
-        answered = λ cs few. rw (like .fifo 0 pending found cs) (refines-if (eqb (getD cs 0 0) 0x26) (λ _. none-found) (λ _. type1Try));
+        answered = λ cs few. rw (like .fifo 0 pending found cs) (refines-if (eqb (getD cs 0 0) sensReq) (λ _. none-found) (λ _. type1Try));
         failing = λ r. rw (like .fails 1 0 pending found r) type1Try;
       }
 
@@ -165,8 +165,8 @@ unfolding decidedOf failedOf typeADecision typeAFailure listedA typeACommand pic
 typeA-0 pending found = record {
   answered = λ cs few.
       listed-else typeAKind off foundA pending found cs
-      (λ _. refines-if (ltb (length cs) 6) (λ _. none-found)
-      (λ _. refines-if (isType2 (getD cs 4 0)) (λ _. refines-keep readRxModeStage _ _ (omega (arith, length-drop 6 cs)) (go-on readRxModeStage readRegisterCode registersClock _ refl (off .noReset 4) (off .commands 4 0 _) (stage-4 typeAKind off 0 _ _ (typeA-5 cs) pending))) (λ _. ending _ (card-plain cs))));
+      (λ _. refines-if (ltb (length cs) uidOffset) (λ _. none-found)
+      (λ _. refines-if (isType2 (getD cs selResOffset 0)) (λ _. refines-keep readRxModeStage _ _ (omega (arith, length-drop uidOffset cs)) (go-on readRxModeStage readRegisterCode registersClock _ refl (off .noReset 4) (off .commands 4 0 _) (stage-4 typeAKind off 0 _ _ (typeA-5 cs) pending))) (λ _. ending _ (card-plain cs))));
   failing = λ r. refusal r;
 }
 
@@ -201,9 +201,9 @@ unfolding decidedOf failedOf splitDecision typeAFailure splitListed splitFound t
 split-0 pending found = record {
   answered = λ cs few.
       listed-else typeASplitKind on foundSplit pending found cs
-      (λ _. refines-if (ltb (length cs) 6) (λ _. none-found)
-      (λ _. refines-if (isTargetData (drop 2 cs))
-      (λ _. refines-if (isType2 (getD cs 4 0)) (λ _. refines-next readRxModeStage _ _ _ (omega (arith, length-drop 6 cs)) (go-on readRxModeStage readRegisterCode registersClock _ refl (on .noReset 4) (on .commands 4 (uidLength cs) _) (stage-4 typeASplitKind on _ _ _ (split-5 cs) pending))) (λ _. ending _ (split-plain cs)))
+      (λ _. refines-if (ltb (length cs) uidOffset) (λ _. none-found)
+      (λ _. refines-if (isTargetData (drop targetOffset cs))
+      (λ _. refines-if (isType2 (getD cs selResOffset 0)) (λ _. refines-next readRxModeStage _ _ _ (omega (arith, length-drop uidOffset cs)) (go-on readRxModeStage readRegisterCode registersClock _ refl (on .noReset 4) (on .commands 4 (uidLength cs) _) (stage-4 typeASplitKind on _ _ _ (split-5 cs) pending))) (λ _. ending _ (split-plain cs)))
       (λ _. refusal UidLayout)));
   failing = λ r. refusal r;
 }

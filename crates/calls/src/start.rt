@@ -14,6 +14,7 @@ use discovery::type_a_split::detect_type_a_split;
 use discovery::type_b::detect_type_b;
 use discovery::type_f::detect_type_f;
 use errors::Refusal;
+use stages::put::DATA_LIMIT;
 use stages::start;
 use stages::start::Start;
 ghost use mathlib.Core.Bool.{Bool};
@@ -101,7 +102,7 @@ pub const LAST: u8 = WRITE_WITHOUT_ENCRYPTION;
 const MOST_MS: u32 = 65535;
 
 // Calls 1 to 8: the chip's version, mode, parameters and registers.
-fn chip(number: u8, numbers: Numbers, first: &[u8], command: &mut [u8; 512]) -> Start
+fn chip(number: u8, numbers: Numbers, first: &[u8], command: &mut [u8; DATA_LIMIT]) -> Start
     requires { ⌜ number < 9 ⌝ }
     ensures { λ r. ⌜ ((second third fourth : List ℕ) → Starts r (now (command .entry)) (now (command .exit)) (startBy (callOf number numbers (now (first .entry)) second third fourth))) ⌝ }
 {
@@ -135,7 +136,7 @@ fn as_initiator(
     second: &[u8],
     third: &[u8],
     fourth: &[u8],
-    command: &mut [u8; 512],
+    command: &mut [u8; DATA_LIMIT],
 ) -> Start
     requires { ⌜ (9 ≤ number) × (number < 14) ⌝ }
     ensures { λ r. ⌜ Starts r (now (command .entry)) (now (command .exit)) (startBy (callOf number numbers (now (first .entry)) (now (second .entry)) (now (third .entry)) (now (fourth .entry)))) ⌝ }
@@ -153,7 +154,7 @@ fn as_initiator(
 }
 
 // Calls 14 to 18: what a target does, and the field.
-fn as_target(number: u8, numbers: Numbers, first: &[u8], command: &mut [u8; 512]) -> Start
+fn as_target(number: u8, numbers: Numbers, first: &[u8], command: &mut [u8; DATA_LIMIT]) -> Start
     requires { ⌜ (14 ≤ number) × (number < 19) ⌝ }
     ensures { λ r. ⌜ ((second third fourth : List ℕ) → Starts r (now (command .entry)) (now (command .exit)) (startBy (callOf number numbers (now (first .entry)) second third fourth))) ⌝ }
 {
@@ -192,7 +193,7 @@ fn block_timeout(given: bool, ms: u32) -> Timeout
     timeout(given, (ms % 65536) as u16)
 }
 
-fn read_blocks(numbers: Numbers, idm: &[u8], blocks: &[u8], command: &mut [u8; 512]) -> Start
+fn read_blocks(numbers: Numbers, idm: &[u8], blocks: &[u8], command: &mut [u8; DATA_LIMIT]) -> Start
     ensures { λ r. ⌜ Starts r (now (command .entry)) (now (command .exit)) (startFor (timed (flag (numbers .y)) (numbers .ms) (device (readWithoutEncryption (now (idm .entry)) (numbers .word) (now (blocks .entry)) (msOf (flag (numbers .y)) (numbers .ms)))))) ⌝ }
 {
     let service = numbers.word;
@@ -210,7 +211,7 @@ fn write_blocks(
     idm: &[u8],
     blocks: &[u8],
     bytes: &[u8],
-    command: &mut [u8; 512],
+    command: &mut [u8; DATA_LIMIT],
 ) -> Start
     ensures { λ r. ⌜ Starts r (now (command .entry)) (now (command .exit)) (startFor (timed (flag (numbers .y)) (numbers .ms) (device (writeWithoutEncryption (now (idm .entry)) (numbers .word) (now (blocks .entry)) (now (bytes .entry)) (msOf (flag (numbers .y)) (numbers .ms)))))) ⌝ }
 {
@@ -231,7 +232,7 @@ fn later(
     first: &[u8],
     second: &[u8],
     third: &[u8],
-    command: &mut [u8; 512],
+    command: &mut [u8; DATA_LIMIT],
 ) -> Start
     requires { ⌜ 26 ≤ number ⌝ }
     ensures { λ r. ⌜ ((fourth : List ℕ) → Starts r (now (command .entry)) (now (command .exit)) (startBy (callOf number numbers (now (first .entry)) (now (second .entry)) (now (third .entry)) fourth))) ⌝ }
@@ -250,7 +251,7 @@ fn on_device(
     first: &[u8],
     second: &[u8],
     third: &[u8],
-    command: &mut [u8; 512],
+    command: &mut [u8; DATA_LIMIT],
 ) -> Start
     requires { ⌜ 19 ≤ number ⌝ }
     ensures { λ r. ⌜ ((fourth : List ℕ) → Starts r (now (command .entry)) (now (command .exit)) (startBy (callOf number numbers (now (first .entry)) (now (second .entry)) (now (third .entry)) fourth))) ⌝ }
@@ -281,17 +282,17 @@ pub fn start(
     second: &[u8],
     third: &[u8],
     fourth: &[u8],
-    command: &mut [u8; 512],
+    command: &mut [u8; DATA_LIMIT],
 ) -> Start
     ensures { λ r. ⌜ Starts r (now (command .entry)) (now (command .exit)) (startBy (callOf number numbers (now (first .entry)) (now (second .entry)) (now (third .entry)) (now (fourth .entry)))) ⌝ }
 {
-    if number < 9 {
+    if number < IN_LIST_PASSIVE_TARGET {
         return chip(number, numbers, first, command);
     }
-    if number < 14 {
+    if number < TG_SET_GENERAL_BYTES {
         return as_initiator(number, numbers, first, second, third, fourth, command);
     }
-    if number < 19 {
+    if number < DETECT_TYPE_A {
         return as_target(number, numbers, first, command);
     }
     on_device(number, numbers, first, second, third, command)

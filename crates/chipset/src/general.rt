@@ -7,6 +7,7 @@ use super::response::part;
 use errors::Fault;
 use stages::Command;
 use stages::Decision;
+use stages::put::DATA_LIMIT;
 use stages::put::put_two;
 use stages::start;
 use stages::start::Start;
@@ -43,7 +44,7 @@ pub const MAX_RETRIES: u8 = 0x05;
 
 pub const ANALOG_106A: u8 = 0x0A;
 
-pub fn get_firmware_version(command: &mut [u8; 512]) -> Start
+pub fn get_firmware_version(command: &mut [u8; DATA_LIMIT]) -> Start
     ensures { λ r. ⌜ Starts r (now (command .entry)) (now (command .exit)) (firstOf version) ⌝ }
 {
     let n = put_two(&[], &[], command);
@@ -61,7 +62,7 @@ pub fn get_firmware_version_response(response: &[u8]) -> Decision
 }
 
 // The reset's command is that of its kind's stage 0; its response is not looked at.
-pub fn reset_mode(command: &mut [u8; 512]) -> Start
+pub fn reset_mode(command: &mut [u8; DATA_LIMIT]) -> Start
     ensures { λ r. ⌜ Starts r (now (command .entry)) (now (command .exit)) (firstOf resetMode) ⌝ }
 {
     let n = put_two(&[], &[], command);
@@ -75,21 +76,21 @@ pub fn reset_mode_command() -> Command
     Command::with(RESET, clock::COMMAND, bytes, 1)
 }
 
-pub fn set_parameters(flags: u8, command: &mut [u8; 512]) -> Start
+pub fn set_parameters(flags: u8, command: &mut [u8; DATA_LIMIT]) -> Start
     ensures { λ r. ⌜ Starts r (now (command .entry)) (now (command .exit)) (firstOf (setParameters flags)) ⌝ }
 {
     let n = put_two(&[flags], &[], command);
     start::command(NO_BYTES, SET_PARAMETERS, clock::COMMAND, n)
 }
 
-pub fn rf_configuration(item: u8, config: &[u8], command: &mut [u8; 512]) -> Start
+pub fn rf_configuration(item: u8, config: &[u8], command: &mut [u8; DATA_LIMIT]) -> Start
     ensures { λ r. ⌜ Starts r (now (command .entry)) (now (command .exit)) (firstOf (rfConfiguration item (now (config .entry)))) ⌝ }
 {
     let n = put_two(&[item], config, command);
     start::command(NO_BYTES, RF_CONFIGURATION, clock::COMMAND, n)
 }
 
-pub fn rf_field_off(command: &mut [u8; 512]) -> Start
+pub fn rf_field_off(command: &mut [u8; DATA_LIMIT]) -> Start
     ensures { λ r. ⌜ Starts r (now (command .entry)) (now (command .exit)) (firstOf rfFieldOff) ⌝ }
 {
     let n = put_two(&[RF_FIELD, FIELD_OFF], &[], command);

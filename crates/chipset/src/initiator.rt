@@ -11,6 +11,7 @@ use stages::Decision;
 use stages::Layout;
 use stages::Tail;
 use stages::byte_or;
+use stages::put::DATA_LIMIT;
 use stages::put::put_all;
 use stages::put::put_two;
 use stages::start;
@@ -42,7 +43,7 @@ pub fn in_list_passive_target(
     max_tg: u8,
     bitrate: u8,
     initiator: &[u8],
-    command: &mut [u8; 512],
+    command: &mut [u8; DATA_LIMIT],
 ) -> Start
     ensures { λ r. ⌜ Starts r (now (command .entry)) (now (command .exit)) (firstOf (inListPassiveTarget «max_tg» bitrate (now (initiator .entry)))) ⌝ }
 {
@@ -69,7 +70,7 @@ pub fn in_list_passive_target_response(response: &[u8]) -> Decision
     }
 }
 
-pub fn in_data_exchange(bytes: &[u8], ms: u32, command: &mut [u8; 512]) -> Start
+pub fn in_data_exchange(bytes: &[u8], ms: u32, command: &mut [u8; DATA_LIMIT]) -> Start
     ensures { λ r. ⌜ Starts r (now (command .entry)) (now (command .exit)) (firstOf (inDataExchange (now (bytes .entry)) ms)) ⌝ }
 {
     let n = put_two(&[TARGET], bytes, command);
@@ -93,7 +94,7 @@ pub fn in_data_exchange_response(response: &[u8]) -> Decision
     }
 }
 
-pub fn in_communicate_thru(bytes: &[u8], ms: u32, command: &mut [u8; 512]) -> Start
+pub fn in_communicate_thru(bytes: &[u8], ms: u32, command: &mut [u8; DATA_LIMIT]) -> Start
     ensures { λ r. ⌜ Starts r (now (command .entry)) (now (command .exit)) (firstOf (inCommunicateThru (now (bytes .entry)) ms)) ⌝ }
 {
     let n = put_two(&[], bytes, command);
@@ -131,7 +132,7 @@ pub fn in_jump_for_dep(
     passive: &[u8],
     nfcid3: &[u8],
     gi: &[u8],
-    command: &mut [u8; 512],
+    command: &mut [u8; DATA_LIMIT],
 ) -> Start
     ensures { λ r. ⌜ Starts r (now (command .entry)) (now (command .exit)) (firstOf (inJumpForDep active br (now (passive .entry)) (now (nfcid3 .entry)) (now (gi .entry)))) ⌝ }
 {

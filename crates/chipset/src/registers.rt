@@ -10,6 +10,7 @@ use errors::Refusal;
 use stages::Command;
 use stages::Decision;
 use stages::Layout;
+use stages::put::DATA_LIMIT;
 use stages::put::put_two;
 use stages::start;
 use stages::start::Start;
@@ -30,20 +31,29 @@ pub const READ_REGISTER: u8 = 0x06;
 
 pub const WRITE_REGISTER: u8 = 0x08;
 
-// Whole words or triples, of at most 64 registers.
+// The most registers of one command.
+const REGISTERS: usize = 64;
+
+// Whole words or triples, of so many registers at most.
 fn whole_registers(bytes: &[u8], size: usize) -> bool
     requires { ⌜ 0 < size ⌝ }
     ensures { λ r. ⌜ r ≡ registersOf size (now (bytes .entry)) ⌝ }
 {
     if bytes.len() % size == 0 {
-        bytes.len() / size <= 64
+        bytes.len() / size <= REGISTERS
     } else {
         false
     }
 }
 
 // Whole registers are sent as they are.
-fn of_registers(kind: u8, code: u8, size: usize, bytes: &[u8], command: &mut [u8; 512]) -> Start
+fn of_registers(
+    kind: u8,
+    code: u8,
+    size: usize,
+    bytes: &[u8],
+    command: &mut [u8; DATA_LIMIT],
+) -> Start
     requires { ⌜ 0 < size ⌝ }
     ensures { λ r. ⌜ Starts r (now (command .entry)) (now (command .exit)) (asserted (registersOf size (now (bytes .entry))) (limited kind (cmd code registersClock (now (bytes .entry))))) ⌝ }
 {
@@ -56,14 +66,14 @@ fn of_registers(kind: u8, code: u8, size: usize, bytes: &[u8], command: &mut [u8
 }
 
 // The addresses as they are sent, high byte first.
-pub fn read_register(addresses: &[u8], command: &mut [u8; 512]) -> Start
+pub fn read_register(addresses: &[u8], command: &mut [u8; DATA_LIMIT]) -> Start
     ensures { λ r. ⌜ Starts r (now (command .entry)) (now (command .exit)) (firstOf (readRegister (now (addresses .entry)))) ⌝ }
 {
     of_registers(ALL_BYTES, READ_REGISTER, 2, addresses, command)
 }
 
 // For each register its address, high byte first, and its value.
-pub fn write_register(registers: &[u8], command: &mut [u8; 512]) -> Start
+pub fn write_register(registers: &[u8], command: &mut [u8; DATA_LIMIT]) -> Start
     ensures { λ r. ⌜ Starts r (now (command .entry)) (now (command .exit)) (firstOf (writeRegister (now (registers .entry)))) ⌝ }
 {
     of_registers(REGISTERS_WRITTEN, WRITE_REGISTER, 3, registers, command)
@@ -105,7 +115,7 @@ pub fn found_written(found: &[u8], response: &[u8]) -> Decision
     }
 }
 
-pub fn read_single_register(address: u16, command: &mut [u8; 512]) -> Start
+pub fn read_single_register(address: u16, command: &mut [u8; DATA_LIMIT]) -> Start
     ensures { λ r. ⌜ Starts r (now (command .entry)) (now (command .exit)) (firstOf (readSingleRegister address)) ⌝ }
 {
     let word = [(address / 256) as u8, (address % 256) as u8];
@@ -133,7 +143,7 @@ pub fn read_single_register_response(response: &[u8]) -> Decision
     }
 }
 
-pub fn write_single_register(address: u16, value: u8, command: &mut [u8; 512]) -> Start
+pub fn write_single_register(address: u16, value: u8, command: &mut [u8; DATA_LIMIT]) -> Start
     ensures { λ r. ⌜ Starts r (now (command .entry)) (now (command .exit)) (firstOf (writeSingleRegister address value)) ⌝ }
 {
     let register = [(address / 256) as u8, (address % 256) as u8, value];

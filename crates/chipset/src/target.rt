@@ -13,6 +13,7 @@ use stages::Decision;
 use stages::Layout;
 use stages::Tail;
 use stages::byte_or;
+use stages::put::DATA_LIMIT;
 use stages::put::put_all;
 use stages::put::put_two;
 use stages::start;
@@ -50,13 +51,20 @@ fn is_mode(mode: u8) -> bool
     if mode <= 2 { mode % 2 == 0 } else { false }
 }
 
+// The lengths of what a target is given.
+const MIFARE_SIZE: usize = 6;
+
+const FELICA_SIZE: usize = 18;
+
+const NFCID3_SIZE: usize = 10;
+
 fn init_fits(mode: u8, mifare: &[u8], felica: &[u8], nfcid3t: &[u8]) -> bool
     ensures { λ r. ⌜ r ≡ initFits mode (now (mifare .entry)) (now (felica .entry)) (now (nfcid3t .entry)) ⌝ }
 {
     if is_mode(mode) {
-        if mifare.len() == 6 {
-            if felica.len() == 18 {
-                nfcid3t.len() == 10
+        if mifare.len() == MIFARE_SIZE {
+            if felica.len() == FELICA_SIZE {
+                nfcid3t.len() == NFCID3_SIZE
             } else {
                 false
             }
@@ -75,7 +83,7 @@ pub fn tg_init_target(
     nfcid3t: &[u8],
     gt: &[u8],
     ms: u32,
-    command: &mut [u8; 512],
+    command: &mut [u8; DATA_LIMIT],
 ) -> Start
     ensures { λ r. ⌜ Starts r (now (command .entry)) (now (command .exit)) (firstOf (tgInitTarget mode (now (mifare .entry)) (now (felica .entry)) (now (nfcid3t .entry)) (now (gt .entry)) ms)) ⌝ }
 {
@@ -87,14 +95,14 @@ pub fn tg_init_target(
     }
 }
 
-pub fn tg_set_general_bytes(gb: &[u8], command: &mut [u8; 512]) -> Start
+pub fn tg_set_general_bytes(gb: &[u8], command: &mut [u8; DATA_LIMIT]) -> Start
     ensures { λ r. ⌜ Starts r (now (command .entry)) (now (command .exit)) (firstOf (tgSetGeneralBytes (now (gb .entry)))) ⌝ }
 {
     let n = put_two(&[], gb, command);
     start::command(STATUS, TG_SET_GENERAL_BYTES, clock::COMMAND, n)
 }
 
-pub fn tg_get_initiator_command(ms: u32, command: &mut [u8; 512]) -> Start
+pub fn tg_get_initiator_command(ms: u32, command: &mut [u8; DATA_LIMIT]) -> Start
     ensures { λ r. ⌜ Starts r (now (command .entry)) (now (command .exit)) (firstOf (tgGetInitiatorCommand ms)) ⌝ }
 {
     let n = put_two(&[], &[], command);
@@ -112,7 +120,7 @@ pub fn tg_get_initiator_command_response(response: &[u8]) -> Decision
     }
 }
 
-pub fn tg_response_to_initiator(bytes: &[u8], command: &mut [u8; 512]) -> Start
+pub fn tg_response_to_initiator(bytes: &[u8], command: &mut [u8; DATA_LIMIT]) -> Start
     ensures { λ r. ⌜ Starts r (now (command .entry)) (now (command .exit)) (firstOf (tgResponseToInitiator (now (bytes .entry)))) ⌝ }
 {
     let n = put_two(&[], bytes, command);
@@ -136,7 +144,7 @@ pub fn status_response(response: &[u8]) -> Decision
     }
 }
 
-pub fn tg_get_target_status(command: &mut [u8; 512]) -> Start
+pub fn tg_get_target_status(command: &mut [u8; DATA_LIMIT]) -> Start
     ensures { λ r. ⌜ Starts r (now (command .entry)) (now (command .exit)) (firstOf tgGetTargetStatus) ⌝ }
 {
     let n = put_two(&[], &[], command);

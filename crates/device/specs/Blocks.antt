@@ -18,8 +18,10 @@ use Rattle.felica.specs.Checks.{readCheck, writeCheck}
 use Rattle.felica.specs.Laid.{request-length, fits-idm, fits-few, write-idm, write-few as felica-few, write-few-bytes}
 use Rattle.felica.specs.declared.check.Checked.{Checked}
 use Rattle.felica.specs.declared.check.Checked.the-variants.{Good, Faulty}
+use Rattle.protocol.specs.Blocks.{responseBlocksOffset}
 use Rattle.protocol.specs.Calls.{inCommunicateThruCode}
 use Rattle.protocol.specs.Scripts.{Answer, done, refused}
+use Rattle.protocol.specs.Starts.{dataLimit}
 use Rattle.stages.specs.Put.{Joins, joins-within}
 use Rattle.stages.specs.Stages.{cmd}
 use Rattle.stages.specs.Starts.{Start, refuses, sends, limited, asserted, Starts, short-command}
@@ -42,9 +44,9 @@ abbrev pub ifGood : ℕ → List ℕ → Checked → Answer ℕ
 ifGood start bs Good = done (drop start bs)
 ifGood start bs (Faulty r) = refused r
 
--- the reply stands behind the status byte, the block data behind 13 bytes of it; a write has no bytes
+-- the reply stands behind the status byte; a write has no bytes
 unfoldable pub readAnswer : List ℕ → List ℕ → Answer ℕ
-readAnswer pending bs = withStatus bs (ifGood 14 bs (readCheck (idmIn pending) (countIn pending) (drop 1 bs)))
+readAnswer pending bs = withStatus bs (ifGood responseBlocksOffset bs (readCheck (idmIn pending) (countIn pending) (drop 1 bs)))
 
 unfoldable pub writeAnswer : List ℕ → List ℕ → Answer ℕ
 writeAnswer pending bs = withStatus bs (ifGood (length bs) bs (writeCheck (idmIn pending) (drop 1 bs)))
@@ -57,7 +59,7 @@ returnedNumber (refusedWith y) = y .number
 
 -- a request that was built, or refused
 module _ (c₀ c₁ p : List ℕ) where
-  pub built-sent : (n kind ms : ℕ) (r : code.Start) (fits : Bool) → (fits ≡ true → (length p ≤ 512) × (length p ≤ length c₀)) → left (answered n) c₁ ≡ builtOf fits p c₀
+  pub built-sent : (n kind ms : ℕ) (r : code.Start) (fits : Bool) → (fits ≡ true → (length p ≤ dataLimit) × (length p ≤ length c₀)) → left (answered n) c₁ ≡ builtOf fits p c₀
       → ((c d l : List ℕ) → Joins n c d l → Starts r c d (limited kind (cmd inCommunicateThruCode ms l))) → Starts r c₀ c₁ (thruIf fits kind ms p)
   unfolding builtOf putFrame asserted pick
   built-sent n kind ms r true few e k =
@@ -69,7 +71,7 @@ module _ (c₀ c₁ p : List ℕ) where
       short-command r c₀ c₁ kind (cmd inCommunicateThruCode ms p) (few refl .0) (k c₀ c₁ p (joins-within n c₀ c₁ p (few refl .0) record { count = m; is = b }))
   built-sent n kind ms r false few e k = absurd (let z : 0 ≡ 4 = ap (λ l. returnedNumber (l .result)) e in omega (arith, z))
 
-  pub built-refused : (x : Refusal) (kind ms : ℕ) (r : code.Start) (fits : Bool) → (fits ≡ true → (length p ≤ 512) × (length p ≤ length c₀))
+  pub built-refused : (x : Refusal) (kind ms : ℕ) (r : code.Start) (fits : Bool) → (fits ≡ true → (length p ≤ dataLimit) × (length p ≤ length c₀))
       → left (refusedWith (numbered x)) c₁ ≡ builtOf fits p c₀ → ((c : List ℕ) → Starts r c c (refuses x)) → Starts r c₀ c₁ (thruIf fits kind ms p)
   unfolding builtOf putFrame asserted pick
   built-refused x kind ms r true few e k =
@@ -95,16 +97,16 @@ pub thru-clock : (r : code.Start) (c₀ c₁ p : List ℕ) (fits : Bool) (kind m
 thru-clock r c₀ c₁ p fits kind ms m e h = rw (← e) h
 
 -- a request fits the pending command
-pub read-few : (idm blocks c : List ℕ) (service : ℕ) → length c ≡ 512 → requestFits idm blocks ≡ true
-    → (length (readRequest idm service blocks) ≤ 512) × (length (readRequest idm service blocks) ≤ length c)
+pub read-few : (idm blocks c : List ℕ) (service : ℕ) → length c ≡ dataLimit → requestFits idm blocks ≡ true
+    → (length (readRequest idm service blocks) ≤ dataLimit) × (length (readRequest idm service blocks) ≤ length c)
 read-few idm blocks c service n h =
     let i = fits-idm idm blocks true (sym h) refl in
     let f = fits-few idm blocks true (sym h) refl in
     let l = request-length readCode service idm blocks [] i in
     (omega (arith, l), omega (arith, l))
 
-pub write-few : (idm blocks bytes c : List ℕ) (service : ℕ) → length c ≡ 512 → writeFits idm blocks bytes ≡ true
-    → (length (writeRequest idm service blocks bytes) ≤ 512) × (length (writeRequest idm service blocks bytes) ≤ length c)
+pub write-few : (idm blocks bytes c : List ℕ) (service : ℕ) → length c ≡ dataLimit → writeFits idm blocks bytes ≡ true
+    → (length (writeRequest idm service blocks bytes) ≤ dataLimit) × (length (writeRequest idm service blocks bytes) ≤ length c)
 write-few idm blocks bytes c service n h =
     let i = write-idm idm blocks bytes true (sym h) refl in
     let f = felica-few idm blocks bytes true (sym h) refl in

@@ -9,11 +9,13 @@ use errors::Fault;
 use felica::check::Checked;
 use felica::check::check_read;
 use felica::check::check_write;
+use felica::reply::BLOCKS_OFFSET;
 use felica::request::build_read_request;
 use felica::request::build_write_request;
 use framing::Built;
 use stages::Decision;
 use stages::byte_or;
+use stages::put::DATA_LIMIT;
 use stages::start;
 use stages::start::Start;
 ghost use mathlib.Core.Bool.{Bool};
@@ -23,7 +25,7 @@ ghost use Prim.Native.Nat.{ℕ, _≤_};
 ghost use lib.ListN.{length, drop};
 ghost use Rattle.framing.specs.Build.{returned, left};
 ghost use Rattle.felica.specs.Packets.{builtOf};
-ghost use Rattle.protocol.specs.Starts.{clockOf};
+ghost use Rattle.protocol.specs.Starts.{clockOf, dataLimit};
 ghost use Rattle.stages.specs.Decided.{AnswerRefines};
 ghost use Rattle.stages.specs.Starts.{Starts};
 ghost use Rattle.chipset.specs.Responses.{withStatus};
@@ -35,12 +37,12 @@ pub const READ_BLOCKS: u8 = 23;
 
 pub const WRITE_BLOCKS: u8 = 24;
 
-// Where block data starts in a response: behind the status byte and 13 bytes of the card's reply.
-const BLOCKS_AT: usize = 14;
+// Where block data starts in a response: behind the status byte, in the card's reply.
+const RESPONSE_BLOCKS_OFFSET: usize = 1 + BLOCKS_OFFSET;
 
 // A request that was built in the pending command is sent through InCommunicateThru.
 fn sent(kind: u8, built: Built, ms: u32) -> Start
-    ensures { λ r. ⌜ ((fits : Bool) (p c₀ c₁ : List ℕ) → (fits ≡ Bool.true → (length p ≤ 512) × (length p ≤ length c₀)) → left (returned built) c₁ ≡ builtOf fits p c₀ → Starts r c₀ c₁ (thruIf fits kind ms p)) ⌝ }
+    ensures { λ r. ⌜ ((fits : Bool) (p c₀ c₁ : List ℕ) → (fits ≡ Bool.true → (length p ≤ dataLimit) × (length p ≤ length c₀)) → left (returned built) c₁ ≡ builtOf fits p c₀ → Starts r c₀ c₁ (thruIf fits kind ms p)) ⌝ }
 {
     match built {
         Built::Frame(n) => start::command(kind, initiator::IN_COMMUNICATE_THRU, ms, n),
@@ -53,7 +55,7 @@ pub fn read_without_encryption(
     service: u16,
     blocks: &[u8],
     timeout: Timeout,
-    command: &mut [u8; 512],
+    command: &mut [u8; DATA_LIMIT],
 ) -> Start
     ensures { λ r. ⌜ Starts r (now (command .entry)) (now (command .exit)) (readFirst (now (idm .entry)) service (now (blocks .entry)) (clockOf (timeoutOf timeout))) ⌝ }
 {
@@ -68,7 +70,7 @@ pub fn write_without_encryption(
     blocks: &[u8],
     bytes: &[u8],
     timeout: Timeout,
-    command: &mut [u8; 512],
+    command: &mut [u8; DATA_LIMIT],
 ) -> Start
     ensures { λ r. ⌜ Starts r (now (command .entry)) (now (command .exit)) (writeFirst (now (idm .entry)) service (now (blocks .entry)) (now (bytes .entry)) (clockOf (timeoutOf timeout))) ⌝ }
 {
@@ -106,7 +108,11 @@ fn if_good(checked: Checked, response: &[u8], start: usize) -> Decision
 pub fn read_response(pending: &[u8], response: &[u8]) -> Decision
     ensures { λ r. ⌜ AnswerRefines (now (response .entry)) r (readAnswer (now (pending .entry)) (now (response .entry))) ⌝ }
 {
-    if_good(check_read(pending, reply(response)), response, BLOCKS_AT)
+    if_good(
+        check_read(pending, reply(response)),
+        response,
+        RESPONSE_BLOCKS_OFFSET,
+    )
 }
 
 // No bytes.

@@ -15,14 +15,17 @@ use general::RF_FIELD;
 use general::TIMEOUTS;
 use stages::Command;
 use stages::Decision;
+use stages::FIXED_LIMIT;
 use stages::Layout;
 use stages::Tail;
 ghost use mathlib.Core.List.{List};
 ghost use mathlib.Core.Path.{_≡_};
 ghost use Prim.Native.Nat.{ℕ, _≤_, _<_};
 ghost use lib.ListN.{take};
+ghost use Rattle.protocol.specs.Names.{commandClock};
+ghost use Rattle.protocol.specs.Calls.{rfConfigurationCode};
 ghost use Rattle.stages.specs.Stages.{cmd};
-ghost use Rattle.stages.specs.Decided.{tailBytes, DecisionRefines, Commands};
+ghost use Rattle.stages.specs.Decided.{tailBytes, DecisionRefines, Commands, fixedLimit, tailLimit};
 ghost use Rattle.device.specs.Names.{hexDigit, dotted, nameBytes};
 ghost use Rattle.device.specs.Opening.{openingCommand, settingsCommand, isResetStage, versionKept, openingDecision};
 
@@ -30,7 +33,7 @@ ghost use Rattle.device.specs.Opening.{openingCommand, settingsCommand, 
 pub const OPENING: u8 = 1;
 
 // The RF settings for 106A, behind their item.
-const RF_106A: [u8; 12] = [
+const RF_106A: [u8; FIXED_LIMIT] = [
     ANALOG_106A,
     0x5A,
     0xF4,
@@ -73,8 +76,8 @@ const RF_CFG: u8 = 0x59;
 const PARAMETERS: u8 = 0x08;
 
 // An RF configuration of an item, with the first `len` of the bytes.
-fn configured(bytes: [u8; 12], len: usize) -> Command
-    ensures { λ r. ⌜ (len ≤ 12 → Commands r (λ pending. cmd 0x32 100 (take len bytes))) ⌝ }
+fn configured(bytes: [u8; FIXED_LIMIT], len: usize) -> Command
+    ensures { λ r. ⌜ (len ≤ fixedLimit → Commands r (λ pending. cmd rfConfigurationCode commandClock (take len bytes))) ⌝ }
 {
     Command::with(general::RF_CONFIGURATION, clock::COMMAND, bytes, len)
 }
@@ -85,7 +88,12 @@ pub fn command(stage: u8) -> Command
 {
     match stage {
         STAGE_RESET => general::reset_mode_command(),
-        STAGE_VERSION => Command::with(general::GET_FIRMWARE_VERSION, clock::COMMAND, [0; 12], 0),
+        STAGE_VERSION => Command::with(
+            general::GET_FIRMWARE_VERSION,
+            clock::COMMAND,
+            [0; FIXED_LIMIT],
+            0,
+        ),
         STAGE_FIELD_OFF => configured([RF_FIELD, FIELD_OFF, 0, 0, 0, 0, 0, 0, 0, 0, 0, 0], 2),
         STAGE_TIMEOUTS => configured([TIMEOUTS, 0x0B, 0x0B, 0x0A, 0, 0, 0, 0, 0, 0, 0, 0], 4),
         STAGE_MAX_RTY_COM => configured([MAX_RTY_COM, 0x00, 0, 0, 0, 0, 0, 0, 0, 0, 0, 0], 2),
@@ -177,7 +185,7 @@ struct Named {
 }
 
 fn chipset_name(version: u8, revision: u8) -> Named
-    ensures { λ r. ⌜ (take (r .len) (tailBytes (r .tail)) ≡ nameBytes version revision) × (r .len ≤ 12) ⌝ }
+    ensures { λ r. ⌜ (take (r .len) (tailBytes (r .tail)) ≡ nameBytes version revision) × (r .len ≤ tailLimit) ⌝ }
 {
     let suffix = dotted(version, revision);
     let d = suffix.bytes;

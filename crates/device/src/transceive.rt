@@ -9,6 +9,7 @@ use errors::Fault;
 use errors::Refusal;
 use stages::Decision;
 use stages::byte_or;
+use stages::put::DATA_LIMIT;
 use stages::put::put_two;
 use stages::start;
 use stages::start::Start;
@@ -89,7 +90,7 @@ fn is_sendable(bytes: &[u8]) -> bool
     }
 }
 
-fn type1(bytes: &[u8], ms: u32, command: &mut [u8; 512]) -> Start
+fn type1(bytes: &[u8], ms: u32, command: &mut [u8; DATA_LIMIT]) -> Start
     ensures { λ r. ⌜ Starts r (now (command .entry)) (now (command .exit)) (type1First (now (bytes .entry)) ms) ⌝ }
 {
     if is_sendable(bytes) {
@@ -100,7 +101,13 @@ fn type1(bytes: &[u8], ms: u32, command: &mut [u8; 512]) -> Start
     }
 }
 
-fn thru(bitrate: Bitrate, sel_res: &[u8], bytes: &[u8], ms: u32, command: &mut [u8; 512]) -> Start
+fn thru(
+    bitrate: Bitrate,
+    sel_res: &[u8],
+    bytes: &[u8],
+    ms: u32,
+    command: &mut [u8; DATA_LIMIT],
+) -> Start
     ensures { λ r. ⌜ Starts r (now (command .entry)) (now (command .exit)) (thruFirst bitrate (now («sel_res» .entry)) (now (bytes .entry)) ms) ⌝ }
 {
     let n = put_two(&[], bytes, command);
@@ -118,7 +125,7 @@ pub fn transceive(
     rid_res: bool,
     bytes: &[u8],
     timeout: Timeout,
-    command: &mut [u8; 512],
+    command: &mut [u8; DATA_LIMIT],
 ) -> Start
     ensures { λ r. ⌜ Starts r (now (command .entry)) (now (command .exit)) (transceiveFirst (now (bitrate .entry)) (now («sel_res» .entry)) «rid_res» (now (bytes .entry)) (clockOf (timeoutOf timeout))) ⌝ }
 {

@@ -16,7 +16,7 @@ use Rattle.protocol.specs.Arguments.{word}
 use Rattle.protocol.specs.Discovery.{isType2, uidLength, atsLength, sensfReq, byNoCard}
 use Rattle.chipset.specs.Responses.{foundWritten}
 use Rattle.stages.specs.Stages.{Command, cmd, Decision, send, keep, next, put, pause, ends, refuse, withLength}
-use Rattle.protocol.specs.Names.{ciuFifoData, ciuMode, ciuRxMode, ciuTxControl, commandClock, fieldPauseTime, inJumpForDepClock, inListPassiveTargetClock, registerWriteFailed, registersClock, rfNotActivated, ridClock, timeoutStatus, typeBClock}
+use Rattle.protocol.specs.Names.{ciuFifoData, ciuMode, ciuRxMode, ciuTxControl, commandClock, fieldPauseTime, inJumpForDepClock, inListPassiveTargetClock, registerWriteFailed, registersClock, rfNotActivated, ridClock, timeoutStatus, typeBClock, deselectCode, idmAndPmm, listedIdmOffset, pmmEnd, protocolOffset, ridCode, selResOffset, sensReq, sensResOffset, targetOffset, uidOffset, wupbCode, wupbParameter}
 use Rattle.protocol.specs.Calls.{inCommunicateThruCode, inDataExchangeCode, inJumpForDepCode, inListPassiveTargetCode, readRegisterCode, rfConfigurationCode, writeRegisterCode}
 use Rattle.discovery.specs.Kinds.{listStage, fifoStage, listType1Stage, ridStage, readRxModeStage, writeRxModeStage, deselectStage, wakeUpStage, fieldStage, rfOnStage, pollStage, timeoutsStage, jumpStage, writeModeStage}
 
@@ -27,25 +27,25 @@ typeACommand stage pending =
     pick (eqb stage listStage) (cmd inListPassiveTargetCode inListPassiveTargetClock pending)
     (pick (eqb stage fifoStage) (cmd readRegisterCode registersClock (word ciuFifoData))
     (pick (eqb stage listType1Stage) (cmd inListPassiveTargetCode inListPassiveTargetClock (0x01 ∷ 0x04 ∷ []))
-    (pick (eqb stage ridStage) (cmd inDataExchangeCode ridClock (0x01 ∷ 0x78 ∷ 0x00 ∷ 0x00 ∷ 0x00 ∷ 0x00 ∷ 0x00 ∷ 0x00 ∷ []))
+    (pick (eqb stage ridStage) (cmd inDataExchangeCode ridClock (0x01 ∷ ridCode ∷ 0x00 ∷ 0x00 ∷ 0x00 ∷ 0x00 ∷ 0x00 ∷ 0x00 ∷ []))
     (pick (eqb stage readRxModeStage) (cmd readRegisterCode registersClock (word ciuRxMode)) (cmd writeRegisterCode registersClock pending)))))
 
 -- SENS_RES in the other order, SEL_RES, SDD_RES
 abbrev pub cardBytes : List ℕ → List ℕ
-cardBytes list = getD list 3 0 ∷ getD list 2 0 ∷ getD list 4 0 ∷ drop 6 list
+cardBytes list = getD list (sensResOffset + 1) 0 ∷ getD list sensResOffset 0 ∷ getD list selResOffset 0 ∷ drop uidOffset list
 
 unfoldable pub listedA : List ℕ → Decision
 listedA bs =
     pick (eqb (getD bs 0 0) 0) (send fifoStage)
     (withLength bs 2
-    (pick (ltb (length bs) 6) (ends nothing) (pick (isType2 (getD bs 4 0)) (keep readRxModeStage (cardBytes bs)) (ends (done (cardBytes bs))))))
+    (pick (ltb (length bs) uidOffset) (ends nothing) (pick (isType2 (getD bs selResOffset 0)) (keep readRxModeStage (cardBytes bs)) (ends (done (cardBytes bs))))))
 
 unfoldable pub fifoRead : List ℕ → Decision
-fifoRead bs = pick (eqb (getD bs 0 0) 0x26) (ends nothing) (send listType1Stage)
+fifoRead bs = pick (eqb (getD bs 0 0) sensReq) (ends nothing) (send listType1Stage)
 
 -- SENS_RES of a Type 1 tag in the other order, nothing of a list that is too short for it
 unfoldable pub sensRes : List ℕ → List ℕ
-sensRes list = pick (ltb (length list) 4) [] (getD list 3 0 ∷ getD list 2 0 ∷ [])
+sensRes list = pick (ltb (length list) 4) [] (getD list (sensResOffset + 1) 0 ∷ getD list sensResOffset 0 ∷ [])
 
 unfoldable pub listedType1 : List ℕ → Decision
 listedType1 bs = pick (eqb (getD bs 0 0) 0) (ends nothing) (withLength bs 2 (keep ridStage (sensRes bs)))
@@ -79,13 +79,13 @@ typeAFailure stage fault = pick (eqb stage fifoStage) (send listType1Stage) (pic
 
 unfoldable pub splitFound : List ℕ → Decision
 splitFound bs =
-    pick (isTargetData (drop 2 bs))
-    (pick (isType2 (getD bs 4 0)) (next readRxModeStage (uidLength bs) (cardBytes bs)) (ends (uidAndAts (cardBytes bs) (uidLength bs) (atsLength bs))))
+    pick (isTargetData (drop targetOffset bs))
+    (pick (isType2 (getD bs selResOffset 0)) (next readRxModeStage (uidLength bs) (cardBytes bs)) (ends (uidAndAts (cardBytes bs) (uidLength bs) (atsLength bs))))
     (refuse UidLayout)
 
 unfoldable pub splitListed : List ℕ → Decision
 splitListed bs =
-    pick (eqb (getD bs 0 0) 0) (send fifoStage) (withLength bs 2 (pick (ltb (length bs) 6) (ends nothing) (splitFound bs)))
+    pick (eqb (getD bs 0 0) 0) (send fifoStage) (withLength bs 2 (pick (ltb (length bs) uidOffset) (ends nothing) (splitFound bs)))
 
 unfoldable pub splitWritten : ℕ → List ℕ → List ℕ → Decision
 splitWritten cursor found bs =
@@ -98,18 +98,18 @@ splitDecision stage cursor found bs =
 -- ---- Type B
 
 unfoldable pub typeBCommand : ℕ → List ℕ → Command
-typeBCommand stage pending = pick (eqb stage listStage) (cmd inListPassiveTargetCode inListPassiveTargetClock pending) (pick (eqb stage deselectStage) (cmd inCommunicateThruCode typeBClock (0xC2 ∷ [])) (cmd inCommunicateThruCode typeBClock pending))
+typeBCommand stage pending = pick (eqb stage listStage) (cmd inListPassiveTargetCode inListPassiveTargetClock pending) (pick (eqb stage deselectStage) (cmd inCommunicateThruCode typeBClock (deselectCode ∷ [])) (cmd inCommunicateThruCode typeBClock pending))
 
 -- a tag that is capable of ISO-DEP, by its protocol byte, is deselected; the wake-up is put by
 unfoldable pub isoDep : ℕ → ℕ → Decision
 isoDep protocol afi =
-    pick (eqb (protocol % 2) 1) (pick (eqb (protocol / 8 % 2) 0) (put deselectStage (0x05 ∷ afi ∷ 0x08 ∷ [])) (ends nothing)) (ends nothing)
+    pick (eqb (protocol % 2) 1) (pick (eqb (protocol / 8 % 2) 0) (put deselectStage (wupbCode ∷ afi ∷ wupbParameter ∷ [])) (ends nothing)) (ends nothing)
 
 -- the pending command is the list's, which has the AFI behind 1 and the bitrate's code
 unfoldable pub listedB : List ℕ → List ℕ → Decision
 listedB pending bs =
     pick (eqb (getD bs 0 0) 0) (ends nothing)
-    (withLength bs 2 (pick (ltb (length bs) 13) (ends nothing) (isoDep (getD bs 12 0) (getD pending 2 0))))
+    (withLength bs 2 (pick (ltb (length bs) (protocolOffset + 1)) (ends nothing) (isoDep (getD bs protocolOffset 0) (getD pending 2 0))))
 
 unfoldable pub wokenUp : List ℕ → Decision
 wokenUp bs = pick (eqb (statusByte bs) 0) (ends (done (drop 1 bs))) (ends nothing)
@@ -130,7 +130,7 @@ unfoldable pub txControlRead : List ℕ → Decision
 txControlRead bs = withLength bs 1 (pick (eqb (getD bs 0 0 % 4) 0) (send rfOnStage) (send pollStage))
 
 unfoldable pub polled : List ℕ → Decision
-polled bs = pick (eqb (getD bs 0 0) 0) (refuse NoCard) (withLength bs 2 (withLength bs 20 (ends (done (drop 4 bs)))))
+polled bs = pick (eqb (getD bs 0 0) 0) (refuse NoCard) (withLength bs 2 (withLength bs pmmEnd (ends (done (drop listedIdmOffset bs)))))
 
 unfoldable pub typeFDecision : ℕ → List ℕ → Decision
 typeFDecision stage bs = pick (eqb stage fieldStage) (txControlRead bs) (pick (eqb stage rfOnStage) (pause fieldPauseTime pollStage) (polled bs))
@@ -145,13 +145,20 @@ pollOf cursor pending = 1 ∷ getD pending 0 0 ∷ sensfReq (256 * getD pending 
 unfoldable pub pollCommand : ℕ → ℕ → List ℕ → Command
 pollCommand stage cursor pending = typeFCommand stage (pollOf cursor pending)
 
--- what the finished codes add to the answer: nothing before the first, and 17 bytes at most for each of 15
-unfoldable pub soFar : ℕ → List ℕ → List ℕ
-soFar cursor found = pick (eqb cursor 0) [] (take 255 found)
+-- the most bytes that the codes before the last add: a mark, IDm and PMm for each
+abbrev pub soFarLimit : ℕ
+soFarLimit = 255
 
--- a code follows, of 16 at most
+-- what the finished codes add to the answer: nothing before the first
+unfoldable pub soFar : ℕ → List ℕ → List ℕ
+soFar cursor found = pick (eqb cursor 0) [] (take soFarLimit found)
+
+-- a code follows, where this is not the last
+abbrev pub lastCode : ℕ
+lastCode = 15
+
 unfoldable pub hasNext : ℕ → List ℕ → Bool
-hasNext cursor pending = both (ltb cursor 15) (leb (2 * cursor + 5) (length pending))
+hasNext cursor pending = both (ltb cursor lastCode) (leb (2 * cursor + 5) (length pending))
 
 -- a code is finished, and adds these bytes
 unfoldable pub codeFinished : ℕ → List ℕ → List ℕ → List ℕ → Decision
@@ -179,7 +186,7 @@ onEnd f g (ends (refusedAfter fault n)) = ends (refusedAfter fault n)
 -- Type F's; a card is the mark 01, IDm and PMm
 unfoldable pub pollDecision : ℕ → ℕ → List ℕ → List ℕ → List ℕ → Decision
 pollDecision stage cursor pending found bs =
-    onEnd (λ bytes. codeFinished cursor pending found (0x01 ∷ take 16 bytes)) (pollFailure cursor pending found) (typeFDecision stage bs)
+    onEnd (λ bytes. codeFinished cursor pending found (0x01 ∷ take idmAndPmm bytes)) (pollFailure cursor pending found) (typeFDecision stage bs)
 
 -- ---- DEP
 

@@ -4,7 +4,7 @@ use mathlib.Core.List.{List, [], _∷_}
 use mathlib.Core.Option.{Option, none, some}
 use Prim.Native.Nat.{ℕ}
 use lib.ListN.{take, drop}
-use Rattle.protocol.specs.Arguments.{jumpData, systemCodesFit, atrReqFits}
+use Rattle.protocol.specs.Arguments.{jumpData, systemCodesFit, atrReqFits, shortestAtrReq, nfcid3Size}
 use Rattle.protocol.specs.Discovery.{cascaded}
 use Rattle.protocol.specs.Starts.{typeFCode, depCode}
 use Rattle.stages.specs.Starts.{Start, staged, stagedLimited, asserted}
@@ -43,7 +43,7 @@ pollAsserted text words = asserted (systemCodesFit words) (codeFor typeFCode tex
 
 -- the jump
 unfoldable pub depFirst : List ℕ → ℕ → Start
-depFirst atrReq code = staged depKind (jumpData 1 code [] (take 10 (drop 2 atrReq)) (drop 16 atrReq))
+depFirst atrReq code = staged depKind (jumpData 1 code [] (take nfcid3Size (drop 2 atrReq)) (drop shortestAtrReq atrReq))
 
 unfoldable pub depAsserted : List ℕ → List ℕ → Start
 depAsserted text atrReq = asserted (atrReqFits atrReq) (codeFor depCode text (depFirst atrReq))

@@ -10,6 +10,7 @@ use lib.ListN.{length, take, drop, getD, length-drop}
 use lib.Seq.{take-all, drop-length}
 use Rattle.errors.specs.Choice.{pick}
 use Rattle.errors.specs.declared.Fault.the-variants.{ShortResponse}
+use Rattle.protocol.specs.Names.{pmmEnd}
 use Rattle.stages.specs.Stages.{refuse, withLength}
 use Rattle.stages.specs.Stages as stages
 use Rattle.stages.specs.Decided.{Lays, DecisionRefines}
@@ -42,15 +43,15 @@ decision-partner f b r s x e d = rw (← e) d
 pub same-afi : (f b : List ℕ) (r : Decision) (p x y : ℕ) → x ≡ y → DecisionRefines f b r (isoDep p x) → DecisionRefines f b r (isoDep p y)
 same-afi f b r p x y e d = rw (← e) d
 
--- under 20 bytes, and so perhaps under 2
-pub short-either : (f b l : List ℕ) (d : stages.Decision) → length l < 20
-    → DecisionRefines f b (Refused ShortResponse) (withLength l 2 (withLength l 20 d))
+-- under pmmEnd bytes, and so perhaps under 2
+pub short-either : (f b l : List ℕ) (d : stages.Decision) → length l < pmmEnd
+    → DecisionRefines f b (Refused ShortResponse) (withLength l 2 (withLength l pmmEnd d))
 unfolding withLength pick
 short-either f b l d h = go (ltb (length l) 2)
   where
-    go : (t : Bool) → DecisionRefines f b (Refused ShortResponse) (pick t (refuse ShortResponse) (pick (ltb (length l) 20) (refuse ShortResponse) d))
+    go : (t : Bool) → DecisionRefines f b (Refused ShortResponse) (pick t (refuse ShortResponse) (pick (ltb (length l) pmmEnd) (refuse ShortResponse) d))
     go true = decision-refused f b ShortResponse
-    go false = rw (lt-ltb (length l) 20 h) (decision-refused f b ShortResponse)
+    go false = rw (lt-ltb (length l) pmmEnd h) (decision-refused f b ShortResponse)
 
-pub not-short : (l : List ℕ) → 20 ≤ length l → ltb (length l) 2 ≡ false
+pub not-short : (l : List ℕ) → pmmEnd ≤ length l → ltb (length l) 2 ≡ false
 not-short l h = le-ltb (length l) 2 (omega arith)

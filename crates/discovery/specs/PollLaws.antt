@@ -7,7 +7,7 @@ use native.Mathlib.Omega.{arith}
 use borrow.Author.Tests.{ltb-true, ltb-false, ne-eqb}
 use lib.Dec.{eqb, ltb}
 use lib.ListN.{length, take, drop, getD}
-use lib.Seq.{take-all, take-length}
+use lib.Seq.{take-all}
 use Rattle.errors.specs.Choice.{pick}
 use Rattle.errors.specs.declared.Fault.{Fault}
 use Rattle.errors.specs.declared.Fault.the-variants.{NoCard, ShortResponse}
@@ -18,8 +18,8 @@ use Rattle.stages.specs.Decided.{decisionIn, Lays, DecisionRefines}
 use Rattle.stages.specs.declared.Decision as code
 use Rattle.stages.specs.declared.Decision.the-variants.{Refused}
 use Rattle.stages.specs.declared.Layout.{Layout}
-use Rattle.discovery.specs.Decisions.{txControlRead, polled, typeFDecision, pollOf, soFar, hasNext, codeFinished, pollFailure, pollDecision}
-use Rattle.protocol.specs.Names.{fieldPauseTime}
+use Rattle.discovery.specs.Decisions.{txControlRead, polled, typeFDecision, pollOf, soFarLimit, soFar, lastCode, hasNext, codeFinished, pollFailure, pollDecision}
+use Rattle.protocol.specs.Names.{fieldPauseTime, idmAndPmm, listedIdmOffset, pmmEnd}
 use Rattle.discovery.specs.Kinds.{rfOnStage, pollStage}
 
 -- ---- what the finished codes add
@@ -29,11 +29,11 @@ module _ (cursor : ℕ) (found : List ℕ) where
   unfolding soFar pick
   none-yet h = rw h
 
-  pub all-found : (cursor ≡ 0 → ⊥) → length found ≤ 255 → found ≡ soFar cursor found
+  pub all-found : (cursor ≡ 0 → ⊥) → length found ≤ soFarLimit → found ≡ soFar cursor found
   unfolding soFar pick
-  all-found h few = rw (ne-eqb cursor 0 h) (sym (take-all 255 found few))
+  all-found h few = rw (ne-eqb cursor 0 h) (sym (take-all soFarLimit found few))
 
-  pub most-found : (cursor ≡ 0 → ⊥) → take 255 found ≡ soFar cursor found
+  pub most-found : (cursor ≡ 0 → ⊥) → take soFarLimit found ≡ soFar cursor found
   unfolding soFar pick
   most-found h = rw (ne-eqb cursor 0 h)
 
@@ -42,9 +42,9 @@ lays-so-far f b l k s x e h = rw (← e) h
 
 -- ---- the codes of the list
 
-pub next-within : (cursor : ℕ) (pending : List ℕ) → hasNext cursor pending ≡ true → cursor < 15
+pub next-within : (cursor : ℕ) (pending : List ℕ) → hasNext cursor pending ≡ true → cursor < lastCode
 unfolding hasNext
-next-within cursor pending h = ltb-true cursor 15 (both-left (ltb cursor 15) _ h)
+next-within cursor pending h = ltb-true cursor lastCode (both-left (ltb cursor lastCode) _ h)
 
 -- the poll, of its bytes
 pub poll-bytes : (cursor : ℕ) (pending : List ℕ) (code high low : ℕ) → code ≡ getD pending 0 0 → high ≡ getD pending (2 * cursor + 1) 0
@@ -73,33 +73,33 @@ hasBytes (ends nothing) l = ⊥
 hasBytes (ends (refused fault)) l = ⊥
 hasBytes (ends (refusedAfter fault n)) l = ⊥
 
-type-f-done : (stage : ℕ) (bs l : List ℕ) → hasBytes (typeFDecision stage bs) l → (drop 4 bs ≡ l) × (20 ≤ length bs)
+type-f-done : (stage : ℕ) (bs l : List ℕ) → hasBytes (typeFDecision stage bs) l → (drop listedIdmOffset bs ≡ l) × (pmmEnd ≤ length bs)
 unfolding typeFDecision txControlRead polled withLength pick
 type-f-done stage bs l = go (eqb stage 0) (eqb stage 1)
   where
-    on : (t u : Bool) → hasBytes (pick t (refuse ShortResponse) (pick u (send rfOnStage) (send pollStage))) l → (drop 4 bs ≡ l) × (20 ≤ length bs)
+    on : (t u : Bool) → hasBytes (pick t (refuse ShortResponse) (pick u (send rfOnStage) (send pollStage))) l → (drop listedIdmOffset bs ≡ l) × (pmmEnd ≤ length bs)
     on true u h = absurd h
     on false true h = absurd h
     on false false h = absurd h
 
-    met : (t u v : Bool) → ltb (length bs) 20 ≡ v
-        → hasBytes (pick t (refuse NoCard) (pick u (refuse ShortResponse) (pick v (refuse ShortResponse) (ends (done (drop 4 bs)))))) l → (drop 4 bs ≡ l) × (20 ≤ length bs)
+    met : (t u v : Bool) → ltb (length bs) pmmEnd ≡ v
+        → hasBytes (pick t (refuse NoCard) (pick u (refuse ShortResponse) (pick v (refuse ShortResponse) (ends (done (drop listedIdmOffset bs)))))) l → (drop listedIdmOffset bs ≡ l) × (pmmEnd ≤ length bs)
     met true u v e h = absurd h
     met false true v e h = absurd h
     met false false true e h = absurd h
-    met false false false e h = (h, ltb-false (length bs) 20 e)
+    met false false false e h = (h, ltb-false (length bs) pmmEnd e)
 
-    go : (t u : Bool) → hasBytes (pick t (txControlRead bs) (pick u (pause fieldPauseTime pollStage) (polled bs))) l → (drop 4 bs ≡ l) × (20 ≤ length bs)
+    go : (t u : Bool) → hasBytes (pick t (txControlRead bs) (pick u (pause fieldPauseTime pollStage) (polled bs))) l → (drop listedIdmOffset bs ≡ l) × (pmmEnd ≤ length bs)
     go true u h = on (ltb (length bs) 1) (eqb (getD bs 0 0 % 4) 0) h
     go false true h = absurd h
-    go false false h = met (eqb (getD bs 0 0) 0) (ltb (length bs) 2) (ltb (length bs) 20) refl h
+    go false false h = met (eqb (getD bs 0 0) 0) (ltb (length bs) 2) (ltb (length bs) pmmEnd) refl h
 
 with-bytes : (d : Decision) (l : List ℕ) → ends (done l) ≡ d → hasBytes d l
 with-bytes d l e = rw (← e) refl
 
 -- what the code decides, where d is what Type F's function gave
 module _ (f b pending : List ℕ) (r d : code.Decision) (stage cursor : ℕ) (given : DecisionRefines f b d (typeFDecision stage b)) where
-  pub poll-done : (bytes : List ℕ) → decisionIn f b d ≡ ends (done bytes) → (20 ≤ length b → DecisionRefines f b r (codeFinished cursor pending f (0x01 ∷ take 16 (drop 4 b))))
+  pub poll-done : (bytes : List ℕ) → decisionIn f b d ≡ ends (done bytes) → (pmmEnd ≤ length b → DecisionRefines f b r (codeFinished cursor pending f (0x01 ∷ take idmAndPmm (drop 4 b))))
       → DecisionRefines f b r (pollDecision stage cursor pending f b)
   unfolding pollDecision
   poll-done bytes e k =

@@ -14,9 +14,11 @@ use errors::Fault;
 use errors::Refusal;
 use stages::Command;
 use stages::Decision;
+use stages::FIXED_LIMIT;
 use stages::Head;
 use stages::Layout;
 use stages::byte_or;
+use stages::put::DATA_LIMIT;
 use stages::put::put_all;
 use stages::start;
 use stages::start::Start;
@@ -29,7 +31,7 @@ ghost use mathlib.Core.Path.{_≡_};
 ghost use mathlib.Core.List.{[]};
 ghost use Prim.Native.Nat.{_+_, _*_, _≤_};
 ghost use lib.ListN.{length, take, drop};
-ghost use Rattle.protocol.specs.Arguments.{bit};
+ghost use Rattle.protocol.specs.Arguments.{bit, shortestAtrReq, longestAtrReq, nfcid3Size};
 ghost use Rattle.discovery.specs.Firsts.{depFirst, depAsserted};
 
 // An ATR_REQ without general bytes, and the longest.
@@ -37,10 +39,15 @@ const SHORTEST_ATR_REQ: usize = 16;
 
 const LONGEST_ATR_REQ: usize = 64;
 
+// NFCID3 in ATR_REQ.
+const NFCID3: usize = 2;
+
+const NFCID3_END: usize = 12;
+
 // What InJumpForDEP is given: NFCID3, and the general bytes where ATR_REQ has some.
 fn given(atr_req: &[u8]) -> u8
-    requires { ⌜ 16 ≤ length (now «atr_req») ⌝ }
-    ensures { λ r. ⌜ r ≡ 2 * bit (take 10 (drop 2 (now («atr_req» .entry)))) + 4 * bit (drop 16 (now («atr_req» .entry))) ⌝ }
+    requires { ⌜ shortestAtrReq ≤ length (now «atr_req») ⌝ }
+    ensures { λ r. ⌜ r ≡ 2 * bit (take nfcid3Size (drop 2 (now («atr_req» .entry)))) + 4 * bit (drop shortestAtrReq (now («atr_req» .entry))) ⌝ }
 {
     if atr_req.len() == SHORTEST_ATR_REQ {
         2
@@ -50,16 +57,23 @@ fn given(atr_req: &[u8]) -> u8
 }
 
 // The time-outs are set first; the jump is put by.
-fn jump(code: u8, atr_req: &[u8], command: &mut [u8; 512]) -> Start
-    requires { ⌜ (16 ≤ length (now «atr_req»)) × (length (now «atr_req») ≤ 64) ⌝ }
+fn jump(code: u8, atr_req: &[u8], command: &mut [u8; DATA_LIMIT]) -> Start
+    requires { ⌜ (shortestAtrReq ≤ length (now «atr_req»)) × (length (now «atr_req») ≤ longestAtrReq) ⌝ }
     ensures { λ r. ⌜ Starts r (now (command .entry)) (now (command .exit)) (depFirst (now («atr_req» .entry)) code) ⌝ }
 {
     let head = [1, code, given(atr_req)];
-    let n = put_all(&head, &atr_req[2..12], &atr_req[16..], &[], &[], command);
+    let n = put_all(
+        &head,
+        &atr_req[NFCID3..NFCID3_END],
+        &atr_req[SHORTEST_ATR_REQ..],
+        &[],
+        &[],
+        command,
+    );
     start::staged(DEP, n)
 }
 
-pub fn detect_dep(bitrate: &[u8], atr_req: &[u8], command: &mut [u8; 512]) -> Start
+pub fn detect_dep(bitrate: &[u8], atr_req: &[u8], command: &mut [u8; DATA_LIMIT]) -> Start
     ensures { λ r. ⌜ Starts r (now (command .entry)) (now (command .exit)) (depAsserted (now (bitrate .entry)) (now («atr_req» .entry))) ⌝ }
 {
     if atr_req.len() < SHORTEST_ATR_REQ {
@@ -82,7 +96,7 @@ const STAGE_JUMP: u8 = 1;
 const STAGE_WRITE_MODE: u8 = 2;
 
 // The time-outs of ATR_RES and of the exchange.
-const ATR_RES_TIMEOUTS: [u8; 12] = [TIMEOUTS, 0x0B, 0x0B, 0x0A, 0, 0, 0, 0, 0, 0, 0, 0];
+const ATR_RES_TIMEOUTS: [u8; FIXED_LIMIT] = [TIMEOUTS, 0x0B, 0x0B, 0x0A, 0, 0, 0, 0, 0, 0, 0, 0];
 
 // CIU_Mode with the detect-sync bit off.
 const NO_DETECT_SYNC: u8 = 0x3B;

@@ -5,6 +5,7 @@ use super::rates::Supported;
 use super::rates::rate;
 use super::rates::type_f_code;
 use super::type_f;
+use super::type_f::IDM;
 use super::type_f::STAGE_FIELD;
 use errors::Fault;
 use errors::Refusal;
@@ -12,6 +13,7 @@ use stages::Command;
 use stages::Decision;
 use stages::Layout;
 use stages::byte_or;
+use stages::put::DATA_LIMIT;
 use stages::put::put_two;
 use stages::start;
 use stages::start::Start;
@@ -20,20 +22,21 @@ ghost use mathlib.Core.Path.{_≡_};
 ghost use Prim.Native.Nat.{ℕ, _+_, _≤_};
 ghost use lib.ListN.{length, take, drop};
 ghost use Rattle.protocol.specs.Arguments.{systemCodesFit};
+ghost use Rattle.protocol.specs.Names.{idmAndPmm};
 ghost use Rattle.stages.specs.Decided.{DecisionRefines, Sends};
 ghost use Rattle.stages.specs.Starts.{Starts};
-ghost use Rattle.discovery.specs.Decisions.{pollCommand, soFar, hasNext, codeFinished, pollFailure, pollDecision};
+ghost use Rattle.discovery.specs.Decisions.{pollCommand, soFar, hasNext, codeFinished, pollFailure, pollDecision, soFarLimit};
 ghost use Rattle.discovery.specs.Firsts.{pollAsserted};
 
 // The most system codes of a list.
 const CODES: usize = 16;
 
+const LAST_CODE: u8 = 15;
+
 // What a code adds to the answer: one of two marks, and behind the first IDm and PMm, which stand in the response from byte 4 on.
 const CARD: u8 = 0x01;
 
 const NO_CARD: u8 = 0x00;
-
-const IDM: usize = 4;
 
 const IDM_AND_PMM: usize = 16;
 
@@ -56,7 +59,7 @@ fn is_list(codes: &[u8]) -> bool
 }
 
 // TX control is read first; the bitrate's code and the system codes are put by.
-pub fn poll_type_f(bitrate: &[u8], codes: &[u8], command: &mut [u8; 512]) -> Start
+pub fn poll_type_f(bitrate: &[u8], codes: &[u8], command: &mut [u8; DATA_LIMIT]) -> Start
     ensures { λ r. ⌜ Starts r (now (command .entry)) (now (command .exit)) (pollAsserted (now (bitrate .entry)) (now (codes .entry))) ⌝ }
 {
     if is_list(codes) {
@@ -95,7 +98,7 @@ pub fn command(stage: u8, cursor: u8, pending: &[u8]) -> Command
 
 // How many found bytes the finished codes have added.
 fn kept(cursor: u8, found: &[u8]) -> usize
-    ensures { λ r. ⌜ (take r (now (found .entry)) ≡ soFar cursor (now (found .entry))) × (r ≤ length (now (found .entry))) × (r ≤ 255) ⌝ }
+    ensures { λ r. ⌜ (take r (now (found .entry)) ≡ soFar cursor (now (found .entry))) × (r ≤ length (now (found .entry))) × (r ≤ soFarLimit) ⌝ }
 {
     if cursor == 0 {
         return 0;
@@ -111,7 +114,7 @@ fn kept(cursor: u8, found: &[u8]) -> usize
 fn has_next(cursor: u8, pending: &[u8]) -> bool
     ensures { λ r. ⌜ r ≡ hasNext cursor (now (pending .entry)) ⌝ }
 {
-    if cursor < 15 {
+    if cursor < LAST_CODE {
         2 * cursor as usize + 5 <= pending.len()
     } else {
         false
@@ -127,7 +130,7 @@ fn finished(
     start: usize,
     len: usize,
 ) -> Decision
-    ensures { λ r. ⌜ ((b : List ℕ) → start + len ≤ length b → len ≤ 16 → DecisionRefines (now (found .entry)) b r (codeFinished cursor (now (pending .entry)) (now (found .entry)) (mark ∷ take len (drop start b)))) ⌝ }
+    ensures { λ r. ⌜ ((b : List ℕ) → start + len ≤ length b → len ≤ idmAndPmm → DecisionRefines (now (found .entry)) b r (codeFinished cursor (now (pending .entry)) (now (found .entry)) (mark ∷ take len (drop start b)))) ⌝ }
 {
     let layout = Layout::marked(kept(cursor, found), mark, start, len);
     if has_next(cursor, pending) {

@@ -12,15 +12,18 @@ use errors::Fault;
 use errors::Refusal;
 use stages::Command;
 use stages::Decision;
+use stages::FIXED_LIMIT;
 use stages::Head;
 use stages::Layout;
 use stages::byte_or;
+use stages::put::DATA_LIMIT;
 use stages::put::put_two;
 use stages::start;
 use stages::start::Start;
 ghost use mathlib.Core.List.{List};
 ghost use Prim.Native.Nat.{ℕ, _≤_};
 ghost use lib.ListN.{length};
+ghost use Rattle.protocol.specs.Names.{uidOffset};
 ghost use Rattle.stages.specs.Decided.{Lays, DecisionRefines, Always, Commands};
 ghost use Rattle.discovery.specs.Decisions.{cardBytes, sensRes, typeACommand, listedA, fifoRead, listedType1, ridOf, rxModeRead, typeADecision, ridFailure, typeAFailure};
 ghost use Rattle.stages.specs.Starts.{Starts};
@@ -47,11 +50,22 @@ const CASCADE_TAG: u8 = 0x88;
 // What the FIFO holds where no SENS_RES came: the request.
 const SENS_REQ: u8 = 0x26;
 
+// Where a list's response has the target's data, and in it SENS_RES, SEL_RES and the UID.
+pub(crate) const TARGET_DATA: usize = 2;
+
+const SENS_RES: usize = 2;
+
+const SENS_RES_SECOND: usize = SENS_RES + 1;
+
+pub(crate) const SEL_RES: usize = 4;
+
+pub(crate) const UID: usize = 6;
+
 // The clock of the RID exchange in ms.
 const RID_CLOCK: u32 = 100;
 
 // A UID over 4 bytes gets 0x88 at 0; if then over 8, 0x88 at 4.
-fn list(kind: u8, code: u8, uid: &[u8], command: &mut [u8; 512]) -> Start
+fn list(kind: u8, code: u8, uid: &[u8], command: &mut [u8; DATA_LIMIT]) -> Start
     ensures { λ r. ⌜ Starts r (now (command .entry)) (now (command .exit)) (listFirst kind (now (uid .entry)) code) ⌝ }
 {
     if uid.len() <= 4 {
@@ -68,7 +82,7 @@ fn list(kind: u8, code: u8, uid: &[u8], command: &mut [u8; 512]) -> Start
 }
 
 // Stage 0 of a kind that has Type A's stages.
-pub(crate) fn detect(kind: u8, bitrate: &[u8], uid: &[u8], command: &mut [u8; 512]) -> Start
+pub(crate) fn detect(kind: u8, bitrate: &[u8], uid: &[u8], command: &mut [u8; DATA_LIMIT]) -> Start
     ensures { λ r. ⌜ Starts r (now (command .entry)) (now (command .exit)) (codeFor typeACode (now (bitrate .entry)) (listFirst kind (now (uid .entry)))) ⌝ }
 {
     let Supported::Code(code) = type_a_code(rate(bitrate)) else {
@@ -77,17 +91,17 @@ pub(crate) fn detect(kind: u8, bitrate: &[u8], uid: &[u8], command: &mut [u8; 51
     list(kind, code, uid, command)
 }
 
-pub fn detect_type_a(bitrate: &[u8], uid: &[u8], command: &mut [u8; 512]) -> Start
+pub fn detect_type_a(bitrate: &[u8], uid: &[u8], command: &mut [u8; DATA_LIMIT]) -> Start
     ensures { λ r. ⌜ Starts r (now (command .entry)) (now (command .exit)) (codeFor typeACode (now (bitrate .entry)) (typeAFirst (now (uid .entry)))) ⌝ }
 {
     detect(TYPE_A, bitrate, uid, command)
 }
 
 // The list of a Type 1 tag: one target, at the chip's code for Type 1.
-const TYPE_1_LIST: [u8; 12] = [1, 4, 0, 0, 0, 0, 0, 0, 0, 0, 0, 0];
+const TYPE_1_LIST: [u8; FIXED_LIMIT] = [1, 4, 0, 0, 0, 0, 0, 0, 0, 0, 0, 0];
 
 // RID to the listed target, behind its code six bytes of 0.
-const RID: [u8; 12] = [TARGET, 0x78, 0, 0, 0, 0, 0, 0, 0, 0, 0, 0];
+const RID: [u8; FIXED_LIMIT] = [TARGET, 0x78, 0, 0, 0, 0, 0, 0, 0, 0, 0, 0];
 
 // The command of a stage.
 pub fn command(stage: u8) -> Command
@@ -115,10 +129,15 @@ pub fn command(stage: u8) -> Command
 
 // SENS_RES in the other order, SEL_RES and SDD_RES of a list.
 pub(crate) fn card(list: &[u8]) -> Layout
-    requires { ⌜ 6 ≤ length (now list) ⌝ }
+    requires { ⌜ uidOffset ≤ length (now list) ⌝ }
     ensures { λ r. ⌜ ((f : List ℕ) → Lays f (now (list .entry)) r (cardBytes (now (list .entry)))) ⌝ }
 {
-    Layout::headed(Head(list[3], list[2], list[4]), 3, list, 6)
+    Layout::headed(
+        Head(list[SENS_RES_SECOND], list[SENS_RES], list[SEL_RES]),
+        3,
+        list,
+        UID,
+    )
 }
 
 // detect_type_a: a target was listed, or none. Of a Type 2 tag the RX mode is set before it is handed out.
@@ -131,10 +150,10 @@ fn listed_a(response: &[u8]) -> Decision
     if response.len() < 2 {
         return Decision::Refused(Fault::ShortResponse);
     }
-    if response.len() < 6 {
+    if response.len() < UID {
         return Decision::Nothing;
     }
-    if response[4] / 32 % 4 == 0 {
+    if response[SEL_RES] / 32 % 4 == 0 {
         Decision::Keep(STAGE_READ_RX_MODE, card(response))
     } else {
         Decision::Done(card(response))
@@ -156,10 +175,15 @@ fn fifo(response: &[u8]) -> Decision
 fn sens_res(list: &[u8]) -> Layout
     ensures { λ r. ⌜ ((f : List ℕ) → Lays f (now (list .entry)) r (sensRes (now (list .entry)))) ⌝ }
 {
-    if list.len() < 4 {
+    if list.len() < SEL_RES {
         Layout::part(0, 0)
     } else {
-        Layout::headed(Head(list[3], list[2], 0), 2, list, list.len())
+        Layout::headed(
+            Head(list[SENS_RES_SECOND], list[SENS_RES], 0),
+            2,
+            list,
+            list.len(),
+        )
     }
 }
 

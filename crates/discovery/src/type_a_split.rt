@@ -2,10 +2,13 @@
 // the end. The cursor is the UID's length while the RX mode is set; the found bytes are then three bytes, the UID and the ATS.
 use super::TYPE_A_SPLIT;
 use super::type_a;
+use super::type_a::SEL_RES;
 use super::type_a::STAGE_FIFO;
 use super::type_a::STAGE_LIST;
 use super::type_a::STAGE_READ_RX_MODE;
 use super::type_a::STAGE_WRITE_RX_MODE;
+use super::type_a::TARGET_DATA;
+use super::type_a::UID;
 use super::type_a::card;
 use chipset::err;
 use chipset::registers::any_nonzero;
@@ -13,11 +16,13 @@ use errors::Fault;
 use stages::Decision;
 use stages::Layout;
 use stages::byte_or;
+use stages::put::DATA_LIMIT;
 use stages::start::Start;
 use targets::type_a::is_target_data;
 ghost use mathlib.Core.List.{List};
 ghost use Prim.Native.Nat.{ℕ, _≤_};
 ghost use lib.ListN.{length};
+ghost use Rattle.protocol.specs.Names.{uidOffset};
 ghost use Rattle.stages.specs.Decided.{DecisionRefines};
 ghost use Rattle.stages.specs.Starts.{Starts};
 ghost use Rattle.stages.specs.Bitrates.{codeFor};
@@ -25,14 +30,12 @@ ghost use Rattle.protocol.specs.Starts.{typeACode};
 ghost use Rattle.discovery.specs.Decisions.{splitFound, splitListed, splitWritten, splitDecision};
 ghost use Rattle.discovery.specs.Firsts.{splitFirst};
 
-// Where the list has the UID's length, and where the UID begins in it and in the found bytes.
+// Where the list has the UID's length, and where the UID begins in the found bytes.
 const UID_LENGTH: usize = 5;
-
-const UID_LISTED: usize = 6;
 
 const UID_FOUND: usize = 3;
 
-pub fn detect_type_a_split(bitrate: &[u8], uid: &[u8], command: &mut [u8; 512]) -> Start
+pub fn detect_type_a_split(bitrate: &[u8], uid: &[u8], command: &mut [u8; DATA_LIMIT]) -> Start
     ensures { λ r. ⌜ Starts r (now (command .entry)) (now (command .exit)) (codeFor typeACode (now (bitrate .entry)) (splitFirst (now (uid .entry)))) ⌝ }
 {
     type_a::detect(TYPE_A_SPLIT, bitrate, uid, command)
@@ -40,15 +43,15 @@ pub fn detect_type_a_split(bitrate: &[u8], uid: &[u8], command: &mut [u8; 512]) 
 
 // A target was listed: its data is looked at before the RX mode is.
 fn found(response: &[u8]) -> Decision
-    requires { ⌜ 6 ≤ length (now response) ⌝ }
+    requires { ⌜ uidOffset ≤ length (now response) ⌝ }
     ensures { λ r. ⌜ ((f : List ℕ) → DecisionRefines f (now (response .entry)) r (splitFound (now (response .entry)))) ⌝ }
 {
-    if is_target_data(&response[2..]) {
+    if is_target_data(&response[TARGET_DATA..]) {
         let uid = response[UID_LENGTH];
-        if response[4] / 32 % 4 == 0 {
+        if response[SEL_RES] / 32 % 4 == 0 {
             Decision::Next(STAGE_READ_RX_MODE, uid, card(response))
         } else {
-            let ats = byte_or(response, UID_LISTED + uid as usize, 0);
+            let ats = byte_or(response, UID + uid as usize, 0);
             Decision::UidAndAts(card(response), uid, ats)
         }
     } else {
@@ -66,7 +69,7 @@ fn listed(response: &[u8]) -> Decision
     if response.len() < 2 {
         return Decision::Refused(Fault::ShortResponse);
     }
-    if response.len() < 6 {
+    if response.len() < UID {
         return Decision::Nothing;
     }
     found(response)

@@ -11,8 +11,10 @@ use errors::Fault;
 use errors::Refusal;
 use stages::Command;
 use stages::Decision;
+use stages::FIXED_LIMIT;
 use stages::Head;
 use stages::byte_or;
+use stages::put::DATA_LIMIT;
 use stages::put::put_two;
 use stages::start;
 use stages::start::Start;
@@ -26,7 +28,7 @@ ghost use Rattle.protocol.specs.Starts.{typeBCode};
 ghost use Rattle.stages.specs.Bitrates.{codeFor};
 ghost use Rattle.discovery.specs.Firsts.{typeBFirst};
 
-pub fn detect_type_b(bitrate: &[u8], sensb_req: &[u8], command: &mut [u8; 512]) -> Start
+pub fn detect_type_b(bitrate: &[u8], sensb_req: &[u8], command: &mut [u8; DATA_LIMIT]) -> Start
     ensures { λ r. ⌜ Starts r (now (command .entry)) (now (command .exit)) (codeFor typeBCode (now (bitrate .entry)) (typeBFirst (getD (now («sensb_req» .entry)) 0 0))) ⌝ }
 {
     let Supported::Code(code) = type_b_code(rate(bitrate)) else {
@@ -47,7 +49,7 @@ const STAGE_WAKE_UP: u8 = 2;
 const THRU_CLOCK: u32 = 500;
 
 // S(DESELECT).
-const DESELECT: [u8; 12] = [0xC2, 0, 0, 0, 0, 0, 0, 0, 0, 0, 0, 0];
+const DESELECT: [u8; FIXED_LIMIT] = [0xC2, 0, 0, 0, 0, 0, 0, 0, 0, 0, 0, 0];
 
 // WUPB: its code and, behind the AFI, its parameter.
 const WUPB: u8 = 0x05;
@@ -83,6 +85,11 @@ fn iso_dep(protocol: u8, afi: u8) -> Decision
     }
 }
 
+// Where a list's response has the protocol byte of ATQB.
+const PROTOCOL: usize = 12;
+
+const PROTOCOL_END: usize = PROTOCOL + 1;
+
 // detect_type_b: a target was listed, or none.
 fn listed_b(pending: &[u8], response: &[u8]) -> Decision
     ensures { λ r. ⌜ ((f : List ℕ) → DecisionRefines f (now (response .entry)) r (listedB (now (pending .entry)) (now (response .entry)))) ⌝ }
@@ -93,10 +100,10 @@ fn listed_b(pending: &[u8], response: &[u8]) -> Decision
     if response.len() < 2 {
         return Decision::Refused(Fault::ShortResponse);
     }
-    if response.len() < 13 {
+    if response.len() < PROTOCOL_END {
         Decision::Nothing
     } else {
-        iso_dep(response[12], byte_or(pending, 2, 0))
+        iso_dep(response[PROTOCOL], byte_or(pending, 2, 0))
     }
 }
 

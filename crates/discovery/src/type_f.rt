@@ -13,7 +13,9 @@ use errors::Fault;
 use errors::Refusal;
 use stages::Command;
 use stages::Decision;
+use stages::FIXED_LIMIT;
 use stages::byte_or;
+use stages::put::DATA_LIMIT;
 use stages::put::put_two;
 use stages::start;
 use stages::start::Start;
@@ -33,7 +35,7 @@ pub fn detect_type_f(
     system_code: u16,
     request_code: u8,
     time_slots: u8,
-    command: &mut [u8; 512],
+    command: &mut [u8; DATA_LIMIT],
 ) -> Start
     ensures { λ r. ⌜ Starts r (now (command .entry)) (now (command .exit)) (codeFor typeFCode (now (bitrate .entry)) (typeFFirst (sensfReq «system_code» «request_code» «time_slots»))) ⌝ }
 {
@@ -58,7 +60,7 @@ const STAGE_POLL: u8 = 2;
 const FIELD_PAUSE: u32 = 20400;
 
 // RF configuration's item 01, RF field, on.
-const RF_ON: [u8; 12] = [0x01, 0x01, 0, 0, 0, 0, 0, 0, 0, 0, 0, 0];
+const RF_ON: [u8; FIXED_LIMIT] = [0x01, 0x01, 0, 0, 0, 0, 0, 0, 0, 0, 0, 0];
 
 // The command of a stage.
 pub fn command(stage: u8) -> Command
@@ -88,6 +90,11 @@ fn tx_control(response: &[u8]) -> Decision
     }
 }
 
+// Where a list's response has IDm, and where PMm ends.
+pub(crate) const IDM: usize = 4;
+
+const PMM_END: usize = 20;
+
 // IDm, PMm and the request data of a SENSF_RES.
 fn polled(response: &[u8]) -> Decision
     ensures { λ r. ⌜ ((f : List ℕ) → DecisionRefines f (now (response .entry)) r (polledOf (now (response .entry)))) ⌝ }
@@ -95,10 +102,10 @@ fn polled(response: &[u8]) -> Decision
     if byte_or(response, 0, 0) == 0 {
         return Decision::Refused(Fault::NoCard);
     }
-    if response.len() < 20 {
+    if response.len() < PMM_END {
         Decision::Refused(Fault::ShortResponse)
     } else {
-        from(response, 4)
+        from(response, IDM)
     }
 }
 

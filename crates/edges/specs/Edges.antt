@@ -5,13 +5,13 @@ use mathlib.Core.List.{List, [], _∷_}
 use Prim.Native.Nat.{ℕ}
 use lib.Dec.{eqb}
 use lib.ListN.{drop}
-use Rattle.errors.specs.Choice.{pick, same as sameBytes}
+use Rattle.errors.specs.Choice.{pick, same}
 use Rattle.errors.specs.Refusals.{faultNumbered, plain}
 use Rattle.errors.specs.declared.Fault.{Fault}
 use Rattle.errors.specs.declared.Fault.the-variants.{TimeOut, BrokenFrame}
 use Rattle.crc.specs.Crc.{Kind, typeA, typeB, polynomial, bitIn, bitsIn, bits, bytesIn, result, crcOf, crcBytes, checks}
 use Rattle.framing.specs.Frames.{total, checksumOf, ack, normalFrame, extendedFrame, lengthBytes, headOf, frameOf}
-use Rattle.framing.specs.Lists.{starts, same}
+use Rattle.framing.specs.Lists.{starts}
 use Rattle.framing.specs.Parse.{isError, extends, lengthAt, normalAt, extendedAt, normalOf, extendedOf, dataOf, parseOf, payloadOf}
 use Rattle.framing.specs.Settings.{formatOf}
 use Rattle.framing.specs.declared.ErrorDetection.{ErrorDetection}
@@ -38,7 +38,7 @@ pub data Edge : Type 0 where
   skipped : List ℕ → Edge  -- the exchange skips the packet (its step 4), be it the first or a later one
   crc : Kind → List ℕ → List ℕ → Edge  -- the CRC of some bytes
   uid : List ℕ → List ℕ → Edge  -- the bytes that are sent for a UID
-  type2 : List ℕ → List ℕ → Edge  -- what a response with a Type 2 reply is judged to be
+  type2 : List ℕ → List ℕ → Edge  -- the kind of tag that a response with a Type 2 reply is
   type2-call : List ℕ → List Byte → Edge  -- the answer of the call itself, with the bytes' places
 
 -- the exchange reads on, for any command and any clock but 0
@@ -130,6 +130,6 @@ reads-on code clock h = ap (λ t. cond t (pending (write ack) (cancelling TimeOu
 
 pub edges : All table
 unfolding formats
-    polynomial bitIn bitsIn bits bytesIn result crcOf crcBytes sameBytes checks
+    polynomial bitIn bitsIn bits bytesIn result crcOf crcBytes same checks
     hasStart ackLed replyOf part rest withStatus type2Answer
 edges = (refl, (refl, (refl, (refl, (refl, (refl, (refl, (refl, (refl, (refl, (refl, (broken, (((λ code. refl), refl), ((reads-on, reads-on), (refl, (refl, (refl, (refl, (refl, (refl, (refl, (refl, ((λ bytes ms. refl), ((λ bytes ms. refl), tt))))))))))))))))))))))))

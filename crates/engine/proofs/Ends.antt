@@ -28,13 +28,13 @@ no-packet code packet bytes e to tag t z = record { few = rw z (omega arith); re
 
 -- what is decided upon a fault, and upon a response
 module _ (s : Core) (f : Arrays) (found bytes : List ℕ) (d r : Decision) (to : End) (same : d ≡ r) where
-  pub decides-fault : (fault : Fault) → to ≡ Failed fault → DecisionRefines found bytes r (replyDecision s f (failed fault))
+  pub refines-fault : (fault : Fault) → to ≡ Failed fault → DecisionRefines found bytes r (replyDecision s f (failed fault))
       → DecisionRefines found bytes d (replyDecision s f (endReply bytes to))
-  decides-fault fault t h = rw (same, t) h
+  refines-fault fault t h = rw (same, t) h
 
-  pub decides-response : OneOf (0 ∷ 1 ∷ []) (tagOf the-type to) → DecisionRefines found bytes r (replyDecision s f (response bytes))
+  pub refines-response : OneOf (0 ∷ 1 ∷ []) (tagOf the-type to) → DecisionRefines found bytes r (replyDecision s f (response bytes))
       → DecisionRefines found bytes d (replyDecision s f (endReply bytes to))
-  decides-response tag h = rw same (by to tag)
+  refines-response tag h = rw same (by to tag)
     where
       by : (to : End) → OneOf (0 ∷ 1 ∷ []) (tagOf the-type to) → DecisionRefines found bytes r (replyDecision s f (endReply bytes to))
       by ResetDone tag = h

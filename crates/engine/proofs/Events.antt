@@ -11,7 +11,8 @@ use lib.ListN.{length}
 use Rattle.errors.specs.Choice.{pick}
 use Rattle.errors.specs.declared.Refusal.the-variants.{OutOfTurn, ShortBuffer, OverLong}
 use Rattle.exchange.specs.Exchange.{Event}
-use Rattle.engine.specs.Transitions.{fits, end-fits, packetLength, replyLength, endTransition, transitionIn, transitionOf}
+use Rattle.protocol.specs.Session.{packetLimit, bufferNeed, packetLength}
+use Rattle.engine.specs.Transitions.{fits, end-fits, replyLength, endTransition, transitionIn, transitionOf}
 use Rattle.engine.specs.Exchanges.{reply-short}
 use Rattle.engine.specs.Core.{Arrays, After, unchanged, transitionedOf, isLong, admittedOf, eventCore}
 use Rattle.engine.specs.declared.call.End.{End}
@@ -42,27 +43,27 @@ module _ (s : Core) (f : Arrays) (e : Event) (p b : List ℕ) (t : Transition) (
   does-not-fit u h = admitted (rw u h)
 
   module _ (tag : OneOf (1 ∷ 2 ∷ 3 ∷ []) (tagOf the-type t)) where
-    pub buffer-short : length b < 1024 → x ≡ unchanged s f ShortBuffer b → x ≡ eventCore s f e b
+    pub buffer-short : length b < bufferNeed → x ≡ unchanged s f ShortBuffer b → x ≡ eventCore s f e b
     unfolding admittedOf pick
-    buffer-short n h = admitted (rw (does-fit (s .exchange .code) p t tag, lt-ltb (length b) 1024 n) h)
+    buffer-short n h = admitted (rw (does-fit (s .exchange .code) p t tag, lt-ltb (length b) bufferNeed n) h)
 
-    module _ (l : Bool) (room : 1024 ≤ length b) (known : l ≡ isLong e) where
+    module _ (l : Bool) (room : bufferNeed ≤ length b) (known : l ≡ isLong e) where
       pub packet-long : l ≡ true → x ≡ unchanged s f OverLong b → x ≡ eventCore s f e b
       unfolding admittedOf pick
-      packet-long q h = admitted (rw (does-fit (s .exchange .code) p t tag, le-ltb (length b) 1024 room, ← known, q) h)
+      packet-long q h = admitted (rw (does-fit (s .exchange .code) p t tag, le-ltb (length b) bufferNeed room, ← known, q) h)
 
       pub goes-through : (u : Transition) → l ≡ false → t ≡ u → x ≡ transitionedOf s f (transitionIn (s .exchange .code) p u) b → x ≡ eventCore s f e b
       unfolding admittedOf pick
       goes-through u q k h =
-          admitted (rw (does-fit (s .exchange .code) p t tag, le-ltb (length b) 1024 room, ← known, q) (h ∙ ap (λ v. transitionedOf s f (transitionIn (s .exchange .code) p v) b) (sym k)))
+          admitted (rw (does-fit (s .exchange .code) p t tag, le-ltb (length b) bufferNeed room, ← known, q) (h ∙ ap (λ v. transitionedOf s f (transitionIn (s .exchange .code) p v) b) (sym k)))
 
 -- a response within a packet that is not over-long
 pub response-short : (s : Core) (e : Event) (p : List ℕ) (t : Transition) (l : Bool) (end : End)
     → transitionIn (s .exchange .code) p t ≡ transitionOf (s .call) (s .exchange) e → l ≡ isLong e → l ≡ false → t ≡ Ends end
-    → replyLength (endTransition (s .exchange .code) p end) ≤ 1024
+    → replyLength (endTransition (s .exchange .code) p end) ≤ packetLimit
 unfolding isLong
 response-short s e p t l end is known q k =
     let short : replyLength (endTransition (s .exchange .code) p end) ≤ packetLength e
     = subst (λ m. replyLength m ≤ packetLength e) (sym is ∙ ap (transitionIn (s .exchange .code) p) k) (reply-short (s .call) (s .exchange) e) in
-    let few = ltb-false 1024 (packetLength e) (sym known ∙ q) in
+    let few = ltb-false packetLimit (packetLength e) (sym known ∙ q) in
     omega (arith, few, short)

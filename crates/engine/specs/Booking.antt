@@ -51,7 +51,7 @@ abbrev pub bookNumbers : Spec.Books → Books
 bookNumbers b = books (flag (b .opened)) (flag (b .padded)) (b .caller) (b .counts)
 
 pub books-in-range : (b : Spec.Books) → Bounded b → isInRange (bookNumbers b) ≡ true
-books-in-range b h = rw (flag-fits (b .opened), flag-fits (b .padded)) (le-leb (b .caller) 7 (h .caller))
+books-in-range b h = rw (flag-fits (b .opened), flag-fits (b .padded)) (le-leb (b .caller) lastCaller (h .caller))
 
 pub open-flag : (b : Spec.Books) → eqb (openedIn (bookNumbers b)) 1 ≡ b .opened
 open-flag b = flag-is (b .opened)
@@ -67,11 +67,11 @@ no-books (suc (suc mode)) h = absurd (omega arith)
 
 one-more : (n : ℕ) → n ≤ ceiling → oneMore n ≡ min (suc n) ceiling
 unfolding oneMore pick
-one-more n h = go (ltb n 4294967295) refl
+one-more n h = go (ltb n ceiling) refl
   where
-    go : (t : Bool) → ltb n 4294967295 ≡ t → pick t (n + 1) n ≡ min (suc n) 4294967295
-    go true e = omega (arith, ltb-true n 4294967295 e)
-    go false e = omega (arith, ltb-false n 4294967295 e)
+    go : (t : Bool) → ltb n ceiling ≡ t → pick t (n + 1) n ≡ min (suc n) ceiling
+    go true e = omega (arith, ltb-true n ceiling e)
+    go false e = omega (arith, ltb-false n ceiling e)
 
 -- ---- what is booked, of the call of caller k
 
@@ -120,15 +120,15 @@ end-booked c a k b = go (isOpening c)
     go false = refl
 
 -- books in range have one of the eight callers
-pub range-caller : (b : Books) → isInRange b ≡ true → callerIn b ≤ 7
-range-caller b h = leb-true (callerIn b) 7 (both-right (leb (modeIn b) 1) _ (both-right (leb (openedIn b) 1) _ h))
+pub range-caller : (b : Books) → isInRange b ≡ true → callerIn b ≤ lastCaller
+range-caller b h = leb-true (callerIn b) lastCaller (both-right (leb (modeIn b) 1) _ (both-right (leb (openedIn b) 1) _ h))
 
 -- a fault leaves the books in range
-pub ended-range : (b : Books) (k : ℕ) (t : Bool) → isInRange b ≡ true → k ≤ 7 → isInRange (ended (byCaller k b) t 0) ≡ true
+pub ended-range : (b : Books) (k : ℕ) (t : Bool) → isInRange b ≡ true → k ≤ lastCaller → isInRange (ended (byCaller k b) t 0) ≡ true
 unfolding ended pick
-ended-range b k t h q = go (b .numbers) t h (le-leb k 7 q)
+ended-range b k t h q = go (b .numbers) t h (le-leb k lastCaller q)
   where
-    go : (l : List ℕ) (t : Bool) → isInRange (booksOf l (b .frames)) ≡ true → leb k 7 ≡ true
+    go : (l : List ℕ) (t : Bool) → isInRange (booksOf l (b .frames)) ≡ true → leb k lastCaller ≡ true
         → isInRange (ended (byCaller k (booksOf l (b .frames))) t 0) ≡ true
     go [] true h c = refl
     go [] false h c = refl

@@ -3,12 +3,12 @@ use mathlib.Core.Bool.{Bool}
 use mathlib.Core.List.{List, [], _∷_}
 use Prim.Native.Nat.{ℕ, _+_}
 use lib.Dec.{leb, ltb}
-use lib.ListN.{length, replicate, getD, set}
+use lib.ListN.{length, getD, set}
 use Rattle.errors.specs.Choice.{pick}
 use Rattle.framing.specs.Lists.{both}
 use Rattle.framing.specs.Padded.{extraZeros}
 use Rattle.protocol.specs.Calls.{isPaddedMode}
-use Rattle.protocol.specs.Session.{packetLimit}
+use Rattle.protocol.specs.Session.{packetLimit, lastCaller, noCounts, ceiling}
 use Rattle.engine.specs.declared.core.Output.{Output}
 use Rattle.engine.specs.declared.core.Output.the-variants.{Ack, Command, Read, Drain, Pause, Done, Type1, UidAndAts, Nothing, Failed, FailedAfter, Refused}
 
@@ -32,11 +32,7 @@ abbrev pub callerIn : Books → ℕ
 callerIn b = getD (b .numbers) 2 0
 
 abbrev pub noBooks : ℕ → Books
-noBooks mode = books 0 mode 0 (replicate 8 0)
-
--- callers are numbered from 0 to 7
-abbrev pub lastCaller : ℕ
-lastCaller = 7
+noBooks mode = books 0 mode 0 noCounts
 
 abbrev pub inRange : ℕ → ℕ → ℕ → Bool
 inRange opened mode caller = both (leb opened 1) (both (leb mode 1) (leb caller lastCaller))
@@ -50,7 +46,7 @@ extraIn mode packet = pick (isPaddedMode mode) (pick (ltb packetLimit (length pa
 
 -- one command frame more, up to the ceiling
 unfoldable pub oneMore : ℕ → ℕ
-oneMore n = pick (ltb n 4294967295) (n + 1) n
+oneMore n = pick (ltb n ceiling) (n + 1) n
 
 -- the same, for the call of another caller
 abbrev pub byCaller : ℕ → Books → Books

@@ -11,12 +11,12 @@ use Rattle.errors.specs.declared.Refusal.the-variants.{OutOfTurn, ShortBuffer, 
 use Rattle.errors.specs.declared.Fault.{Fault}
 use Rattle.framing.specs.Frames.{ack}
 use Rattle.framing.specs.Lists.{both}
-use Rattle.exchange.specs.Exchange.{Event, draining}
+use Rattle.exchange.specs.Exchange.{Event}
 use Rattle.exchange.specs.Exchange.{Order, write, read, drain, pause}
 use Rattle.exchange.specs.Packets.{Reply, response, failed, commandFrame}
-use Rattle.exchange.specs.Steps.{exchangeAt}
+use Rattle.exchange.specs.Steps.{exchangeAt, drainingPhase, sendingPhase}
 use Rattle.exchange.specs.declared.Exchange.{Exchange}
-use Rattle.protocol.specs.Session.{packetLimit, bufferNeed}
+use Rattle.protocol.specs.Session.{packetLimit, bufferNeed, packetLength}
 use Rattle.protocol.specs.Starts.{dataLimit}
 use Rattle.protocol.specs.Scripts.{Answer, done, type1, uidAndAts, nothing, refused, refusedAfter}
 use Rattle.stages.specs.Put.{put}
@@ -24,7 +24,7 @@ use Rattle.stages.specs.Stages.{Command, Decision, send, keep, next, put as put
 use Rattle.stages.specs.Starts.{Start, staged, sends as sendsFirst, refuses as refusesAtOnce}
 use Rattle.calls.specs.Tables.{commandOf, decidedOf, failedOf}
 use Rattle.stages.specs.Decided.{foundLimit}
-use Rattle.engine.specs.Transitions.{phaseOf, openingAckPhase, noCall, firstCall, validCall, packetLength, fits, at, toStage, toCursor, Transitioned, unfitting, orders, sends, resetDone, replies, refuses, transitionOf}
+use Rattle.engine.specs.Transitions.{openingAckPhase, noCall, firstCall, validCall, fits, at, toStage, toCursor, Transitioned, unfitting, orders, sends, resetDone, replies, refuses, transitionOf}
 use Rattle.engine.specs.declared.call.Call.{Call}
 use Rattle.engine.specs.declared.core.Core.{Core}
 use Rattle.engine.specs.declared.core.Progress.{Progress}
@@ -35,7 +35,7 @@ use Rattle.device.specs.Kinds.{openingKind, resetStage}
 
 -- every field is in its range
 unfoldable pub isValid : Core → Bool
-isValid s = both (leb (s .command) dataLimit) (both (leb (s .found) foundLimit) (both (leb (s .exchange .phase) (phaseOf draining)) (validCall (s .call))))
+isValid s = both (leb (s .command) dataLimit) (both (leb (s .found) foundLimit) (both (leb (s .exchange .phase) drainingPhase) (validCall (s .call))))
 
 -- the bytes in use are within their limits, the lent arrays have their sizes, and the buffer has room
 abbrev pub Lent : Core → List ℕ → List ℕ → List ℕ → Type 0
@@ -44,7 +44,7 @@ Lent s command found buffer = (s .found ≤ foundLimit) × (s .command ≤ dataL
 -- ---- the numbers with some fields anew
 
 abbrev pub noCore : Core
-noCore = record { command = 0; found = 0; exchange = exchangeAt 0 0 0; call = noCall }
+noCore = record { command = 0; found = 0; exchange = exchangeAt sendingPhase 0 0; call = noCall }
 
 abbrev pub running : Core → Call → Exchange → Core
 running s c x = record { command = s .command; found = s .found; exchange = x; call = c }
@@ -109,7 +109,7 @@ ordersOf s f (pause us) c x b = after (running s c x) f (out.Pause us) b
 abbrev pub sendsOf : Core → Arrays → Call → Command → List ℕ → After Core
 sendsOf s f c m b =
     let frame = commandFrame (m .code) (m .bytes) in
-    after (running s c (exchangeAt 0 (m .code) (m .clock))) f (out.Command (length frame)) (put frame b)
+    after (running s c (exchangeAt sendingPhase (m .code) (m .clock))) f (out.Command (length frame)) (put frame b)
 
 -- the command of a call's stage
 unfoldable pub stageOf : Core → Arrays → Call → List ℕ → After Core
@@ -134,13 +134,13 @@ answersOf s f (refused r) b = endsOf s f (out.Failed r) b
 answersOf s f (refusedAfter r n) b = endsOf s f (out.FailedAfter r n) b
 
 -- what a call decided
-unfoldable pub followsOf : Core → Arrays → Decision → List ℕ → After Core
-followsOf s f (send n) b = stageOf s f (toStage (s .call) n) b
-followsOf s f (keep n bytes) b = keepsOf s f (toStage (s .call) n) bytes b
-followsOf s f (next n cursor bytes) b = keepsOf s f (toCursor (s .call) n cursor) bytes b
-followsOf s f (putBy n bytes) b = stageOf (withCommand s (length bytes)) (putCommand bytes f) (toStage (s .call) n) b
-followsOf s f (pauseFor us n) b = ordersOf s f (pause us) (at (toStage (s .call) n) 5) (s .exchange) b
-followsOf s f (ends a) b = answersOf s f a b
+unfoldable pub performsOf : Core → Arrays → Decision → List ℕ → After Core
+performsOf s f (send n) b = stageOf s f (toStage (s .call) n) b
+performsOf s f (keep n bytes) b = keepsOf s f (toStage (s .call) n) bytes b
+performsOf s f (next n cursor bytes) b = keepsOf s f (toCursor (s .call) n cursor) bytes b
+performsOf s f (putBy n bytes) b = stageOf (withCommand s (length bytes)) (putCommand bytes f) (toStage (s .call) n) b
+performsOf s f (pauseFor us n) b = ordersOf s f (pause us) (at (toStage (s .call) n) 5) (s .exchange) b
+performsOf s f (ends a) b = answersOf s f a b
 
 -- what is decided upon the response to the call's command, or its reset, and upon its failure
 abbrev pub replyDecision : Core → Arrays → Reply → Decision
@@ -148,10 +148,10 @@ replyDecision s f (response bytes) = decidedOf (s .call .kind) (s .call .stage) 
 replyDecision s f (failed r) = failedOf (s .call .kind) (s .call .stage) (s .call .cursor) (pendingOf s f) (foundOf s f) r
 
 unfoldable pub repliesOf : Core → Arrays → List ℕ → List ℕ → After Core
-repliesOf s f bytes b = followsOf s f (replyDecision s f (response bytes)) b
+repliesOf s f bytes b = performsOf s f (replyDecision s f (response bytes)) b
 
 unfoldable pub failsOf : Core → Arrays → Fault → List ℕ → After Core
-failsOf s f r b = followsOf s f (replyDecision s f (failed r)) b
+failsOf s f r b = performsOf s f (replyDecision s f (failed r)) b
 
 unfoldable pub transitionedOf : Core → Arrays → Transitioned → List ℕ → After Core
 transitionedOf s f unfitting b = unchanged s f OutOfTurn b

@@ -12,7 +12,7 @@ use Rattle.stages.specs.declared.Decision.{Decision}
 use Rattle.stages.specs.declared.Decision.the-variants.{Send, Keep, Next, Put, Pause, Done, Part, Type1, UidAndAts, Nothing, Refused, RefusedAfter}
 use Rattle.stages.specs.Decided.{responseLimit}
 use Rattle.protocol.specs.Session.{packetLimit}
-use Rattle.engine.specs.Core.{Arrays, followsOf, replyDecision, repliesOf, failsOf, transitionedOf}
+use Rattle.engine.specs.Core.{Arrays, performsOf, replyDecision, repliesOf, failsOf, transitionedOf}
 use Rattle.engine.specs.Transitions.{endTransition, replyTransition, replyLength}
 use Rattle.engine.specs.declared.call.End.{End}
 use Rattle.engine.specs.declared.call.End.the-variants.{ResetDone, Arrived, Failed}
@@ -48,16 +48,16 @@ GoesOn (RefusedAfter r n) = ⊥
 -- ---- laws
 
 -- what is decided upon the reply is what the end does
-pub end-follows : (s : Core) (f : Arrays) (code : ℕ) (packet : List ℕ) (e : End) (b : List ℕ)
-    → followsOf s f (replyDecision s f (replyIn code packet e)) b ≡ transitionedOf s f (endTransition code packet e) b
+pub end-performs : (s : Core) (f : Arrays) (code : ℕ) (packet : List ℕ) (e : End) (b : List ℕ)
+    → performsOf s f (replyDecision s f (replyIn code packet e)) b ≡ transitionedOf s f (endTransition code packet e) b
 unfolding transitionedOf repliesOf failsOf
-end-follows s f code packet ResetDone b = refl
-end-follows s f code packet Arrived b = go (replyOf code packet)
+end-performs s f code packet ResetDone b = refl
+end-performs s f code packet Arrived b = go (replyOf code packet)
   where
-    go : (r : Reply) → followsOf s f (replyDecision s f r) b ≡ transitionedOf s f (replyTransition r) b
+    go : (r : Reply) → performsOf s f (replyDecision s f r) b ≡ transitionedOf s f (replyTransition r) b
     go (response bytes) = refl
     go (failed fault) = refl
-end-follows s f code packet (Failed r) b = refl
+end-performs s f code packet (Failed r) b = refl
 
 -- what is left of an end: the bytes of the response, and the end upon which is decided
 pub record Checked (code : ℕ) (packet bytes : List ℕ) (e to : End) : Type 0 where

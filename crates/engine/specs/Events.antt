@@ -26,13 +26,13 @@ use Rattle.calls.specs.Tables.{isResetOf, decidedOf, failedOf}
 use Rattle.calls.specs.Refines.{Refines}
 use Rattle.calls.specs.Opening.{opening-script-refines, opening-fails, reset-fails}
 use Rattle.calls.specs.Firsts.{startFor}
-use Rattle.calls.specs.Starts.{Kind, Starting, refusedNow, first, leading, reader-begins}
+use Rattle.calls.specs.Starts.{Kind, Starting, refusedNow, first, fromStage, reader-begins}
 use Rattle.stages.specs.Decided.{responseLimit}
 use Rattle.engine.specs.Transitions.{exchangePhase, resetAckPhase, pausePhase, noCall, Transitioned, orders as goesOn, sends, resetDone, replies, refuses, fits, replyLength, transitionOf, overTransition, endedTransition, validCall}
-use Rattle.engine.specs.Core.{stageOf, admittedOf, transitionedOf, followsOf, failsOf, repliesOf, eventCore, openCore, startOn}
+use Rattle.engine.specs.Core.{stageOf, admittedOf, transitionedOf, performsOf, failsOf, repliesOf, eventCore, openCore, startOn}
 use Rattle.engine.specs.Relation.{Position, Wait, reply, resetReply, resetAck, resetPause, openingAck, openingReads, pausing, phaseNumber, callAt, phaseAt, Fields, coreWith, arraysAt, Agrees, coreAt, free}
 use Rattle.engine.specs.Exchanges.{NoCommand, good, reply-short}
-use Rattle.engine.specs.Simulation.{Simulates, sim-unchanged, sim-orders, sim-sends, sim-answer, with-command, lead-sims, SimulatesHere, Advances, advances-none, advances, advances-enter, advances-exchange, two-write, two-read, two-pause}
+use Rattle.engine.specs.Simulation.{Simulates, sim-unchanged, sim-orders, sim-sends, sim-answer, with-command, decision-sims, SimulatesHere, Advances, advances-none, advances, advances-enter, advances-exchange, two-write, two-read, two-pause}
 use Rattle.protocol.specs.Names.{openingReadTime, resetPauseTime}
 use Rattle.calls.specs.Kinds.{firstStage}
 use Rattle.device.specs.Kinds.{openingKind, resetStage}
@@ -50,21 +50,21 @@ module _ (p : Position) (w : Wait p) (v : Fields) (agrees : Agrees p v) where
       advances p w v agrees (goesOn o (callAt p u) (v .exchange)) _ refl (λ b _. sim-orders v (callAt p w) _ _ p u (v .exchange) o b (v .phaseFits) agrees k)
 
   -- what is decided leads to the script
-  advances-lead : (mv : Transitioned) (d : Decision) (s : Script) → fits mv ≡ true
-      → ((b : List ℕ) → transitionedOf (coreAt p w v) (arraysAt v) mv b ≡ followsOf (coreAt p w v) (arraysAt v) d b)
+  advances-decision : (mv : Transitioned) (d : Decision) (s : Script) → fits mv ≡ true
+      → ((b : List ℕ) → transitionedOf (coreAt p w v) (arraysAt v) mv b ≡ performsOf (coreAt p w v) (arraysAt v) d b)
       → (replyLength mv ≤ packetLimit → Refines (p .kind) (p .cursor) (p .pending) (p .found) d s) → Advances p w v agrees mv (enter s)
-  advances-lead mv d s h is l =
-      advances-enter p w v agrees mv s h (λ b few. rw (is b) (lead-sims p _ v (p .stage) _ d s b (agrees .pending) (agrees .found) (l few)))
+  advances-decision mv d s h is l =
+      advances-enter p w v agrees mv s h (λ b few. rw (is b) (decision-sims p _ v (p .stage) _ d s b (agrees .pending) (agrees .found) (l few)))
 
   -- the command of the call's stage follows
   advances-send : (s : Script) → Refines (p .kind) (p .cursor) (p .pending) (p .found) (send (p .stage)) s
       → Advances p w v agrees (sends (record { kind = p .kind; stage = p .stage; cursor = p .cursor; phase = exchangePhase })) (enter s)
-  unfolding transitionedOf followsOf
-  advances-send s l = advances-lead (sends _) (send (p .stage)) s refl (λ b. refl) (λ _. l)
+  unfolding transitionedOf performsOf
+  advances-send s l = advances-decision (sends _) (send (p .stage)) s refl (λ b. refl) (λ _. l)
 
   -- a write failed, and the call ends
   advances-failed : (r : Fault) → failedOf (p .kind) (p .stage) (p .cursor) (p .pending) (p .found) r ≡ refuse r → Advances p w v agrees (refuses r) (ended (refused r))
-  unfolding transitionedOf failsOf followsOf
+  unfolding transitionedOf failsOf performsOf
   advances-failed r h =
       advances p w v agrees (refuses r) _ refl (λ b _. rw (agrees .pending, agrees .found) (rw h (sim-answer v (callAt p w) (p .call) _ (refused r) (refused r) b refl)))
 
@@ -75,9 +75,9 @@ module _ (p : Position) (w : Wait p) (v : Fields) (agrees : Agrees p v) where
       → (r : Reply) → Advances p w v agrees (endedTransition (callAt p w) (v .exchange) r) (afterReply (byReply k) r)
   unfolding overTransition transitionedOf repliesOf failsOf pick
   reply-ends k h answered failing (response cs) =
-      rw h (advances-lead (replies cs) (decidedOf (p .kind) (p .stage) (p .cursor) (p .pending) (p .found) cs) _ refl (λ b. rw (agrees .pending, agrees .found)) (λ few. answered cs (omega arith)))
+      rw h (advances-decision (replies cs) (decidedOf (p .kind) (p .stage) (p .cursor) (p .pending) (p .found) cs) _ refl (λ b. rw (agrees .pending, agrees .found)) (λ few. answered cs (omega arith)))
   reply-ends k h answered failing (failed r) =
-      rw h (advances-lead (refuses r) (failedOf (p .kind) (p .stage) (p .cursor) (p .pending) (p .found) r) _ refl (λ b. rw (agrees .pending, agrees .found)) (λ _. failing r))
+      rw h (advances-decision (refuses r) (failedOf (p .kind) (p .stage) (p .cursor) (p .pending) (p .found) r) _ refl (λ b. rw (agrees .pending, agrees .found)) (λ _. failing r))
 
   -- a reset's exchange ends: ACK follows, whatever came of it
   reset-ends : (s : Script) (u : Wait p) → isResetOf (p .kind) (p .stage) ≡ true → phaseAt u (v .exchange) ≡ Rattle.protocol.specs.Session.resetAck s → callAt p u ≡ record { kind = p .kind; stage = p .stage; cursor = p .cursor; phase = resetAckPhase }
@@ -101,7 +101,7 @@ event-advances p (resetAck s h l) v agrees e =
 event-advances p (resetPause s l) v agrees e =
     let w = resetPause s l in
     two-pause (Advances p w v agrees) (advances-none p w v agrees)
-    (advances-lead p w v agrees resetDone (decidedOf (p .kind) (p .stage) (p .cursor) (p .pending) (p .found) []) s refl (λ b. rw (agrees .pending, agrees .found)) (λ _. l)) e
+    (advances-decision p w v agrees resetDone (decidedOf (p .kind) (p .stage) (p .cursor) (p .pending) (p .found) []) s refl (λ b. rw (agrees .pending, agrees .found)) (λ _. l)) e
 event-advances p (openingAck s h l) v agrees e =
     let w = openingAck s h l in
     two-write (Advances p w v agrees) (advances-none p w v agrees) (advances-order p w v agrees (openingReads s l) (read openingReadTime) tt)
@@ -180,13 +180,13 @@ first-position q kind pending found h =
 
 start-sims : (v : Fields) (q : ReaderCall) (b : List ℕ) (x : Start) (y : stages.Start) → Starting x y
     → Simulates false idle (startOn (coreWith v noCall) (arraysAt v) y b) (started (reader q) x)
-unfolding startOn stepOf followsOf stageOf
+unfolding startOn stepOf performsOf stageOf
 start-sims v q b x y (refusedNow r) = sim-unchanged r b (free v refl refl refl)
 start-sims v q b x y (first kind code clock bytes k isKind noReset small stands) =
     sim-sends (with-command v bytes small) noCall false idle (first-position q kind bytes (take (v .kept) (v .found)) isKind)
     (reply k noReset (stands (take (v .kept) (v .found)))) code clock bytes b record { pending = take-put bytes (v .command); found = refl }
-start-sims v q b x y (leading kind later s isKind small l) =
-    lead-sims (first-position q kind later (take (v .kept) (v .found)) isKind) idle (with-command v later small) 0 0 (send firstStage) s b (take-put later (v .command)) refl (l (take (v .kept) (v .found)))
+start-sims v q b x y (fromStage kind later s isKind small l) =
+    decision-sims (first-position q kind later (take (v .kept) (v .found)) isKind) idle (with-command v later small) 0 0 (send firstStage) s b (take-put later (v .command)) refl (l (take (v .kept) (v .found)))
 
 pub call-sims : (v : Fields) (q : ReaderCall) (b : List ℕ) → Simulates false idle (startOn (coreWith v noCall) (arraysAt v) (startFor q) b) (started (reader q) (readerStart q))
 call-sims v q b = start-sims v q b (readerStart q) (startFor q) (reader-begins q)

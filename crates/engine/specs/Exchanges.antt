@@ -10,12 +10,13 @@ use Rattle.errors.specs.Choice.{pick}
 use Rattle.framing.specs.Frames.{ack}
 use Rattle.exchange.specs.Packets.{replyOf, isEmpty, hasStart, ackLed, Reply, response, failed}
 use Rattle.exchange.specs.Exchange.{Order, write, read, drain, pause, Event, unfit, pending, ended, Step, ExchangeResult, onPacket, onFirstPacket, onLaterPacket, onDrained, advance}
-use Rattle.exchange.specs.Steps.{stepOf, exchangeAt}
+use Rattle.exchange.specs.Steps.{stepOf, exchangeAt, drainingPhase, rejectingPhase, readingPhase, unsentPhase, overduePhase, sendingPhase, waitingPhase}
 use Rattle.exchange.specs.Responses.{response-short}
 use Rattle.exchange.specs.declared.Exchange.{Exchange}
 use Rattle.protocol.specs.Laws.{split, by-write, by-read, by-pause}
 use Rattle.calls.specs.Tables.{isResetOf}
-use Rattle.engine.specs.Transitions.{exchangePhase, resetAckPhase, resetPausePhase, openingAckPhase, openingReadsPhase, pausePhase, phaseOf, packetLength, replyLength, Transitioned, unfitting, replyTransition, overTransition, exchangeTransition, transitionOf}
+use Rattle.protocol.specs.Session.{packetLength}
+use Rattle.engine.specs.Transitions.{exchangePhase, resetAckPhase, resetPausePhase, openingAckPhase, openingReadsPhase, pausePhase, phaseOf, replyLength, Transitioned, unfitting, replyTransition, overTransition, exchangeTransition, transitionOf}
 use Rattle.engine.specs.declared.call.Call.{Call}
 
 -- an order that writes no command: a write is ACK's
@@ -28,7 +29,7 @@ NoCommand (pause us) = Unit {0}
 -- an exchange goes on in one of its seven phases with no command, or ends; a response has two bytes less than the packet, which has n
 abbrev pub Good : ℕ → ℕ → ℕ → ExchangeResult → Type 0
 Good n code clock unfit = Unit {0}
-Good n code clock (pending o to) = (stepOf (exchangeAt (phaseOf to) code clock) ≡ to) × (leb (phaseOf to) 6 ≡ true) × NoCommand o
+Good n code clock (pending o to) = (stepOf (exchangeAt (phaseOf to) code clock) ≡ to) × (leb (phaseOf to) drainingPhase ≡ true) × NoCommand o
 Good n code clock (ended r) = replyLength (replyTransition r) ≤ n
 
 reply-fits : (code : ℕ) (packet : List ℕ) → replyLength (replyTransition (replyOf code packet)) ≤ length packet
@@ -64,12 +65,12 @@ unfolding stepOf
 good x e =
     let P : Event → ExchangeResult → Type 0 = λ d r. Good (packetLength d) (x .code) (x .clock) r in
     let Q : Step → Type 0 = λ s. Good (packetLength e) (x .code) (x .clock) (advance s e) in
-    split Q (eqb (x .phase) 0) _ _ (λ _. by-write P unfit (λ _. tt) _ _ (refl, refl, tt) (refl, refl, refl) e)
-    (λ _. split Q (eqb (x .phase) 1) _ _ (λ _. by-read P unfit (λ _. tt) _ _ _ _ (good-first (x .code) (x .clock)) (omega arith) (omega arith) tt e)
-    (λ _. split Q (eqb (x .phase) 2) _ _ (λ _. by-read P unfit (λ _. tt) _ _ _ _ (good-later (x .code) (x .clock)) (omega arith) (omega arith) (refl, refl, refl) e)
-    (λ _. split Q (eqb (x .phase) 3) _ _ (λ _. by-write P unfit (λ _. tt) _ _ (omega arith) (omega arith) e)
-    (λ _. split Q (eqb (x .phase) 4) _ _ (λ _. by-write P unfit (λ _. tt) _ _ (omega arith) (omega arith) e)
-    (λ _. split Q (eqb (x .phase) 5) _ _ (λ _. by-write P unfit (λ _. tt) _ _ (refl, refl, tt) (refl, refl, tt) e)
+    split Q (eqb (x .phase) sendingPhase) _ _ (λ _. by-write P unfit (λ _. tt) _ _ (refl, refl, tt) (refl, refl, refl) e)
+    (λ _. split Q (eqb (x .phase) readingPhase) _ _ (λ _. by-read P unfit (λ _. tt) _ _ _ _ (good-first (x .code) (x .clock)) (omega arith) (omega arith) tt e)
+    (λ _. split Q (eqb (x .phase) waitingPhase) _ _ (λ _. by-read P unfit (λ _. tt) _ _ _ _ (good-later (x .code) (x .clock)) (omega arith) (omega arith) (refl, refl, refl) e)
+    (λ _. split Q (eqb (x .phase) unsentPhase) _ _ (λ _. by-write P unfit (λ _. tt) _ _ (omega arith) (omega arith) e)
+    (λ _. split Q (eqb (x .phase) overduePhase) _ _ (λ _. by-write P unfit (λ _. tt) _ _ (omega arith) (omega arith) e)
+    (λ _. split Q (eqb (x .phase) rejectingPhase) _ _ (λ _. by-write P unfit (λ _. tt) _ _ (refl, refl, tt) (refl, refl, tt) e)
     (λ _. by-read P unfit (λ _. tt) _ _ _ _ (good-drained (x .code) (x .clock)) (omega arith) (refl, refl, tt) (omega arith) e))))))
 
 -- ---- the same of a call's move

@@ -7,7 +7,7 @@ use native.Mathlib.Omega.{arith}
 use borrow.Author.Tests.{le-ltb, leb-true}
 use lib.Dec.{leb, ltb}
 use lib.ListN.{length, take, drop, length-drop, length-take}
-use lib.Seq.{take-all}
+use lib.Seq.{take-all, length-take-le}
 use Rattle.errors.specs.Choice.{pick}
 use Rattle.errors.specs.Refusals.{answered, refused, numbered}
 use Rattle.errors.specs.declared.Refusal.{Refusal}
@@ -21,7 +21,7 @@ use Rattle.framing.specs.Padded.{extraZeros, unpadded}
 use Rattle.framing.specs.Unpadded.{extra-fits}
 use Rattle.exchange.specs.Exchange.{pkt}
 use Rattle.exchange.specs.Packets.{commandFrame}
-use Rattle.exchange.specs.Steps.{exchangeAt, eventOf}
+use Rattle.exchange.specs.Steps.{exchangeAt, eventOf, sendingPhase}
 use Rattle.exchange.specs.declared.Event.{Event}
 use Rattle.exchange.specs.declared.Event.the-variants.{Ok, Bad, Packet, Time, Fail, Late, Slept}
 use Rattle.exchange.specs.declared.Exchange.{Exchange}
@@ -31,13 +31,13 @@ use Rattle.stages.specs.declared.Layout.{Layout}
 use Rattle.stages.specs.Stages.{Command}
 use Rattle.protocol.specs.Scripts.{type1, uidAndAts}
 use Rattle.protocol.specs.Calls.{isPaddedMode}
-use Rattle.protocol.specs.Session.{seen, bufferNeed}
+use Rattle.protocol.specs.Session.{seen, bufferNeed, packetLimit, lastCaller}
 use Rattle.protocol.specs.Starts.{dataLimit}
 use Rattle.engine.specs.Books.{Books, booksOf, callerIn, booked, extraIn}
 use Rattle.engine.specs.declared.core.Progress.{Progress}
 use Rattle.engine.specs.Booking.{range-caller}
 use Rattle.engine.specs.Sessions.{State, state, effected, bookedAfter, valid, isValid as validState}
-use Rattle.engine.specs.Core.{isValid, Arrays, progressed, After, eventCore, endsOf, doneOf, answersOf, sendsOf, running, after}
+use Rattle.engine.specs.Core.{isValid, Lent, Arrays, progressed, After, eventCore, endsOf, doneOf, answersOf, sendsOf, running, after}
 use Rattle.engine.specs.declared.call.Call.{Call}
 use Rattle.engine.specs.declared.core.Core.{Core}
 use Rattle.engine.specs.declared.core.Output.the-variants.{Command as Sends, Done, Type1, UidAndAts}
@@ -60,7 +60,7 @@ command-built code bytes b h room =
 -- the frame of a command was built, and nothing else can be
 module _ (s : Core) (f : Arrays) (c : Call) (m : Command) (b b₁ : List ℕ) (h : length (m .bytes) ≤ dataLimit) (room : bufferNeed ≤ length b) where
   pub sent-frame : (core : Core) (built : Built) (n : ℕ) (x : Exchange) → built ≡ Frame n → left (returned built) b₁ ≡ buildOf rcs956 (commandPayload (m .code) (m .bytes)) b
-      → x ≡ exchangeAt 0 (m .code) (m .clock) → core ≡ running s c x → after core f (Sends n) b₁ ≡ sendsOf s f c m b
+      → x ≡ exchangeAt sendingPhase (m .code) (m .clock) → core ≡ running s c x → after core f (Sends n) b₁ ≡ sendsOf s f c m b
   unfolding returned
   sent-frame core built n x e l k is =
       let q : left (answered n) b₁ ≡ left (answered (length (commandFrame (m .code) (m .bytes)))) (put (commandFrame (m .code) (m .bytes)) b)
@@ -103,21 +103,28 @@ part-copied s f bs b b₁ n a start len within few room laid e =
     let p = laid .puts [] b fits (puts-none b) in
     done-copied s f (take len (drop start bs)) b b₁ n a (p .count ∙ ap length part) (p .is ∙ ap (λ l. put l b) part) e
 
--- the bytes of an answer fit a buffer
-pub answer-fits : (n : ℕ) (found bs b : List ℕ) (l : Layout) → length found ≡ foundLimit → length bs ≤ responseLimit → bufferNeed ≤ length b → Fitting (take n found) bs l
-    → Fitting (take n found) bs l × (l .kept + (l .«head_len» + (l .len + l .«tail_len»)) ≤ length b)
-answer-fits n found bs b l h few room f =
-    let most : length (take n found) ≤ 1024 = omega (arith, length-take n found) in
-    (f, omega (arith, f .room most few))
+-- the found bytes are within their array, and the bytes of an answer fit a buffer
+module _ (s : Core) (command found b : List ℕ) (lent : Lent s command found b) where
+  pub found-within : s .found ≤ length found
+  found-within = omega (arith, lent .0, lent .3)
+
+  pub found-taken : s .found ≡ length (take (s .found) found)
+  found-taken = sym (length-take-le (s .found) found found-within)
+
+  pub answer-fits : (bs : List ℕ) (l : Layout) → length bs ≤ responseLimit → Fitting (take (s .found) found) bs l
+      → Fitting (take (s .found) found) bs l × (l .kept + (l .«head_len» + (l .len + l .«tail_len»)) ≤ length b)
+  answer-fits bs l few f =
+      let most : length (take (s .found) found) ≤ foundLimit = omega (arith, length-take (s .found) found, lent .3) in
+      (f, omega (arith, f .room most few, lent .4))
 
 -- a session in range has its lengths in range
-pub valid-command : (s : Core) → isValid s ≡ true → s .command ≤ 512
+pub valid-command : (s : Core) → isValid s ≡ true → s .command ≤ dataLimit
 unfolding isValid
-valid-command s h = leb-true (s .command) 512 (both-left (leb (s .command) 512) _ h)
+valid-command s h = leb-true (s .command) dataLimit (both-left (leb (s .command) dataLimit) _ h)
 
 pub valid-found : (s : Core) → isValid s ≡ true → s .found ≤ foundLimit
 unfolding isValid
-valid-found s h = leb-true (s .found) 1024 (both-left (leb (s .found) 1024) _ (both-right (leb (s .command) 512) _ h))
+valid-found s h = leb-true (s .found) foundLimit (both-left (leb (s .found) foundLimit) _ (both-right (leb (s .command) dataLimit) _ h))
 
 -- what came out of the running call, with the books as they are booked
 pub booked-after : (k : ℕ) (t : Bool) (p : Progress) (b : Books) (m n : List ℕ) → booksOf m n ≡ booked k t (p .output) b
@@ -125,7 +132,7 @@ pub booked-after : (k : ℕ) (t : Bool) (p : Progress) (b : Books) (m n : List �
 booked-after k t p b m n h f buffer = ap (λ x. after (state (p .core) x) f (p .output) buffer) h
 
 -- numbers in range have one of the eight callers
-pub valid-caller : (s : State) → validState s ≡ true → callerIn (s .books) ≤ 7
+pub valid-caller : (s : State) → validState s ≡ true → callerIn (s .books) ≤ lastCaller
 unfolding valid
 valid-caller s h = range-caller (s .books) (both-right (isValid (s .core)) _ h)
 
@@ -139,11 +146,11 @@ module _ (n mode : ℕ) (packet : List ℕ) (is : n ≡ extraIn mode packet) whe
       behind true = refl
       behind false = refl
 
-      go : (t : Bool) (e : Event) → eventOf e (drop (pick t (pick (ltb 1024 (length packet)) 0 (extraZeros packet)) 0) packet) ≡ seen t (eventOf e packet)
+      go : (t : Bool) (e : Event) → eventOf e (drop (pick t (pick (ltb packetLimit (length packet)) 0 (extraZeros packet)) 0) packet) ≡ seen t (eventOf e packet)
       go false e = refl
       go true Ok = refl
       go true Bad = refl
-      go true Packet = ap pkt (behind (ltb 1024 (length packet)))
+      go true Packet = ap pkt (behind (ltb packetLimit (length packet)))
       go true Time = refl
       go true Fail = refl
       go true Late = refl
@@ -151,7 +158,7 @@ module _ (n mode : ℕ) (packet : List ℕ) (is : n ≡ extraIn mode packet) whe
 
   pub extra-few : n ≤ length packet
   unfolding extraIn pick
-  extra-few = rw is (go (isPaddedMode mode) (ltb 1024 (length packet)))
+  extra-few = rw is (go (isPaddedMode mode) (ltb packetLimit (length packet)))
     where
       go : (t u : Bool) → pick t (pick u 0 (extraZeros packet)) 0 ≤ length packet
       go true true = omega arith

@@ -11,13 +11,14 @@ use Rattle.errors.specs.Choice.{pick}
 use Rattle.errors.specs.declared.Refusal.{Refusal}
 use Rattle.errors.specs.declared.Refusal.the-variants.{OutOfTurn, ShortBuffer, BadArgument}
 use Rattle.exchange.specs.Exchange.{Order, Event}
-use Rattle.exchange.specs.Steps.{exchangeAt}
+use Rattle.exchange.specs.Steps.{exchangeAt, sendingPhase}
 use Rattle.protocol.specs.Calls.{ReaderCall, opening, reader, isPaddedMode}
-use Rattle.protocol.specs.Starts.{startOf}
-use Rattle.protocol.specs.Session.{Running, idle, lastCaller, seen, started, Entry, call, event, Effect, unchanged as unchangedOf, runs as runsOf, ends, effectOf, after as afterOf, given, fresh, step}
+use Rattle.protocol.specs.Starts.{startOf, dataLimit}
+use Rattle.protocol.specs.Session.{Running, idle, lastCaller, seen, started, Entry, call, event, Effect, unchanged as unchangedOf, runs as runsOf, ends, effectOf, after as afterOf, given, fresh, step, bufferNeed}
 use Rattle.protocol.specs.Session as Spec
 use Rattle.protocol.specs.Machine.{plain, Machine, Obeys, obeys, entries, givenOut, stateAfter}
 use Rattle.protocol.specs.Reference.{offEntry, Plain, Padded, referenceOf, MachineSame, machine-reference, machine-plain}
+use Rattle.stages.specs.Decided.{foundLimit}
 use Rattle.engine.specs.Booking.{bookNumbers, Bounded, begun-bounded, books-in-range, open-flag, mode-flag, no-books, bounded as bounded-by}
 use Rattle.engine.specs.Books.{noBooks, booked as bookedBy}
 use Rattle.engine.specs.Core.{Arrays, After, unchanged, eventCore}
@@ -88,13 +89,13 @@ refines-if false h k = k refl
 
 -- a caller above 7 is refused
 refines-caller : {m : Spec.Session} {e : Entry} (k : ℕ) {x y : After State} {u w : Effect} → EntryRefines m e x w → (k ≤ lastCaller → EntryRefines m e y u)
-    → EntryRefines m e (pick (ltb 7 k) x y) (cond (leb k lastCaller) u w)
+    → EntryRefines m e (pick (ltb lastCaller k) x y) (cond (leb k lastCaller) u w)
 unfolding pick
-refines-caller {m} {e} k {x} {y} {u} {w} h g = go (ltb 7 k) refl
+refines-caller {m} {e} k {x} {y} {u} {w} h g = go (ltb lastCaller k) refl
   where
-    go : (t : Bool) → ltb 7 k ≡ t → EntryRefines m e (pick t x y) (cond (leb k lastCaller) u w)
-    go true q = rw (lt-leb k 7 (ltb-true 7 k q)) h
-    go false q = rw (le-leb k 7 (ltb-false 7 k q)) (g (ltb-false 7 k q))
+    go : (t : Bool) → ltb lastCaller k ≡ t → EntryRefines m e (pick t x y) (cond (leb k lastCaller) u w)
+    go true q = rw (lt-leb k lastCaller (ltb-true lastCaller k q)) h
+    go false q = rw (le-leb k lastCaller (ltb-false lastCaller k q)) (g (ltb-false lastCaller k q))
 
 -- ---- the entries
 
@@ -148,12 +149,12 @@ free-refines v b bounds i = go i (in-range v noCall b bounds refl)
         → EntryRefines (specified idle b bounds) (entryOf i) (afterInput (state (coreWith v noCall) (bookNumbers b)) (arraysAt v) i) (effectOf idle b (entryOf i))
     go (opens k mode buffer) h =
         rw (h, or-true (b .opened))
-        (refines-if (ltb (length buffer) 1024) (λ _. stays _ ShortBuffer buffer)
+        (refines-if (ltb (length buffer) bufferNeed) (λ _. stays _ ShortBuffer buffer)
         (λ _. refines-caller k (stays _ BadArgument buffer) (λ caller. in-mode k mode buffer caller (ltb 1 mode) refl)))
     go (asks k q buffer) h =
         rw (h, open-flag b, or-false (b .opened))
         (refines-if (b .opened)
-        (λ _. refines-if (ltb (length buffer) 1024) (λ _. stays _ ShortBuffer buffer)
+        (λ _. refines-if (ltb (length buffer) bufferNeed) (λ _. stays _ ShortBuffer buffer)
         (λ _. refines-caller k (stays _ BadArgument buffer) (λ caller. call-refines idle b bounds k q (length buffer) _ _ caller (call-sims v q buffer))))
         (λ _. stays _ OutOfTurn buffer))
     go (gives e buffer) h = rw h (stays _ OutOfTurn buffer)
@@ -183,11 +184,11 @@ same-counts s m h = ap (λ b. b .frames) (h .booked)
 pub fresh-represents : SessionRepresents freshSession fresh
 fresh-represents =
     let w : Fields = record {
-      command = replicate 512 0;
-      found = replicate 1024 0;
+      command = replicate dataLimit 0;
+      found = replicate foundLimit 0;
       pending = 0;
       kept = 0;
-      exchange = exchangeAt 0 0 0;
+      exchange = exchangeAt sendingPhase 0 0;
       pendingFits = refl;
       keptFits = refl;
       phaseFits = refl;

@@ -6,7 +6,7 @@ use Prim.Native.Nat.{ℕ}
 use lib.Dec.{eqb, leb}
 use lib.ListN.{take}
 use Rattle.exchange.specs.Packets.{Reply}
-use Rattle.exchange.specs.Steps.{stepOf}
+use Rattle.exchange.specs.Steps.{stepOf, drainingPhase}
 use Rattle.exchange.specs.declared.Exchange.{Exchange}
 use Rattle.protocol.specs.Scripts.{Script}
 use Rattle.protocol.specs.Calls.{Call as CallOf, isOpening}
@@ -82,7 +82,7 @@ pub record Fields : Type 0 where
   pub exchange : Exchange
   pub pendingFits : leb pending dataLimit ≡ true
   pub keptFits : leb kept foundLimit ≡ true
-  pub phaseFits : leb (exchange .phase) 6 ≡ true
+  pub phaseFits : leb (exchange .phase) drainingPhase ≡ true
 
 abbrev pub coreWith : Fields → Call → Core
 coreWith v c = record { command = v .pending; found = v .kept; exchange = v .exchange; call = c }

@@ -9,11 +9,11 @@ use Rattle.errors.specs.declared.Refusal.the-variants.{OutOfTurn, ShortBuffer, 
 use Rattle.framing.specs.Lists.{both}
 use Rattle.exchange.specs.Exchange.{Event}
 use Rattle.protocol.specs.Calls.{isPaddedMode}
-use Rattle.protocol.specs.Session.{seen, bufferNeed}
+use Rattle.protocol.specs.Session.{seen, bufferNeed, noCounts, lastCaller}
 use Rattle.protocol.specs.Starts.{dataLimit}
 use Rattle.stages.specs.Starts.{Start}
 use Rattle.stages.specs.Decided.{foundLimit}
-use Rattle.engine.specs.Books.{lastCaller, Books, booksOf, openedIn, modeIn, callerIn, noBooks, inRange, booked}
+use Rattle.engine.specs.Books.{Books, booksOf, openedIn, modeIn, callerIn, noBooks, inRange, booked}
 use Rattle.engine.specs.Core.{noCore, Arrays, arrays, progressed, After, after, unchanged, eventCore, openCore, startOn}
 use Rattle.engine.specs.Core.{isValid as validCore}
 use Rattle.engine.specs.declared.core.Core.{Core}
@@ -117,7 +117,7 @@ freshSession =
     record {
       command = replicate dataLimit 0;
       found = replicate foundLimit 0;
-      frames = replicate 8 0;
+      frames = noCounts;
       books = replicate 3 0;
       core = noCore;
     }

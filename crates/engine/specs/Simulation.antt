@@ -14,11 +14,11 @@ use Rattle.errors.specs.declared.Refusal.the-variants.{OutOfTurn, ShortBuffer, 
 use Rattle.framing.specs.Frames.{ack}
 use Rattle.exchange.specs.Packets.{commandFrame, Reply, resetCode, resetData}
 use Rattle.exchange.specs.Exchange.{Order, write, read, drain, pause, Event, ok, bad, pkt, time, fail, late, slept, unfit, pending, ended, onWrite, onRead, onPause, ExchangeResult}
-use Rattle.exchange.specs.Steps.{stepOf, exchangeAt}
+use Rattle.exchange.specs.Steps.{stepOf, exchangeAt, drainingPhase, sendingPhase}
 use Rattle.exchange.specs.declared.Exchange.{Exchange}
 use Rattle.protocol.specs.Scripts.{Byte, value, Answer, done, type1, uidAndAts, nothing, refused, refusedAfter, Script, finish, command, reset, fieldPause}
 use Rattle.protocol.specs.Calls.{Call as CallOf, isOpening}
-use Rattle.protocol.specs.Session.{exchange, Rest, CallResult, enter, afterReply, afterExchange, Running, busy, packetLength, admitted, eventEffect, Effect, effect, runningAfter, packetLimit}
+use Rattle.protocol.specs.Session.{exchange, Rest, CallResult, enter, afterReply, afterExchange, Running, busy, packetLength, admitted, eventEffect, Effect, effect, runningAfter, packetLimit, bufferNeed}
 use Rattle.protocol.specs.Session.{orders, answers, given, unchanged as unchangedOf, runs as runsOf, ends as endsIn}
 use Rattle.protocol.specs.Session as Spec
 use Rattle.protocol.specs.Machine.{plain, plainAnswer}
@@ -29,7 +29,7 @@ use Rattle.calls.specs.Refines.{Refines, refines-end, refines-send, refines-res
 use Rattle.stages.specs.Decided.{foundLimit}
 use Rattle.engine.specs.Books.{booked as bookedBy}
 use Rattle.engine.specs.Booking.{bookNumbers, Bounded, bookBy, quiet-booked, ack-counts, frame-booked, end-booked}
-use Rattle.engine.specs.Core.{Arrays, After, unchanged, running, ordersOf, sendsOf, stageOf, endsOf, answersOf, followsOf, admittedOf, isLong, transitionedOf}
+use Rattle.engine.specs.Core.{Arrays, After, unchanged, running, ordersOf, sendsOf, stageOf, endsOf, answersOf, performsOf, admittedOf, isLong, transitionedOf}
 use Rattle.engine.specs.Transitions.{Transitioned, unfitting, orders as goesOn, fits, replyLength, endedTransition, exchangeTransition, exchangeIn}
 use Rattle.engine.specs.Inputs.{outputOf}
 use Rattle.engine.specs.Relation.{Position, Wait, reply, resetReply, pausing, callAt, phaseAt, Fields, coreWith, arraysAt, Agrees, coreAt, runningAt, Represents, free, runs}
@@ -38,7 +38,8 @@ use Rattle.engine.specs.declared.call.Call.{Call}
 use Rattle.engine.specs.declared.core.Core.{Core}
 use Rattle.engine.specs.declared.core.Output.{Output}
 use Rattle.engine.specs.declared.core.Output.the-variants as out
-use Rattle.protocol.specs.Names.{fieldPauseTime}
+use Rattle.protocol.specs.Names.{fieldPauseTime, commandClock}
+use Rattle.protocol.specs.Starts.{dataLimit}
 use Rattle.calls.specs.Kinds.{lastStage}
 
 -- What an entry leaves, beside what the definitions say; the running call is m before it. What is booked of the output, of the call of any
@@ -61,7 +62,7 @@ module _ {t : Bool} {m : Running} where
 
 module _ (v : Fields) (c : Call) (t : Bool) (m : Running) where
   -- with an order that is no command
-  pub sim-orders : (p : Position) (w : Wait p) (x : Exchange) (o : Order) (b : List ℕ) → leb (x .phase) 6 ≡ true → Agrees p v → NoCommand o
+  pub sim-orders : (p : Position) (w : Wait p) (x : Exchange) (o : Order) (b : List ℕ) → leb (x .phase) drainingPhase ≡ true → Agrees p v → NoCommand o
       → Simulates t m (ordersOf (coreWith v c) (arraysAt v) o (callAt p w) x b) (runsOf (p .call) o (phaseAt w x))
   sim-orders p w x o b small agrees e = go o e
     where
@@ -92,14 +93,14 @@ module _ (v : Fields) (c : Call) (t : Bool) (m : Running) where
   -- with a command
   pub sim-sends : (p : Position) (w : Wait p) (code clock : ℕ) (bytes b : List ℕ) → Agrees p v
       → Simulates t m (sendsOf (coreWith v c) (arraysAt v) (callAt p w) (cmd code clock bytes) b)
-      (runsOf (p .call) (write (commandFrame code bytes)) (phaseAt w (exchangeAt 0 code clock)))
+      (runsOf (p .call) (write (commandFrame code bytes)) (phaseAt w (exchangeAt sendingPhase code clock)))
   sim-sends p w code clock bytes b agrees =
       let u : Fields = record {
         command = v .command;
         found = v .found;
         pending = v .pending;
         kept = v .kept;
-        exchange = exchangeAt 0 code clock;
+        exchange = exchangeAt sendingPhase code clock;
         pendingFits = v .pendingFits;
         keptFits = v .keptFits;
         phaseFits = refl;
@@ -160,11 +161,11 @@ with-found v l h =
       kept = length l;
       exchange = v .exchange;
       pendingFits = v .pendingFits;
-      keptFits = le-leb (length l) 1024 h;
+      keptFits = le-leb (length l) foundLimit h;
       phaseFits = v .phaseFits;
     }
 
-abbrev pub with-command : (v : Fields) (l : List ℕ) → length l ≤ 512 → Fields
+abbrev pub with-command : (v : Fields) (l : List ℕ) → length l ≤ dataLimit → Fields
 with-command v l h =
     record {
       command = put l (v .command);
@@ -172,7 +173,7 @@ with-command v l h =
       pending = length l;
       kept = v .kept;
       exchange = v .exchange;
-      pendingFits = le-leb (length l) 512 h;
+      pendingFits = le-leb (length l) dataLimit h;
       keptFits = v .keptFits;
       phaseFits = v .phaseFits;
     }
@@ -191,28 +192,28 @@ module _ (p : Position) (m : Running) where
   pub stage-sims : (v : Fields) (later found : List ℕ) (n i : ℕ) (h : leb n lastStage ≡ true) (w : Wait (atStage p n i later found h)) (c : Call) (code clock : ℕ) (bytes b : List ℕ)
       → take (v .pending) (v .command) ≡ later → take (v .kept) (v .found) ≡ found → commandOf (p .kind) n i later ≡ cmd code clock bytes → callAt _ w ≡ callOf p n i 0
       → Simulates (isOpening (p .call)) m (stageOf (coreWith v c) (arraysAt v) (callOf p n i 0) b)
-      (runsOf (p .call) (write (commandFrame code bytes)) (phaseAt w (exchangeAt 0 code clock)))
+      (runsOf (p .call) (write (commandFrame code bytes)) (phaseAt w (exchangeAt sendingPhase code clock)))
   unfolding stageOf
   stage-sims v later found n i h w c code clock bytes b e f is-command is =
       let sent : commandOf (p .kind) n i (take (v .pending) (v .command)) ≡ cmd code clock bytes = ap (commandOf (p .kind) n i) e ∙ is-command in
       subst (λ k. Simulates (isOpening (p .call)) m (sendsOf (coreWith v c) (arraysAt v) k (commandOf (p .kind) n i (take (v .pending) (v .command))) b)
-      (runsOf (p .call) (write (commandFrame code bytes)) (phaseAt w (exchangeAt 0 code clock)))) is
+      (runsOf (p .call) (write (commandFrame code bytes)) (phaseAt w (exchangeAt sendingPhase code clock)))) is
       (rw sent (sim-sends v c (isOpening (p .call)) m _ w code clock bytes b record { pending = e; found = f }))
 
-  pub lead-sims : {later found : List ℕ} {i : ℕ} (v : Fields) (stage phase : ℕ) (d : Decision) (s : Script) (b : List ℕ)
+  pub decision-sims : {later found : List ℕ} {i : ℕ} (v : Fields) (stage phase : ℕ) (d : Decision) (s : Script) (b : List ℕ)
       → take (v .pending) (v .command) ≡ later → take (v .kept) (v .found) ≡ found → Refines (p .kind) i later found d s
-      → Simulates (isOpening (p .call)) m (followsOf (coreWith v (callOf p stage i phase)) (arraysAt v) d b) (effect (p .call) (enter s))
-  unfolding followsOf stepOf
-  lead-sims v stage phase d s b e f (refines-end a c h) = sim-answer v (callOf p stage _ phase) (p .call) m c a b h
-  lead-sims v stage phase d s b e f (refines-send n code clock bytes k h q is-command answered failing) =
+      → Simulates (isOpening (p .call)) m (performsOf (coreWith v (callOf p stage i phase)) (arraysAt v) d b) (effect (p .call) (enter s))
+  unfolding performsOf stepOf
+  decision-sims v stage phase d s b e f (refines-end a c h) = sim-answer v (callOf p stage _ phase) (p .call) m c a b h
+  decision-sims v stage phase d s b e f (refines-send n code clock bytes k h q is-command answered failing) =
       stage-sims v _ _ n _ h (reply k q record { answered = answered; failing = failing }) (callOf p stage _ phase) code clock bytes b e f is-command refl
-  lead-sims v stage phase d s b e f (refines-reset n r h q is-command l) = stage-sims v _ _ n _ h (resetReply r q l) (callOf p stage _ phase) resetCode 100 resetData b e f is-command refl
-  lead-sims v stage phase d s b e f (refines-keep n l s′ few k) = lead-sims (with-found v l few) stage phase (send n) s b e (take-put l (v .found)) k
-  lead-sims v stage phase d s b e f (refines-next n j l s′ few k) =
+  decision-sims v stage phase d s b e f (refines-reset n r h q is-command l) = stage-sims v _ _ n _ h (resetReply r q l) (callOf p stage _ phase) resetCode commandClock resetData b e f is-command refl
+  decision-sims v stage phase d s b e f (refines-keep n l s′ few k) = decision-sims (with-found v l few) stage phase (send n) s b e (take-put l (v .found)) k
+  decision-sims v stage phase d s b e f (refines-next n j l s′ few k) =
       subst (λ a. Simulates (isOpening (p .call)) m a (effect (p .call) (enter s))) (same-stage (with-found v l few) (callOf p stage j phase) (callOf p stage _ phase) (callOf p n j 0) b)
-      (lead-sims (with-found v l few) stage phase (send n) s b e (take-put l (v .found)) k)
-  lead-sims v stage phase d s b e f (refines-put n l s′ few k) = lead-sims (with-command v l few) stage phase (send n) s b (take-put l (v .command)) f k
-  lead-sims v stage phase d s b e f (refines-pause n r h k) =
+      (decision-sims (with-found v l few) stage phase (send n) s b e (take-put l (v .found)) k)
+  decision-sims v stage phase d s b e f (refines-put n l s′ few k) = decision-sims (with-command v l few) stage phase (send n) s b (take-put l (v .command)) f k
+  decision-sims v stage phase d s b e f (refines-pause n r h k) =
       sim-orders v (callOf p stage 0 phase) (isOpening (p .call)) m (atStage p n _ _ _ h) (pausing r k) (v .exchange) (pause fieldPauseTime) b (v .phaseFits)
       record { pending = e; found = f } tt
 
@@ -241,8 +242,8 @@ module _ (p : Position) (w : Wait p) (v : Fields) (agrees : Agrees p v) where
   unfolding admittedOf isLong pick
   advances mv o h k e b l =
       rw h
-      (sim-pick (ltb (length b) 1024) (stays ShortBuffer b)
-      (λ _. sim-pick (ltb 1024 (packetLength e)) (stays OverLong b) (λ n. k b (omega (arith, l, ltb-false 1024 (packetLength e) n)))))
+      (sim-pick (ltb (length b) bufferNeed) (stays ShortBuffer b)
+      (λ _. sim-pick (ltb packetLimit (packetLength e)) (stays OverLong b) (λ n. k b (omega (arith, l, ltb-false packetLimit (packetLength e) n)))))
 
   -- a script is entered
   pub advances-enter : (mv : Transitioned) (s : Script) → fits mv ≡ true → ((b : List ℕ) → replyLength mv ≤ packetLimit → SimulatesHere (transitionedOf (coreAt p w v) (arraysAt v) mv b) (effect (p .call) (enter s)))

@@ -11,12 +11,12 @@ use Rattle.errors.specs.declared.Fault.{Fault}
 use Rattle.errors.specs.declared.Fault.the-variants.{Transport, TimeOut, FalseStart, BrokenFrame, Length, FrameKind, Identifier, Code, Status, ShortResponse, NoCard, CrcA, Rate, CardStatus, OtherCard, UidLayout}
 use Rattle.framing.specs.Frames.{ack}
 use Rattle.framing.specs.Lists.{both}
-use Rattle.framing.specs.Rules.{at-true, at-false}
+use Rattle.errors.specs.Rules.{at-true, at-false}
 use borrow.Author.Tests.{eq-eqb}
 use Rattle.exchange.specs.Exchange.{Event, unfit, pending, ended, onWrite, onRead, onPause, Step, sending, reading, waiting, cancelling, rejecting, draining, ExchangeResult, advance}
 use Rattle.exchange.specs.Exchange.{Order as HostOrder, write, read, pause}
 use Rattle.exchange.specs.Packets.{Reply, response, failed, replyOf}
-use Rattle.exchange.specs.Steps.{orderOf, stepOf, exchangeAt, resultIn, SameCommand}
+use Rattle.exchange.specs.Steps.{orderOf, stepOf, exchangeAt, resultIn, SameCommand, sendingPhase, readingPhase, waitingPhase, unsentPhase, overduePhase, rejectingPhase, drainingPhase}
 use Rattle.exchange.specs.declared.Advanced.{Advanced}
 use Rattle.exchange.specs.declared.Order.{Order}
 use Rattle.exchange.specs.declared.Exchange.{Exchange}
@@ -67,31 +67,31 @@ toCursor c n cursor = record { kind = c .kind; stage = n; cursor = cursor; phase
 
 -- ACK is being written: after a failed write 3, at the deadline 4
 abbrev cancelPhase : Fault → ℕ
-cancelPhase Transport = 3
-cancelPhase TimeOut = 4
-cancelPhase FalseStart = 4
-cancelPhase BrokenFrame = 4
-cancelPhase Length = 4
-cancelPhase FrameKind = 4
-cancelPhase Identifier = 4
-cancelPhase Code = 4
-cancelPhase (Status s) = 4
-cancelPhase ShortResponse = 4
-cancelPhase NoCard = 4
-cancelPhase CrcA = 4
-cancelPhase Rate = 4
-cancelPhase (CardStatus s t) = 4
-cancelPhase OtherCard = 4
-cancelPhase UidLayout = 4
+cancelPhase Transport = unsentPhase
+cancelPhase TimeOut = overduePhase
+cancelPhase FalseStart = overduePhase
+cancelPhase BrokenFrame = overduePhase
+cancelPhase Length = overduePhase
+cancelPhase FrameKind = overduePhase
+cancelPhase Identifier = overduePhase
+cancelPhase Code = overduePhase
+cancelPhase (Status s) = overduePhase
+cancelPhase ShortResponse = overduePhase
+cancelPhase NoCard = overduePhase
+cancelPhase CrcA = overduePhase
+cancelPhase Rate = overduePhase
+cancelPhase (CardStatus s t) = overduePhase
+cancelPhase OtherCard = overduePhase
+cancelPhase UidLayout = overduePhase
 
 -- the number of an exchange's step
 abbrev pub phaseOf : Step → ℕ
-phaseOf (sending code clock) = 0
-phaseOf (reading code clock) = 1
-phaseOf (waiting code clock) = 2
+phaseOf (sending code clock) = sendingPhase
+phaseOf (reading code clock) = readingPhase
+phaseOf (waiting code clock) = waitingPhase
 phaseOf (cancelling r) = cancelPhase r
-phaseOf rejecting = 5
-phaseOf draining = 6
+phaseOf rejecting = rejectingPhase
+phaseOf draining = drainingPhase
 
 -- the exchange at another step
 abbrev pub exchangeIn : Exchange → Step → Exchange
@@ -178,10 +178,7 @@ end-fits code packet ResetDone = refl
 end-fits code packet Arrived = reply-fits (replyOf code packet)
 end-fits code packet (Failed r) = refl
 
--- how many bytes of a packet come with an event, and how many at least a response's packet has
-abbrev pub packetLength : Event → ℕ
-packetLength e = onRead 0 length 0 0 0 e
-
+-- how many bytes a response's packet has at least
 abbrev pub replyLength : Transitioned → ℕ
 replyLength unfitting = 0
 replyLength (orders o c x) = 0
@@ -205,7 +202,7 @@ unfolding overTransition pick
 over-other c x m h = rw h
 
 -- the exchange that goes on is the old one at its new step
-phase-of : (n code clock : ℕ) → n ≤ 6 → phaseOf (stepOf (exchangeAt n code clock)) ≡ n
+phase-of : (n code clock : ℕ) → n ≤ drainingPhase → phaseOf (stepOf (exchangeAt n code clock)) ≡ n
 unfolding stepOf pick
 phase-of zero code clock h = refl
 phase-of (suc zero) code clock h = refl
@@ -216,7 +213,7 @@ phase-of (suc (suc (suc (suc (suc zero))))) code clock h = refl
 phase-of (suc (suc (suc (suc (suc (suc zero)))))) code clock h = refl
 phase-of (suc (suc (suc (suc (suc (suc (suc n))))))) code clock h = absurd (omega arith)
 
-exchange-kept : (x y : Exchange) → y .phase ≤ 6 → y .code ≡ x .code → y .clock ≡ x .clock → y ≡ exchangeIn x (stepOf y)
+exchange-kept : (x y : Exchange) → y .phase ≤ drainingPhase → y .code ≡ x .code → y .clock ≡ x .clock → y ≡ exchangeIn x (stepOf y)
 exchange-kept x y h p q =
     λ i. exchangeAt (sym (phase-of (y .phase) (y .code) (y .clock) h) i) (p i) (q i)
 

@@ -15,15 +15,19 @@ use Rattle.errors.specs.declared.Refusal.the-variants.{OutOfTurn, ShortBuffer, 
 use Rattle.errors.specs.declared.Fault.{Fault}
 use Rattle.exchange.specs.Exchange.{Order, write, read, drain, pause, Event}
 use Rattle.exchange.specs.declared.Exchange.{Exchange}
+use Rattle.exchange.specs.Steps.{drainingPhase}
 use Rattle.framing.specs.Valid.{both-left, both-right}
 use Rattle.protocol.specs.Scripts.{Answer, done, type1, uidAndAts, nothing, refused, refusedAfter}
+use Rattle.protocol.specs.Starts.{dataLimit}
+use Rattle.protocol.specs.Session.{bufferNeed, lastCaller}
 use Rattle.stages.specs.Starts.{Start, staged, sends as sendsFirst, refuses as refusesAtOnce}
 use Rattle.stages.specs.Stages.{Decision, send, keep, next, put as putBy, pause as pauseFor, ends as endsDecision}
+use Rattle.stages.specs.Decided.{foundLimit}
 use Rattle.calls.specs.Firsts.{startFor}
 use Rattle.engine.specs.Books.{Books, isInRange, byCaller, ended, booked}
 use Rattle.engine.specs.Booking.{ended-range}
 use Rattle.engine.specs.Laws.{valid-caller}
-use Rattle.engine.specs.Core.{Arrays, After, after, unchanged, idle, ordersOf, stageOf, endsOf, answersOf, followsOf, repliesOf, failsOf, transitionedOf, isLong, admittedOf, eventCore, openCore, startOn}
+use Rattle.engine.specs.Core.{Arrays, After, after, unchanged, idle, ordersOf, stageOf, endsOf, answersOf, performsOf, repliesOf, failsOf, transitionedOf, isLong, admittedOf, eventCore, openCore, startOn}
 use Rattle.engine.specs.Core.{isValid as validCore}
 use Rattle.engine.specs.Exchanges.{by-pick}
 use Rattle.engine.specs.Inputs.{Input, opens as opened, asks, gives, bufferOf, stepWith, afterInput}
@@ -58,34 +62,34 @@ other-class e h = h (ap class e)
 
 module _ (s : Core) (f : Arrays) (b : List ℕ) where
   -- refused at once, nothing has changed; after a fault no call runs, and the buffer is the same
-  record Keeps (a : After Core) : Type 0 where
+  record UnchangedIfRefused (a : After Core) : Type 0 where
     early : (r : Refusal) → a .output ≡ Refused r → a ≡ unchanged s f r b
     late : class (a .output) ≡ 1 → (a .state ≡ idle s) × (a .buffer ≡ b)
 
-  same : (r : Refusal) → Keeps (unchanged s f r b)
+  same : (r : Refusal) → UnchangedIfRefused (unchanged s f r b)
   same r = record { early = λ q e. ap (λ o. after s f o b) e; late = λ e. absurd (omega (arith, e)) }
 
-  fails : (o : Output) → class o ≡ 1 → Keeps (endsOf s f o b)
+  fails : (o : Output) → class o ≡ 1 → UnchangedIfRefused (endsOf s f o b)
   fails o h = record { early = λ q e. absurd (other-class e (λ z. omega (arith, z, h))); late = λ e. (refl, refl) }
 
   -- an order or an answer
-  goes-on : (a : After Core) → class (a .output) ≡ 0 → Keeps a
+  goes-on : (a : After Core) → class (a .output) ≡ 0 → UnchangedIfRefused a
   goes-on a h = record {
     early = λ q e. absurd (other-class e (λ z. omega (arith, z, h)));
     late = λ e. absurd (omega (arith, e, h));
   }
 
-  order : (t : Core) (g : Arrays) (o : Order) (c : Call) (x : Exchange) → Keeps (ordersOf t g o c x b)
+  order : (t : Core) (g : Arrays) (o : Order) (c : Call) (x : Exchange) → UnchangedIfRefused (ordersOf t g o c x b)
   order t g (write bytes) c x = goes-on _ refl
   order t g (read ms) c x = goes-on _ refl
   order t g drain c x = goes-on _ refl
   order t g (pause us) c x = goes-on _ refl
 
-  stage : (t : Core) (g : Arrays) (c : Call) → Keeps (stageOf t g c b)
+  stage : (t : Core) (g : Arrays) (c : Call) → UnchangedIfRefused (stageOf t g c b)
   unfolding stageOf
   stage t g c = goes-on _ refl
 
-  answers : (a : Answer ℕ) → Keeps (answersOf s f a b)
+  answers : (a : Answer ℕ) → UnchangedIfRefused (answersOf s f a b)
   answers (done bytes) = goes-on _ refl
   answers (type1 bytes) = goes-on _ refl
   answers (uidAndAts bytes uid ats) = goes-on _ refl
@@ -93,46 +97,46 @@ module _ (s : Core) (f : Arrays) (b : List ℕ) where
   answers (refused r) = fails (Failed r) refl
   answers (refusedAfter r n) = fails (FailedAfter r n) refl
 
-  decides : (d : Decision) → Keeps (followsOf s f d b)
-  unfolding followsOf
-  decides (send n) = stage _ _ _
-  decides (keep n bytes) = stage _ _ _
-  decides (next n c bytes) = stage _ _ _
-  decides (putBy n bytes) = stage _ _ _
-  decides (pauseFor us n) = goes-on _ refl
-  decides (endsDecision a) = answers a
+  decision : (d : Decision) → UnchangedIfRefused (performsOf s f d b)
+  unfolding performsOf
+  decision (send n) = stage _ _ _
+  decision (keep n bytes) = stage _ _ _
+  decision (next n c bytes) = stage _ _ _
+  decision (putBy n bytes) = stage _ _ _
+  decision (pauseFor us n) = goes-on _ refl
+  decision (endsDecision a) = answers a
 
-  reply : (bytes : List ℕ) → Keeps (repliesOf s f bytes b)
+  reply : (bytes : List ℕ) → UnchangedIfRefused (repliesOf s f bytes b)
   unfolding repliesOf
-  reply bytes = decides _
+  reply bytes = decision _
 
-  failure : (r : Fault) → Keeps (failsOf s f r b)
+  failure : (r : Fault) → UnchangedIfRefused (failsOf s f r b)
   unfolding failsOf
-  failure r = decides _
+  failure r = decision _
 
-  move : (m : Transitioned) → Keeps (transitionedOf s f m b)
+  transition : (m : Transitioned) → UnchangedIfRefused (transitionedOf s f m b)
   unfolding transitionedOf
-  move unfitting = same OutOfTurn
-  move (orders o c x) = order s f o c x
-  move (sendsStage c) = stage s f c
-  move resetDone = reply []
-  move (replies bytes) = reply bytes
-  move (refuses r) = failure r
+  transition unfitting = same OutOfTurn
+  transition (orders o c x) = order s f o c x
+  transition (sendsStage c) = stage s f c
+  transition resetDone = reply []
+  transition (replies bytes) = reply bytes
+  transition (refuses r) = failure r
 
-  event-keeps : (e : Event) → Keeps (eventCore s f e b)
+  event-unchanged : (e : Event) → UnchangedIfRefused (eventCore s f e b)
   unfolding eventCore admittedOf
-  event-keeps e =
+  event-unchanged e =
       let m = transitionOf (s .call) (s .exchange) e in
-      by-pick Keeps (eqb (s .call .kind) noCallKind) _ _ (same OutOfTurn)
-      (by-pick Keeps (fits m) _ _
-      (by-pick Keeps (ltb (length b) 1024) _ _ (same ShortBuffer) (by-pick Keeps (isLong e) _ _ (same OverLong) (move m)))
+      by-pick UnchangedIfRefused (eqb (s .call .kind) noCallKind) _ _ (same OutOfTurn)
+      (by-pick UnchangedIfRefused (fits m) _ _
+      (by-pick UnchangedIfRefused (ltb (length b) bufferNeed) _ _ (same ShortBuffer) (by-pick UnchangedIfRefused (isLong e) _ _ (same OverLong) (transition m)))
       (same OutOfTurn))
 
-  start-keeps : (x : Start) → Keeps (startOn s f x b)
+  start-unchanged : (x : Start) → UnchangedIfRefused (startOn s f x b)
   unfolding startOn stageOf
-  start-keeps (refusesAtOnce r) = same r
-  start-keeps (sendsFirst kind m) = goes-on _ refl
-  start-keeps (staged kind pending) = goes-on _ refl
+  start-unchanged (refusesAtOnce r) = same r
+  start-unchanged (sendsFirst kind m) = goes-on _ refl
+  start-unchanged (staged kind pending) = goes-on _ refl
 
 -- ---- the session's numbers
 
@@ -154,8 +158,8 @@ fault-booked k t b (Refused r) e = absurd (omega (arith, e))
 idle-free : (s : Core) (b : Books) → validCore s ≡ true → isInRange b ≡ true → isFree (state (idle s) b) ≡ true
 unfolding valid validCore validCall
 idle-free s b h r =
-    let k = both-right (leb (s .command) 512) _ h in
-    rw (both-left (leb (s .command) 512) _ h, both-left (leb (s .found) 1024) _ k, both-left (leb (s .exchange .phase) 6) _ (both-right (leb (s .found) 1024) _ k), r) refl
+    let k = both-right (leb (s .command) dataLimit) _ h in
+    rw (both-left (leb (s .command) dataLimit) _ h, both-left (leb (s .found) foundLimit) _ k, both-left (leb (s .exchange .phase) drainingPhase) _ (both-right (leb (s .found) foundLimit) _ k), r) refl
 
 by-test : (P : After State → Type 0) (t : Bool) (x y : After State) → (t ≡ true → P x) → P y → P (pick t x y)
 unfolding pick
@@ -176,7 +180,7 @@ module _ (s : State) (f : Arrays) (b : List ℕ) where
   refuses-once r = record { early = λ q e. ap (λ o. after s f o b) e; late = λ e. absurd (omega (arith, e)) }
 
   -- what is booked of the running call
-  booked-stays : (k : ℕ) (t : Bool) (a : After Core) → k ≤ 7 → isValid s ≡ true → Keeps (s .core) f b a → Stays (bookedAfter k t (s .books) a)
+  booked-stays : (k : ℕ) (t : Bool) (a : After Core) → k ≤ lastCaller → isValid s ≡ true → UnchangedIfRefused (s .core) f b a → Stays (bookedAfter k t (s .books) a)
   unfolding valid
   booked-stays c t a few valid k = record {
     early = λ r e. ap (bookedAfter c t (s .books)) (k .early r e);
@@ -191,8 +195,8 @@ module _ (s : State) (f : Arrays) (b : List ℕ) where
   unfolding openAfter openCore
   open-stays k mode =
       by-pick Stays (isFree s) _ _
-      (by-pick Stays (ltb (length b) 1024) _ _ (refuses-once ShortBuffer)
-      (by-pick Stays (ltb 7 k) _ _ (refuses-once BadArgument)
+      (by-pick Stays (ltb (length b) bufferNeed) _ _ (refuses-once ShortBuffer)
+      (by-pick Stays (ltb lastCaller k) _ _ (refuses-once BadArgument)
       (by-pick Stays (ltb 1 mode) _ _ (refuses-once BadArgument)
       (record { early = λ r e. absurd (other-class e (λ z. omega (arith, z))); late = λ e. absurd (omega (arith, e)) }))))
       (refuses-once OutOfTurn)
@@ -201,15 +205,15 @@ module _ (s : State) (f : Arrays) (b : List ℕ) where
   unfolding startAfter
   start-stays k x =
       by-test Stays (isAdmitted s) _ _
-      (λ admitted. by-pick Stays (ltb (length b) 1024) _ _ (refuses-once ShortBuffer)
-      (by-left Stays (ltb 7 k) _ _ (refuses-once BadArgument)
-      (λ few. booked-stays k false _ (ltb-false 7 k few) (both-left (isValid s) _ (both-left (isFree s) _ admitted)) (start-keeps (s .core) f b x))))
+      (λ admitted. by-pick Stays (ltb (length b) bufferNeed) _ _ (refuses-once ShortBuffer)
+      (by-left Stays (ltb lastCaller k) _ _ (refuses-once BadArgument)
+      (λ few. booked-stays k false _ (ltb-false lastCaller k few) (both-left (isValid s) _ (both-left (isFree s) _ admitted)) (start-unchanged (s .core) f b x))))
       (refuses-once OutOfTurn)
 
   event-stays : (e : Event) → Stays (eventAfter s f e b)
   unfolding eventAfter
   event-stays e =
-      by-test Stays (isValid s) _ _ (λ valid. booked-stays _ _ _ (valid-caller s valid) valid (event-keeps (s .core) f b _)) (refuses-once OutOfTurn)
+      by-test Stays (isValid s) _ _ (λ valid. booked-stays _ _ _ (valid-caller s valid) valid (event-unchanged (s .core) f b _)) (refuses-once OutOfTurn)
 
 all-stay : (s : State) (f : Arrays) (i : Input) → Stays s f (bufferOf i) (afterInput s f i)
 all-stay s f (opened k mode b) = open-stays s f b k mode

@@ -6,7 +6,8 @@ use framing::padded;
 ghost use mathlib.Core.List.{List};
 ghost use mathlib.Core.Path.{_≡_};
 ghost use Prim.Native.Nat.{ℕ, _≤_};
-ghost use Rattle.engine.specs.Books.{booksOf, inRange, noBooks, extraIn, oneMore, countedIn, byCaller, ended, booked, lastCaller};
+ghost use Rattle.protocol.specs.Session.{lastCaller};
+ghost use Rattle.engine.specs.Books.{booksOf, inRange, noBooks, extraIn, oneMore, countedIn, byCaller, ended, booked};
 
 // The places of the three numbers: whether the reader is open, the mode that the last opening chose, whose call runs or ran last.
 pub const OPENED: usize = 0;
@@ -14,6 +15,8 @@ pub const OPENED: usize = 0;
 pub const MODE: usize = 1;
 
 pub const CALLER: usize = 2;
+
+pub const BOOKS: usize = 3;
 
 pub const CLOSED: u8 = 0;
 
@@ -25,6 +28,8 @@ pub const OFF: u8 = 0;
 pub const PADDED: u8 = 1;
 
 // Callers are numbered from 0 to 7.
+pub const CALLERS: usize = 8;
+
 pub const LAST_CALLER: u8 = 7;
 
 // The frame count stops here.
@@ -58,11 +63,11 @@ pub fn extra_zeros(mode: u8, packet: &[u8]) -> usize
 }
 
 // Where an opening begins, in its mode. The books of a fresh session have it off.
-pub(crate) fn begin(frames: &mut [u32; 8], books: &mut [u8; 3], mode: u8)
+pub(crate) fn begin(frames: &mut [u32; CALLERS], books: &mut [u8; BOOKS], mode: u8)
     ensures { λ _. ⌜ booksOf (now (books .exit)) (now (frames .exit)) ≡ noBooks mode ⌝ }
 {
     *books = [CLOSED, mode, 0];
-    *frames = [0; 8];
+    *frames = [0; CALLERS];
 }
 
 // One command frame more, up to the ceiling.
@@ -73,7 +78,7 @@ fn one_more(frames: u32) -> u32
 }
 
 // A command frame counts for a caller.
-fn count(frames: &mut [u32; 8], caller: u8)
+fn count(frames: &mut [u32; CALLERS], caller: u8)
     requires { ⌜ caller ≤ lastCaller ⌝ }
     ensures { λ _. ⌜ now (frames .exit) ≡ countedIn caller (now (frames .entry)) ⌝ }
 {
@@ -83,7 +88,7 @@ fn count(frames: &mut [u32; 8], caller: u8)
 }
 
 // A caller's call has ended: an opening leaves the reader open or not, any other call leaves it as it was.
-fn end(books: &mut [u8; 3], caller: u8, opening: bool, opened: u8)
+fn end(books: &mut [u8; BOOKS], caller: u8, opening: bool, opened: u8)
     ensures { λ _. ⌜ ((n : List ℕ) → booksOf (now (books .exit)) n ≡ ended (byCaller caller (booksOf (now (books .entry)) n)) opening opened) ⌝ }
 {
     books[CALLER] = caller;
@@ -94,8 +99,8 @@ fn end(books: &mut [u8; 3], caller: u8, opening: bool, opened: u8)
 
 // What came out of a caller's call, an opening or not: a command frame counts, and an opening's end says whether the reader is open.
 pub(crate) fn book(
-    frames: &mut [u32; 8],
-    books: &mut [u8; 3],
+    frames: &mut [u32; CALLERS],
+    books: &mut [u8; BOOKS],
     caller: u8,
     opening: bool,
     output: Output,

@@ -1,9 +1,13 @@
 // Events by their numbers, for a host: the running call's numbers go by value, and the session's arrays are lent.
+use super::books::BOOKS;
+use super::books::CALLERS;
 use super::core::Core;
+use super::core::FOUND_LIMIT;
 use super::core::Progress;
 use super::state;
 use errors::Refusal;
 use exchange::Event;
+use stages::put::DATA_LIMIT;
 ghost use mathlib.Core.List.{List};
 ghost use mathlib.Core.Path.{_≡_};
 ghost use Prim.Native.Nat.{ℕ};
@@ -35,10 +39,10 @@ pub fn event_by(number: u8) -> Known
 // An event. One with a number that has none fits no order.
 pub fn event(
     core: Core,
-    command: &mut [u8; 512],
-    found: &mut [u8; 1024],
-    frames: &mut [u32; 8],
-    books: &mut [u8; 3],
+    command: &mut [u8; DATA_LIMIT],
+    found: &mut [u8; FOUND_LIMIT],
+    frames: &mut [u32; CALLERS],
+    books: &mut [u8; BOOKS],
     number: u8,
     packet: &[u8],
     buffer: &mut [u8],

@@ -16,16 +16,16 @@ ghost use Prim.Native.Nat.{ℕ, _+_, _≤_};
 ghost use lib.ListN.{length, take};
 ghost use Rattle.stages.specs.Stages.{put as putBy};
 ghost use Rattle.stages.specs.Put.{put, Puts};
-ghost use Rattle.stages.specs.Decided.{headBytes, layoutBytes, Fitting, decisionIn, DecisionFits, responseLimit};
+ghost use Rattle.stages.specs.Decided.{headBytes, layoutBytes, Fitting, decisionIn, DecisionFits, responseLimit, headLimit, tailLimit};
 ghost use Rattle.protocol.specs.Session.{packetLimit, bufferNeed};
 ghost use Rattle.protocol.specs.Starts.{dataLimit};
 ghost use Rattle.engine.specs.Transitions.{endTransition, replyLength};
 ghost use Rattle.engine.specs.Ends.{GoesOn};
-ghost use Rattle.engine.specs.Core.{Lent, arrays, progressed, keepsOf, followsOf, transitionedOf};
+ghost use Rattle.engine.specs.Core.{Lent, arrays, progressed, keepsOf, performsOf, transitionedOf};
 
 // Puts a layout behind the found bytes that it keeps, which stand at the target's start already.
 fn lay(layout: Layout, response: &[u8], target: &mut [u8]) -> usize
-    requires { ⌜ ((layout .«head_len» ≤ 3) × (layout .start + layout .len ≤ length (now response)) × (layout .«tail_len» ≤ 12)) × (layout .kept + (layout .«head_len» + (layout .len + layout .«tail_len»)) ≤ length (now target)) ⌝ }
+    requires { ⌜ ((layout .«head_len» ≤ headLimit) × (layout .start + layout .len ≤ length (now response)) × (layout .«tail_len» ≤ tailLimit)) × (layout .kept + (layout .«head_len» + (layout .len + layout .«tail_len»)) ≤ length (now target)) ⌝ }
     ensures { λ r. ⌜ ((f c : List ℕ) → Puts (now (target .entry)) (layout .kept) (take (layout .kept) f) c → Puts (now (target .exit)) r (layoutBytes f (now (response .entry)) layout) c) ⌝ }
 {
     let h = layout.head;
@@ -73,7 +73,7 @@ impl Core {
     // Three bytes become the pending command, and the command of a stage follows.
     fn put_by(self, stage: u8, bytes: Head, command: &mut [u8], buffer: &mut [u8]) -> Progress
         requires { ⌜ (length (now command) ≡ dataLimit) × (bufferNeed ≤ length (now buffer)) ⌝ }
-        ensures { λ r. ⌜ ((f : List ℕ) → progressed r (arrays (now (command .exit)) f) (now (buffer .exit)) ≡ followsOf self (arrays (now (command .entry)) f) (putBy stage (headBytes bytes)) (now (buffer .entry))) ⌝ }
+        ensures { λ r. ⌜ ((f : List ℕ) → progressed r (arrays (now (command .exit)) f) (now (buffer .exit)) ≡ performsOf self (arrays (now (command .entry)) f) (putBy stage (headBytes bytes)) (now (buffer .entry))) ⌝ }
     {
         let call = self.call;
         let three = [bytes.0, bytes.1, bytes.2];
@@ -92,7 +92,7 @@ impl Core {
         buffer: &mut [u8],
     ) -> Progress
         requires { ⌜ (length (now response) ≤ responseLimit) × DecisionFits (take (self .found) (now found)) (now response) decision × Lent self (now command) (now found) (now buffer) ⌝ }
-        ensures { λ r. ⌜ (GoesOn decision → progressed r (arrays (now (command .exit)) (now (found .exit))) (now (buffer .exit)) ≡ followsOf self (arrays (now (command .entry)) (now (found .entry))) (decisionIn (take (self .found) (now (found .entry))) (now (response .entry)) decision) (now (buffer .entry))) ⌝ }
+        ensures { λ r. ⌜ (GoesOn decision → progressed r (arrays (now (command .exit)) (now (found .exit))) (now (buffer .exit)) ≡ performsOf self (arrays (now (command .entry)) (now (found .entry))) (decisionIn (take (self .found) (now (found .entry))) (now (response .entry)) decision) (now (buffer .entry))) ⌝ }
     {
         let call = self.call;
         let exchange = self.exchange;
@@ -116,7 +116,7 @@ impl Core {
     }
 
     // What a call decided.
-    fn followed(
+    fn performed(
         self,
         decision: Decision,
         response: &[u8],
@@ -125,7 +125,7 @@ impl Core {
         buffer: &mut [u8],
     ) -> Progress
         requires { ⌜ (length (now response) ≤ responseLimit) × DecisionFits (take (self .found) (now found)) (now response) decision × Lent self (now command) (now found) (now buffer) ⌝ }
-        ensures { λ r. ⌜ progressed r (arrays (now (command .exit)) (now (found .exit))) (now (buffer .exit)) ≡ followsOf self (arrays (now (command .entry)) (now (found .entry))) (decisionIn (take (self .found) (now (found .entry))) (now (response .entry)) decision) (now (buffer .entry)) ⌝ }
+        ensures { λ r. ⌜ progressed r (arrays (now (command .exit)) (now (found .exit))) (now (buffer .exit)) ≡ performsOf self (arrays (now (command .entry)) (now (found .entry))) (decisionIn (take (self .found) (now (found .entry))) (now (response .entry)) decision) (now (buffer .entry)) ⌝ }
     {
         let kept = self.found;
         match decision {
@@ -189,6 +189,6 @@ impl Core {
             }
             _ => calls::decided(call.kind, call.stage, call.cursor, pending, kept, response),
         };
-        self.followed(decision, response, command, found, buffer)
+        self.performed(decision, response, command, found, buffer)
     }
 }

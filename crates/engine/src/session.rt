@@ -1,9 +1,13 @@
 // The session and its entries: a call or an event goes in with the buffer; the session comes back with an order or an answer.
+use super::books::BOOKS;
+use super::books::CALLERS;
 use super::core::Core;
+use super::core::FOUND_LIMIT;
 use super::core::Output;
 use super::state;
 use calls::start::Numbers;
 use exchange::Event;
+use stages::put::DATA_LIMIT;
 ghost use mathlib.Core.Path.{_≡_};
 ghost use Rattle.exchange.specs.Steps.{eventOf};
 ghost use Rattle.engine.specs.Inputs.{gives, stepWith};
@@ -13,10 +17,10 @@ ghost use Rattle.engine.specs.Sessions.{stepped, freshSession};
 
 #[repr(C)]
 pub struct Session {
-    pub command: [u8; 512],
-    pub found: [u8; 1024],
-    pub frames: [u32; 8],
-    pub books: [u8; 3],
+    pub command: [u8; DATA_LIMIT],
+    pub found: [u8; FOUND_LIMIT],
+    pub frames: [u32; CALLERS],
+    pub books: [u8; BOOKS],
     pub core: Core,
 }
 
@@ -32,9 +36,9 @@ impl Session {
     {
         let core = Core::none();
         Session {
-            command: [0; 512],
-            found: [0; 1024],
-            frames: [0; 8],
+            command: [0; DATA_LIMIT],
+            found: [0; FOUND_LIMIT],
+            frames: [0; CALLERS],
             books: [0; 3],
             core,
         }

@@ -1,6 +1,8 @@
 // A call and an event on what a session holds: the numbers of the running call go by value, the books and the arrays are lent. A call is
 // admitted and what comes out is booked here.
 use super::books;
+use super::books::BOOKS;
+use super::books::CALLERS;
 use super::books::LAST_CALLER;
 use super::books::PADDED;
 use super::call::NO_CALL;
@@ -12,6 +14,7 @@ use calls::start;
 use calls::start::Numbers;
 use errors::Refusal;
 use exchange::Event;
+use stages::put::DATA_LIMIT;
 ghost use mathlib.Core.List.{List};
 ghost use mathlib.Core.Path.{_≡_};
 ghost use Prim.Native.Nat.{ℕ};
@@ -64,8 +67,8 @@ pub(crate) fn event(
     core: Core,
     command: &mut [u8],
     found: &mut [u8],
-    frames: &mut [u32; 8],
-    books: &mut [u8; 3],
+    frames: &mut [u32; CALLERS],
+    books: &mut [u8; BOOKS],
     event: Event,
     packet: &[u8],
     buffer: &mut [u8],
@@ -90,8 +93,8 @@ pub(crate) fn event(
 // An opening begins the books anew, in its mode.
 fn open(
     core: Core,
-    frames: &mut [u32; 8],
-    books: &mut [u8; 3],
+    frames: &mut [u32; CALLERS],
+    books: &mut [u8; BOOKS],
     caller: u8,
     mode: u8,
     buffer: &mut [u8],
@@ -126,9 +129,9 @@ fn open(
 // A call by its number and arguments (`calls::start`), whose bytes are put by in `command`.
 pub fn call(
     core: Core,
-    command: &mut [u8; 512],
-    frames: &mut [u32; 8],
-    books: &mut [u8; 3],
+    command: &mut [u8; DATA_LIMIT],
+    frames: &mut [u32; CALLERS],
+    books: &mut [u8; BOOKS],
     number: u8,
     numbers: Numbers,
     first: &[u8],

@@ -93,9 +93,13 @@ onLaterPacket code clock packet = cond (isEmpty packet) (ended (failed TimeOut))
 abbrev pub onDrained : List ℕ → ExchangeResult
 onDrained packet = cond (isEmpty packet) (ended (failed FalseStart)) (pending drain draining)
 
+-- the ms in which the first packet is due
+abbrev pub firstReadTime : ℕ
+firstReadTime = 100
+
 -- what an event does to the exchange
 abbrev pub advance : Step → Event → ExchangeResult
-advance (sending code clock) e = onWrite unfit (pending (read 100) (reading code clock)) (pending (write ack) (cancelling Transport)) e
+advance (sending code clock) e = onWrite unfit (pending (read firstReadTime) (reading code clock)) (pending (write ack) (cancelling Transport)) e
 advance (reading code clock) e = onRead unfit (onFirstPacket code clock) (ended (failed TimeOut)) (ended (failed Transport)) unfit e
 advance (waiting code clock) e =
     onRead

@@ -7,23 +7,20 @@ use borrow.Author.Tests.{eq-eqb, ne-eqb}
 use native.Mathlib.Omega.{arith}
 use lib.ListN.{length}
 use Rattle.errors.specs.declared.Fault.{Fault}
+use Rattle.errors.specs.Rules.{same-value}
 use Rattle.exchange.specs.Packets.{isEmpty, failed, replyOf}
 use Rattle.exchange.specs.Exchange.{Event, Step, pending, ended, unfit, ExchangeResult, advance}
-use Rattle.exchange.specs.Steps.{exchangeAt, stepOf, orderOf, resultIn, SameCommand, Handled}
+use Rattle.exchange.specs.Steps.{exchangeAt, stepOf, orderOf, resultIn, SameCommand, Handled, drainingPhase}
 use Rattle.exchange.specs.declared.Order.{Order as CodeOrder}
 use Rattle.exchange.specs.declared.Exchange.{Exchange}
 use Rattle.exchange.specs.declared.Advanced.{Advanced}
 use Rattle.exchange.specs.declared.Advanced.the-variants.{Unfit, Pending, Arrived, Failed}
 
-pub at-true : {A : Type 0} (x a b : A) (t : Bool) → t ≡ true → x ≡ a → x ≡ cond t a b
-at-true x a b t h e = rw h e
+pub cond-true : {A : Type 0} (x a b : A) (t : Bool) → t ≡ true → x ≡ a → x ≡ cond t a b
+cond-true x a b t h e = rw h e
 
-pub at-false : {A : Type 0} (x a b : A) (t : Bool) → t ≡ false → x ≡ b → x ≡ cond t a b
-at-false x a b t h e = rw h e
-
--- a test that a call answered
-pub known : (r s t : Bool) → r ≡ s → r ≡ t → s ≡ t
-known r s t p q = sym p ∙ q
+pub cond-false : {A : Type 0} (x a b : A) (t : Bool) → t ≡ false → x ≡ b → x ≡ cond t a b
+cond-false x a b t h e = rw h e
 
 pub empty : (p : List ℕ) → length p ≡ 0 → isEmpty p ≡ true
 empty [] h = refl
@@ -41,7 +38,7 @@ module _ (x : Exchange) (packet : List ℕ) (r : Advanced) where
   pub on-false : (a b : ExchangeResult) (t : Bool) → t ≡ false → Handled x packet b r → Handled x packet (cond t a b) r
   on-false a b t h e = rw h e
 
-  pub goes-on : (next : CodeOrder) (phase : ℕ) (to : ExchangeResult) → r ≡ Pending next (exchangeAt phase (x .code) (x .clock)) → phase ≤ 6
+  pub goes-on : (next : CodeOrder) (phase : ℕ) (to : ExchangeResult) → r ≡ Pending next (exchangeAt phase (x .code) (x .clock)) → phase ≤ drainingPhase
       → pending (orderOf next) (stepOf (exchangeAt phase (x .code) (x .clock))) ≡ to → Handled x packet to r
   goes-on next phase to e h q = rw e (record { result = q; kept = (h, refl, refl) })
 
@@ -63,6 +60,6 @@ in-phase x k event packet r e f =
     let same : stepOf (exchangeAt k (x .code) (x .clock)) ≡ stepOf x = ap (λ (n : ℕ). stepOf (exchangeAt n (x .code) (x .clock))) (sym e) in
     (f .result ∙ ap (λ (s : Step). advance s event) same, f .kept)
 
-pub ruleset cases = (at-true, at-false, known, eq-eqb, ne-eqb)
+pub ruleset cases = (cond-true, cond-false, same-value, eq-eqb, ne-eqb)
 
-pub ruleset follows = (on-true, on-false, known, empty, not-empty, eq-eqb, ne-eqb, goes-on, fails, arrives)
+pub ruleset step-rules = (on-true, on-false, same-value, empty, not-empty, eq-eqb, ne-eqb, goes-on, fails, arrives)

@@ -19,15 +19,37 @@ use Rattle.exchange.specs.declared.Advanced.the-variants.{Unfit, Pending
 abbrev pub exchangeAt : ℕ → ℕ → ℕ → Exchange
 exchangeAt phase code clock = record { phase = phase; code = code; clock = clock }
 
--- by the phase's number; any above 5 is the drain
+-- the phases' numbers
+abbrev pub sendingPhase : ℕ
+sendingPhase = 0
+
+abbrev pub readingPhase : ℕ
+readingPhase = 1
+
+abbrev pub waitingPhase : ℕ
+waitingPhase = 2
+
+abbrev pub unsentPhase : ℕ
+unsentPhase = 3
+
+abbrev pub overduePhase : ℕ
+overduePhase = 4
+
+abbrev pub rejectingPhase : ℕ
+rejectingPhase = 5
+
+abbrev pub drainingPhase : ℕ
+drainingPhase = 6
+
+-- any number above is taken for the drain
 unfoldable pub stepOf : Exchange → Step
 stepOf x =
-    cond (eqb (x .phase) 0) (sending (x .code) (x .clock))
-    (cond (eqb (x .phase) 1) (reading (x .code) (x .clock))
-    (cond (eqb (x .phase) 2) (waiting (x .code) (x .clock))
-    (cond (eqb (x .phase) 3) (cancelling Transport)
-    (cond (eqb (x .phase) 4) (cancelling TimeOut)
-    (cond (eqb (x .phase) 5) rejecting draining)))))
+    cond (eqb (x .phase) sendingPhase) (sending (x .code) (x .clock))
+    (cond (eqb (x .phase) readingPhase) (reading (x .code) (x .clock))
+    (cond (eqb (x .phase) waitingPhase) (waiting (x .code) (x .clock))
+    (cond (eqb (x .phase) unsentPhase) (cancelling Transport)
+    (cond (eqb (x .phase) overduePhase) (cancelling TimeOut)
+    (cond (eqb (x .phase) rejectingPhase) rejecting draining)))))
 
 -- the packet's bytes go with Packet alone
 abbrev pub eventOf : Event → List ℕ → EventOf
@@ -55,7 +77,7 @@ resultIn x packet (Failed fault) = ended (failed fault)
 -- x goes on in one of the seven phases, with its code and its clock
 abbrev pub SameCommand : Exchange → Advanced → Type 0
 SameCommand x Unfit = Unit
-SameCommand x (Pending next y) = (y .phase ≤ 6) × (y .code ≡ x .code) × (y .clock ≡ x .clock)
+SameCommand x (Pending next y) = (y .phase ≤ drainingPhase) × (y .code ≡ x .code) × (y .clock ≡ x .clock)
 SameCommand x Arrived = Unit
 SameCommand x (Failed fault) = Unit
 
@@ -66,5 +88,5 @@ pub record Handled (x : Exchange) (packet : List ℕ) (to : ExchangeResult) (r :
 
 -- what these say once the variant is known
 pub same-command : (x : Exchange) (r : Advanced) → SameCommand x r → (next : CodeOrder) (y : Exchange) → r ≡ Pending next y
-    → (y .phase ≤ 6) × (y .code ≡ x .code) × (y .clock ≡ x .clock)
+    → (y .phase ≤ drainingPhase) × (y .code ≡ x .code) × (y .clock ≡ x .clock)
 same-command x r kept next y e = rw e at kept

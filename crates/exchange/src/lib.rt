@@ -9,7 +9,7 @@ ghost use Prim.Native.Nat.{ℕ};
 ghost use lib.ListN.{getD};
 ghost use Rattle.exchange.specs.Packets.{payloadReply};
 ghost use Rattle.exchange.specs.Exchange.{advance as advanceOf, sending, reading, waiting, cancelling, rejecting, draining, onPacket};
-ghost use Rattle.exchange.specs.Steps.{exchangeAt, stepOf, eventOf, resultIn, SameCommand, Handled};
+ghost use Rattle.exchange.specs.Steps.{exchangeAt, stepOf, eventOf, resultIn, SameCommand, Handled, sendingPhase};
 ghost use Rattle.exchange.specs.Spans.{partAt, isResponse, responseSpan, frameLength, payloadFault, faultOf};
 
 // What the host returns. A packet's bytes are lent beside it.
@@ -76,7 +76,7 @@ impl Exchange {
 
     // The exchange whose frame is being written.
     pub fn start(code: u8, clock: u32) -> Exchange
-        ensures { λ r. ⌜ r ≡ exchangeAt 0 code clock ⌝ }
+        ensures { λ r. ⌜ r ≡ exchangeAt sendingPhase code clock ⌝ }
     {
         Exchange {
             phase: Self::SENDING,

@@ -1,32 +1,21 @@
 -- The reader's check passes exactly the standard's replies, with flag 1 at 0, to the request; and gives 20 with the flags of one that is refused.
 use mathlib.Core.Path.{_≡_, refl, sym, ap, ap₂, _∙_}
 use mathlib.Core.Bool.{Bool, true, false}
-use mathlib.Core.List.{List, [], _∷_, _++_, append-nil}
+use mathlib.Core.List.{List, [], _∷_}
 use Prim.Native.Nat.{ℕ, _+_, _*_, _/_, _≤_}
 use native.Mathlib.Omega.{arith}
 use borrow.Author.Tests.{eq-eqb, ne-eqb, le-leb, leb-true, eqb-true}
 use lib.Dec.{eqb, leb}
 use lib.ListN.{length, drop, getD, drop-of-length-le}
-use Rattle.errors.specs.Choice.{pick}
+use Rattle.errors.specs.Choice.{pick, same-self, same-is}
 use Rattle.errors.specs.declared.Fault.the-variants.{ShortResponse, OtherCard, CardStatus}
-use Rattle.framing.specs.Lists.{both, same, starts}
-use Rattle.framing.specs.Starts.{starts-whole, starts-split}
 use Rattle.framing.specs.Valid.{both-left, both-right}
+use Rattle.felica.specs.Names.{idmSize, blockSize, codeOffset, flagsEnd, blocksOffset}
 use Rattle.felica.specs.Packets.{reply, readReply, writeReply, readReplyCode, writeReplyCode}
 use Rattle.felica.specs.Fields.{idmIn, flag1In, flag2In, numberIn, blocksIn, hasBlocks}
 use Rattle.felica.specs.Checks.{isComplete, isFrom, byStatus, checkOf, readCheck, writeCheck}
 use Rattle.felica.specs.Replies.{parts, laid, has-blocks, number-and-blocks}
 use Rattle.felica.specs.declared.check.Checked.the-variants.{Good, Faulty}
-
-same-is : (l p : List ℕ) → same l p ≡ true → p ≡ l
-unfolding same
-same-is l p h =
-    let n : length p ≡ length l = eqb-true (length p) (length l) (both-left (eqb (length p) (length l)) _ h) in
-    starts-split l p (both-right (eqb (length p) (length l)) _ h) ∙ ap (λ r. l ++ r) (drop-of-length-le p {i = length l} (omega arith)) ∙ append-nil l
-
-same-self : (l : List ℕ) → same l l ≡ true
-unfolding same
-same-self l = rw (eq-eqb (length l) (length l) refl) (ap (starts l) (sym (append-nil l)) ∙ starts-whole l [])
 
 -- what a good reply passed
 record Passed (code : ℕ) (idm : List ℕ) (whole : Bool) (p : List ℕ) : Type 0 where
@@ -46,30 +35,30 @@ passed code idm whole p h = go (isComplete whole p) (isFrom code idm p) (eqb (fl
     go false u v a b c k = absurd (let z : _≡_ {A = ℕ} 0 1 = cc in omega arith)
 
 module _ (code : ℕ) (idm : List ℕ) (whole : Bool) (p : List ℕ) (good : Passed code idm whole p) where
-  room : 12 ≤ length p
+  room : flagsEnd ≤ length p
   unfolding isComplete
-  room = leb-true 12 (length p) (both-left (leb 12 (length p)) _ (good .complete))
+  room = leb-true flagsEnd (length p) (both-left (leb flagsEnd (length p)) _ (good .complete))
 
   all : whole ≡ true
   unfolding isComplete pick
   all =
-      let k : pick (eqb (flag1In p) 0) whole true ≡ true = both-right (eqb (getD p 0 0) (length p)) _ (both-right (leb 12 (length p)) _ (good .complete)) in
+      let k : pick (eqb (flag1In p) 0) whole true ≡ true = both-right (eqb (getD p 0 0) (length p)) _ (both-right (leb flagsEnd (length p)) _ (good .complete)) in
       rw (eq-eqb (flag1In p) 0 (good .first)) at k
 
-  is : p ≡ reply code idm 0 (flag2In p) (drop 12 p)
+  is : p ≡ reply code idm 0 (flag2In p) (drop flagsEnd p)
   unfolding isComplete isFrom
   is =
       let n : getD p 0 0 ≡ length p =
-      eqb-true (getD p 0 0) (length p) (both-left (eqb (getD p 0 0) (length p)) _ (both-right (leb 12 (length p)) _ (good .complete))) in
-      let c : getD p 1 0 ≡ code = eqb-true (getD p 1 0) code (both-left (eqb (getD p 1 0) code) _ (good .from)) in
-      let i : idmIn p ≡ idm = same-is idm (idmIn p) (both-right (eqb (getD p 1 0) code) _ (good .from)) in
-      laid code p room n c ∙ ap₂ (λ x y. reply code x y (flag2In p) (drop 12 p)) i (good .first)
+      eqb-true (getD p 0 0) (length p) (both-left (eqb (getD p 0 0) (length p)) _ (both-right (leb flagsEnd (length p)) _ (good .complete))) in
+      let c : getD p codeOffset 0 ≡ code = eqb-true (getD p codeOffset 0) code (both-left (eqb (getD p codeOffset 0) code) _ (good .from)) in
+      let i : idmIn p ≡ idm = sym (same-is idm (idmIn p) (both-right (eqb (getD p codeOffset 0) code) _ (good .from))) in
+      laid code p room n c ∙ ap₂ (λ x y. reply code x y (flag2In p) (drop flagsEnd p)) i (good .first)
 
 -- a good reply is the standard's reply of all blocks asked for, and its data are these bytes of it
 pub record AllRead (idm : List ℕ) (n : ℕ) (p : List ℕ) : Type 0 where
   pub is : p ≡ readReply idm 0 (flag2In p) (blocksIn p)
-  pub size : length (blocksIn p) ≡ 16 * n
-  pub long : length p ≡ 13 + 16 * n
+  pub size : length (blocksIn p) ≡ blockSize * n
+  pub long : length p ≡ blocksOffset + blockSize * n
 
 pub good-read : (idm : List ℕ) (n : ℕ) (p : List ℕ) → readCheck idm n p ≡ Good → AllRead idm n p
 unfolding pick hasBlocks
@@ -80,23 +69,23 @@ good-read idm n p h =
     record {
       is = is readReplyCode idm (hasBlocks n p) p k ∙ ap (reply readReplyCode idm 0 (flag2In p)) (b .1);
       size = b .0;
-      long = eqb-true (length p) (13 + 16 * n) (both-right (eqb (numberIn p) n) _ w);
+      long = eqb-true (length p) (blocksOffset + blockSize * n) (both-right (eqb (numberIn p) n) _ w);
     }
 
 pub good-write : (idm p : List ℕ) → writeCheck idm p ≡ Good → p ≡ writeReply idm 0 (flag2In p)
 good-write idm p h =
-    let k = passed writeReplyCode idm (eqb (length p) 12) p h in
-    let n : length p ≡ 12 = eqb-true (length p) 12 (all writeReplyCode idm (eqb (length p) 12) p k) in
-    is writeReplyCode idm (eqb (length p) 12) p k ∙ ap (reply writeReplyCode idm 0 (flag2In p)) (drop-of-length-le p {i = 12} (omega arith))
+    let k = passed writeReplyCode idm (eqb (length p) flagsEnd) p h in
+    let n : length p ≡ flagsEnd = eqb-true (length p) flagsEnd (all writeReplyCode idm (eqb (length p) flagsEnd) p k) in
+    is writeReplyCode idm (eqb (length p) flagsEnd) p k ∙ ap (reply writeReplyCode idm 0 (flag2In p)) (drop-of-length-le p {i = flagsEnd} (omega arith))
 
 -- the check of a reply, by its flags
-module _ (code flag1 flag2 : ℕ) (idm bytes : List ℕ) (h : length idm ≡ 8) (whole : Bool) where
+module _ (code flag1 flag2 : ℕ) (idm bytes : List ℕ) (h : length idm ≡ idmSize) (whole : Bool) where
   by-flags : (flag1 ≡ 0 → whole ≡ true) → checkOf code idm whole (reply code idm flag1 flag2 bytes) ≡ byStatus flag1 flag2
   unfolding checkOf isComplete isFrom pick
   by-flags w =
       let p : List ℕ = reply code idm flag1 flag2 bytes in
       let q = parts code flag1 flag2 idm bytes h in
-      rw (le-leb 12 (length p) (omega (arith, q .size)), eq-eqb (getD p 0 0) (length p) (q .len), q .first, q .second, q .codeIs, eq-eqb code code refl, q .idmIs, same-self idm)
+      rw (le-leb flagsEnd (length p) (omega (arith, q .size)), eq-eqb (getD p 0 0) (length p) (q .len), q .first, q .second, q .codeIs, eq-eqb code code refl, q .idmIs, same-self idm)
       (go (eqb flag1 0) refl)
     where
       go : (t : Bool) → eqb flag1 0 ≡ t → pick (pick t whole true) (byStatus flag1 flag2) (Faulty ShortResponse) ≡ byStatus flag1 flag2
@@ -104,17 +93,17 @@ module _ (code flag1 flag2 : ℕ) (idm bytes : List ℕ) (h : length idm ≡ 8) 
       go false e = refl
 
 -- the standard's replies: good, or 20 with both flags
-pub read-good : (idm bytes : List ℕ) (n flag2 : ℕ) → length idm ≡ 8 → length bytes ≡ 16 * n → readCheck idm n (readReply idm 0 flag2 bytes) ≡ Good
+pub read-good : (idm bytes : List ℕ) (n flag2 : ℕ) → length idm ≡ idmSize → length bytes ≡ blockSize * n → readCheck idm n (readReply idm 0 flag2 bytes) ≡ Good
 unfolding byStatus pick
 read-good idm bytes n flag2 h e =
-    by-flags readReplyCode 0 flag2 idm (length bytes / 16 ∷ bytes) h (hasBlocks n (readReply idm 0 flag2 bytes)) (λ _. has-blocks readReplyCode 0 flag2 n idm bytes h e)
+    by-flags readReplyCode 0 flag2 idm (length bytes / blockSize ∷ bytes) h (hasBlocks n (readReply idm 0 flag2 bytes)) (λ _. has-blocks readReplyCode 0 flag2 n idm bytes h e)
 
-pub write-good : (idm : List ℕ) (flag2 : ℕ) → length idm ≡ 8 → writeCheck idm (writeReply idm 0 flag2) ≡ Good
+pub write-good : (idm : List ℕ) (flag2 : ℕ) → length idm ≡ idmSize → writeCheck idm (writeReply idm 0 flag2) ≡ Good
 unfolding byStatus pick
 write-good idm flag2 h =
-    by-flags writeReplyCode 0 flag2 idm [] h (eqb (length (writeReply idm 0 flag2)) 12) (λ _. eq-eqb (length (writeReply idm 0 flag2)) 12 (parts writeReplyCode 0 flag2 idm [] h .size))
+    by-flags writeReplyCode 0 flag2 idm [] h (eqb (length (writeReply idm 0 flag2)) flagsEnd) (λ _. eq-eqb (length (writeReply idm 0 flag2)) flagsEnd (parts writeReplyCode 0 flag2 idm [] h .size))
 
-module _ (idm : List ℕ) (flag1 flag2 : ℕ) (h : length idm ≡ 8) (ne : flag1 ≡ 0 → ⊥) where
+module _ (idm : List ℕ) (flag1 flag2 : ℕ) (h : length idm ≡ idmSize) (ne : flag1 ≡ 0 → ⊥) where
   pub read-refused : (n : ℕ) → readCheck idm n (readReply idm flag1 flag2 []) ≡ Faulty (CardStatus flag1 flag2)
   unfolding byStatus pick
   read-refused n =
@@ -124,4 +113,4 @@ module _ (idm : List ℕ) (flag1 flag2 : ℕ) (h : length idm ≡ 8) (ne : flag1
   pub write-refused : writeCheck idm (writeReply idm flag1 flag2) ≡ Faulty (CardStatus flag1 flag2)
   unfolding byStatus pick
   write-refused =
-      by-flags writeReplyCode flag1 flag2 idm [] h (eqb (length (writeReply idm flag1 flag2)) 12) (λ e. absurd (ne e)) ∙ rw (ne-eqb flag1 0 ne)
+      by-flags writeReplyCode flag1 flag2 idm [] h (eqb (length (writeReply idm flag1 flag2)) flagsEnd) (λ e. absurd (ne e)) ∙ rw (ne-eqb flag1 0 ne)

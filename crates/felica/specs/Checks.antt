@@ -4,9 +4,10 @@ use mathlib.Core.List.{List}
 use Prim.Native.Nat.{ℕ}
 use lib.Dec.{eqb, leb}
 use lib.ListN.{length, getD}
-use Rattle.errors.specs.Choice.{pick}
+use Rattle.errors.specs.Choice.{pick, same}
 use Rattle.errors.specs.declared.Fault.the-variants.{ShortResponse, OtherCard, CardStatus}
-use Rattle.framing.specs.Lists.{both, same}
+use Rattle.framing.specs.Lists.{both}
+use Rattle.felica.specs.Names.{codeOffset, flagsEnd}
 use Rattle.felica.specs.Packets.{readReplyCode, writeReplyCode}
 use Rattle.felica.specs.Fields.{idmIn, flag1In, flag2In, hasBlocks}
 use Rattle.felica.specs.declared.check.Checked.{Checked}
@@ -14,11 +15,11 @@ use Rattle.felica.specs.declared.check.Checked.the-variants.{Good, Fault
 
 -- at least 12 bytes, of which the first is their number, and, with status flag 1 at 0, the whole of what was asked for; else 16
 unfoldable pub isComplete : Bool → List ℕ → Bool
-isComplete whole p = both (leb 12 (length p)) (both (eqb (getD p 0 0) (length p)) (pick (eqb (flag1In p) 0) whole true))
+isComplete whole p = both (leb flagsEnd (length p)) (both (eqb (getD p 0 0) (length p)) (pick (eqb (flag1In p) 0) whole true))
 
 -- the code and the IDm; else 21
 unfoldable pub isFrom : ℕ → List ℕ → List ℕ → Bool
-isFrom code idm p = both (eqb (getD p 1 0) code) (same idm (idmIn p))
+isFrom code idm p = both (eqb (getD p codeOffset 0) code) (same idm (idmIn p))
 
 -- status flag 1 at 0; else 20, with both flags
 unfoldable pub byStatus : ℕ → ℕ → Checked
@@ -33,4 +34,4 @@ abbrev pub readCheck : List ℕ → ℕ → List ℕ → Checked
 readCheck idm n p = checkOf readReplyCode idm (hasBlocks n p) p
 
 abbrev pub writeCheck : List ℕ → List ℕ → Checked
-writeCheck idm p = checkOf writeReplyCode idm (eqb (length p) 12) p
+writeCheck idm p = checkOf writeReplyCode idm (eqb (length p) flagsEnd) p

@@ -7,6 +7,7 @@ use lib.Dec.{eqb, leb}
 use lib.ListN.{length, take, drop, getD}
 use Rattle.errors.specs.Choice.{pick}
 use Rattle.framing.specs.Lists.{both}
+use Rattle.felica.specs.Names.{idmSize, blockSize, mostBlocks, elementSize, element, codeOffset, idmOffset, servicesOffset, serviceLowOffset, serviceHighOffset, countOffset, requestHead, flag1Offset, flag2Offset, flagsEnd, blocksOffset}
 use Rattle.felica.specs.Packets.{readCode, readReplyCode, writeCode, writeReplyCode}
 use Rattle.felica.specs.declared.BlockNumbers.{BlockNumbers}
 use Rattle.felica.specs.declared.request.Asked.{Asked}
@@ -18,33 +19,33 @@ use Rattle.felica.specs.declared.reply.Reply.the-variants as reply
 -- ---- the fields of any bytes, by their places
 
 abbrev pub idmIn : List ℕ → List ℕ
-idmIn p = take 8 (drop 2 p)
+idmIn p = take idmSize (drop idmOffset p)
 
 -- of a request: service code, number of blocks, block list, what follows it
 abbrev pub serviceIn : List ℕ → ℕ
-serviceIn p = getD p 11 0 + 256 * getD p 12 0
+serviceIn p = getD p serviceLowOffset 0 + 256 * getD p serviceHighOffset 0
 
 abbrev pub countIn : List ℕ → ℕ
-countIn p = getD p 13 0
+countIn p = getD p countOffset 0
 
 abbrev pub listIn : List ℕ → List ℕ
-listIn p = take (2 * countIn p) (drop 14 p)
+listIn p = take (elementSize * countIn p) (drop requestHead p)
 
 abbrev pub bytesIn : ℕ → List ℕ → List ℕ
-bytesIn count p = drop (14 + 2 * count) p
+bytesIn count p = drop (requestHead + elementSize * count) p
 
 -- of a reply: status flags, number of blocks, block data
 abbrev pub flag1In : List ℕ → ℕ
-flag1In p = getD p 10 0
+flag1In p = getD p flag1Offset 0
 
 abbrev pub flag2In : List ℕ → ℕ
-flag2In p = getD p 11 0
+flag2In p = getD p flag2Offset 0
 
 abbrev pub numberIn : List ℕ → ℕ
-numberIn p = getD p 12 0
+numberIn p = getD p flagsEnd 0
 
 abbrev pub blocksIn : List ℕ → List ℕ
-blocksIn p = drop 13 p
+blocksIn p = drop blocksOffset p
 
 -- the block numbers of a block list, and whether all its elements are of two bytes and name the first service
 unfoldable pub numbersIn : List ℕ → List ℕ
@@ -55,19 +56,19 @@ numbersIn (x ∷ number ∷ l) = number ∷ numbersIn l
 unfoldable pub isBlockList : List ℕ → Bool
 isBlockList [] = true
 isBlockList (x ∷ []) = false
-isBlockList (x ∷ number ∷ l) = both (eqb x 0x80) (isBlockList l)
+isBlockList (x ∷ number ∷ l) = both (eqb x element) (isBlockList l)
 
 -- ---- requests
 
 -- 1 to 4 blocks with so many bytes of data each, and nothing behind
 unfoldable pub asksBlocks : ℕ → List ℕ → Bool
 asksBlocks size p =
-    both (leb 1 (countIn p)) (both (leb (countIn p) 4) (both (eqb (length p) (14 + (2 + size) * countIn p)) (isBlockList (listIn p))))
+    both (leb 1 (countIn p)) (both (leb (countIn p) mostBlocks) (both (eqb (length p) (requestHead + (elementSize + size) * countIn p)) (isBlockList (listIn p))))
 
 -- a request of this code: LEN is the number of the bytes, one service
 unfoldable pub isRequest : ℕ → ℕ → List ℕ → Bool
 isRequest code size p =
-    both (eqb (getD p 0 0) (length p)) (both (eqb (getD p 1 0) code) (both (eqb (getD p 10 0) 1) (asksBlocks size p)))
+    both (eqb (getD p 0 0) (length p)) (both (eqb (getD p codeOffset 0) code) (both (eqb (getD p servicesOffset 0) 1) (asksBlocks size p)))
 
 -- IDm, service code and block numbers; of a write the block data too; or none
 pub data RequestFields : Type 0 where
@@ -78,7 +79,7 @@ pub data RequestFields : Type 0 where
 unfoldable pub requestOf : List ℕ → RequestFields
 requestOf p =
     pick (isRequest readCode 0 p) (reads (idmIn p) (serviceIn p) (numbersIn (listIn p)))
-    (pick (isRequest writeCode 16 p) (writes (idmIn p) (serviceIn p) (numbersIn (listIn p)) (bytesIn (countIn p) p)) noRequest)
+    (pick (isRequest writeCode blockSize p) (writes (idmIn p) (serviceIn p) (numbersIn (listIn p)) (bytesIn (countIn p) p)) noRequest)
 
 -- what the code's answer says of the packet p
 abbrev pub four : BlockNumbers → List ℕ
@@ -101,21 +102,21 @@ requestIn request.Nothing p = noRequest
 
 -- LEN is the number of the bytes, of which there are enough for the flags; the code
 unfoldable pub isReply : ℕ → List ℕ → Bool
-isReply code p = both (leb 12 (length p)) (both (eqb (getD p 0 0) (length p)) (eqb (getD p 1 0) code))
+isReply code p = both (leb flagsEnd (length p)) (both (eqb (getD p 0 0) (length p)) (eqb (getD p codeOffset 0) code))
 
 -- the number of n blocks, and 16 bytes for each
 unfoldable pub hasBlocks : ℕ → List ℕ → Bool
-hasBlocks n p = both (eqb (numberIn p) n) (eqb (length p) (13 + 16 * n))
+hasBlocks n p = both (eqb (numberIn p) n) (eqb (length p) (blocksOffset + blockSize * n))
 
 unfoldable pub readsBlocks : List ℕ → Bool
 readsBlocks p =
-    pick (eqb (flag1In p) 0) (both (leb 1 (numberIn p)) (both (leb (numberIn p) 4) (hasBlocks (numberIn p) p))) (eqb (length p) 12)
+    pick (eqb (flag1In p) 0) (both (leb 1 (numberIn p)) (both (leb (numberIn p) mostBlocks) (hasBlocks (numberIn p) p))) (eqb (length p) flagsEnd)
 
 unfoldable pub isReadReply : List ℕ → Bool
 isReadReply p = both (isReply readReplyCode p) (readsBlocks p)
 
 unfoldable pub isWriteReply : List ℕ → Bool
-isWriteReply p = both (isReply writeReplyCode p) (eqb (length p) 12)
+isWriteReply p = both (isReply writeReplyCode p) (eqb (length p) flagsEnd)
 
 -- IDm, both flags and, of a read, the block data; or none
 pub data ReplyFields : Type 0 where

@@ -14,6 +14,7 @@ use Rattle.errors.specs.Choice.{pick}
 use Rattle.errors.specs.Refusals.{refused, answered, plain}
 use Rattle.framing.specs.Build.{Left, left, putFrame}
 use Rattle.framing.specs.Valid.{both-left, both-right}
+use Rattle.felica.specs.Names.{idmSize, blockSize, mostBlocks, elementSize, requestHead, flagsEnd, blocksOffset}
 use Rattle.felica.specs.Packets.{packet, blockList, request, reply, readReply, readReplyCode, idmFits, requestFits, writeFits, areBlocks, readReplyFits, builtOf}
 use Rattle.felica.specs.Lists.{eight, list-length}
 
@@ -38,15 +39,15 @@ module _ (p b : List ℕ) (n : ℕ) (k : n ≡ length p) where
 
 -- ---- requests
 
-module _ (code service : ℕ) (idm blocks bytes : List ℕ) (h : length idm ≡ 8) where
-  pub request-length : length (request code idm service blocks bytes) ≡ 14 + 2 * length blocks + length bytes
+module _ (code service : ℕ) (idm blocks bytes : List ℕ) (h : length idm ≡ idmSize) where
+  pub request-length : length (request code idm service blocks bytes) ≡ requestHead + elementSize * length blocks + length bytes
   unfolding request packet
   request-length =
       let rest : List ℕ = 0x01 ∷ service % 256 ∷ service / 256 ∷ length blocks ∷ blockList blocks ++ bytes in
       omega (arith, length-append idm rest, length-append (blockList blocks) bytes, list-length blocks)
 
   -- head, block list and what follows
-  request-laid : (len : ℕ) → len ≡ 14 + 2 * length blocks + length bytes
+  request-laid : (len : ℕ) → len ≡ requestHead + elementSize * length blocks + length bytes
       → (len ∷ code ∷ getD idm 0 0 ∷ getD idm 1 0 ∷ getD idm 2 0 ∷ getD idm 3 0 ∷ getD idm 4 0 ∷ getD idm 5 0 ∷ getD idm 6 0 ∷ getD idm 7 0
       ∷ 1 ∷ service % 256 ∷ service / 256 ∷ length blocks ∷ []) ++ blockList blocks ++ bytes
       ≡ request code idm service blocks bytes
@@ -56,96 +57,96 @@ module _ (code service : ℕ) (idm blocks bytes : List ℕ) (h : length idm ≡ 
       let n : len ≡ suc (suc (length (idm ++ rest))) = omega (arith, length-append idm rest, length-append (blockList blocks) bytes, list-length blocks) in
       ap₂ (λ m l. m ∷ code ∷ l ++ rest) n (eight idm h)
 
-  pub request-no-room : (b : List ℕ) → length b < 14 + 2 * length blocks + length bytes
+  pub request-no-room : (b : List ℕ) → length b < requestHead + elementSize * length blocks + length bytes
       → left (refused (plain 2)) b ≡ putFrame (request code idm service blocks bytes) b
-  request-no-room b k = no-room (request code idm service blocks bytes) b (14 + 2 * length blocks + length bytes) (sym request-length) k
+  request-no-room b k = no-room (request code idm service blocks bytes) b (requestHead + elementSize * length blocks + length bytes) (sym request-length) k
 
   -- the three parts put one behind the other
-  pub request-put : (b b₁ b₂ b₃ : List ℕ) → 14 + 2 * length blocks + length bytes ≤ length b
-      → b₁ ≡ take 0 b ++ (((14 + 2 * length blocks + length bytes) ∷ code ∷ getD idm 0 0 ∷ getD idm 1 0 ∷ getD idm 2 0 ∷ getD idm 3 0 ∷ getD idm 4 0 ∷ getD idm 5 0
-      ∷ getD idm 6 0 ∷ getD idm 7 0 ∷ 1 ∷ service % 256 ∷ service / 256 ∷ length blocks ∷ []) ++ drop 14 b)
-      → b₂ ≡ take 14 b₁ ++ (blockList blocks ++ drop (14 + 2 * length blocks) b₁)
-      → b₃ ≡ take (14 + 2 * length blocks) b₂ ++ (bytes ++ drop (14 + 2 * length blocks + length bytes) b₂)
-      → left (answered (14 + 2 * length blocks + length bytes)) b₃ ≡ putFrame (request code idm service blocks bytes) b
+  pub request-put : (b b₁ b₂ b₃ : List ℕ) → requestHead + elementSize * length blocks + length bytes ≤ length b
+      → b₁ ≡ take 0 b ++ (((requestHead + elementSize * length blocks + length bytes) ∷ code ∷ getD idm 0 0 ∷ getD idm 1 0 ∷ getD idm 2 0 ∷ getD idm 3 0 ∷ getD idm 4 0 ∷ getD idm 5 0
+      ∷ getD idm 6 0 ∷ getD idm 7 0 ∷ 1 ∷ service % 256 ∷ service / 256 ∷ length blocks ∷ []) ++ drop requestHead b)
+      → b₂ ≡ take requestHead b₁ ++ (blockList blocks ++ drop (requestHead + elementSize * length blocks) b₁)
+      → b₃ ≡ take (requestHead + elementSize * length blocks) b₂ ++ (bytes ++ drop (requestHead + elementSize * length blocks + length bytes) b₂)
+      → left (answered (requestHead + elementSize * length blocks + length bytes)) b₃ ≡ putFrame (request code idm service blocks bytes) b
   request-put b b₁ b₂ b₃ room e₁ e₂ e₃ =
-      let len : ℕ = 14 + 2 * length blocks + length bytes in
+      let len : ℕ = requestHead + elementSize * length blocks + length bytes in
       let head : List ℕ =
       len ∷ code ∷ getD idm 0 0 ∷ getD idm 1 0 ∷ getD idm 2 0 ∷ getD idm 3 0 ∷ getD idm 4 0 ∷ getD idm 5 0 ∷ getD idm 6 0 ∷ getD idm 7 0
       ∷ 1 ∷ service % 256 ∷ service / 256 ∷ length blocks ∷ [] in
-      let n : 14 + length (blockList blocks) ≡ 14 + 2 * length blocks = ap (λ k. 14 + k) (list-length blocks) in
-      let two : b₂ ≡ (head ++ blockList blocks) ++ drop (14 + 2 * length blocks) b =
-      e₂ ∙ ap (λ k. take 14 b₁ ++ (blockList blocks ++ drop k b₁)) (sym n) ∙ put-behind b₁ head (blockList blocks) b 14 refl e₁
+      let n : requestHead + length (blockList blocks) ≡ requestHead + elementSize * length blocks = ap (λ k. requestHead + k) (list-length blocks) in
+      let two : b₂ ≡ (head ++ blockList blocks) ++ drop (requestHead + elementSize * length blocks) b =
+      e₂ ∙ ap (λ k. take requestHead b₁ ++ (blockList blocks ++ drop k b₁)) (sym n) ∙ put-behind b₁ head (blockList blocks) b requestHead refl e₁
       ∙ ap (λ k. (head ++ blockList blocks) ++ drop k b) n in
-      let at : 14 + 2 * length blocks ≡ length (head ++ blockList blocks) = sym n ∙ sym (length-append head (blockList blocks)) in
-      let three : b₃ ≡ ((head ++ blockList blocks) ++ bytes) ++ drop len b = e₃ ∙ put-behind b₂ (head ++ blockList blocks) bytes b (14 + 2 * length blocks) at two in
+      let at : requestHead + elementSize * length blocks ≡ length (head ++ blockList blocks) = sym n ∙ sym (length-append head (blockList blocks)) in
+      let three : b₃ ≡ ((head ++ blockList blocks) ++ bytes) ++ drop len b = e₃ ∙ put-behind b₂ (head ++ blockList blocks) bytes b (requestHead + elementSize * length blocks) at two in
       has-room (request code idm service blocks bytes) b len (sym request-length) room b₃
       (three ∙ ap (λ l. l ++ drop len b) (append-assoc head (blockList blocks) bytes ∙ request-laid len refl))
 
 -- ---- replies
 
-pub head-laid : (len code flag1 flag2 : ℕ) (idm : List ℕ) → length idm ≡ 8
+pub head-laid : (len code flag1 flag2 : ℕ) (idm : List ℕ) → length idm ≡ idmSize
     → _≡_ {A = List ℕ} (len ∷ code ∷ getD idm 0 0 ∷ getD idm 1 0 ∷ getD idm 2 0 ∷ getD idm 3 0 ∷ getD idm 4 0 ∷ getD idm 5 0 ∷ getD idm 6 0 ∷ getD idm 7 0
     ∷ flag1 ∷ flag2 ∷ [])
     (len ∷ code ∷ idm ++ (flag1 ∷ flag2 ∷ []))
 head-laid len code flag1 flag2 idm h = ap (λ l. len ∷ code ∷ l ++ (flag1 ∷ flag2 ∷ [])) (eight idm h)
 
-module _ (code flag1 flag2 : ℕ) (idm bytes : List ℕ) (h : length idm ≡ 8) where
-  pub reply-length : length (reply code idm flag1 flag2 bytes) ≡ 12 + length bytes
+module _ (code flag1 flag2 : ℕ) (idm bytes : List ℕ) (h : length idm ≡ idmSize) where
+  pub reply-length : length (reply code idm flag1 flag2 bytes) ≡ flagsEnd + length bytes
   unfolding reply packet
   reply-length = omega (arith, length-append idm (flag1 ∷ flag2 ∷ bytes))
 
-  reply-laid : (len : ℕ) → len ≡ 12 + length bytes → (len ∷ code ∷ idm ++ (flag1 ∷ flag2 ∷ [])) ++ bytes ≡ reply code idm flag1 flag2 bytes
+  reply-laid : (len : ℕ) → len ≡ flagsEnd + length bytes → (len ∷ code ∷ idm ++ (flag1 ∷ flag2 ∷ [])) ++ bytes ≡ reply code idm flag1 flag2 bytes
   unfolding reply packet
   reply-laid len k =
       let n : len ≡ suc (suc (length (idm ++ (flag1 ∷ flag2 ∷ bytes)))) = omega (arith, length-append idm (flag1 ∷ flag2 ∷ bytes)) in
       ap₂ (λ m l. m ∷ code ∷ l) n (append-assoc idm (flag1 ∷ flag2 ∷ []) bytes)
 
-  pub reply-no-room : (b : List ℕ) (n : ℕ) → n ≡ 12 + length bytes → length b < n → left (refused (plain 2)) b ≡ putFrame (reply code idm flag1 flag2 bytes) b
+  pub reply-no-room : (b : List ℕ) (n : ℕ) → n ≡ flagsEnd + length bytes → length b < n → left (refused (plain 2)) b ≡ putFrame (reply code idm flag1 flag2 bytes) b
   reply-no-room b n e k = no-room (reply code idm flag1 flag2 bytes) b n (e ∙ sym reply-length) k
 
   -- the head, and what follows it put behind it
-  reply-put : (b b₁ : List ℕ) (len : ℕ) → len ≡ 12 + length bytes → len ≤ length b → b₁ ≡ ((len ∷ code ∷ idm ++ (flag1 ∷ flag2 ∷ [])) ++ bytes) ++ drop len b
+  reply-put : (b b₁ : List ℕ) (len : ℕ) → len ≡ flagsEnd + length bytes → len ≤ length b → b₁ ≡ ((len ∷ code ∷ idm ++ (flag1 ∷ flag2 ∷ [])) ++ bytes) ++ drop len b
       → left (answered len) b₁ ≡ putFrame (reply code idm flag1 flag2 bytes) b
   reply-put b b₁ len e room k =
       has-room (reply code idm flag1 flag2 bytes) b len (e ∙ sym reply-length) room b₁ (k ∙ ap (λ l. l ++ drop len b) (reply-laid len e))
 
-head-length : (len code flag1 flag2 : ℕ) (idm : List ℕ) → length idm ≡ 8 → length (len ∷ code ∷ idm ++ (flag1 ∷ flag2 ∷ [])) ≡ 12
+head-length : (len code flag1 flag2 : ℕ) (idm : List ℕ) → length idm ≡ idmSize → length (len ∷ code ∷ idm ++ (flag1 ∷ flag2 ∷ [])) ≡ flagsEnd
 head-length len code flag1 flag2 idm h = omega (arith, length-append idm (flag1 ∷ flag2 ∷ []))
 
-pub flags-put : (code flag1 flag2 : ℕ) (idm head b b₁ : List ℕ) → length idm ≡ 8 → 12 ≤ length b → head ≡ 12 ∷ code ∷ idm ++ (flag1 ∷ flag2 ∷ [])
-    → b₁ ≡ take 0 b ++ (head ++ drop (0 + length head) b) → left (answered 12) b₁ ≡ putFrame (reply code idm flag1 flag2 []) b
+pub flags-put : (code flag1 flag2 : ℕ) (idm head b b₁ : List ℕ) → length idm ≡ idmSize → flagsEnd ≤ length b → head ≡ flagsEnd ∷ code ∷ idm ++ (flag1 ∷ flag2 ∷ [])
+    → b₁ ≡ take 0 b ++ (head ++ drop (0 + length head) b) → left (answered flagsEnd) b₁ ≡ putFrame (reply code idm flag1 flag2 []) b
 flags-put code flag1 flag2 idm head b b₁ h room k e =
-    let n : length head ≡ 12 = ap length k ∙ head-length 12 code flag1 flag2 idm h in
-    let one : b₁ ≡ head ++ drop 12 b = e ∙ ap (λ j. take 0 b ++ (head ++ drop (0 + j) b)) n in
-    reply-put code flag1 flag2 idm [] h b b₁ 12 refl room
-    (one ∙ ap (λ l. l ++ drop 12 b) (k ∙ sym (append-nil (12 ∷ code ∷ idm ++ (flag1 ∷ flag2 ∷ [])))))
+    let n : length head ≡ flagsEnd = ap length k ∙ head-length flagsEnd code flag1 flag2 idm h in
+    let one : b₁ ≡ head ++ drop flagsEnd b = e ∙ ap (λ j. take 0 b ++ (head ++ drop (0 + j) b)) n in
+    reply-put code flag1 flag2 idm [] h b b₁ flagsEnd refl room
+    (one ∙ ap (λ l. l ++ drop flagsEnd b) (k ∙ sym (append-nil (flagsEnd ∷ code ∷ idm ++ (flag1 ∷ flag2 ∷ [])))))
 
-pub blocks-no-room : (code flag1 flag2 : ℕ) (idm bytes b : List ℕ) → length idm ≡ 8 → length b < 13 + length bytes
-    → left (refused (plain 2)) b ≡ putFrame (reply code idm flag1 flag2 (length bytes / 16 ∷ bytes)) b
+pub blocks-no-room : (code flag1 flag2 : ℕ) (idm bytes b : List ℕ) → length idm ≡ idmSize → length b < blocksOffset + length bytes
+    → left (refused (plain 2)) b ≡ putFrame (reply code idm flag1 flag2 (length bytes / blockSize ∷ bytes)) b
 blocks-no-room code flag1 flag2 idm bytes b h k =
-    no-room (reply code idm flag1 flag2 (length bytes / 16 ∷ bytes)) b (13 + length bytes) (omega (arith, reply-length code flag1 flag2 idm (length bytes / 16 ∷ bytes) h)) k
+    no-room (reply code idm flag1 flag2 (length bytes / blockSize ∷ bytes)) b (blocksOffset + length bytes) (omega (arith, reply-length code flag1 flag2 idm (length bytes / blockSize ∷ bytes) h)) k
 
-pub blocks-put : (code flag1 flag2 : ℕ) (idm bytes head b b₁ b₂ b₃ : List ℕ) → length idm ≡ 8 → 13 + length bytes ≤ length b
-    → head ≡ (13 + length bytes) ∷ code ∷ idm ++ (flag1 ∷ flag2 ∷ []) → b₁ ≡ take 0 b ++ (head ++ drop (0 + length head) b)
-    → b₂ ≡ take 12 b₁ ++ ((length bytes / 16 ∷ []) ++ drop 13 b₁) → b₃ ≡ take 13 b₂ ++ (bytes ++ drop (13 + length bytes) b₂)
-    → left (answered (13 + length bytes)) b₃ ≡ putFrame (reply code idm flag1 flag2 (length bytes / 16 ∷ bytes)) b
+pub blocks-put : (code flag1 flag2 : ℕ) (idm bytes head b b₁ b₂ b₃ : List ℕ) → length idm ≡ idmSize → blocksOffset + length bytes ≤ length b
+    → head ≡ (blocksOffset + length bytes) ∷ code ∷ idm ++ (flag1 ∷ flag2 ∷ []) → b₁ ≡ take 0 b ++ (head ++ drop (0 + length head) b)
+    → b₂ ≡ take flagsEnd b₁ ++ ((length bytes / blockSize ∷ []) ++ drop blocksOffset b₁) → b₃ ≡ take blocksOffset b₂ ++ (bytes ++ drop (blocksOffset + length bytes) b₂)
+    → left (answered (blocksOffset + length bytes)) b₃ ≡ putFrame (reply code idm flag1 flag2 (length bytes / blockSize ∷ bytes)) b
 blocks-put code flag1 flag2 idm bytes head b b₁ b₂ b₃ h room k e₁ e₂ e₃ =
-    let len : ℕ = 13 + length bytes in
-    let n : length head ≡ 12 = ap length k ∙ head-length len code flag1 flag2 idm h in
-    let number : List ℕ = length bytes / 16 ∷ [] in
-    let one : b₁ ≡ head ++ drop 12 b = e₁ ∙ ap (λ j. take 0 b ++ (head ++ drop (0 + j) b)) n in
-    let two : b₂ ≡ (head ++ number) ++ drop 13 b = e₂ ∙ put-behind b₁ head number b 12 (sym n) one in
-    let at : 13 ≡ length (head ++ number) = sym (length-append head number ∙ ap (λ j. j + 1) n) in
-    let three : b₃ ≡ ((head ++ number) ++ bytes) ++ drop len b = e₃ ∙ put-behind b₂ (head ++ number) bytes b 13 at two in
-    reply-put code flag1 flag2 idm (length bytes / 16 ∷ bytes) h b b₃ len (omega arith) room
-    (three ∙ ap (λ l. l ++ drop len b) (append-assoc head number bytes ∙ ap (λ l. l ++ (length bytes / 16 ∷ bytes)) k))
+    let len : ℕ = blocksOffset + length bytes in
+    let n : length head ≡ flagsEnd = ap length k ∙ head-length len code flag1 flag2 idm h in
+    let number : List ℕ = length bytes / blockSize ∷ [] in
+    let one : b₁ ≡ head ++ drop flagsEnd b = e₁ ∙ ap (λ j. take 0 b ++ (head ++ drop (0 + j) b)) n in
+    let two : b₂ ≡ (head ++ number) ++ drop blocksOffset b = e₂ ∙ put-behind b₁ head number b flagsEnd (sym n) one in
+    let at : blocksOffset ≡ length (head ++ number) = sym (length-append head number ∙ ap (λ j. j + 1) n) in
+    let three : b₃ ≡ ((head ++ number) ++ bytes) ++ drop len b = e₃ ∙ put-behind b₂ (head ++ number) bytes b blocksOffset at two in
+    reply-put code flag1 flag2 idm (length bytes / blockSize ∷ bytes) h b b₃ len (omega arith) room
+    (three ∙ ap (λ l. l ++ drop len b) (append-assoc head number bytes ∙ ap (λ l. l ++ (length bytes / blockSize ∷ bytes)) k))
 
 -- ---- what fits
 
 record Named (idm blocks : List ℕ) : Type 0 where
-  pub idm-eight : length idm ≡ 8
+  pub idm-eight : length idm ≡ idmSize
   pub some : 1 ≤ length blocks
-  pub few : length blocks ≤ 4
+  pub few : length blocks ≤ mostBlocks
 
 fits : (idm blocks : List ℕ) (r : Bool) → r ≡ requestFits idm blocks → r ≡ true → Named idm blocks
 unfolding requestFits
@@ -153,34 +154,34 @@ fits idm blocks r known good =
     let h = sym known ∙ good in
     let both-h = both-right (idmFits idm) _ h in
     record {
-      idm-eight = eqb-true (length idm) 8 (both-left (idmFits idm) _ h);
+      idm-eight = eqb-true (length idm) idmSize (both-left (idmFits idm) _ h);
       some = leb-true 1 (length blocks) (both-left (leb 1 (length blocks)) _ both-h);
-      few = leb-true (length blocks) 4 (both-right (leb 1 (length blocks)) _ both-h);
+      few = leb-true (length blocks) mostBlocks (both-right (leb 1 (length blocks)) _ both-h);
     }
 
-write-bytes : (idm blocks bytes : List ℕ) (r : Bool) → r ≡ writeFits idm blocks bytes → r ≡ true → (length bytes ≤ 64) × Named idm blocks
+write-bytes : (idm blocks bytes : List ℕ) (r : Bool) → r ≡ writeFits idm blocks bytes → r ≡ true → (length bytes ≤ blockSize * mostBlocks) × Named idm blocks
 unfolding writeFits
 write-bytes idm blocks bytes r known good =
     let h = sym known ∙ good in
     let f = fits idm blocks (requestFits idm blocks) refl (both-left (requestFits idm blocks) _ h) in
-    let e : length bytes ≡ 16 * length blocks = eqb-true (length bytes) (16 * length blocks) (both-right (requestFits idm blocks) _ h) in
+    let e : length bytes ≡ blockSize * length blocks = eqb-true (length bytes) (blockSize * length blocks) (both-right (requestFits idm blocks) _ h) in
     (omega (arith, f .few), f)
 
 -- of a read's reply: the IDm; with flag 1 at 0 the data of at most 4 blocks
 module _ (idm bytes : List ℕ) (flag1 : ℕ) (r : Bool) (known : r ≡ readReplyFits idm flag1 bytes) (good : r ≡ true) where
-  pub reply-idm : length idm ≡ 8
+  pub reply-idm : length idm ≡ idmSize
   unfolding readReplyFits
-  reply-idm = eqb-true (length idm) 8 (both-left (idmFits idm) _ (sym known ∙ good))
+  reply-idm = eqb-true (length idm) idmSize (both-left (idmFits idm) _ (sym known ∙ good))
 
-  pub reply-bytes : flag1 ≡ 0 → length bytes ≤ 64
+  pub reply-bytes : flag1 ≡ 0 → length bytes ≤ blockSize * mostBlocks
   unfolding readReplyFits pick areBlocks
   reply-bytes z =
       let h : pick (eqb flag1 0) (areBlocks (length bytes)) (eqb (length bytes) 0) ≡ true = both-right (idmFits idm) _ (sym known ∙ good) in
       let k : areBlocks (length bytes) ≡ true = rw (eq-eqb flag1 0 z) at h in
-      leb-true (length bytes) 64 (both-right (leb 16 (length bytes)) _ (both-right (eqb (length bytes % 16) 0) _ k))
+      leb-true (length bytes) (blockSize * mostBlocks) (both-right (leb blockSize (length bytes)) _ (both-right (eqb (length bytes % blockSize) 0) _ k))
 
   module _ (x : Left) (flag2 : ℕ) (b : List ℕ) where
-    pub built-blocks : flag1 ≡ 0 → x ≡ putFrame (reply readReplyCode idm flag1 flag2 (length bytes / 16 ∷ bytes)) b
+    pub built-blocks : flag1 ≡ 0 → x ≡ putFrame (reply readReplyCode idm flag1 flag2 (length bytes / blockSize ∷ bytes)) b
         → x ≡ builtOf (readReplyFits idm flag1 bytes) (readReply idm flag1 flag2 bytes) b
     unfolding builtOf pick
     built-blocks z e = rw (sym known ∙ good, eq-eqb flag1 0 z) e
@@ -202,33 +203,33 @@ module _ (p b : List ℕ) (r t : Bool) (known : r ≡ t) where
 
 -- the same where the code made the test itself
 module _ (p b idm : List ℕ) where
-  pub as-built : (x : Left) → length idm ≡ 8 → x ≡ putFrame p b → x ≡ builtOf (idmFits idm) p b
-  as-built x h e = built p b true (idmFits idm) (sym (eq-eqb (length idm) 8 h)) x refl e
+  pub as-built : (x : Left) → length idm ≡ idmSize → x ≡ putFrame p b → x ≡ builtOf (idmFits idm) p b
+  as-built x h e = built p b true (idmFits idm) (sym (eq-eqb (length idm) idmSize h)) x refl e
 
-  pub as-refused : (length idm ≡ 8 → ⊥) → left (refused (plain 4)) b ≡ builtOf (idmFits idm) p b
-  as-refused h = not-built p b false (idmFits idm) (sym (ne-eqb (length idm) 8 h)) refl
+  pub as-refused : (length idm ≡ idmSize → ⊥) → left (refused (plain 4)) b ≡ builtOf (idmFits idm) p b
+  as-refused h = not-built p b false (idmFits idm) (sym (ne-eqb (length idm) idmSize h)) refl
 
 module _ (idm blocks : List ℕ) (r : Bool) (known : r ≡ requestFits idm blocks) (good : r ≡ true) where
-  pub fits-idm : length idm ≡ 8
+  pub fits-idm : length idm ≡ idmSize
   fits-idm = fits idm blocks r known good .idm-eight
 
-  pub fits-few : length blocks ≤ 4
+  pub fits-few : length blocks ≤ mostBlocks
   fits-few = fits idm blocks r known good .few
 
   pub fits-some : 1 ≤ length blocks
   fits-some = fits idm blocks r known good .some
 
-  pub fits-product : Fits w64 (16 * length blocks)
+  pub fits-product : Fits w64 (blockSize * length blocks)
   fits-product = record { fits = omega (arith, fits-few) }
 
 module _ (idm blocks bytes : List ℕ) (r : Bool) (known : r ≡ writeFits idm blocks bytes) (good : r ≡ true) where
-  pub write-idm : length idm ≡ 8
+  pub write-idm : length idm ≡ idmSize
   write-idm = write-bytes idm blocks bytes r known good .1 .idm-eight
 
-  pub write-few : length blocks ≤ 4
+  pub write-few : length blocks ≤ mostBlocks
   write-few = write-bytes idm blocks bytes r known good .1 .few
 
-  pub write-few-bytes : length bytes ≤ 64
+  pub write-few-bytes : length bytes ≤ blockSize * mostBlocks
   write-few-bytes = write-bytes idm blocks bytes r known good .0
 
 module _ (idm blocks bytes : List ℕ) (h : writeFits idm blocks bytes ≡ true) where
@@ -236,6 +237,6 @@ module _ (idm blocks bytes : List ℕ) (h : writeFits idm blocks bytes ≡ true)
   unfolding writeFits
   write-named = both-left (requestFits idm blocks) _ h
 
-  pub write-sixteen : length bytes ≡ 16 * length blocks
+  pub write-sixteen : length bytes ≡ blockSize * length blocks
   unfolding writeFits
-  write-sixteen = eqb-true (length bytes) (16 * length blocks) (both-right (requestFits idm blocks) _ h)
+  write-sixteen = eqb-true (length bytes) (blockSize * length blocks) (both-right (requestFits idm blocks) _ h)

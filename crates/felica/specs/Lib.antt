@@ -1,4 +1,5 @@
 -- FeliCa's commands without encryption (JIS X 6319-4): the packets, what is taken apart, and the laws of both.
+pub mod Names
 pub mod Packets
 pub mod Fields
 pub mod Rules

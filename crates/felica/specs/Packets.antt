@@ -9,6 +9,7 @@ use Rattle.errors.specs.Choice.{pick}
 use Rattle.errors.specs.Refusals.{refused, plain}
 use Rattle.framing.specs.Build.{Left, left, putFrame}
 use Rattle.framing.specs.Lists.{both}
+use Rattle.felica.specs.Names.{idmSize, blockSize, mostBlocks, element}
 
 -- the codes
 abbrev pub readCode : ℕ
@@ -27,10 +28,10 @@ writeReplyCode = 0x09
 unfoldable pub packet : List ℕ → List ℕ
 packet bytes = suc (length bytes) ∷ bytes
 
--- the block list of two-byte elements: 80 (bit 7, access mode 000, the first service), and the block number
+-- the block list: of each element the first byte, and the block number
 unfoldable pub blockList : List ℕ → List ℕ
 blockList [] = []
-blockList (number ∷ numbers) = 0x80 ∷ number ∷ blockList numbers
+blockList (number ∷ numbers) = element ∷ number ∷ blockList numbers
 
 -- code, IDm, one service, its code low byte first, the number of blocks, the block list, and what follows it
 unfoldable pub request : ℕ → List ℕ → ℕ → List ℕ → List ℕ → List ℕ
@@ -49,7 +50,7 @@ reply code idm flag1 flag2 bytes = packet (code ∷ idm ++ (flag1 ∷ flag2 ∷ 
 
 -- number of blocks and block data, 16 bytes each, only where status flag 1 is 00
 abbrev pub blocksRead : ℕ → List ℕ → List ℕ
-blocksRead flag1 bytes = pick (eqb flag1 0) (length bytes / 16 ∷ bytes) []
+blocksRead flag1 bytes = pick (eqb flag1 0) (length bytes / blockSize ∷ bytes) []
 
 abbrev pub readReply : List ℕ → ℕ → ℕ → List ℕ → List ℕ
 readReply idm flag1 flag2 bytes = reply readReplyCode idm flag1 flag2 (blocksRead flag1 bytes)
@@ -61,19 +62,19 @@ writeReply idm flag1 flag2 = reply writeReplyCode idm flag1 flag2 []
 
 -- an IDm has 8 bytes
 abbrev pub idmFits : List ℕ → Bool
-idmFits idm = eqb (length idm) 8
+idmFits idm = eqb (length idm) idmSize
 
 -- 1 to 4 blocks are asked for
 unfoldable pub requestFits : List ℕ → List ℕ → Bool
-requestFits idm blocks = both (idmFits idm) (both (leb 1 (length blocks)) (leb (length blocks) 4))
+requestFits idm blocks = both (idmFits idm) (both (leb 1 (length blocks)) (leb (length blocks) mostBlocks))
 
 -- 16 bytes a block are written
 unfoldable pub writeFits : List ℕ → List ℕ → List ℕ → Bool
-writeFits idm blocks bytes = both (requestFits idm blocks) (eqb (length bytes) (16 * length blocks))
+writeFits idm blocks bytes = both (requestFits idm blocks) (eqb (length bytes) (blockSize * length blocks))
 
 -- 16 bytes a block, 1 to 4 blocks
 unfoldable pub areBlocks : ℕ → Bool
-areBlocks n = both (eqb (n % 16) 0) (both (leb 16 n) (leb n 64))
+areBlocks n = both (eqb (n % blockSize) 0) (both (leb blockSize n) (leb n (blockSize * mostBlocks)))
 
 -- no block data where status flag 1 is not 00
 unfoldable pub readReplyFits : List ℕ → ℕ → List ℕ → Bool

@@ -2,17 +2,18 @@
 use mathlib.Core.Path.{_≡_, refl, sym, ap, ap₂, _∙_, subst}
 use mathlib.Core.Bool.{Bool, true, false}
 use mathlib.Core.List.{List, [], _∷_, _++_}
-use Prim.Native.Nat.{ℕ, suc, _+_, _*_, _-_, _/_, _%_, _≤_, _<_}
+use Prim.Native.Nat.{ℕ, suc, _+_, _*_, _-_, _/_, _%_, _≤_}
 use native.Mathlib.Omega.{arith}
 use borrow.Author.Tests.{eq-eqb, le-leb, leb-true, eqb-true}
 use lib.Dec.{eqb, leb}
-use lib.ListN.{length, take, drop, getD, length-append, length-take, length-drop, take-append-drop, drop-of-length-le}
+use lib.ListN.{length, drop, getD, length-take, length-drop, take-append-drop, drop-of-length-le}
 use lib.Seq.{drop-cons, drop-drop, take-at, drop-at}
 use Rattle.errors.specs.Choice.{pick}
 use Rattle.framing.specs.Lists.{both, Bytes}
 use Rattle.framing.specs.Valid.{both-left, both-right}
-use Rattle.felica.specs.Packets.{packet, blockList, request, readRequest, writeRequest, readCode, writeCode, idmFits, requestFits, writeFits}
-use Rattle.felica.specs.Fields.{idmIn, serviceIn, countIn, listIn, bytesIn, numbersIn, isBlockList, asksBlocks, isRequest, RequestFields, reads, writes, noRequest, requestOf}
+use Rattle.felica.specs.Names.{idmSize, blockSize, mostBlocks, elementSize, element, codeOffset, idmOffset, servicesOffset, serviceLowOffset, serviceHighOffset, countOffset, requestHead}
+use Rattle.felica.specs.Packets.{packet, blockList, request, readRequest, writeRequest, readCode, writeCode, requestFits, writeFits}
+use Rattle.felica.specs.Fields.{idmIn, serviceIn, countIn, listIn, bytesIn, numbersIn, isBlockList, asksBlocks, isRequest, reads, writes, noRequest, requestOf}
 use Rattle.felica.specs.Lists.{eight, list-length}
 use Rattle.felica.specs.Taken.{list-within}
 use Rattle.felica.specs.Laid.{request-length, fits-idm, fits-few, fits-some, write-named, write-sixteen}
@@ -34,14 +35,14 @@ unfolding blockList numbersIn isBlockList
 list-back [] h = refl
 list-back (x ∷ []) h = absurd (let z : _≡_ {A = Bool} false true = h in let e : _≡_ {A = ℕ} 0 1 = cc in omega arith)
 list-back (x ∷ y ∷ l) h =
-    ap₂ (λ a r. a ∷ y ∷ r) (sym (eqb-true x 0x80 (both-left (eqb x 0x80) _ h))) (list-back l (both-right (eqb x 0x80) _ h))
+    ap₂ (λ a r. a ∷ y ∷ r) (sym (eqb-true x element (both-left (eqb x element) _ h))) (list-back l (both-right (eqb x element) _ h))
 
 -- ---- the fields of a request
 
 pub record Parts (p : List ℕ) (code : ℕ) (idm : List ℕ) (service : ℕ) (blocks bytes : List ℕ) : Type 0 where
   pub len : getD p 0 0 ≡ length p
-  pub codeIs : getD p 1 0 ≡ code
-  pub one : getD p 10 0 ≡ 1
+  pub codeIs : getD p codeOffset 0 ≡ code
+  pub one : getD p servicesOffset 0 ≡ 1
   pub idmIs : idmIn p ≡ idm
   pub serviceIs : serviceIn p ≡ service
   pub count : countIn p ≡ length blocks
@@ -59,26 +60,26 @@ eight-parts code service a b c d e f g h blocks bytes =
       idmIs = refl;
       serviceIs = omega arith;
       count = refl;
-      list = take-at (blockList blocks) bytes (2 * length blocks) (list-length blocks);
+      list = take-at (blockList blocks) bytes (elementSize * length blocks) (list-length blocks);
       bytesIs =
-          sym (drop-drop (2 * length blocks) 14 (request code (a ∷ b ∷ c ∷ d ∷ e ∷ f ∷ g ∷ h ∷ []) service blocks bytes))
-          ∙ drop-at (blockList blocks) bytes (2 * length blocks) (list-length blocks);
+          sym (drop-drop (elementSize * length blocks) requestHead (request code (a ∷ b ∷ c ∷ d ∷ e ∷ f ∷ g ∷ h ∷ []) service blocks bytes))
+          ∙ drop-at (blockList blocks) bytes (elementSize * length blocks) (list-length blocks);
     }
 
-pub parts : (code service : ℕ) (idm blocks bytes : List ℕ) → length idm ≡ 8 → Parts (request code idm service blocks bytes) code idm service blocks bytes
+pub parts : (code service : ℕ) (idm blocks bytes : List ℕ) → length idm ≡ idmSize → Parts (request code idm service blocks bytes) code idm service blocks bytes
 parts code service idm blocks bytes h =
     subst (λ l. Parts (request code l service blocks bytes) code l service blocks bytes) (eight idm h)
     (eight-parts code service (getD idm 0 0) (getD idm 1 0) (getD idm 2 0) (getD idm 3 0) (getD idm 4 0) (getD idm 5 0) (getD idm 6 0) (getD idm 7 0) blocks bytes)
 
 -- ---- build, then take apart
 
-module _ (code service s : ℕ) (idm blocks bytes : List ℕ) (h : length idm ≡ 8) (some : 1 ≤ length blocks) (few : length blocks ≤ 4) where
-  is-request : length (request code idm service blocks bytes) ≡ 14 + (2 + s) * length blocks → isRequest code s (request code idm service blocks bytes) ≡ true
+module _ (code service s : ℕ) (idm blocks bytes : List ℕ) (h : length idm ≡ idmSize) (some : 1 ≤ length blocks) (few : length blocks ≤ mostBlocks) where
+  is-request : length (request code idm service blocks bytes) ≡ requestHead + (elementSize + s) * length blocks → isRequest code s (request code idm service blocks bytes) ≡ true
   unfolding isRequest asksBlocks
   is-request n =
       let p : List ℕ = request code idm service blocks bytes in
       let q = parts code service idm blocks bytes h in
-      rw (eq-eqb (getD p 0 0) (length p) (q .len), eq-eqb (getD p 1 0) code (q .codeIs), eq-eqb (getD p 10 0) 1 (q .one), q .list, q .count, le-leb 1 (length blocks) some, le-leb (length blocks) 4 few, eq-eqb (length p) (14 + (2 + s) * length blocks) n)
+      rw (eq-eqb (getD p 0 0) (length p) (q .len), eq-eqb (getD p codeOffset 0) code (q .codeIs), eq-eqb (getD p servicesOffset 0) 1 (q .one), q .list, q .count, le-leb 1 (length blocks) some, le-leb (length blocks) mostBlocks few, eq-eqb (length p) (requestHead + (elementSize + s) * length blocks) n)
       (is-list blocks)
 
   -- another code
@@ -114,9 +115,9 @@ write-back idm blocks bytes service f =
     let some = fits-some idm blocks true (sym g) refl in
     let p : List ℕ = writeRequest idm service blocks bytes in
     let q = parts writeCode service idm blocks bytes h in
-    rw (no-request writeCode service 16 idm blocks bytes h some few readCode 0 refl, is-request writeCode service 16 idm blocks bytes h some few (omega (arith, n, request-length writeCode service idm blocks bytes h)))
+    rw (no-request writeCode service blockSize idm blocks bytes h some few readCode 0 refl, is-request writeCode service blockSize idm blocks bytes h some few (omega (arith, n, request-length writeCode service idm blocks bytes h)))
     (ap₂ (λ i l. writes i (serviceIn p) (numbersIn (listIn p)) l) (q .idmIs) (q .bytesIs)
-    ∙ ap₂ (λ x y. writes idm x y bytes) (q .serviceIs) (numbers writeCode service 16 idm blocks bytes h some few))
+    ∙ ap₂ (λ x y. writes idm x y bytes) (q .serviceIs) (numbers writeCode service blockSize idm blocks bytes h some few))
 
 -- ---- what is taken apart is a request
 
@@ -125,71 +126,71 @@ module _ (code s : ℕ) (p : List ℕ) (good : isRequest code s p ≡ true) wher
   unfolding isRequest
   len = eqb-true (getD p 0 0) (length p) (both-left (eqb (getD p 0 0) (length p)) _ good)
 
-  behind-len : both (eqb (getD p 1 0) code) (both (eqb (getD p 10 0) 1) (asksBlocks s p)) ≡ true
+  behind-len : both (eqb (getD p codeOffset 0) code) (both (eqb (getD p servicesOffset 0) 1) (asksBlocks s p)) ≡ true
   unfolding isRequest
   behind-len = both-right (eqb (getD p 0 0) (length p)) _ good
 
-  behind-code : both (eqb (getD p 10 0) 1) (asksBlocks s p) ≡ true
-  behind-code = both-right (eqb (getD p 1 0) code) _ behind-len
+  behind-code : both (eqb (getD p servicesOffset 0) 1) (asksBlocks s p) ≡ true
+  behind-code = both-right (eqb (getD p codeOffset 0) code) _ behind-len
 
-  asked : both (leb 1 (countIn p)) (both (leb (countIn p) 4) (both (eqb (length p) (14 + (2 + s) * countIn p)) (isBlockList (listIn p)))) ≡ true
+  asked : both (leb 1 (countIn p)) (both (leb (countIn p) mostBlocks) (both (eqb (length p) (requestHead + (elementSize + s) * countIn p)) (isBlockList (listIn p)))) ≡ true
   unfolding asksBlocks
-  asked = both-right (eqb (getD p 10 0) 1) _ behind-code
+  asked = both-right (eqb (getD p servicesOffset 0) 1) _ behind-code
 
   some : 1 ≤ countIn p
   some = leb-true 1 (countIn p) (both-left (leb 1 (countIn p)) _ asked)
 
-  few : countIn p ≤ 4
-  few = leb-true (countIn p) 4 (both-left (leb (countIn p) 4) _ (both-right (leb 1 (countIn p)) _ asked))
+  few : countIn p ≤ mostBlocks
+  few = leb-true (countIn p) mostBlocks (both-left (leb (countIn p) mostBlocks) _ (both-right (leb 1 (countIn p)) _ asked))
 
-  listed : both (eqb (length p) (14 + (2 + s) * countIn p)) (isBlockList (listIn p)) ≡ true
-  listed = both-right (leb (countIn p) 4) _ (both-right (leb 1 (countIn p)) _ asked)
+  listed : both (eqb (length p) (requestHead + (elementSize + s) * countIn p)) (isBlockList (listIn p)) ≡ true
+  listed = both-right (leb (countIn p) mostBlocks) _ (both-right (leb 1 (countIn p)) _ asked)
 
-  whole : length p ≡ 14 + (2 + s) * countIn p
-  whole = eqb-true (length p) (14 + (2 + s) * countIn p) (both-left (eqb (length p) (14 + (2 + s) * countIn p)) _ listed)
+  whole : length p ≡ requestHead + (elementSize + s) * countIn p
+  whole = eqb-true (length p) (requestHead + (elementSize + s) * countIn p) (both-left (eqb (length p) (requestHead + (elementSize + s) * countIn p)) _ listed)
 
-  room : 14 + 2 * countIn p ≤ length p
+  room : requestHead + elementSize * countIn p ≤ length p
   room = list-within p s (countIn p) whole few
 
   list : blockList (numbersIn (listIn p)) ≡ listIn p
-  list = list-back (listIn p) (both-right (eqb (length p) (14 + (2 + s) * countIn p)) _ listed)
+  list = list-back (listIn p) (both-right (eqb (length p) (requestHead + (elementSize + s) * countIn p)) _ listed)
 
   numbered : length (numbersIn (listIn p)) ≡ countIn p
   numbered =
-      let n : 2 * length (numbersIn (listIn p)) ≡ length (listIn p) = sym (list-length (numbersIn (listIn p))) ∙ ap length list in
-      omega (arith, n, length-take (2 * countIn p) (drop 14 p), length-drop 14 p, room)
+      let n : elementSize * length (numbersIn (listIn p)) ≡ length (listIn p) = sym (list-length (numbersIn (listIn p))) ∙ ap length list in
+      omega (arith, n, length-take (elementSize * countIn p) (drop requestHead p), length-drop requestHead p, room)
 
-  idm-eight : length (idmIn p) ≡ 8
-  idm-eight = omega (arith, length-take 8 (drop 2 p), length-drop 2 p, room)
+  idm-eight : length (idmIn p) ≡ idmSize
+  idm-eight = omega (arith, length-take idmSize (drop idmOffset p), length-drop idmOffset p, room)
 
   named : requestFits (idmIn p) (numbersIn (listIn p)) ≡ true
   unfolding requestFits
   named =
-      rw (eq-eqb (length (idmIn p)) 8 idm-eight, numbered, le-leb 1 (countIn p) some)
-      (le-leb (countIn p) 4 few)
+      rw (eq-eqb (length (idmIn p)) idmSize idm-eight, numbered, le-leb 1 (countIn p) some)
+      (le-leb (countIn p) mostBlocks few)
 
   -- the bytes are those of its fields
   is : Bytes p → p ≡ request code (idmIn p) (serviceIn p) (numbersIn (listIn p)) (bytesIn (countIn p) p)
   unfolding request packet
   is bytes =
-      let x11 : getD p 11 0 ≡ serviceIn p % 256 = omega (arith, bytes 11, bytes 12) in
-      let x12 : getD p 12 0 ≡ serviceIn p / 256 = omega (arith, bytes 11, bytes 12) in
-      let x13 : getD p 13 0 ≡ length (numbersIn (listIn p)) = sym numbered in
-      let x1 : getD p 1 0 ≡ code = eqb-true (getD p 1 0) code (both-left (eqb (getD p 1 0) code) _ behind-len) in
-      let x10 : getD p 10 0 ≡ 1 = eqb-true (getD p 10 0) 1 (both-left (eqb (getD p 10 0) 1) _ behind-code) in
-      let tail : drop 14 p ≡ blockList (numbersIn (listIn p)) ++ bytesIn (countIn p) p =
-      sym (take-append-drop (2 * countIn p) (drop 14 p)) ∙ ap₂ (λ x y. x ++ y) (sym list) (drop-drop (2 * countIn p) 14 p) in
-      let from10 : drop 10 p ≡ 0x01 ∷ serviceIn p % 256 ∷ serviceIn p / 256 ∷ length (numbersIn (listIn p)) ∷ blockList (numbersIn (listIn p)) ++ bytesIn (countIn p) p =
-      drop-cons p 10 0 (omega (arith, room))
-      ∙ ap₂ (λ x r. x ∷ r) x10 (drop-cons p 11 0 (omega (arith, room))
-      ∙ ap₂ (λ x r. x ∷ r) x11 (drop-cons p 12 0 (omega (arith, room))
-      ∙ ap₂ (λ x r. x ∷ r) x12 (drop-cons p 13 0 (omega (arith, room))
-      ∙ ap₂ (λ x r. x ∷ r) x13 tail))) in
-      let from2 : drop 2 p ≡ idmIn p ++ drop 10 p = sym (take-append-drop 8 (drop 2 p)) ∙ ap (λ r. idmIn p ++ r) (drop-drop 8 2 p) in
-      let from1 : drop 1 p ≡ code ∷ idmIn p ++ (0x01 ∷ serviceIn p % 256 ∷ serviceIn p / 256 ∷ length (numbersIn (listIn p)) ∷ blockList (numbersIn (listIn p)) ++ bytesIn (countIn p) p) =
-      drop-cons p 1 0 (omega (arith, room)) ∙ ap₂ (λ x r. x ∷ r) x1 (from2 ∙ ap (λ r. idmIn p ++ r) from10) in
-      let n : getD p 0 0 ≡ suc (length (drop 1 p)) = omega (arith, len, length-drop 1 p, room) in
-      drop-cons p 0 0 (omega (arith, room)) ∙ ap (λ x. x ∷ drop 1 p) n ∙ ap (λ r. suc (length r) ∷ r) from1
+      let low : getD p serviceLowOffset 0 ≡ serviceIn p % 256 = omega (arith, bytes serviceLowOffset, bytes serviceHighOffset) in
+      let high : getD p serviceHighOffset 0 ≡ serviceIn p / 256 = omega (arith, bytes serviceLowOffset, bytes serviceHighOffset) in
+      let number : getD p countOffset 0 ≡ length (numbersIn (listIn p)) = sym numbered in
+      let first : getD p codeOffset 0 ≡ code = eqb-true (getD p codeOffset 0) code (both-left (eqb (getD p codeOffset 0) code) _ behind-len) in
+      let one : getD p servicesOffset 0 ≡ 1 = eqb-true (getD p servicesOffset 0) 1 (both-left (eqb (getD p servicesOffset 0) 1) _ behind-code) in
+      let tail : drop requestHead p ≡ blockList (numbersIn (listIn p)) ++ bytesIn (countIn p) p =
+      sym (take-append-drop (elementSize * countIn p) (drop requestHead p)) ∙ ap₂ (λ x y. x ++ y) (sym list) (drop-drop (elementSize * countIn p) requestHead p) in
+      let from-services : drop servicesOffset p ≡ 0x01 ∷ serviceIn p % 256 ∷ serviceIn p / 256 ∷ length (numbersIn (listIn p)) ∷ blockList (numbersIn (listIn p)) ++ bytesIn (countIn p) p =
+      drop-cons p servicesOffset 0 (omega (arith, room))
+      ∙ ap₂ (λ x r. x ∷ r) one (drop-cons p serviceLowOffset 0 (omega (arith, room))
+      ∙ ap₂ (λ x r. x ∷ r) low (drop-cons p serviceHighOffset 0 (omega (arith, room))
+      ∙ ap₂ (λ x r. x ∷ r) high (drop-cons p countOffset 0 (omega (arith, room))
+      ∙ ap₂ (λ x r. x ∷ r) number tail))) in
+      let from-idm : drop idmOffset p ≡ idmIn p ++ drop servicesOffset p = sym (take-append-drop idmSize (drop idmOffset p)) ∙ ap (λ r. idmIn p ++ r) (drop-drop idmSize idmOffset p) in
+      let from-code : drop codeOffset p ≡ code ∷ idmIn p ++ (0x01 ∷ serviceIn p % 256 ∷ serviceIn p / 256 ∷ length (numbersIn (listIn p)) ∷ blockList (numbersIn (listIn p)) ++ bytesIn (countIn p) p) =
+      drop-cons p codeOffset 0 (omega (arith, room)) ∙ ap₂ (λ x r. x ∷ r) first (from-idm ∙ ap (λ r. idmIn p ++ r) from-services) in
+      let n : getD p 0 0 ≡ suc (length (drop codeOffset p)) = omega (arith, len, length-drop codeOffset p, room) in
+      drop-cons p 0 0 (omega (arith, room)) ∙ ap (λ x. x ∷ drop codeOffset p) n ∙ ap (λ r. suc (length r) ∷ r) from-code
 
 pub record Read (p idm : List ℕ) (service : ℕ) (blocks : List ℕ) : Type 0 where
   pub is : p ≡ readRequest idm service blocks
@@ -201,26 +202,26 @@ pub record Written (p idm : List ℕ) (service : ℕ) (blocks bytes : List ℕ) 
 
 read-here : (p : List ℕ) → Bytes p → isRequest readCode 0 p ≡ true → Read p (idmIn p) (serviceIn p) (numbersIn (listIn p))
 read-here p bytes h =
-    let n : length p ≤ 14 + 2 * countIn p = omega (arith, whole readCode 0 p h) in
+    let n : length p ≤ requestHead + elementSize * countIn p = omega (arith, whole readCode 0 p h) in
     record {
-      is = is readCode 0 p h bytes ∙ ap (request readCode (idmIn p) (serviceIn p) (numbersIn (listIn p))) (drop-of-length-le p {i = 14 + 2 * countIn p} n);
+      is = is readCode 0 p h bytes ∙ ap (request readCode (idmIn p) (serviceIn p) (numbersIn (listIn p))) (drop-of-length-le p {i = requestHead + elementSize * countIn p} n);
       fits = named readCode 0 p h;
     }
 
-write-here : (p : List ℕ) → Bytes p → isRequest writeCode 16 p ≡ true → Written p (idmIn p) (serviceIn p) (numbersIn (listIn p)) (bytesIn (countIn p) p)
+write-here : (p : List ℕ) → Bytes p → isRequest writeCode blockSize p ≡ true → Written p (idmIn p) (serviceIn p) (numbersIn (listIn p)) (bytesIn (countIn p) p)
 unfolding writeFits
 write-here p bytes h =
-    let n : length (bytesIn (countIn p) p) ≡ 16 * length (numbersIn (listIn p)) =
-    omega (arith, whole writeCode 16 p h, numbered writeCode 16 p h, length-drop (14 + 2 * countIn p) p) in
+    let n : length (bytesIn (countIn p) p) ≡ blockSize * length (numbersIn (listIn p)) =
+    omega (arith, whole writeCode blockSize p h, numbered writeCode blockSize p h, length-drop (requestHead + elementSize * countIn p) p) in
     record {
-      is = is writeCode 16 p h bytes;
-      fits = rw (named writeCode 16 p h) (eq-eqb (length (bytesIn (countIn p) p)) (16 * length (numbersIn (listIn p))) n);
+      is = is writeCode blockSize p h bytes;
+      fits = rw (named writeCode blockSize p h) (eq-eqb (length (bytesIn (countIn p) p)) (blockSize * length (numbersIn (listIn p))) n);
     }
 
 -- exactly where the bytes are a request of these fields
 pub read-only : (p idm : List ℕ) (service : ℕ) (blocks : List ℕ) → Bytes p → requestOf p ≡ reads idm service blocks → Read p idm service blocks
 unfolding requestOf pick
-read-only p idm service blocks bytes h = go (isRequest readCode 0 p) refl (isRequest writeCode 16 p) h
+read-only p idm service blocks bytes h = go (isRequest readCode 0 p) refl (isRequest writeCode blockSize p) h
   where
     go : (t : Bool) → isRequest readCode 0 p ≡ t → (u : Bool)
         → pick t (reads (idmIn p) (serviceIn p) (numbersIn (listIn p))) (pick u (writes (idmIn p) (serviceIn p) (numbersIn (listIn p)) (bytesIn (countIn p) p)) noRequest) ≡ reads idm service blocks
@@ -235,9 +236,9 @@ read-only p idm service blocks bytes h = go (isRequest readCode 0 p) refl (isReq
 
 pub write-only : (p idm : List ℕ) (service : ℕ) (blocks sent : List ℕ) → Bytes p → requestOf p ≡ writes idm service blocks sent → Written p idm service blocks sent
 unfolding requestOf pick
-write-only p idm service blocks sent bytes h = go (isRequest readCode 0 p) (isRequest writeCode 16 p) refl h
+write-only p idm service blocks sent bytes h = go (isRequest readCode 0 p) (isRequest writeCode blockSize p) refl h
   where
-    go : (t u : Bool) → isRequest writeCode 16 p ≡ u
+    go : (t u : Bool) → isRequest writeCode blockSize p ≡ u
         → pick t (reads (idmIn p) (serviceIn p) (numbersIn (listIn p))) (pick u (writes (idmIn p) (serviceIn p) (numbersIn (listIn p)) (bytesIn (countIn p) p)) noRequest) ≡ writes idm service blocks sent
         → Written p idm service blocks sent
     go true u e k = absurd (let z : _≡_ {A = ℕ} 0 1 = cc in omega arith)

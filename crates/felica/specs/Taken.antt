@@ -1,7 +1,7 @@
 -- Laws of packets taken apart, as the code makes its tests.
-use mathlib.Core.Path.{_≡_, refl, sym, ap, ap₂, _∙_, subst}
+use mathlib.Core.Path.{_≡_, sym, ap, ap₂, _∙_}
 use mathlib.Core.Bool.{Bool, true, false}
-use mathlib.Core.List.{List, [], _∷_}
+use mathlib.Core.List.{List}
 use Prim.Native.Nat.{ℕ, zero, suc, _+_, _*_, _-_, _/_, _≤_, _<_}
 use native.Mathlib.Omega.{arith}
 use borrow.Author.Tests.{eq-eqb, ne-eqb, le-leb, lt-leb, leb-true, eqb-true}
@@ -9,11 +9,12 @@ use mir.Syntax.{w64}
 use mir.Val.{Fits}
 use lib.Dec.{eqb, leb}
 use lib.ListN.{length, take, drop, getD, length-take, length-drop}
-use Rattle.errors.specs.Choice.{pick}
-use Rattle.framing.specs.Lists.{both, same}
+use Rattle.errors.specs.Choice.{pick, same}
+use Rattle.framing.specs.Lists.{both}
 use Rattle.framing.specs.Valid.{both-left, both-right}
+use Rattle.felica.specs.Names.{blockSize, mostBlocks, elementSize, codeOffset, servicesOffset, serviceLowOffset, serviceHighOffset, requestHead, flagsEnd}
 use Rattle.felica.specs.Packets.{readCode, writeCode, readReplyCode, writeReplyCode}
-use Rattle.felica.specs.Fields.{idmIn, serviceIn, countIn, listIn, bytesIn, flag1In, flag2In, numberIn, blocksIn, numbersIn, isBlockList, asksBlocks, isRequest, requestOf, reads, writes, noRequest, four, numbersOf, AskedOf, hasBlocks, isReadReply, isWriteReply, replyOf, readReplied, writeReplied, noReply}
+use Rattle.felica.specs.Fields.{idmIn, serviceIn, countIn, listIn, bytesIn, flag1In, flag2In, blocksIn, numbersIn, isBlockList, asksBlocks, isRequest, requestOf, reads, writes, noRequest, four, numbersOf, AskedOf, hasBlocks, isReadReply, isWriteReply, replyOf, readReplied, writeReplied, noReply}
 use Rattle.felica.specs.Checks.{isFrom, byStatus, checkOf, readCheck, writeCheck}
 use Rattle.felica.specs.declared.BlockNumbers.{BlockNumbers}
 use Rattle.felica.specs.declared.check.Checked.{Checked}
@@ -21,7 +22,7 @@ use Rattle.felica.specs.declared.request.Asked.{Asked}
 
 -- ---- requests
 
-small : (s n : ℕ) → s ≤ 16 → n ≤ 4 → (2 + s) * n ≤ 72
+small : (s n : ℕ) → s ≤ blockSize → n ≤ mostBlocks → (elementSize + s) * n ≤ (elementSize + blockSize) * mostBlocks
 small s zero h k = omega arith
 small s (suc zero) h k = omega arith
 small s (suc (suc zero)) h k = omega arith
@@ -29,13 +30,13 @@ small s (suc (suc (suc zero))) h k = omega arith
 small s (suc (suc (suc (suc zero)))) h k = omega arith
 small s (suc (suc (suc (suc (suc n))))) h k = absurd (omega arith)
 
-pub product-fits : (s n : ℕ) → s ≤ 16 → n ≤ 4 → Fits w64 ((2 + s) * n)
+pub product-fits : (s n : ℕ) → s ≤ blockSize → n ≤ mostBlocks → Fits w64 ((elementSize + s) * n)
 product-fits s n h k = record { fits = omega (arith, small s n h k) }
 
-pub sum-fits : (s n : ℕ) → s ≤ 16 → n ≤ 4 → Fits w64 (14 + (2 + s) * n)
+pub sum-fits : (s n : ℕ) → s ≤ blockSize → n ≤ mostBlocks → Fits w64 (requestHead + (elementSize + s) * n)
 sum-fits s n h k = record { fits = omega (arith, small s n h k) }
 
-pub list-within : (p : List ℕ) (s n : ℕ) → length p ≡ 14 + (2 + s) * n → n ≤ 4 → 14 + 2 * n ≤ length p
+pub list-within : (p : List ℕ) (s n : ℕ) → length p ≡ requestHead + (elementSize + s) * n → n ≤ mostBlocks → requestHead + elementSize * n ≤ length p
 list-within p s zero e h = omega (arith, e)
 list-within p s (suc zero) e h = omega (arith, e)
 list-within p s (suc (suc zero)) e h = omega (arith, e)
@@ -49,48 +50,48 @@ module _ (p : List ℕ) (s n : ℕ) (known : n ≡ countIn p) where
   unfolding asksBlocks
   asks-none h = rw (← known, lt-leb 1 n h)
 
-  pub asks-many : 1 ≤ n → 4 < n → false ≡ asksBlocks s p
+  pub asks-many : 1 ≤ n → mostBlocks < n → false ≡ asksBlocks s p
   unfolding asksBlocks
-  asks-many h k = rw (← known, le-leb 1 n h, lt-leb n 4 k)
+  asks-many h k = rw (← known, le-leb 1 n h, lt-leb n mostBlocks k)
 
-  pub asks-other : 1 ≤ n → n ≤ 4 → (length p ≡ 14 + (2 + s) * n → ⊥) → false ≡ asksBlocks s p
+  pub asks-other : 1 ≤ n → n ≤ mostBlocks → (length p ≡ requestHead + (elementSize + s) * n → ⊥) → false ≡ asksBlocks s p
   unfolding asksBlocks
-  asks-other h k ne = rw (← known, le-leb 1 n h, le-leb n 4 k, ne-eqb (length p) (14 + (2 + s) * n) ne)
+  asks-other h k ne = rw (← known, le-leb 1 n h, le-leb n mostBlocks k, ne-eqb (length p) (requestHead + (elementSize + s) * n) ne)
 
-  pub asks-list : (r : Bool) → 1 ≤ n → n ≤ 4 → length p ≡ 14 + (2 + s) * n → r ≡ isBlockList (take (14 + 2 * n - 14) (drop 14 p)) → r ≡ asksBlocks s p
+  pub asks-list : (r : Bool) → 1 ≤ n → n ≤ mostBlocks → length p ≡ requestHead + (elementSize + s) * n → r ≡ isBlockList (take (requestHead + elementSize * n - requestHead) (drop requestHead p)) → r ≡ asksBlocks s p
   unfolding asksBlocks
   asks-list r h k e t =
-      let m : 14 + 2 * n - 14 ≡ 2 * n = omega arith in
-      rw (← known, le-leb 1 n h, le-leb n 4 k, eq-eqb (length p) (14 + (2 + s) * n) e) (t ∙ ap (λ j. isBlockList (take j (drop 14 p))) m)
+      let m : requestHead + elementSize * n - requestHead ≡ elementSize * n = omega arith in
+      rw (← known, le-leb 1 n h, le-leb n mostBlocks k, eq-eqb (length p) (requestHead + (elementSize + s) * n) e) (t ∙ ap (λ j. isBlockList (take j (drop requestHead p))) m)
 
 module _ (code s : ℕ) (p : List ℕ) (r : Bool) (known : r ≡ isRequest code s p) (good : r ≡ true) where
   asks : asksBlocks s p ≡ true
   unfolding isRequest
-  asks = both-right (eqb (getD p 10 0) 1) _ (both-right (eqb (getD p 1 0) code) _ (both-right (eqb (getD p 0 0) (length p)) _ (sym known ∙ good)))
+  asks = both-right (eqb (getD p servicesOffset 0) 1) _ (both-right (eqb (getD p codeOffset 0) code) _ (both-right (eqb (getD p 0 0) (length p)) _ (sym known ∙ good)))
 
-  pub request-few : countIn p ≤ 4
+  pub request-few : countIn p ≤ mostBlocks
   unfolding asksBlocks
-  request-few = leb-true (countIn p) 4 (both-left (leb (countIn p) 4) _ (both-right (leb 1 (countIn p)) _ asks))
+  request-few = leb-true (countIn p) mostBlocks (both-left (leb (countIn p) mostBlocks) _ (both-right (leb 1 (countIn p)) _ asks))
 
-  pub request-room : 14 + 2 * countIn p ≤ length p
+  pub request-room : requestHead + elementSize * countIn p ≤ length p
   unfolding asksBlocks
   request-room =
-      let e = both-left (eqb (length p) (14 + (2 + s) * countIn p)) _ (both-right (leb (countIn p) 4) _ (both-right (leb 1 (countIn p)) _ asks)) in
-      list-within p s (countIn p) (eqb-true (length p) (14 + (2 + s) * countIn p) e) request-few
+      let e = both-left (eqb (length p) (requestHead + (elementSize + s) * countIn p)) _ (both-right (leb (countIn p) mostBlocks) _ (both-right (leb 1 (countIn p)) _ asks)) in
+      list-within p s (countIn p) (eqb-true (length p) (requestHead + (elementSize + s) * countIn p) e) request-few
 
-pub asked-of : (p : List ℕ) (s k w lo hi : ℕ) (ns : BlockNumbers) → s ≡ lo + 256 * hi → lo ≡ getD p 11 0 → hi ≡ getD p 12 0 → k ≡ countIn p → w ≡ k
-    → 14 + 2 * countIn p ≤ length p → countIn p ≤ 4
-    → (length (take (14 + 2 * w - 14) (drop 14 p)) ≤ 8 → take (length (take (14 + 2 * w - 14) (drop 14 p)) / 2) (four ns) ≡ numbersIn (take (14 + 2 * w - 14) (drop 14 p)))
+pub asked-of : (p : List ℕ) (s k w lo hi : ℕ) (ns : BlockNumbers) → s ≡ lo + 256 * hi → lo ≡ getD p serviceLowOffset 0 → hi ≡ getD p serviceHighOffset 0 → k ≡ countIn p → w ≡ k
+    → requestHead + elementSize * countIn p ≤ length p → countIn p ≤ mostBlocks
+    → (length (take (requestHead + elementSize * w - requestHead) (drop requestHead p)) ≤ elementSize * mostBlocks → take (length (take (requestHead + elementSize * w - requestHead) (drop requestHead p)) / elementSize) (four ns) ≡ numbersIn (take (requestHead + elementSize * w - requestHead) (drop requestHead p)))
     → AskedOf (record { service = s; count = k; numbers = ns }) p
 asked-of p s k w lo hi ns e f g h m room few n =
-    let j : 14 + 2 * w - 14 ≡ 2 * countIn p = omega arith in
-    let l : length (take (14 + 2 * w - 14) (drop 14 p)) ≡ 2 * countIn p
-    = ap (λ i. length (take i (drop 14 p))) j ∙ length-take (2 * countIn p) (drop 14 p) ∙ omega (arith, length-drop 14 p) in
-    let half : length (take (14 + 2 * w - 14) (drop 14 p)) / 2 ≡ k = omega (arith, l) in
+    let j : requestHead + elementSize * w - requestHead ≡ elementSize * countIn p = omega arith in
+    let l : length (take (requestHead + elementSize * w - requestHead) (drop requestHead p)) ≡ elementSize * countIn p
+    = ap (λ i. length (take i (drop requestHead p))) j ∙ length-take (elementSize * countIn p) (drop requestHead p) ∙ omega (arith, length-drop requestHead p) in
+    let half : length (take (requestHead + elementSize * w - requestHead) (drop requestHead p)) / elementSize ≡ k = omega (arith, l) in
     record {
       service = e ∙ ap₂ (λ x y. x + 256 * y) f g;
       count = h;
-      numbers = ap (λ i. take i (four ns)) (sym half) ∙ n (omega (arith, l)) ∙ ap (λ i. numbersIn (take i (drop 14 p))) j;
+      numbers = ap (λ i. take i (four ns)) (sym half) ∙ n (omega (arith, l)) ∙ ap (λ i. numbersIn (take i (drop requestHead p))) j;
     }
 
 module _ (p : List ℕ) (a : Asked) (asked : AskedOf a p) where
@@ -98,7 +99,7 @@ module _ (p : List ℕ) (a : Asked) (asked : AskedOf a p) where
   unfolding requestOf pick
   as-read r t h = rw (sym t ∙ h) (ap₂ (reads (idmIn p)) (asked .service) (asked .numbers))
 
-  pub as-write : (r q : Bool) → r ≡ isRequest readCode 0 p → r ≡ false → q ≡ isRequest writeCode 16 p → q ≡ true
+  pub as-write : (r q : Bool) → r ≡ isRequest readCode 0 p → r ≡ false → q ≡ isRequest writeCode blockSize p → q ≡ true
       → writes (idmIn p) (a .service) (numbersOf a) (bytesIn (a .count) p) ≡ requestOf p
   unfolding requestOf pick
   as-write r q t h u k =
@@ -106,16 +107,16 @@ module _ (p : List ℕ) (a : Asked) (asked : AskedOf a p) where
       (ap₂ (λ x y. writes (idmIn p) x y (bytesIn (a .count) p)) (asked .service) (asked .numbers)
       ∙ ap (λ j. writes (idmIn p) (serviceIn p) (numbersIn (listIn p)) (bytesIn j p)) (asked .count))
 
-pub as-none : (p : List ℕ) (r q : Bool) → r ≡ isRequest readCode 0 p → r ≡ false → q ≡ isRequest writeCode 16 p → q ≡ false → noRequest ≡ requestOf p
+pub as-none : (p : List ℕ) (r q : Bool) → r ≡ isRequest readCode 0 p → r ≡ false → q ≡ isRequest writeCode blockSize p → q ≡ false → noRequest ≡ requestOf p
 unfolding requestOf pick
 as-none p r q t h u k = rw (sym t ∙ h, sym u ∙ k)
 
 -- ---- replies
 
 -- the first byte is not the number of bytes
-pub not-length : (p : List ℕ) (n : ℕ) (rest : Bool) → 12 ≤ length p → n ≡ getD p 0 0 → (n ≡ length p → ⊥)
-    → false ≡ both (leb 12 (length p)) (both (eqb (getD p 0 0) (length p)) rest)
-not-length p n rest h e ne = rw (le-leb 12 (length p) h, ne-eqb (getD p 0 0) (length p) (λ k. ne (e ∙ k)))
+pub not-length : (p : List ℕ) (n : ℕ) (rest : Bool) → flagsEnd ≤ length p → n ≡ getD p 0 0 → (n ≡ length p → ⊥)
+    → false ≡ both (leb flagsEnd (length p)) (both (eqb (getD p 0 0) (length p)) rest)
+not-length p n rest h e ne = rw (le-leb flagsEnd (length p) h, ne-eqb (getD p 0 0) (length p) (λ k. ne (e ∙ k)))
 
 pub known-blocks : (p : List ℕ) (n m : ℕ) (r : Bool) → n ≡ m → r ≡ hasBlocks n p → r ≡ hasBlocks m p
 known-blocks p n m r e h = h ∙ ap (λ k. hasBlocks k p) e
@@ -135,9 +136,9 @@ as-no-reply p r q t h u k = rw (sym t ∙ h, sym u ∙ k)
 
 -- ---- the check of a reply
 
-pub known-from : (code b : ℕ) (idm i p : List ℕ) (r : Bool) → b ≡ getD p 1 0 → b ≡ code → i ≡ idmIn p → r ≡ same idm i → r ≡ isFrom code idm p
+pub known-from : (code b : ℕ) (idm i p : List ℕ) (r : Bool) → b ≡ getD p codeOffset 0 → b ≡ code → i ≡ idmIn p → r ≡ same idm i → r ≡ isFrom code idm p
 unfolding isFrom
-known-from code b idm i p r e f g h = rw (eq-eqb (getD p 1 0) code (sym e ∙ f)) (h ∙ ap (same idm) g)
+known-from code b idm i p r e f g h = rw (eq-eqb (getD p codeOffset 0) code (sym e ∙ f)) (h ∙ ap (same idm) g)
 
 pub known-status : (r : Checked) (f g x y : ℕ) → f ≡ x → g ≡ y → r ≡ byStatus f g → r ≡ byStatus x y
 known-status r f g x y p q h = h ∙ ap₂ byStatus p q
@@ -146,5 +147,5 @@ pub read-checked : (r : Checked) (request p i : List ℕ) (w : Bool) (n : ℕ) �
     → r ≡ checkOf readReplyCode i w p → r ≡ readCheck (idmIn request) (countIn request) p
 read-checked r request p i w n e f g h = h ∙ ap₂ (λ x y. checkOf readReplyCode x y p) e (g ∙ ap (λ k. hasBlocks k p) f)
 
-pub write-checked : (r : Checked) (request p i : List ℕ) → i ≡ idmIn request → r ≡ checkOf writeReplyCode i (eqb (length p) 12) p → r ≡ writeCheck (idmIn request) p
-write-checked r request p i e h = h ∙ ap (λ x. checkOf writeReplyCode x (eqb (length p) 12) p) e
+pub write-checked : (r : Checked) (request p i : List ℕ) → i ≡ idmIn request → r ≡ checkOf writeReplyCode i (eqb (length p) flagsEnd) p → r ≡ writeCheck (idmIn request) p
+write-checked r request p i e h = h ∙ ap (λ x. checkOf writeReplyCode x (eqb (length p) flagsEnd) p) e

@@ -1,18 +1,17 @@
 // What a reply says to the one who sent the request (document 02, N5).
+use super::CODE_OFFSET;
 use super::READ_REPLY;
 use super::WRITE_REPLY;
 use super::byte_at;
 use super::idm;
 use super::number_at;
-use super::reply::FLAG1;
-use super::reply::FLAG2;
+use super::reply::FLAG1_OFFSET;
+use super::reply::FLAG2_OFFSET;
 use super::reply::FLAGS_END;
 use super::reply::has_blocks;
-use super::request::COUNT;
+use super::request::COUNT_OFFSET;
 use errors::Fault;
-use framing::starts_with;
 ghost use mathlib.Core.Path.{_≡_};
-ghost use Rattle.framing.specs.Lists.{same};
 ghost use Rattle.felica.specs.Fields.{idmIn, countIn};
 ghost use Rattle.felica.specs.Checks.{isComplete, isFrom, byStatus, checkOf, readCheck, writeCheck};
 
@@ -32,29 +31,19 @@ fn is_complete(whole: bool, reply: &[u8]) -> bool
     if number_at(reply, 0) != reply.len() {
         return false;
     }
-    if byte_at(reply, FLAG1) == 0 {
+    if byte_at(reply, FLAG1_OFFSET) == 0 {
         whole
     } else {
         true
     }
 }
 
-// The bytes are the same.
-fn is_same(idm: &[u8], bytes: &[u8]) -> bool
-    ensures { λ r. ⌜ r ≡ same (now (idm .entry)) (now (bytes .entry)) ⌝ }
-{
-    if bytes.len() != idm.len() {
-        return false;
-    }
-    starts_with(bytes, idm)
-}
-
 // The reply has this code, and comes from the card of this IDm.
 fn is_from(code: u8, idm: &[u8], reply: &[u8]) -> bool
     ensures { λ r. ⌜ r ≡ isFrom code (now (idm .entry)) (now (reply .entry)) ⌝ }
 {
-    if byte_at(reply, 1) == code {
-        is_same(idm, super::idm(reply))
+    if byte_at(reply, CODE_OFFSET) == code {
+        framing::is_exactly(super::idm(reply), idm)
     } else {
         false
     }
@@ -77,7 +66,7 @@ fn check_reply(code: u8, idm: &[u8], whole: bool, reply: &[u8]) -> Checked
 {
     if is_complete(whole, reply) {
         if is_from(code, idm, reply) {
-            by_status(byte_at(reply, FLAG1), byte_at(reply, FLAG2))
+            by_status(byte_at(reply, FLAG1_OFFSET), byte_at(reply, FLAG2_OFFSET))
         } else {
             Checked::Faulty(Fault::OtherCard)
         }
@@ -90,7 +79,7 @@ fn check_reply(code: u8, idm: &[u8], whole: bool, reply: &[u8]) -> Checked
 pub fn check_read(request: &[u8], reply: &[u8]) -> Checked
     ensures { λ r. ⌜ r ≡ readCheck (idmIn (now (request .entry))) (countIn (now (request .entry))) (now (reply .entry)) ⌝ }
 {
-    let n = byte_at(request, COUNT);
+    let n = byte_at(request, COUNT_OFFSET);
     check_reply(READ_REPLY, idm(request), has_blocks(n, reply), reply)
 }
 

@@ -25,6 +25,11 @@ pub const BLOCK_SIZE: usize = 16;
 
 pub const MOST_BLOCKS: usize = 4;
 
+// Where the code and the IDm stand in a packet. LEN stands at 0.
+const CODE_OFFSET: usize = 1;
+
+const IDM_OFFSET: usize = 2;
+
 // Four block numbers. An enum cannot hold an array.
 pub struct BlockNumbers(pub u8, pub u8, pub u8, pub u8);
 
@@ -56,16 +61,16 @@ fn put(part: &[u8], buffer: &mut [u8], at: usize)
     bytes::copy(part, &mut buffer[at..]);
 }
 
-// Where the IDm stands in a packet: bytes 2 to 9, as far as there are any.
+// The IDm of a packet: bytes 2 to 9, as far as there are any.
 pub fn idm(packet: &[u8]) -> &[u8]
     ensures { λ r. ⌜ now r ≡ idmIn (now (packet .entry)) ⌝ }
 {
     let n = packet.len();
-    if n < 2 {
+    if n < IDM_OFFSET {
         return &packet[n..n];
     }
-    if n < 2 + IDM_SIZE {
-        return &packet[2..n];
+    if n < IDM_OFFSET + IDM_SIZE {
+        return &packet[IDM_OFFSET..n];
     }
-    &packet[2..2 + IDM_SIZE]
+    &packet[IDM_OFFSET..IDM_OFFSET + IDM_SIZE]
 }

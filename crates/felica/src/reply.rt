@@ -1,5 +1,6 @@
 // Replies to Read and Write Without Encryption. `flag1` and `flag2` are their status flags.
 use super::BLOCK_SIZE;
+use super::CODE_OFFSET;
 use super::IDM_SIZE;
 use super::MOST_BLOCKS;
 use super::READ_REPLY;
@@ -11,20 +12,21 @@ use errors::Refusal;
 use framing::Built;
 ghost use mathlib.Core.Path.{_≡_};
 ghost use mathlib.Core.List.{[], _∷_, _++_};
-ghost use Prim.Native.Nat.{_/_, _≤_};
+ghost use Prim.Native.Nat.{_*_, _/_, _≤_};
 ghost use lib.ListN.{length};
 ghost use Rattle.framing.specs.Build.{returned, left, putFrame};
+ghost use Rattle.felica.specs.Names.{idmSize, blockSize, mostBlocks};
 ghost use Rattle.felica.specs.Packets.{reply, readReply, writeReply, areBlocks, readReplyFits, builtOf, idmFits};
 ghost use Rattle.felica.specs.Fields.{replyIn, replyOf, isReply, hasBlocks, isReadReply, isWriteReply, readsBlocks, blocksIn};
 
-// Where the flags stand, where they end, and where block data starts.
-pub(crate) const FLAG1: usize = 10;
+// Where the flags stand, where they end and the number of blocks stands, and where block data starts.
+pub(crate) const FLAG1_OFFSET: usize = 10;
 
-pub(crate) const FLAG2: usize = 11;
+pub(crate) const FLAG2_OFFSET: usize = 11;
 
 pub(crate) const FLAGS_END: usize = 12;
 
-const BLOCKS_AT: usize = 13;
+pub const BLOCKS_OFFSET: usize = 13;
 
 // A reply taken apart: its flags. Its IDm and a read's block data are parts of the packet: `idm`, `blocks_read`.
 pub enum Reply {
@@ -61,8 +63,8 @@ fn read_fits(idm: &[u8], flag1: u8, bytes: &[u8]) -> bool
 }
 
 // The bytes of a reply up to its flags.
-fn head(len: u8, code: u8, idm: &[u8], flag1: u8, flag2: u8) -> [u8; 12]
-    requires { ⌜ length (now idm) ≡ 8 ⌝ }
+fn head(len: u8, code: u8, idm: &[u8], flag1: u8, flag2: u8) -> [u8; FLAGS_END]
+    requires { ⌜ length (now idm) ≡ idmSize ⌝ }
     ensures { λ r. ⌜ r ≡ len ∷ code ∷ now (idm .entry) ++ (flag1 ∷ flag2 ∷ []) ⌝ }
 {
     [
@@ -83,30 +85,30 @@ fn head(len: u8, code: u8, idm: &[u8], flag1: u8, flag2: u8) -> [u8; 12]
 
 // Writes a reply without block data.
 fn put_flags(code: u8, idm: &[u8], flag1: u8, flag2: u8, buffer: &mut [u8]) -> Built
-    requires { ⌜ length (now idm) ≡ 8 ⌝ }
+    requires { ⌜ length (now idm) ≡ idmSize ⌝ }
     ensures { λ r. ⌜ left (returned r) (now (buffer .exit)) ≡ putFrame (reply code (now (idm .entry)) flag1 flag2 []) (now (buffer .entry)) ⌝ }
 {
     if buffer.len() < FLAGS_END {
         return Built::Refused(Refusal::ShortBuffer);
     }
-    let bytes = head(12, code, idm, flag1, flag2);
+    let bytes = head(FLAGS_END as u8, code, idm, flag1, flag2);
     put(&bytes, buffer, 0);
     Built::Frame(FLAGS_END)
 }
 
 // Writes a reply with the number of blocks and their data.
 fn put_blocks(code: u8, idm: &[u8], flag1: u8, flag2: u8, bytes: &[u8], buffer: &mut [u8]) -> Built
-    requires { ⌜ (length (now idm) ≡ 8) × (length (now bytes) ≤ 64) ⌝ }
-    ensures { λ r. ⌜ left (returned r) (now (buffer .exit)) ≡ putFrame (reply code (now (idm .entry)) flag1 flag2 (length (now (bytes .entry)) / 16 ∷ now (bytes .entry))) (now (buffer .entry)) ⌝ }
+    requires { ⌜ (length (now idm) ≡ idmSize) × (length (now bytes) ≤ blockSize * mostBlocks) ⌝ }
+    ensures { λ r. ⌜ left (returned r) (now (buffer .exit)) ≡ putFrame (reply code (now (idm .entry)) flag1 flag2 (length (now (bytes .entry)) / blockSize ∷ now (bytes .entry))) (now (buffer .entry)) ⌝ }
 {
-    let len = BLOCKS_AT + bytes.len();
+    let len = BLOCKS_OFFSET + bytes.len();
     if buffer.len() < len {
         return Built::Refused(Refusal::ShortBuffer);
     }
     let start = head(len as u8, code, idm, flag1, flag2);
     put(&start, buffer, 0);
     put(&[(bytes.len() / BLOCK_SIZE) as u8], buffer, FLAGS_END);
-    put(bytes, buffer, BLOCKS_AT);
+    put(bytes, buffer, BLOCKS_OFFSET);
     Built::Frame(len)
 }
 
@@ -147,7 +149,7 @@ fn is_reply(code: u8, packet: &[u8]) -> bool
     if number_at(packet, 0) != packet.len() {
         return false;
     }
-    byte_at(packet, 1) == code
+    byte_at(packet, CODE_OFFSET) == code
 }
 
 // Whether n blocks stand behind the flags, and their number.
@@ -157,19 +159,19 @@ pub(crate) fn has_blocks(n: u8, packet: &[u8]) -> bool
     if byte_at(packet, FLAGS_END) != n {
         return false;
     }
-    packet.len() == BLOCKS_AT + BLOCK_SIZE * (n as usize)
+    packet.len() == BLOCKS_OFFSET + BLOCK_SIZE * (n as usize)
 }
 
 // Whether 1 to 4 blocks stand behind the flags where flag 1 is 0, and else nothing.
 fn reads_blocks(packet: &[u8]) -> bool
     ensures { λ r. ⌜ r ≡ readsBlocks (now (packet .entry)) ⌝ }
 {
-    if byte_at(packet, FLAG1) == 0 {
+    if byte_at(packet, FLAG1_OFFSET) == 0 {
         let n = byte_at(packet, FLAGS_END);
         if n < 1 {
             return false;
         }
-        if 4 < n {
+        if (MOST_BLOCKS as u8) < n {
             return false;
         }
         has_blocks(n, packet)
@@ -202,8 +204,8 @@ fn is_write_reply(packet: &[u8]) -> bool
 pub fn parse_reply(packet: &[u8]) -> Reply
     ensures { λ r. ⌜ replyIn r (now (packet .entry)) ≡ replyOf (now (packet .entry)) ⌝ }
 {
-    let flag1 = byte_at(packet, FLAG1);
-    let flag2 = byte_at(packet, FLAG2);
+    let flag1 = byte_at(packet, FLAG1_OFFSET);
+    let flag2 = byte_at(packet, FLAG2_OFFSET);
     if is_read_reply(packet) {
         return Reply::Read(flag1, flag2);
     }
@@ -218,8 +220,8 @@ pub fn blocks_read(packet: &[u8]) -> &[u8]
     ensures { λ r. ⌜ now r ≡ blocksIn (now (packet .entry)) ⌝ }
 {
     let n = packet.len();
-    if n < BLOCKS_AT {
+    if n < BLOCKS_OFFSET {
         return &packet[n..];
     }
-    &packet[BLOCKS_AT..]
+    &packet[BLOCKS_OFFSET..]
 }

@@ -1,6 +1,7 @@
 // Requests: Read and Write Without Encryption.
 use super::BLOCK_SIZE;
 use super::BlockNumbers;
+use super::CODE_OFFSET;
 use super::IDM_SIZE;
 use super::MOST_BLOCKS;
 use super::READ_WITHOUT_ENCRYPTION;
@@ -16,16 +17,25 @@ ghost use mathlib.Core.List.{_++_};
 ghost use Prim.Native.Nat.{_+_, _*_, _/_, _≤_};
 ghost use lib.ListN.{length, take, drop};
 ghost use Rattle.framing.specs.Build.{returned, left, putFrame};
+ghost use Rattle.felica.specs.Names.{idmSize, blockSize, mostBlocks, elementSize, requestHead};
 ghost use Rattle.felica.specs.Packets.{request, blockList, readRequest, writeRequest, requestFits, writeFits, builtOf};
 ghost use Rattle.felica.specs.Fields.{requestIn, requestOf, isRequest, asksBlocks, isBlockList, countIn, bytesIn, four, numbersIn, AskedOf};
 
-// The first byte of a two-byte block list element of the first service.
+// The bytes of a block list element, and the first of them, of the first service.
+const ELEMENT_SIZE: usize = 2;
+
 const ELEMENT: u8 = 0x80;
 
-// Where the number of blocks stands, and the bytes of a request up to its block list.
-pub(crate) const COUNT: usize = 13;
+// Where the number of services, the service code and the number of blocks stand, and the bytes of a request up to its block list.
+const SERVICES_OFFSET: usize = 10;
 
-const HEAD: usize = 14;
+const SERVICE_LOW_OFFSET: usize = 11;
+
+const SERVICE_HIGH_OFFSET: usize = 12;
+
+pub(crate) const COUNT_OFFSET: usize = 13;
+
+const REQUEST_HEAD: usize = 14;
 
 // What a request asks for: the service code, and the first `count` of the block numbers.
 pub struct Asked {
@@ -73,11 +83,11 @@ fn put_request(
     bytes: &[u8],
     buffer: &mut [u8],
 ) -> Built
-    requires { ⌜ (length (now idm) ≡ 8) × (length (now blocks) ≤ 4) × (length (now bytes) ≤ 64) ⌝ }
+    requires { ⌜ (length (now idm) ≡ idmSize) × (length (now blocks) ≤ mostBlocks) × (length (now bytes) ≤ blockSize * mostBlocks) ⌝ }
     ensures { λ r. ⌜ left (returned r) (now (buffer .exit)) ≡ putFrame (request code (now (idm .entry)) service (now (blocks .entry)) (now (bytes .entry))) (now (buffer .entry)) ⌝ }
 {
     let n = blocks.len();
-    let at = HEAD + 2 * n;
+    let at = REQUEST_HEAD + ELEMENT_SIZE * n;
     let len = at + bytes.len();
     if buffer.len() < len {
         return Built::Refused(Refusal::ShortBuffer);
@@ -108,8 +118,8 @@ fn put_request(
 
 // Writes the block list behind the head of a request.
 fn put_list(blocks: &[u8], buffer: &mut [u8])
-    requires { ⌜ (length (now blocks) ≤ 4) × (14 + 2 * length (now blocks) ≤ length (now buffer)) ⌝ }
-    ensures { λ _. ⌜ now (buffer .exit) ≡ take 14 (now (buffer .entry)) ++ (blockList (now (blocks .entry)) ++ drop (14 + 2 * length (now (blocks .entry))) (now (buffer .entry))) ⌝ }
+    requires { ⌜ (length (now blocks) ≤ mostBlocks) × (requestHead + elementSize * length (now blocks) ≤ length (now buffer)) ⌝ }
+    ensures { λ _. ⌜ now (buffer .exit) ≡ take requestHead (now (buffer .entry)) ++ (blockList (now (blocks .entry)) ++ drop (requestHead + elementSize * length (now (blocks .entry))) (now (buffer .entry))) ⌝ }
 {
     let list = [
         ELEMENT,
@@ -121,7 +131,7 @@ fn put_list(blocks: &[u8], buffer: &mut [u8])
         ELEMENT,
         byte_at(blocks, 3),
     ];
-    put(&list[..2 * blocks.len()], buffer, HEAD);
+    put(&list[..ELEMENT_SIZE * blocks.len()], buffer, REQUEST_HEAD);
 }
 
 // Read Without Encryption of these blocks; 4 where the IDm has not 8 bytes or there are not 1 to 4 blocks, then 2, and nothing is written.
@@ -168,41 +178,41 @@ fn is_block_list(list: &[u8]) -> bool
         if list[i] != ELEMENT {
             return false;
         }
-        i += 2;
+        i += ELEMENT_SIZE;
     }
     i == list.len()
 }
 
 // Whether 1 to 4 blocks are asked for with `size` bytes of data each, and nothing stands behind them.
 fn asks_blocks(size: usize, packet: &[u8]) -> bool
-    requires { ⌜ size ≤ 16 ⌝ }
+    requires { ⌜ size ≤ blockSize ⌝ }
     ensures { λ r. ⌜ r ≡ asksBlocks size (now (packet .entry)) ⌝ }
 {
-    let n = number_at(packet, COUNT);
+    let n = number_at(packet, COUNT_OFFSET);
     if n < 1 {
         return false;
     }
     if MOST_BLOCKS < n {
         return false;
     }
-    if packet.len() != HEAD + (2 + size) * n {
+    if packet.len() != REQUEST_HEAD + (ELEMENT_SIZE + size) * n {
         return false;
     }
-    is_block_list(&packet[HEAD..HEAD + 2 * n])
+    is_block_list(&packet[REQUEST_HEAD..REQUEST_HEAD + ELEMENT_SIZE * n])
 }
 
 // Whether the packet is a request of a code with `size` bytes of data a block.
 fn is_request(code: u8, size: usize, packet: &[u8]) -> bool
-    requires { ⌜ size ≤ 16 ⌝ }
+    requires { ⌜ size ≤ blockSize ⌝ }
     ensures { λ r. ⌜ r ≡ isRequest code size (now (packet .entry)) ⌝ }
 {
     if number_at(packet, 0) != packet.len() {
         return false;
     }
-    if byte_at(packet, 1) != code {
+    if byte_at(packet, CODE_OFFSET) != code {
         return false;
     }
-    if byte_at(packet, 10) != 1 {
+    if byte_at(packet, SERVICES_OFFSET) != 1 {
         return false;
     }
     asks_blocks(size, packet)
@@ -217,7 +227,7 @@ fn service_code(low: u8, high: u8) -> u16
 
 // The block numbers of a list of at most four elements.
 fn block_numbers(list: &[u8]) -> BlockNumbers
-    ensures { λ r. ⌜ (length (now (list .entry)) ≤ 8 → take (length (now (list .entry)) / 2) (four r) ≡ numbersIn (now (list .entry))) ⌝ }
+    ensures { λ r. ⌜ (length (now (list .entry)) ≤ elementSize * mostBlocks → take (length (now (list .entry)) / elementSize) (four r) ≡ numbersIn (now (list .entry))) ⌝ }
 {
     BlockNumbers(
         byte_at(list, 1),
@@ -229,15 +239,18 @@ fn block_numbers(list: &[u8]) -> BlockNumbers
 
 // What a request asks for.
 fn asked_for(packet: &[u8]) -> Asked
-    requires { ⌜ (14 + 2 * countIn (now packet) ≤ length (now packet)) × (countIn (now packet) ≤ 4) ⌝ }
+    requires { ⌜ (requestHead + elementSize * countIn (now packet) ≤ length (now packet)) × (countIn (now packet) ≤ mostBlocks) ⌝ }
     ensures { λ r. ⌜ AskedOf r (now (packet .entry)) ⌝ }
 {
-    let count = byte_at(packet, COUNT);
-    let end = HEAD + 2 * wide(count);
+    let count = byte_at(packet, COUNT_OFFSET);
+    let end = REQUEST_HEAD + ELEMENT_SIZE * wide(count);
     Asked {
-        service: service_code(byte_at(packet, 11), byte_at(packet, 12)),
+        service: service_code(
+            byte_at(packet, SERVICE_LOW_OFFSET),
+            byte_at(packet, SERVICE_HIGH_OFFSET),
+        ),
         count,
-        numbers: block_numbers(&packet[HEAD..end]),
+        numbers: block_numbers(&packet[REQUEST_HEAD..end]),
     }
 }
 
@@ -258,7 +271,7 @@ pub fn parse_request(packet: &[u8]) -> Request
 pub fn block_data(packet: &[u8], count: u8) -> &[u8]
     ensures { λ r. ⌜ now r ≡ bytesIn count (now (packet .entry)) ⌝ }
 {
-    let at = HEAD + 2 * (count as usize);
+    let at = REQUEST_HEAD + ELEMENT_SIZE * (count as usize);
     let n = packet.len();
     if n < at {
         return &packet[n..];

@@ -18,6 +18,7 @@ use borrow.Rule.Slice.PartMut.{putMid}
 use Rattle.framing.specs.Copied.{copied, copied-two, copied-here, copied-behind}
 use Rattle.framing.specs.Frames.{checksumOf, ending, frameOf, extendedHead, headOf, startOf, longest, lengthBytes}
 use Rattle.errors.specs.Choice.{pick}
+use Rattle.framing.specs.Names.{normalStart, extendedStart, endingSize, longestExtended, shortestExtended}
 use Rattle.framing.specs.declared.FrameFormat.{FrameFormat}
 use Rattle.framing.specs.declared.Place.{Place}
 use Rattle.framing.specs.declared.Place.the-variants.{At}
@@ -28,30 +29,30 @@ pub length-head : (e : LengthEncoding) (n : ℕ) → length (headOf e n) ≡ sta
 unfolding headOf startOf pick lengthBytes
 length-head Normal n = refl
 length-head ExtendedLittleEndian n = refl
-length-head NormalOrExtendedBigEndian n = go (ltb n 256)
+length-head NormalOrExtendedBigEndian n = go (ltb n shortestExtended)
   where
-    go : (t : Bool) → length (pick t (headOf Normal n) (extendedHead (lengthBytes NormalOrExtendedBigEndian n))) ≡ pick t 5 8
+    go : (t : Bool) → length (pick t (headOf Normal n) (extendedHead (lengthBytes NormalOrExtendedBigEndian n))) ≡ pick t normalStart extendedStart
     go true = refl
     go false = refl
 
-pub start-most : (e : LengthEncoding) (n : ℕ) → startOf e n ≤ 8
+pub start-most : (e : LengthEncoding) (n : ℕ) → startOf e n ≤ extendedStart
 unfolding startOf pick
 start-most Normal n = omega arith
 start-most ExtendedLittleEndian n = omega arith
-start-most NormalOrExtendedBigEndian n = go (ltb n 256)
+start-most NormalOrExtendedBigEndian n = go (ltb n shortestExtended)
   where
-    go : (t : Bool) → pick t 5 8 ≤ 8
+    go : (t : Bool) → pick t normalStart extendedStart ≤ extendedStart
     go true = omega arith
     go false = omega arith
 
-pub longest-most : (e : LengthEncoding) → longest e ≤ 65535
+pub longest-most : (e : LengthEncoding) → longest e ≤ longestExtended
 unfolding longest
 longest-most Normal = omega arith
 longest-most ExtendedLittleEndian = omega arith
 longest-most NormalOrExtendedBigEndian = omega arith
 
 -- A head, n bytes and their ending, written into a buffer that has the n bytes already.
-module _ (h b : List ℕ) (n : ℕ) (room : length h + n + 2 ≤ length b) where
+module _ (h b : List ℕ) (n : ℕ) (room : length h + n + endingSize ≤ length b) where
   abbrev q : List ℕ
   q = take n (drop (length h) b)
 
@@ -64,14 +65,14 @@ module _ (h b : List ℕ) (n : ℕ) (room : length h + n + 2 ≤ length b) where
   front : take (length h + n) headed ≡ h ++ q
   front = take-append-add h (drop (length h) b) n
 
-  back : drop (length h + n + 2) headed ≡ drop (length h + n + 2) b
+  back : drop (length h + n + endingSize) headed ≡ drop (length h + n + endingSize) b
   back =
-      ap (λ k. drop k (h ++ drop (length h) b)) (add-assoc (length h) n 2)
-      ∙ drop-append-add h (drop (length h) b) (n + 2)
-      ∙ drop-drop (n + 2) (length h) b
-      ∙ ap (λ k. drop k b) (sym (add-assoc (length h) n 2))
+      ap (λ k. drop k (h ++ drop (length h) b)) (add-assoc (length h) n endingSize)
+      ∙ drop-append-add h (drop (length h) b) (n + endingSize)
+      ∙ drop-drop (n + endingSize) (length h) b
+      ∙ ap (λ k. drop k b) (sym (add-assoc (length h) n endingSize))
 
-  pub written : (c : ℕ) → set (set headed (length h + n) c) (length h + n + 1) 0 ≡ h ++ q ++ (c ∷ 0 ∷ []) ++ drop (length h + n + 2) b
+  pub written : (c : ℕ) → set (set headed (length h + n) c) (length h + n + 1) 0 ≡ h ++ q ++ (c ∷ 0 ∷ []) ++ drop (length h + n + endingSize) b
   written c =
       ap (λ k. set (set headed (length h + n) c) k 0) (add-one (length h + n))
       ∙ sets-eq (c ∷ 0 ∷ []) headed (length h + n) (rw length-headed room)
@@ -79,7 +80,7 @@ module _ (h b : List ℕ) (n : ℕ) (room : length h + n + 2 ≤ length b) where
 
 -- what `enclose` leaves
 pub enclose-done : (e : LengthEncoding) (n start c : ℕ) (b b₁ : List ℕ) → start ≡ startOf e n → b₁ ≡ headOf e n ++ drop (startOf e n) b
-    → startOf e n + n + 2 ≤ length b → c ≡ checksumOf (take (start + n - start) (drop start b₁))
+    → startOf e n + n + endingSize ≤ length b → c ≡ checksumOf (take (start + n - start) (drop start b₁))
     → set (set b₁ (start + n) c) (start + n + 1) 0 ≡ enclosed e n b
 unfolding enclosed frameOf
 enclose-done e n start c b b₁ s h room d =
@@ -87,38 +88,38 @@ enclose-done e n start c b b₁ s h room d =
     let lh : length H ≡ startOf e n = length-head e n in
     let sl : start ≡ length H = s ∙ sym lh in
     let hl : b₁ ≡ H ++ drop (length H) b = h ∙ ap (λ k. H ++ drop k b) (sym lh) in
-    let room′ : length H + n + 2 ≤ length b = rw lh room in
+    let room′ : length H + n + endingSize ≤ length b = rw lh room in
     let cut : drop start b₁ ≡ drop (length H) b = ap₂ (λ k l. drop k l) sl hl ∙ drop-append-seam H (drop (length H) b) in
     let count : start + n - start ≡ n = omega arith in
     let dq : c ≡ checksumOf (take n (drop (length H) b)) = d ∙ ap₂ (λ k l. checksumOf (take k l)) count cut in
     let lq : length (take n (drop (length H) b)) ≡ n = length-take-le n (drop (length H) b) (rw (length-drop (length H) b) (omega arith)) in
     rw (hl, sl, dq, ← lh, lq) (written H b n room′ (checksumOf (take n (drop (length H) b))))
 
-pub length-frame : (e : LengthEncoding) (p : List ℕ) → length (frameOf e p) ≡ startOf e (length p) + length p + 2
+pub length-frame : (e : LengthEncoding) (p : List ℕ) → length (frameOf e p) ≡ startOf e (length p) + length p + endingSize
 unfolding frameOf
 length-frame e p =
     length-append (headOf e (length p) ++ p) (ending p)
-    ∙ ap (λ k. k + 2) (length-append (headOf e (length p)) p ∙ ap (λ k. k + length p) (length-head e (length p)))
+    ∙ ap (λ k. k + endingSize) (length-append (headOf e (length p)) p ∙ ap (λ k. k + length p) (length-head e (length p)))
 
 -- The answers of `room_for`, and what `build` makes of them.
 module _ (f : FrameFormat) where
   pub record Fits (n room start : ℕ) : Type 0 where
     pub here : start ≡ startOf (f .length) n
     pub short : n ≤ longest (f .length)
-    pub inside : startOf (f .length) n + n + 2 ≤ room
+    pub inside : startOf (f .length) n + n + endingSize ≤ room
 
   pub place-fits : (n room start : ℕ) → At start ≡ placeOf f n room → Fits n room start
   unfolding placeOf limitOf pick
-  place-fits n room start = go (ltb (min (f .limit) (longest (f .length))) n) (ltb room (startOf (f .length) n + n + 2)) refl refl
+  place-fits n room start = go (ltb (min (f .limit) (longest (f .length))) n) (ltb room (startOf (f .length) n + n + endingSize)) refl refl
     where
-      go : (t u : Bool) → ltb (min (f .limit) (longest (f .length))) n ≡ t → ltb room (startOf (f .length) n + n + 2) ≡ u
+      go : (t u : Bool) → ltb (min (f .limit) (longest (f .length))) n ≡ t → ltb room (startOf (f .length) n + n + endingSize) ≡ u
           → At start ≡ pick t (Place.Refused OverLong) (pick u (Place.Refused ShortBuffer) (At (startOf (f .length) n))) → Fits n room start
       go true u l m x = let z : _≡_ {A = ℕ} 0 1 = cc in absurd (omega arith)
       go false true l m x = let z : _≡_ {A = ℕ} 0 1 = cc in absurd (omega arith)
       go false false l m x = record {
         here = cc;
         short = omega (arith, ltb-false (min (f .limit) (longest (f .length))) n l);
-        inside = omega (arith, ltb-false room (startOf (f .length) n + n + 2) m);
+        inside = omega (arith, ltb-false room (startOf (f .length) n + n + endingSize) m);
       }
 
   module _ (n room m l : ℕ) (longest-is : m ≡ longest (f .length)) (least-is : l ≡ min (f .limit) m) where
@@ -131,16 +132,13 @@ module _ (f : FrameFormat) where
     place-long h = rw (← limit-is, lt-ltb l n h)
 
     module _ (start : ℕ) (start-is : start ≡ startOf (f .length) n) (h : n ≤ l) where
-      pub place-short : room < start + n + 2 → Place.Refused ShortBuffer ≡ placeOf f n room
+      pub place-short : room < start + n + endingSize → Place.Refused ShortBuffer ≡ placeOf f n room
       unfolding placeOf pick
-      place-short k = rw (← limit-is, le-ltb l n h, ← start-is, lt-ltb room (start + n + 2) k)
+      place-short k = rw (← limit-is, le-ltb l n h, ← start-is, lt-ltb room (start + n + endingSize) k)
 
-      pub place-at : start + n + 2 ≤ room → At start ≡ placeOf f n room
+      pub place-at : start + n + endingSize ≤ room → At start ≡ placeOf f n room
       unfolding placeOf pick
-      place-at k = rw (← limit-is, le-ltb l n h, ← start-is, le-ltb room (start + n + 2) k)
-
-      pub place-small : start + n + 2 ≤ 65545
-      place-small = omega (arith, start-most (f .length) n, longest-most (f .length))
+      place-at k = rw (← limit-is, le-ltb l n h, ← start-is, le-ltb room (start + n + endingSize) k)
 
   module _ (p b : List ℕ) where
     abbrev s : ℕ
@@ -154,9 +152,9 @@ module _ (f : FrameFormat) where
     placed t u = pick t (Place.Refused OverLong) (pick u (Place.Refused ShortBuffer) (At s))
 
     abbrev built : Bool → Bool → Left
-    built t u = pick t (left (refused (plain 3)) b) (pick u (left (refused (plain 2)) b) (done (s + length p + 2)))
+    built t u = pick t (left (refused (plain 3)) b) (pick u (left (refused (plain 2)) b) (done (s + length p + endingSize)))
 
-    is-built : buildOf f p b ≡ built (ltb (limitOf f) (length p)) (ltb (length b) (s + length p + 2))
+    is-built : buildOf f p b ≡ built (ltb (limitOf f) (length p)) (ltb (length b) (s + length p + endingSize))
     unfolding buildOf putFrame
     is-built = rw (length-frame (f .length) p)
 
@@ -170,31 +168,31 @@ module _ (f : FrameFormat) where
     unfolding placeOf
     build-refused e x = refused-built e _ _ x ∙ sym is-built
 
-    done-built : (start : ℕ) (t u : Bool) → At start ≡ placed t u → done (start + length p + 2) ≡ built t u
+    done-built : (start : ℕ) (t u : Bool) → At start ≡ placed t u → done (start + length p + endingSize) ≡ built t u
     unfolding pick
     done-built start true u x = cc
     done-built start false true x = cc
-    done-built start false false x = let q : start ≡ s = cc in ap (λ k. done (k + length p + 2)) q
+    done-built start false false x = let q : start ≡ s = cc in ap (λ k. done (k + length p + endingSize)) q
 
     pub build-done : (start : ℕ) (b₁ : List ℕ) → At start ≡ placeOf f (length p) (length b)
-        → b₁ ≡ frameOf (f .length) p ++ drop (start + length p + 2) b → left (answered (start + length p + 2)) b₁ ≡ buildOf f p b
+        → b₁ ≡ frameOf (f .length) p ++ drop (start + length p + endingSize) b → left (answered (start + length p + endingSize)) b₁ ≡ buildOf f p b
     unfolding placeOf
-    build-done start b₁ x w = ap (λ l. left (answered (start + length p + 2)) l) w ∙ done-built start _ _ x ∙ sym is-built
+    build-done start b₁ x w = ap (λ l. left (answered (start + length p + endingSize)) l) w ∙ done-built start _ _ x ∙ sym is-built
 
     -- a payload that was put to its place and enclosed
     pub build-placed : (start : ℕ) (b₁ b₂ : List ℕ) → At start ≡ placeOf f (length p) (length b)
         → b₁ ≡ take start b ++ (p ++ drop (start + length p) b) → b₂ ≡ enclosed (f .length) (length p) b₁
-        → left (answered (start + length p + 2)) b₂ ≡ buildOf f p b
+        → left (answered (start + length p + endingSize)) b₂ ≡ buildOf f p b
     unfolding enclosed
     build-placed start b₁ b₂ x e w =
         let k = place-fits (length p) (length b) start x in
         let room : start + length p ≤ length b = omega (arith, k .here, k .inside) in
-        build-done start b₂ x (w ∙ rw (← k .here, e, copied-here b p start room, copied-behind b p start room 2))
+        build-done start b₂ x (w ∙ rw (← k .here, e, copied-here b p start room, copied-behind b p start room endingSize))
 
     pub build-copied : (start : ℕ) (part b₂ : List ℕ) → At start ≡ placeOf f (length p) (length b)
         → part ≡ take (length p) p ++ drop (length p) (take (length b - start) (drop start b))
         → b₂ ≡ enclosed (f .length) (length p) (putMid start (length b - start) b part)
-        → left (answered (start + length p + 2)) b₂ ≡ buildOf f p b
+        → left (answered (start + length p + endingSize)) b₂ ≡ buildOf f p b
     build-copied start part b₂ x e w =
         let k = place-fits (length p) (length b) start x in
         let room : start + length p ≤ length b = omega (arith, k .here, k .inside) in
@@ -205,7 +203,7 @@ pub command-placed : (f : FrameFormat) (x y start : ℕ) (l b part b₂ : List �
     → part ≡ take (length l) l ++ drop (length l) (take (length (set (set b start x) (start + 1) y) - (start + 2)) (drop (start + 2) (set (set b start x) (start + 1) y)))
     → b₂ ≡ enclosed (f .length) (length l + 2)
     (putMid (start + 2) (length (set (set b start x) (start + 1) y) - (start + 2)) (set (set b start x) (start + 1) y) part)
-    → left (answered (start + (length l + 2) + 2)) b₂ ≡ buildOf f (x ∷ y ∷ l) b
+    → left (answered (start + (length l + 2) + endingSize)) b₂ ≡ buildOf f (x ∷ y ∷ l) b
 command-placed f x y start l b part b₂ p e w =
     let b₁ : List ℕ = set (set b start x) (start + 1) y in
     let same : length b₁ ≡ length b = length-set (set b start x) (start + 1) y ∙ length-set b start x in

@@ -2,18 +2,18 @@
 -- writes parses to its payload. For every format, so for all six settings at once.
 use mathlib.Core.Path.{_≡_, refl, sym, ap, _∙_, subst, subst₃}
 use mathlib.Core.Bool.{Bool, true, false}
-use mathlib.Core.List.{List, [], _++_, append-assoc, append-nil}
+use mathlib.Core.List.{List, _++_, append-assoc}
 use mathlib.Core.Logic.{_⊎_, inl, inr, _↔_}
 use Prim.Native.Nat.{ℕ, _+_, _-_, _≤_}
 use native.Mathlib.Omega.{arith}
-use borrow.Author.Tests.{eq-eqb, eqb-true}
-use lib.Dec.{eqb, ltb}
-use lib.ListN.{length, getD, take, drop, length-take, drop-of-length-le}
+use lib.Dec.{ltb}
+use lib.ListN.{length, getD, take, drop, length-take}
 use lib.Seq.{take-append-seam}
 use Rattle.framing.specs.Checks.{hasMarker}
 use Rattle.framing.specs.Frames.{sof, ack, ending, normalHead, normalFrame, extendedHead, extendedFrame, lengthBytes, headOf, frameOf}
-use Rattle.errors.specs.Choice.{pick}
-use Rattle.framing.specs.Lists.{starts, same, Bytes}
+use Rattle.errors.specs.Choice.{pick, same, same-self, same-is}
+use Rattle.framing.specs.Lists.{starts, Bytes}
+use Rattle.framing.specs.Names.{lenOffset, firstLenOffset, secondLenOffset, normalStart, extendedStart, endingSize, normalOverhead, extendedOverhead, longestNormal, longestExtended, shortestExtended, ackSize}
 use Rattle.framing.specs.Parse.{isError, extends, lengthAt, normalAt, extendedAt, normalOf, extendedOf, dataOf, parseOf}
 use Rattle.framing.specs.Starts.{starts-whole, starts-split}
 use Rattle.framing.specs.Valid.{both-left, both-right, length-framed, length-extended, marker-normal}
@@ -27,8 +27,8 @@ use Rattle.framing.specs.declared.LengthEncoding.the-variants.{Normal, E
 -- extended frames the extended one, of any length that it can carry.
 abbrev pub Carries : LengthEncoding → List ℕ → List ℕ → ℕ → Type 0
 Carries e q frame start =
-    ((frame ≡ normalFrame q) × (start ≡ 5) × (length q ≤ 255))
-    ⊎ ((frame ≡ extendedFrame e q) × (start ≡ 8) × (length q ≤ 65535) × (extends e ≡ true))
+    ((frame ≡ normalFrame q) × (start ≡ normalStart) × (length q ≤ longestNormal))
+    ⊎ ((frame ≡ extendedFrame e q) × (start ≡ extendedStart) × (length q ≤ longestExtended) × (extends e ≡ true))
 
 -- The packet p starts with a frame of m bytes whose payload is the n bytes from s on.
 pub record StartsWith (e : LengthEncoding) (p : List ℕ) (s n m : ℕ) : Type 0 where
@@ -54,19 +54,19 @@ normal-at : (q r : List ℕ) → normalAt (normalFrame q ++ r) ≡ true
 unfolding normalAt normalFrame
 normal-at q r = rw (cut q r) (starts-whole (normalFrame q) r)
 
-length-at : (e : LengthEncoding) (q r : List ℕ) → length q ≤ 65535 → lengthAt e (extendedFrame e q ++ r) ≡ length q
+length-at : (e : LengthEncoding) (q r : List ℕ) → length q ≤ longestExtended → lengthAt e (extendedFrame e q ++ r) ≡ length q
 unfolding lengthAt extendedFrame lengthBytes
 length-at Normal q r h = omega arith
 length-at ExtendedLittleEndian q r h = omega arith
 length-at NormalOrExtendedBigEndian q r h = omega arith
 
-behind-head : (e : LengthEncoding) (q r : List ℕ) → drop 8 (extendedFrame e q ++ r) ≡ q ++ ending q ++ r
+behind-head : (e : LengthEncoding) (q r : List ℕ) → drop extendedStart (extendedFrame e q ++ r) ≡ q ++ ending q ++ r
 unfolding extendedFrame lengthBytes
 behind-head Normal q r = refl
 behind-head ExtendedLittleEndian q r = refl
 behind-head NormalOrExtendedBigEndian q r = refl
 
-extended-at : (e : LengthEncoding) (q r : List ℕ) → length q ≤ 65535 → extends e ≡ true → extendedAt e (extendedFrame e q ++ r) ≡ true
+extended-at : (e : LengthEncoding) (q r : List ℕ) → length q ≤ longestExtended → extends e ≡ true → extendedAt e (extendedFrame e q ++ r) ≡ true
 unfolding extendedAt
 extended-at e q r h x = rw (x, length-at e q r h, behind-head e q r, cut q r) (starts-whole (extendedFrame e q) r)
 
@@ -82,26 +82,26 @@ extended-sof : (e : LengthEncoding) (q r : List ℕ) → starts sof (extendedFra
 unfolding starts extendedFrame
 extended-sof e q r = refl
 
-normal-data : (e : LengthEncoding) (q r : List ℕ) → dataOf e (normalFrame q ++ r) ≡ Data 5 (length q) (length q + 7)
+normal-data : (e : LengthEncoding) (q r : List ℕ) → dataOf e (normalFrame q ++ r) ≡ Data normalStart (length q) (length q + normalOverhead)
 unfolding dataOf normalOf pick normalFrame
 normal-data e q r = rw (normal-at q r)
 
-extended-data : (e : LengthEncoding) (q r : List ℕ) → Bytes (extendedFrame e q ++ r) → length q ≤ 65535 → extends e ≡ true
-    → dataOf e (extendedFrame e q ++ r) ≡ Data 8 (length q) (length q + 10)
+extended-data : (e : LengthEncoding) (q r : List ℕ) → Bytes (extendedFrame e q ++ r) → length q ≤ longestExtended → extends e ≡ true
+    → dataOf e (extendedFrame e q ++ r) ≡ Data extendedStart (length q) (length q + extendedOverhead)
 unfolding dataOf extendedOf pick
 extended-data e q r bytes h x = rw (marker-normal (extendedFrame e q ++ r) bytes (extended-sof e q r) (has-marker e q r), extended-at e q r h x, length-at e q r h)
 
-length-normal : (q : List ℕ) → length (normalFrame q) ≡ length q + 7
+length-normal : (q : List ℕ) → length (normalFrame q) ≡ length q + normalOverhead
 unfolding normalFrame
 length-normal q = length-framed (normalHead (length q)) q ∙ sum (length q)
   where
-    sum : (n : ℕ) → 5 + n + 2 ≡ n + 7
+    sum : (n : ℕ) → normalStart + n + endingSize ≡ n + normalOverhead
     sum n = omega arith
 
-length-long : (e : LengthEncoding) (q : List ℕ) → length (extendedFrame e q) ≡ length q + 10
+length-long : (e : LengthEncoding) (q : List ℕ) → length (extendedFrame e q) ≡ length q + extendedOverhead
 length-long e q = length-extended e q ∙ sum (length q)
   where
-    sum : (n : ℕ) → 8 + n + 2 ≡ n + 10
+    sum : (n : ℕ) → extendedStart + n + endingSize ≡ n + extendedOverhead
     sum n = omega arith
 
 same-data : {s s′ n n′ m m′ : ℕ} → s ≡ s′ → n ≡ n′ → m ≡ m′ → Data s n m ≡ Data s′ n′ m′
@@ -116,51 +116,51 @@ data-of e p s n m bytes w = go (w .carries)
     go : Carries e q (w .frame) s → (starts sof p ≡ true) × (dataOf e p ≡ Data s n m)
     go (inl c) =
         let x : p ≡ normalFrame q ++ w .behind = w .whole ∙ ap (λ f. f ++ w .behind) (c .0) in
-        let size : length q + 7 ≡ m = sym (w .size ∙ ap length (c .0) ∙ length-normal q) in
+        let size : length q + normalOverhead ≡ m = sym (w .size ∙ ap length (c .0) ∙ length-normal q) in
         subst (λ l. (starts sof l ≡ true) × (dataOf e l ≡ Data s n m)) (sym x)
         (normal-sof q (w .behind), normal-data e q (w .behind) ∙ same-data (sym (c .1)) (sym (w .len)) size)
     go (inr c) =
         let x : p ≡ extendedFrame e q ++ w .behind = w .whole ∙ ap (λ f. f ++ w .behind) (c .0) in
-        let size : length q + 10 ≡ m = sym (w .size ∙ ap length (c .0) ∙ length-long e q) in
+        let size : length q + extendedOverhead ≡ m = sym (w .size ∙ ap length (c .0) ∙ length-long e q) in
         subst (λ l. (starts sof l ≡ true) × (dataOf e l ≡ Data s n m)) (sym x)
         (extended-sof e q (w .behind), extended-data e q (w .behind) (subst Bytes x bytes) (c .2) (c .3) ∙ same-data (sym (c .1)) (sym (w .len)) size)
 
 -- ---- an answer shows its frame
 
-third : (q r : List ℕ) → getD (normalFrame q ++ r) 3 0 ≡ length q
+third : (q r : List ℕ) → getD (normalFrame q ++ r) lenOffset 0 ≡ length q
 unfolding normalFrame
 third q r = refl
 
 module _ (e : LengthEncoding) (p : List ℕ) (bytes : Bytes p) where
-  normal-shows : normalAt p ≡ true → StartsWith e p 5 (getD p 3 0) (getD p 3 0 + 7)
+  normal-shows : normalAt p ≡ true → StartsWith e p normalStart (getD p lenOffset 0) (getD p lenOffset 0 + normalOverhead)
   unfolding normalAt
   normal-shows h =
-      let q : List ℕ = take (getD p 3 0) (drop 5 p) in
+      let q : List ℕ = take (getD p lenOffset 0) (drop normalStart p) in
       let x : p ≡ normalFrame q ++ drop (length (normalFrame q)) p = starts-split (normalFrame q) p h in
-      let n : getD p 3 0 ≡ length q = ap (λ l. getD l 3 0) x ∙ third q (drop (length (normalFrame q)) p) in
+      let n : getD p lenOffset 0 ≡ length q = ap (λ l. getD l lenOffset 0) x ∙ third q (drop (length (normalFrame q)) p) in
       record {
         payload = q;
         frame = normalFrame q;
         behind = drop (length (normalFrame q)) p;
         whole = x;
-        carries = inl (refl, refl, omega (arith, bytes 3));
+        carries = inl (refl, refl, omega (arith, bytes lenOffset));
         len = n;
-        size = ap (λ k. k + 7) n ∙ sym (length-normal q);
+        size = ap (λ k. k + normalOverhead) n ∙ sym (length-normal q);
       }
 
-  length-most : (d : LengthEncoding) → lengthAt d p ≤ 65535
+  length-most : (d : LengthEncoding) → lengthAt d p ≤ longestExtended
   unfolding lengthAt
-  length-most Normal = omega (arith, bytes 5, bytes 6)
-  length-most ExtendedLittleEndian = omega (arith, bytes 5, bytes 6)
-  length-most NormalOrExtendedBigEndian = omega (arith, bytes 5, bytes 6)
+  length-most Normal = omega (arith, bytes firstLenOffset, bytes secondLenOffset)
+  length-most ExtendedLittleEndian = omega (arith, bytes firstLenOffset, bytes secondLenOffset)
+  length-most NormalOrExtendedBigEndian = omega (arith, bytes firstLenOffset, bytes secondLenOffset)
 
-  extended-shows : extendedAt e p ≡ true → StartsWith e p 8 (lengthAt e p) (lengthAt e p + 10)
+  extended-shows : extendedAt e p ≡ true → StartsWith e p extendedStart (lengthAt e p) (lengthAt e p + extendedOverhead)
   unfolding extendedAt
   extended-shows h =
-      let q : List ℕ = take (lengthAt e p) (drop 8 p) in
+      let q : List ℕ = take (lengthAt e p) (drop extendedStart p) in
       let t = both-right (extends e) (starts (extendedFrame e q) p) h in
       let x : p ≡ extendedFrame e q ++ drop (length (extendedFrame e q)) p = starts-split (extendedFrame e q) p t in
-      let most : length q ≤ 65535 = omega (arith, length-take (lengthAt e p) (drop 8 p), length-most e) in
+      let most : length q ≤ longestExtended = omega (arith, length-take (lengthAt e p) (drop extendedStart p), length-most e) in
       let n : lengthAt e p ≡ length q = ap (λ l. lengthAt e l) x ∙ length-at e q (drop (length (extendedFrame e q)) p) most in
       record {
         payload = q;
@@ -169,7 +169,7 @@ module _ (e : LengthEncoding) (p : List ℕ) (bytes : Bytes p) where
         whole = x;
         carries = inr (refl, refl, most, both-left (extends e) (starts (extendedFrame e q) p) h);
         len = n;
-        size = ap (λ k. k + 10) n ∙ sym (length-long e q);
+        size = ap (λ k. k + extendedOverhead) n ∙ sym (length-long e q);
       }
 
   as-known : {s n m s′ n′ m′ : ℕ} → StartsWith e p s n m → Data s n m ≡ Data s′ n′ m′ → StartsWith e p s′ n′ m′
@@ -187,7 +187,7 @@ module _ (e : LengthEncoding) (p : List ℕ) (bytes : Bytes p) where
   data-shows s n m = go (normalAt p) (extendedAt e p) refl refl
     where
       go : (t u : Bool) → normalAt p ≡ t → extendedAt e p ≡ u
-          → pick t (pick t (Data 5 (getD p 3 0) (getD p 3 0 + 7)) Nothing) (pick u (Data 8 (lengthAt e p) (lengthAt e p + 10)) Nothing) ≡ Data s n m
+          → pick t (pick t (Data normalStart (getD p lenOffset 0) (getD p lenOffset 0 + normalOverhead)) Nothing) (pick u (Data extendedStart (lengthAt e p) (lengthAt e p + extendedOverhead)) Nothing) ≡ Data s n m
           → StartsWith e p s n m
       go true u a b x = as-known (normal-shows a) x
       go false true a b x = as-known (extended-shows b) x
@@ -195,19 +195,9 @@ module _ (e : LengthEncoding) (p : List ℕ) (bytes : Bytes p) where
 
 -- ---- the whole packet
 
-same-is : (l p : List ℕ) → same l p ≡ true → p ≡ l
-unfolding same
-same-is l p h =
-    let n : length p ≡ length l = eqb-true (length p) (length l) (both-left (eqb (length p) (length l)) (starts l p) h) in
-    starts-split l p (both-right (eqb (length p) (length l)) (starts l p) h) ∙ ap (λ k. l ++ k) (drop-of-length-le p {i = length l} (omega arith)) ∙ append-nil l
-
 sof-ack : starts sof ack ≡ true
 unfolding starts
 sof-ack = refl
-
-same-self : (l : List ℕ) → same l l ≡ true
-unfolding same
-same-self l = rw (eq-eqb (length l) (length l) refl) (ap (starts l) (sym (append-nil l)) ∙ starts-whole l [])
 
 -- a number for each kind of answer, to tell them apart
 abbrev kind : FrameType → ℕ
@@ -220,7 +210,7 @@ data-kind : (e : LengthEncoding) (p : List ℕ) → 2 ≤ kind (dataOf e p)
 unfolding dataOf normalOf extendedOf pick
 data-kind e p = go (normalAt p) (extendedAt e p)
   where
-    go : (t u : Bool) → 2 ≤ kind (pick t (pick t (Data 5 (getD p 3 0) (getD p 3 0 + 7)) Nothing) (pick u (Data 8 (lengthAt e p) (lengthAt e p + 10)) Nothing))
+    go : (t u : Bool) → 2 ≤ kind (pick t (pick t (Data normalStart (getD p lenOffset 0) (getD p lenOffset 0 + normalOverhead)) Nothing) (pick u (Data extendedStart (lengthAt e p) (lengthAt e p + extendedOverhead)) Nothing))
     go true u = omega arith
     go false true = omega arith
     go false false = omega arith
@@ -228,7 +218,7 @@ data-kind e p = go (normalAt p) (extendedAt e p)
 -- The tests of `parseOf` in turn: the start bytes, Ack, the error form's own test.
 module _ (f : FrameFormat) (p : List ℕ) where
   abbrev answer : Bool → Bool → Bool → FrameType
-  answer t u v = pick t (pick u (Ack 6) (pick v (Error (length p)) (dataOf (f .length) p))) Nothing
+  answer t u v = pick t (pick u (Ack ackSize) (pick v (Error (length p)) (dataOf (f .length) p))) Nothing
 
   is-answer : parseOf f p ≡ answer (starts sof p) (same ack p) (isError (f .error) p)
   unfolding parseOf
@@ -237,9 +227,9 @@ module _ (f : FrameFormat) (p : List ℕ) where
   answered : (t u v : Bool) → starts sof p ≡ t → same ack p ≡ u → isError (f .error) p ≡ v → parseOf f p ≡ answer t u v
   answered t u v a b c = is-answer ∙ rw (a, b, c)
 
-  ack-shows : (n : ℕ) (t u v : Bool) → same ack p ≡ u → answer t u v ≡ Ack n → (p ≡ ack) × (n ≡ 6)
+  ack-shows : (n : ℕ) (t u v : Bool) → same ack p ≡ u → answer t u v ≡ Ack n → (p ≡ ack) × (n ≡ ackSize)
   unfolding pick
-  ack-shows n true true v s x = (same-is ack p s, cc)
+  ack-shows n true true v s x = (sym (same-is ack p s), cc)
   ack-shows n true false true s x = absurd (omega (arith, ap kind x))
   ack-shows n true false false s x = absurd (omega (arith, ap kind x, data-kind (f .length) p))
   ack-shows n false u v s x = absurd (omega (arith, ap kind x))
@@ -261,7 +251,7 @@ module _ (f : FrameFormat) (p : List ℕ) where
   frame-shows bytes s n m false u v b c x = absurd (omega (arith, ap kind x))
 
   -- Ack: exactly the packet 00 00 FF 00 FF 00.
-  pub ack-exact : (n : ℕ) → (parseOf f p ≡ Ack n) ↔ ((p ≡ ack) × (n ≡ 6))
+  pub ack-exact : (n : ℕ) → (parseOf f p ≡ Ack n) ↔ ((p ≡ ack) × (n ≡ ackSize))
   unfolding pick
   ack-exact n = (
     λ x. ack-shows n (starts sof p) (same ack p) (isError (f .error) p) refl (sym is-answer ∙ x),
@@ -289,7 +279,7 @@ pub sof-frame : (e : LengthEncoding) (q : List ℕ) → starts sof (frameOf e q)
 unfolding starts frameOf headOf pick
 sof-frame Normal q = refl
 sof-frame ExtendedLittleEndian q = refl
-sof-frame NormalOrExtendedBigEndian q = go (ltb (length q) 256)
+sof-frame NormalOrExtendedBigEndian q = go (ltb (length q) shortestExtended)
   where
     go : (t : Bool) → starts sof (pick t (normalHead (length q)) (extendedHead (lengthBytes NormalOrExtendedBigEndian (length q))) ++ q ++ ending q) ≡ true
     go true = refl

@@ -5,6 +5,7 @@ use Prim.Native.Nat.{ℕ, _+_, _-_, _%_, _/_}
 use lib.Dec.{ltb}
 use lib.ListN.{length}
 use Rattle.errors.specs.Choice.{pick}
+use Rattle.framing.specs.Names.{normalStart, extendedStart, longestNormal, longestExtended, shortestExtended}
 use Rattle.framing.specs.declared.LengthEncoding.{LengthEncoding}
 use Rattle.framing.specs.declared.LengthEncoding.the-variants.{Normal, ExtendedLittleEndian, NormalOrExtendedBigEndian}
 
@@ -49,13 +50,13 @@ extendedFrame e payload = extendedHead (lengthBytes e (length payload)) ++ paylo
 unfoldable pub headOf : LengthEncoding → ℕ → List ℕ
 headOf Normal n = normalHead n
 headOf ExtendedLittleEndian n = extendedHead (lengthBytes ExtendedLittleEndian n)
-headOf NormalOrExtendedBigEndian n = pick (ltb n 256) (normalHead n) (extendedHead (lengthBytes NormalOrExtendedBigEndian n))
+headOf NormalOrExtendedBigEndian n = pick (ltb n shortestExtended) (normalHead n) (extendedHead (lengthBytes NormalOrExtendedBigEndian n))
 
 -- how long that is
 unfoldable pub startOf : LengthEncoding → ℕ → ℕ
-startOf Normal n = 5
-startOf ExtendedLittleEndian n = 8
-startOf NormalOrExtendedBigEndian n = pick (ltb n 256) 5 8
+startOf Normal n = normalStart
+startOf ExtendedLittleEndian n = extendedStart
+startOf NormalOrExtendedBigEndian n = pick (ltb n shortestExtended) normalStart extendedStart
 
 -- the frame that carries a payload under a length form: normal, extended, or normal below 256 bytes and else extended
 unfoldable pub frameOf : LengthEncoding → List ℕ → List ℕ
@@ -63,9 +64,9 @@ frameOf e payload = headOf e (length payload) ++ payload ++ ending payload
 
 -- the longest payload that a length form can carry
 abbrev pub longest : LengthEncoding → ℕ
-longest Normal = 255
-longest ExtendedLittleEndian = 65535
-longest NormalOrExtendedBigEndian = 65535
+longest Normal = longestNormal
+longest ExtendedLittleEndian = longestExtended
+longest NormalOrExtendedBigEndian = longestExtended
 
 abbrev pub ack : List ℕ
 ack = 0x00 ∷ 0x00 ∷ 0xFF ∷ 0x00 ∷ 0xFF ∷ 0x00 ∷ []

@@ -4,7 +4,7 @@ use mathlib.Core.Bool.{Bool, true, false}
 use mathlib.Core.List.{List, [], _∷_}
 use Prim.Native.Nat.{ℕ, _<_}
 use lib.Dec.{eqb}
-use lib.ListN.{length, getD}
+use lib.ListN.{getD}
 
 abbrev pub both : Bool → Bool → Bool
 both true b = b
@@ -31,7 +31,3 @@ unfoldable pub starts : List ℕ → List ℕ → Bool
 starts [] p = true
 starts (x ∷ f) [] = false
 starts (x ∷ f) (y ∷ p) = both (eqb x y) (starts f p)
-
--- the packet p is f, no more and no less
-unfoldable pub same : List ℕ → List ℕ → Bool
-same f p = both (eqb (length p) (length f)) (starts f p)

@@ -6,17 +6,15 @@ use Prim.Native.Nat.{ℕ, _+_, _-_, _≤_, _<_}
 use native.Mathlib.Omega.{arith}
 use native.Mathlib.Nat.{zero-add}
 use borrow.Author.Tests.{eq-eqb}
-use lib.Dec.{eqb}
 use lib.ListN.{length, getD, take, drop, replicate, length-drop}
 use lib.Seq.{getD-drop, drop-drop, take-all}
-use Rattle.errors.specs.Choice.{pick}
+use Rattle.errors.specs.Choice.{pick, same, same-not}
 use Rattle.framing.specs.Frames.{sof, ack}
-use Rattle.framing.specs.Lists.{starts, same}
-use Rattle.framing.specs.Padded.{extraZeros, unpadded, zerosIn, behind, padded, parsePadded}
+use Rattle.framing.specs.Lists.{starts}
+use Rattle.framing.specs.Names.{lenOffset, normalStart, extendedStart, normalOverhead, extendedOverhead, ackSize, statusErrorOffset, statusErrorByte}
+use Rattle.framing.specs.Padded.{mostZeros, extraZeros, unpadded, zerosIn, behind, padded, parsePadded}
 use Rattle.framing.specs.Parse.{isError, normalAt, normalOf, extendedAt, extendedOf, dataOf, lengthAt, parseOf, payloadOf}
-use Rattle.framing.specs.Starts.{starts-split}
 use Rattle.framing.specs.Unpadded.{extra-most, extra-before, extra-fits, extra-false-start, unpadded-before, over-no-start}
-use Rattle.framing.specs.Valid.{both-right}
 use Rattle.framing.specs.declared.ErrorDetection.the-variants.{StatusByte}
 use Rattle.framing.specs.declared.FrameFormat.{FrameFormat}
 use Rattle.framing.specs.declared.FrameType.{FrameType}
@@ -31,30 +29,30 @@ payloadStart Nothing = 0
 
 -- A claim of each answer that `parse` can give.
 module _ (P : FrameType → Type 0) (f : FrameFormat) (p : List ℕ) where
-  pub by-answer : P Nothing → P (Ack 6) → P (Error (length p)) → ((start len n : ℕ) → start ≤ 8 → P (Data start len n)) → P (parseOf f p)
+  pub by-answer : P Nothing → P (Ack ackSize) → P (Error (length p)) → ((start len n : ℕ) → start ≤ extendedStart → P (Data start len n)) → P (parseOf f p)
   unfolding parseOf dataOf normalOf extendedOf pick
   by-answer none acked failed found = go (starts sof p) (same ack p) (isError (f .error) p) (normalAt p) (extendedAt (f .length) p)
     where
       n : ℕ
-      n = getD p 3 0
+      n = getD p lenOffset 0
 
       x : ℕ
       x = lengthAt (f .length) p
 
-      go : (a b c d e : Bool) → P (pick a (pick b (Ack 6) (pick c (Error (length p))
-          (pick d (pick d (Data 5 n (n + 7)) Nothing) (pick e (Data 8 x (x + 10)) Nothing)))) Nothing)
+      go : (a b c d e : Bool) → P (pick a (pick b (Ack ackSize) (pick c (Error (length p))
+          (pick d (pick d (Data normalStart n (n + normalOverhead)) Nothing) (pick e (Data extendedStart x (x + extendedOverhead)) Nothing)))) Nothing)
       go false b c d e = none
       go true true c d e = acked
       go true false true d e = failed
-      go true false false true e = found 5 n (n + 7) (omega arith)
-      go true false false false true = found 8 x (x + 10) (omega arith)
+      go true false false true e = found normalStart n (n + normalOverhead) (omega arith)
+      go true false false false true = found extendedStart x (x + extendedOverhead) (omega arith)
       go true false false false false = none
 
 -- a payload starts at byte 5 or byte 8
-pub start-low : (f : FrameFormat) (p : List ℕ) → payloadStart (parseOf f p) ≤ 8
-start-low f p = by-answer (λ t. payloadStart t ≤ 8) f p (omega arith) (omega arith) (omega arith) (λ start len n l. l)
+pub start-low : (f : FrameFormat) (p : List ℕ) → payloadStart (parseOf f p) ≤ extendedStart
+start-low f p = by-answer (λ t. payloadStart t ≤ extendedStart) f p (omega arith) (omega arith) (omega arith) (λ start len n l. l)
 
-pub zeros-most : (on : Bool) (p : List ℕ) → zerosIn on p ≤ 16
+pub zeros-most : (on : Bool) (p : List ℕ) → zerosIn on p ≤ mostZeros
 zeros-most true p = extra-most p
 zeros-most false p = omega arith
 
@@ -77,15 +75,8 @@ payload-behind z (Data start len n) p = ap (take len) (sym (drop-drop start z p)
 payload-behind z Nothing p = refl
 
 -- ACK has 00 at byte 5
-no-ack : (p : List ℕ) → getD p 5 0 ≡ 0x7F → same ack p ≡ false
-unfolding same
-no-ack p e = go (same ack p) refl
-  where
-    go : (t : Bool) → same ack p ≡ t → t ≡ false
-    go false h = refl
-    go true h =
-        let split : p ≡ ack ++ drop 6 p = starts-split ack p (both-right (eqb (length p) 6) (starts ack p) h) in
-        absurd (omega (arith, ap (λ q. getD q 5 0) split, e))
+no-ack : (p : List ℕ) → getD p statusErrorOffset 0 ≡ statusErrorByte → same ack p ≡ false
+no-ack p e = same-not ack p (λ h. omega (arith, ap (λ q. getD q statusErrorOffset 0) h, e))
 
 module _ (f : FrameFormat) where
   -- with the mode off the answer is that of `parse`
@@ -94,7 +85,7 @@ module _ (f : FrameFormat) where
   off-plain p = ap (padded 0) (behind-none (parseOf f p))
 
   -- with it on, up to 16 zeros before a packet that has the start bytes give the plain answer and their number
-  pub on-before : (z : ℕ) (p : List ℕ) → starts sof p ≡ true → z ≤ 16
+  pub on-before : (z : ℕ) (p : List ℕ) → starts sof p ≡ true → z ≤ mostZeros
       → parsePadded f true (replicate z 0 ++ p) ≡ padded z (behind z (parseOf f p))
   unfolding parsePadded unpadded
   on-before z p h l = ap₂ (λ k q. padded k (behind k (parseOf f q))) (extra-before z p h l) (unpadded-before z p h l)
@@ -104,7 +95,7 @@ module _ (f : FrameFormat) where
   unfolding parsePadded unpadded parseOf pick
   on-no-start p h = rw h (ap (λ k. padded k Nothing) (extra-false-start p h))
 
-  pub on-over : (z : ℕ) (p : List ℕ) → starts sof p ≡ true → 16 < z → parsePadded f true (replicate z 0 ++ p) ≡ padded 0 Nothing
+  pub on-over : (z : ℕ) (p : List ℕ) → starts sof p ≡ true → mostZeros < z → parsePadded f true (replicate z 0 ++ p) ≡ padded 0 Nothing
   on-over z p h l = on-no-start (replicate z 0 ++ p) (over-no-start z p h l)
 
   -- the payload that is handed out is a part of the packet as it came, and is that of the packet without the zeros
@@ -114,13 +105,13 @@ module _ (f : FrameFormat) where
   payload-same on p = payload-behind (zerosIn on p) (parseOf f (drop (zerosIn on p) p)) p
 
   -- under StatusByte, byte 5 counted behind the zeros says Error, of the packet's length less their number
-  pub status-error : f .error ≡ StatusByte → (p : List ℕ) → starts sof (unpadded p) ≡ true → getD p (extraZeros p + 5) 0 ≡ 0x7F
+  pub status-error : f .error ≡ StatusByte → (p : List ℕ) → starts sof (unpadded p) ≡ true → getD p (extraZeros p + statusErrorOffset) 0 ≡ statusErrorByte
       → parsePadded f true p ≡ padded (extraZeros p) (Error (length p - extraZeros p))
   unfolding parsePadded unpadded parseOf isError pick
   status-error s p h e =
       let q = drop (extraZeros p) p in
-      let five : getD q 5 0 ≡ 0x7F = getD-drop (extraZeros p) p 5 0 ∙ e in
-      rw (h, no-ack q five, s, eq-eqb (getD q 5 0) 0x7F five, length-drop (extraZeros p) p)
+      let five : getD q statusErrorOffset 0 ≡ statusErrorByte = getD-drop (extraZeros p) p statusErrorOffset 0 ∙ e in
+      rw (h, no-ack q five, s, eq-eqb (getD q statusErrorOffset 0) statusErrorByte five, length-drop (extraZeros p) p)
 
   -- an Error's length, under either error form
   pub error-length : (on : Bool) (p : List ℕ) (n : ℕ) → parsePadded f on p .found ≡ Error n → n ≡ length p - zerosIn on p

@@ -5,8 +5,9 @@ use Prim.Native.Nat.{ℕ, _+_, _*_}
 use lib.Dec.{eqb}
 use lib.ListN.{length, getD, take, drop}
 use Rattle.framing.specs.Frames.{sof, ack, errorFrame, normalFrame, extendedFrame}
-use Rattle.errors.specs.Choice.{pick}
-use Rattle.framing.specs.Lists.{both, starts, same}
+use Rattle.errors.specs.Choice.{pick, same}
+use Rattle.framing.specs.Lists.{both, starts}
+use Rattle.framing.specs.Names.{lenOffset, firstLenOffset, secondLenOffset, normalStart, extendedStart, normalOverhead, extendedOverhead, ackSize, statusErrorOffset, statusErrorByte}
 use Rattle.framing.specs.declared.ErrorDetection.{ErrorDetection}
 use Rattle.framing.specs.declared.ErrorDetection.the-variants.{ErrorFrame, StatusByte}
 use Rattle.framing.specs.declared.FrameFormat.{FrameFormat}
@@ -18,7 +19,7 @@ use Rattle.framing.specs.declared.LengthEncoding.the-variants.{Normal, E
 -- the error form's own test: the six-byte error frame, or byte 5 at 0x7F
 unfoldable pub isError : ErrorDetection → List ℕ → Bool
 isError ErrorFrame p = same errorFrame p
-isError StatusByte p = eqb (getD p 5 0) 0x7F
+isError StatusByte p = eqb (getD p statusErrorOffset 0) statusErrorByte
 
 -- whether a length form has extended frames
 unfoldable pub extends : LengthEncoding → Bool
@@ -28,24 +29,24 @@ extends NormalOrExtendedBigEndian = true
 
 -- the length that the bytes 5 and 6 of an extended frame give
 unfoldable pub lengthAt : LengthEncoding → List ℕ → ℕ
-lengthAt Normal p = getD p 5 0 * 256 + getD p 6 0
-lengthAt ExtendedLittleEndian p = getD p 6 0 * 256 + getD p 5 0
-lengthAt NormalOrExtendedBigEndian p = getD p 5 0 * 256 + getD p 6 0
+lengthAt Normal p = getD p firstLenOffset 0 * 256 + getD p secondLenOffset 0
+lengthAt ExtendedLittleEndian p = getD p secondLenOffset 0 * 256 + getD p firstLenOffset 0
+lengthAt NormalOrExtendedBigEndian p = getD p firstLenOffset 0 * 256 + getD p secondLenOffset 0
 
 -- the packet starts with the normal frame of the n bytes from byte 5 on, n being its LEN
 unfoldable pub normalAt : List ℕ → Bool
-normalAt p = starts (normalFrame (take (getD p 3 0) (drop 5 p))) p
+normalAt p = starts (normalFrame (take (getD p lenOffset 0) (drop normalStart p))) p
 
 -- the packet starts with the extended frame of the n bytes from byte 8 on, n being its length
 unfoldable pub extendedAt : LengthEncoding → List ℕ → Bool
-extendedAt e p = both (extends e) (starts (extendedFrame e (take (lengthAt e p) (drop 8 p))) p)
+extendedAt e p = both (extends e) (starts (extendedFrame e (take (lengthAt e p) (drop extendedStart p))) p)
 
 -- where the payload starts, its length, the frame's length
 unfoldable pub normalOf : List ℕ → FrameType
-normalOf p = pick (normalAt p) (Data 5 (getD p 3 0) (getD p 3 0 + 7)) Nothing
+normalOf p = pick (normalAt p) (Data normalStart (getD p lenOffset 0) (getD p lenOffset 0 + normalOverhead)) Nothing
 
 unfoldable pub extendedOf : LengthEncoding → List ℕ → FrameType
-extendedOf e p = pick (extendedAt e p) (Data 8 (lengthAt e p) (lengthAt e p + 10)) Nothing
+extendedOf e p = pick (extendedAt e p) (Data extendedStart (lengthAt e p) (lengthAt e p + extendedOverhead)) Nothing
 
 -- a data frame at the packet's start
 unfoldable pub dataOf : LengthEncoding → List ℕ → FrameType
@@ -54,7 +55,7 @@ dataOf e p = pick (normalAt p) (normalOf p) (extendedOf e p)
 unfoldable pub parseOf : FrameFormat → List ℕ → FrameType
 parseOf f p =
     pick (starts sof p)
-    (pick (same ack p) (Ack 6)
+    (pick (same ack p) (Ack ackSize)
     (pick (isError (f .error) p) (Error (length p)) (dataOf (f .length) p)))
     Nothing
 

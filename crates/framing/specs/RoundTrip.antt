@@ -1,19 +1,20 @@
 -- A built frame parses to its payload and length, except under StatusByte, where it gives Error exactly when byte 5 is 0x7F. In an
 -- extended frame byte 5 is a length byte.
-use mathlib.Core.Path.{_≡_, refl, sym, _∙_}
+use mathlib.Core.Path.{_≡_, refl, ap, sym, _∙_}
 use mathlib.Core.Bool.{Bool, true, false}
 use mathlib.Core.List.{List, [], _∷_, _++_, append-nil}
 use mathlib.Core.Logic.{inl, inr}
 use Prim.Native.Nat.{ℕ, zero, suc, _+_, _≤_, _<_}
 use native.Mathlib.Omega.{arith}
-use borrow.Author.Tests.{ne-eqb, ltb-true}
+use borrow.Author.Tests.{ltb-true}
 use lib.Dec.{eqb, ltb}
 use lib.ListN.{length, getD}
 use Rattle.framing.specs.Enclose.{length-frame}
 use Rattle.framing.specs.Exact.{Carries, data-exact, error-exact, sof-frame}
 use Rattle.framing.specs.Frames.{ack, errorFrame, checksumOf, ending, normalHead, normalFrame, extendedHead, extendedFrame, lengthBytes, headOf, startOf, frameOf, longest}
-use Rattle.errors.specs.Choice.{pick}
-use Rattle.framing.specs.Lists.{same, Bytes}
+use Rattle.errors.specs.Choice.{pick, same, same-not}
+use Rattle.framing.specs.Lists.{Bytes}
+use Rattle.framing.specs.Names.{normalStart, extendedStart, longestExtended, shortestExtended, ackSize, statusErrorOffset, statusErrorByte}
 use Rattle.framing.specs.Parse.{isError, extends, parseOf}
 use Rattle.framing.specs.Sums.{checksum-byte}
 use Rattle.framing.specs.declared.ErrorDetection.the-variants.{ErrorFrame, StatusByte}
@@ -42,13 +43,13 @@ all-append : (l r : List ℕ) → All l → All r → All (l ++ r)
 all-append [] r h k = k
 all-append (b ∷ l) r h k = (h .0, all-append l r (h .1) k)
 
-all-pair : (e : LengthEncoding) (n : ℕ) → n ≤ 65535 → All (lengthBytes e n)
+all-pair : (e : LengthEncoding) (n : ℕ) → n ≤ longestExtended → All (lengthBytes e n)
 unfolding lengthBytes
 all-pair Normal n h = (omega arith, (omega arith, tt))
 all-pair ExtendedLittleEndian n h = (omega arith, (omega arith, tt))
 all-pair NormalOrExtendedBigEndian n h = (omega arith, (omega arith, tt))
 
-all-normal : (n : ℕ) → n < 256 → All (normalHead n)
+all-normal : (n : ℕ) → n < shortestExtended → All (normalHead n)
 all-normal n h = (omega arith, (omega arith, (omega arith, (h, (checksum-byte (n ∷ []), tt)))))
 
 all-extended : (l : List ℕ) → All l → All (extendedHead l)
@@ -59,10 +60,10 @@ all-head : (e : LengthEncoding) (n : ℕ) → n ≤ longest e → All (headOf e 
 unfolding headOf pick
 all-head Normal n h = all-normal n (omega arith)
 all-head ExtendedLittleEndian n h = all-extended (lengthBytes ExtendedLittleEndian n) (all-pair ExtendedLittleEndian n h)
-all-head NormalOrExtendedBigEndian n h = go (ltb n 256) refl
+all-head NormalOrExtendedBigEndian n h = go (ltb n shortestExtended) refl
   where
-    go : (t : Bool) → ltb n 256 ≡ t → All (pick t (normalHead n) (extendedHead (lengthBytes NormalOrExtendedBigEndian n)))
-    go true x = all-normal n (ltb-true n 256 x)
+    go : (t : Bool) → ltb n shortestExtended ≡ t → All (pick t (normalHead n) (extendedHead (lengthBytes NormalOrExtendedBigEndian n)))
+    go true x = all-normal n (ltb-true n shortestExtended x)
     go false x = all-extended (lengthBytes NormalOrExtendedBigEndian n) (all-pair NormalOrExtendedBigEndian n h)
 
 pub bytes-frame : (e : LengthEncoding) (q : List ℕ) → length q ≤ longest e → Bytes q → Bytes (frameOf e q)
@@ -78,30 +79,27 @@ carried : (e : LengthEncoding) (q : List ℕ) → length q ≤ longest e → Car
 unfolding frameOf headOf startOf normalFrame extendedFrame extends pick
 carried Normal q h = inl (refl, refl, h)
 carried ExtendedLittleEndian q h = inr (refl, refl, h, refl)
-carried NormalOrExtendedBigEndian q h = go (ltb (length q) 256) refl
+carried NormalOrExtendedBigEndian q h = go (ltb (length q) shortestExtended) refl
   where
-    go : (t : Bool) → ltb (length q) 256 ≡ t
+    go : (t : Bool) → ltb (length q) shortestExtended ≡ t
         → Carries NormalOrExtendedBigEndian q
-        (pick t (normalHead (length q)) (extendedHead (lengthBytes NormalOrExtendedBigEndian (length q))) ++ q ++ ending q) (pick t 5 8)
-    go true x = inl (refl, refl, omega (arith, ltb-true (length q) 256 x))
+        (pick t (normalHead (length q)) (extendedHead (lengthBytes NormalOrExtendedBigEndian (length q))) ++ q ++ ending q) (pick t normalStart extendedStart)
+    go true x = inl (refl, refl, omega (arith, ltb-true (length q) shortestExtended x))
     go false x = inr (refl, refl, h, refl)
 
-start-least : (e : LengthEncoding) (n : ℕ) → 5 ≤ startOf e n
+start-least : (e : LengthEncoding) (n : ℕ) → normalStart ≤ startOf e n
 unfolding startOf pick
 start-least Normal n = omega arith
 start-least ExtendedLittleEndian n = omega arith
-start-least NormalOrExtendedBigEndian n = go (ltb n 256)
+start-least NormalOrExtendedBigEndian n = go (ltb n shortestExtended)
   where
-    go : (t : Bool) → 5 ≤ pick t 5 8
+    go : (t : Bool) → normalStart ≤ pick t normalStart extendedStart
     go true = omega arith
     go false = omega arith
 
 -- no frame of a payload is one of the two frames of six bytes
-not-six : (e : LengthEncoding) (q l : List ℕ) → length l ≡ 6 → same l (frameOf e q) ≡ false
-unfolding same
-not-six e q l six =
-    let n : (length (frameOf e q) ≡ length l → ⊥) = λ x. omega (arith, length-frame e q, start-least e (length q)) in
-    rw (ne-eqb (length (frameOf e q)) (length l) n)
+not-six : (e : LengthEncoding) (q l : List ℕ) → length l ≡ ackSize → same l (frameOf e q) ≡ false
+not-six e q l six = same-not l (frameOf e q) (λ h. omega (arith, ap length h, length-frame e q, start-least e (length q)))
 
 module _ (f : FrameFormat) (q : List ℕ) (bytes : Bytes q) (fits : length q ≤ longest (f .length)) where
   abbrev frame : List ℕ
@@ -136,6 +134,6 @@ module _ (f : FrameFormat) (q : List ℕ) (bytes : Bytes q) (fits : length q ≤
 
   -- with StatusByte: Error exactly when byte 5 is 0x7F
   pub round-trip-status-byte : f .error ≡ StatusByte → parseOf f frame
-      ≡ pick (eqb (getD frame 5 0) 0x7F) (Error (length frame)) (Data (startOf (f .length) (length q)) (length q) (length frame))
+      ≡ pick (eqb (getD frame statusErrorOffset 0) statusErrorByte) (Error (length frame)) (Data (startOf (f .length) (length q)) (length q) (length frame))
   unfolding isError
   round-trip-status-byte x = round-trip ∙ rw x

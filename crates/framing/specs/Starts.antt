@@ -1,14 +1,16 @@
--- Laws of `starts`, byte by byte and as a whole.
+-- Laws of `starts`, byte by byte and as a whole, and of `same`.
 use mathlib.Core.Path.{_≡_, refl, sym, ap, ap₂, _∙_}
 use mathlib.Core.Bool.{Bool, true, false, false≢true}
-use mathlib.Core.List.{List, [], _∷_, _++_}
+use mathlib.Core.List.{List, [], _∷_, _++_, append-nil}
 use Prim.Native.Nat.{ℕ, suc, _+_, _-_, _≤_, _<_, zero}
 use native.Mathlib.Numerals.{add-one}
+use native.Mathlib.Omega.{arith}
 use native.Mathlib.Nat.{not-suc-le-zero, le-of-suc-le-suc}
 use borrow.Author.Tests.{eq-eqb, ne-eqb, eqb-true}
 use lib.Dec.{eqb}
 use lib.ListN.{length, getD, take, drop, drop-of-length-le}
 use lib.Seq.{drop-cons}
+use Rattle.errors.specs.Choice.{same, same-self, same-not}
 use Rattle.framing.specs.Lists.{starts, both, both-assoc, both-false-r}
 
 -- a comparison byte by byte, with the answer after i equal bytes as its first argument
@@ -59,6 +61,9 @@ unfolding starts
 starts-whole [] r = refl
 starts-whole (x ∷ f) r = rw (eq-eqb x x refl) (starts-whole f r)
 
+pub starts-self : (f : List ℕ) → starts f f ≡ true
+starts-self f = ap (starts f) (sym (append-nil f)) ∙ starts-whole f []
+
 -- a packet that starts with f is f and the rest
 pub starts-split : (f p : List ℕ) → starts f p ≡ true → p ≡ f ++ drop (length f) p
 unfolding starts
@@ -69,3 +74,14 @@ starts-split (x ∷ f) (y ∷ p) h = go (eqb x y) refl h (starts-split f p)
     go : (t : Bool) → eqb x y ≡ t → both t (starts f p) ≡ true → (starts f p ≡ true → p ≡ f ++ drop (length f) p) → y ∷ p ≡ x ∷ (f ++ drop (length f) p)
     go true e k again = ap₂ (λ a l. a ∷ l) (sym (eqb-true x y e)) (again k)
     go false e k again = absurd (false≢true k)
+
+-- two lists are the same where their lengths are and one starts with the other
+pub same-length : (f p : List ℕ) → (length p ≡ length f → ⊥) → false ≡ same f p
+same-length f p n = sym (same-not f p (λ e. n (ap length (sym e))))
+
+pub same-starts : (f p : List ℕ) (r : Bool) → length p ≡ length f → r ≡ starts f p → r ≡ same f p
+same-starts f p r n h = h ∙ go (starts f p) refl
+  where
+    go : (t : Bool) → starts f p ≡ t → t ≡ same f p
+    go true e = let q : p ≡ f = starts-split f p e ∙ ap (λ l. f ++ l) (drop-of-length-le p {i = length f} (omega arith)) ∙ append-nil f in rw q (sym (same-self f))
+    go false e = sym (same-not f p (λ q. false≢true (sym e ∙ ap (λ l. starts f l) (sym q) ∙ starts-self f)))

@@ -8,6 +8,7 @@ use lib.ListN.{length, getD, take, drop, replicate, take-append-drop, length-dro
 use lib.Seq.{take-all, take-suc, take-append-add, drop-append-le, drop-drop}
 use Rattle.framing.specs.Frames.{total, checksumOf}
 use Rattle.framing.specs.Checks.{between}
+use Rattle.framing.specs.Names.{pieceSize}
 
 pub total-append : (l m : List ℕ) → total (l ++ m) ≡ total l + total m
 unfolding total
@@ -46,11 +47,11 @@ padded l k n h =
 
 -- the sum of the first w bytes, and that of the end of the last 32: of the bytes behind the first w, which are at most 32
 pub pieces : (l : List ℕ) (w s t : ℕ) → s ≡ total (between 0 w l) % 256
-    → t ≡ total (drop (32 - (length l - w)) (between (length l - 32) (length l) l)) % 256
-    → 32 ≤ length l → w ≤ length l → length l ≤ w + 32 → (s + t) % 256 ≡ total l % 256
+    → t ≡ total (drop (pieceSize - (length l - w)) (between (length l - pieceSize) (length l) l)) % 256
+    → pieceSize ≤ length l → w ≤ length l → length l ≤ w + pieceSize → (s + t) % 256 ≡ total l % 256
 pieces l w s t hs ht h h₁ h₂ =
-    let k = 32 - (length l - w) in
-    let m = length l - 32 in
+    let k = pieceSize - (length l - w) in
+    let m = length l - pieceSize in
     let whole : w - 0 ≡ w = omega arith in
     let behind : length (drop m l) ≤ length l - m = rw (length-drop m l) (omega arith) in
     let place : m + k ≡ w = omega arith in

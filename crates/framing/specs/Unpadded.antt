@@ -7,10 +7,11 @@ use native.Mathlib.Omega.{arith}
 use borrow.Author.Tests.{eq-eqb, ne-eqb, eqb-true, eqb-false, leb-true, leb-false, ltb-true, ltb-false}
 use lib.Dec.{eqb, leb, ltb}
 use lib.ListN.{length, getD, drop, replicate, length-drop, length-replicate, List·getD-eq-default}
-use lib.Seq.{getD-drop, drop-at}
+use lib.Seq.{drop-at}
 use Rattle.errors.specs.Choice.{pick}
 use Rattle.framing.specs.Frames.{sof}
-use Rattle.framing.specs.Lists.{Bytes, both, starts}
+use Rattle.framing.specs.Lists.{both, starts}
+use Rattle.framing.specs.Names.{sofSize, startEnd}
 use Rattle.framing.specs.Padded.{mostZeros, isPadded, zerosUpTo, extraZeros, unpadded}
 use Rattle.framing.specs.Starts.{starts-split, starts-append, starts-whole, starts-long}
 use Rattle.framing.specs.Valid.{both-left, both-right}
@@ -20,7 +21,7 @@ pub zeros-before : (z : ℕ) (p : List ℕ) → isPadded z p ≡ true → (k : �
 unfolding isPadded starts
 zeros-before zero p h k l = subst (λ q. getD q k 0 ≡ 0) (sym (starts-split sof p h)) (two k l)
   where
-    two : (k : ℕ) → k < 2 → getD (sof ++ drop 3 p) k 0 ≡ 0
+    two : (k : ℕ) → k < 2 → getD (sof ++ drop sofSize p) k 0 ≡ 0
     two zero l = refl
     two (suc zero) l = refl
     two (suc (suc k)) l = absurd (omega arith)
@@ -28,20 +29,20 @@ zeros-before (suc z) [] h k l = absurd (false≢true h)
 zeros-before (suc z) (y ∷ p) h zero l = sym (eqb-true 0 y (both-left (eqb 0 y) (isPadded z p) h))
 zeros-before (suc z) (y ∷ p) h (suc k) l = zeros-before z p (both-right (eqb 0 y) (isPadded z p) h) k (omega arith)
 
-pub mark-behind : (z : ℕ) (p : List ℕ) → isPadded z p ≡ true → getD p (suc (suc z)) 0 ≡ 0xFF
+pub mark-behind : (z : ℕ) (p : List ℕ) → isPadded z p ≡ true → getD p (suc (suc z)) 0 ≡ startEnd
 unfolding isPadded starts
-mark-behind zero p h = subst (λ q. getD q 2 0 ≡ 0xFF) (sym (starts-split sof p h)) refl
+mark-behind zero p h = subst (λ q. getD q 2 0 ≡ startEnd) (sym (starts-split sof p h)) refl
 mark-behind (suc z) [] h = absurd (false≢true h)
 mark-behind (suc z) (y ∷ p) h = mark-behind z p (both-right (eqb 0 y) (isPadded z p) h)
 
 -- and a packet of that kind is z zeros before one that has the start bytes
-pub padded-from : (z : ℕ) (p : List ℕ) → ((k : ℕ) → k < suc (suc z) → getD p k 0 ≡ 0) → getD p (suc (suc z)) 0 ≡ 0xFF → isPadded z p ≡ true
+pub padded-from : (z : ℕ) (p : List ℕ) → ((k : ℕ) → k < suc (suc z) → getD p k 0 ≡ 0) → getD p (suc (suc z)) 0 ≡ startEnd → isPadded z p ≡ true
 unfolding isPadded starts
 padded-from zero [] h e = absurd (omega (arith, e))
 padded-from zero (x ∷ []) h e = absurd (omega (arith, e))
 padded-from zero (x ∷ y ∷ []) h e = absurd (omega (arith, e))
 padded-from zero (x ∷ y ∷ w ∷ p) h e =
-    rw (eq-eqb 0 x (sym (h 0 (omega arith))), eq-eqb 0 y (sym (h 1 (omega arith))), eq-eqb 0xFF w (sym e))
+    rw (eq-eqb 0 x (sym (h 0 (omega arith))), eq-eqb 0 y (sym (h 1 (omega arith))), eq-eqb startEnd w (sym e))
 padded-from (suc z) [] h e = absurd (omega (arith, e))
 padded-from (suc z) (x ∷ p) h e = rw (eq-eqb 0 x (sym (h 0 (omega arith)))) (padded-from z p (λ k l. h (suc k) (omega arith)) e)
 
@@ -98,21 +99,21 @@ up-to-some p (suc n) h = go (isPadded (suc n) p) refl h (up-to-some p n)
     go false e k rest = rest k
 
 module _ (p : List ℕ) where
-  pub extra-most : extraZeros p ≤ 16
+  pub extra-most : extraZeros p ≤ mostZeros
   unfolding extraZeros
-  extra-most = up-to-most p 16
+  extra-most = up-to-most p mostZeros
 
   pub extra-some : 0 < extraZeros p → isPadded (extraZeros p) p ≡ true
   unfolding extraZeros
-  extra-some = up-to-some p 16
+  extra-some = up-to-some p mostZeros
 
-  pub extra-is : (z : ℕ) → isPadded z p ≡ true → z ≤ 16 → extraZeros p ≡ z
+  pub extra-is : (z : ℕ) → isPadded z p ≡ true → z ≤ mostZeros → extraZeros p ≡ z
   unfolding extraZeros
-  extra-is z h l = up-to-is p z h 16 l
+  extra-is z h l = up-to-is p z h mostZeros l
 
-  pub extra-none : ((z : ℕ) → z ≤ 16 → isPadded z p ≡ true → z ≡ 0) → extraZeros p ≡ 0
+  pub extra-none : ((z : ℕ) → z ≤ mostZeros → isPadded z p ≡ true → z ≡ 0) → extraZeros p ≡ 0
   unfolding extraZeros
-  extra-none h = up-to-none p 16 h
+  extra-none h = up-to-none p mostZeros h
 
   -- a packet that has the start bytes has none
   pub extra-start : starts sof p ≡ true → extraZeros p ≡ 0
@@ -140,17 +141,13 @@ module _ (p : List ℕ) where
   unfolding unpadded
   length-unpadded = length-drop (extraZeros p) p
 
-  pub unpadded-bytes : Bytes p → Bytes (unpadded p)
-  unfolding unpadded
-  unpadded-bytes h k = rw (getD-drop (extraZeros p) p k 0) (h (extraZeros p + k))
-
 -- a packet that has the start bytes is three bytes long
-start-room : (p : List ℕ) → starts sof p ≡ true → 3 ≤ length p
-start-room p h = go (leb 3 (length p)) refl
+start-room : (p : List ℕ) → starts sof p ≡ true → sofSize ≤ length p
+start-room p h = go (leb sofSize (length p)) refl
   where
-    go : (t : Bool) → leb 3 (length p) ≡ t → 3 ≤ length p
-    go true e = leb-true 3 (length p) e
-    go false e = absurd (false≢true (sym (starts-long sof p (leb-false 3 (length p) e)) ∙ h))
+    go : (t : Bool) → leb sofSize (length p) ≡ t → sofSize ≤ length p
+    go true e = leb-true sofSize (length p) e
+    go false e = absurd (false≢true (sym (starts-long sof p (leb-false sofSize (length p) e)) ∙ h))
 
 -- Either there are none, or the packet without them has the start bytes.
 module _ {A : Type 0} (p : List ℕ) (none : extraZeros p ≡ 0 → A) (some : 0 < extraZeros p → starts sof (unpadded p) ≡ true → A) where
@@ -169,19 +166,12 @@ pub unpadded-empty : (p : List ℕ) → eqb (length (unpadded p)) 0 ≡ eqb (len
 unpadded-empty p =
     by-zeros p (λ e. ap (λ q. eqb (length q) 0) (unpadded-none p e))
     (λ k s.
-    let long : 3 ≤ length (unpadded p) = start-room (unpadded p) s in
+    let long : sofSize ≤ length (unpadded p) = start-room (unpadded p) s in
     ne-eqb (length (unpadded p)) 0 (λ e. omega arith) ∙ sym (ne-eqb (length p) 0 (λ e. omega (arith, length-unpadded p))))
 
--- it has no extra zeros itself
-pub unpadded-has-none : (p : List ℕ) → extraZeros (unpadded p) ≡ 0
-unpadded-has-none p = by-zeros p (λ e. ap extraZeros (unpadded-none p e) ∙ e) (λ k s. extra-start (unpadded p) s)
-
--- where it has no start bytes there are none, and it is the packet
+-- where it has no start bytes there are no extra zeros
 pub extra-false-start : (p : List ℕ) → starts sof (unpadded p) ≡ false → extraZeros p ≡ 0
 extra-false-start p h = by-zeros p (λ e. e) (λ k s. absurd (false≢true (sym h ∙ s)))
-
-pub unpadded-false-start : (p : List ℕ) → starts sof (unpadded p) ≡ false → unpadded p ≡ p
-unpadded-false-start p h = unpadded-none p (extra-false-start p h)
 
 -- z zeros before a packet that has the start bytes
 module _ (z : ℕ) (p : List ℕ) (h : starts sof p ≡ true) where
@@ -191,18 +181,18 @@ module _ (z : ℕ) (p : List ℕ) (h : starts sof p ≡ true) where
       starts-append (replicate z 0) sof (replicate z 0 ++ p)
       ∙ rw (starts-whole (replicate z 0) p, drop-at (replicate z 0) p (length (replicate z 0)) refl) h
 
-  pub extra-before : z ≤ 16 → extraZeros (replicate z 0 ++ p) ≡ z
+  pub extra-before : z ≤ mostZeros → extraZeros (replicate z 0 ++ p) ≡ z
   extra-before l = extra-is (replicate z 0 ++ p) z zeros-padded l
 
-  pub unpadded-before : z ≤ 16 → unpadded (replicate z 0 ++ p) ≡ p
+  pub unpadded-before : z ≤ mostZeros → unpadded (replicate z 0 ++ p) ≡ p
   unfolding unpadded
   unpadded-before l = rw (extra-before l) (drop-at (replicate z 0) p z (length-replicate z 0))
 
   -- 17 and more are no extra zeros, and the packet has no start
-  pub extra-over : 16 < z → extraZeros (replicate z 0 ++ p) ≡ 0
+  pub extra-over : mostZeros < z → extraZeros (replicate z 0 ++ p) ≡ 0
   extra-over l = extra-none (replicate z 0 ++ p) (λ y m a. absurd (omega (arith, padded-once (replicate z 0 ++ p) y z a zeros-padded)))
 
-  pub over-no-start : 16 < z → starts sof (unpadded (replicate z 0 ++ p)) ≡ false
+  pub over-no-start : mostZeros < z → starts sof (unpadded (replicate z 0 ++ p)) ≡ false
   unfolding isPadded
   over-no-start l = ap (starts sof) (unpadded-none (replicate z 0 ++ p) (extra-over l)) ∙ go (starts sof (replicate z 0 ++ p)) refl
     where
@@ -226,7 +216,7 @@ padded-split p = by-zeros p (λ e. ap (λ k. replicate k 0 ++ unpadded p) e ∙ 
 -- What `extra_zeros` counts: n zeros so far.
 -- the same of a packet whose first byte other than 0 is b, behind n zeros
 unfoldable pub extraAt : ℕ → ℕ → ℕ
-extraAt n b = pick (eqb b 0xFF) (pick (ltb n 2) 0 (pick (ltb mostZeros (n - 2)) 0 (n - 2))) 0
+extraAt n b = pick (eqb b startEnd) (pick (ltb n 2) 0 (pick (ltb mostZeros (n - 2)) 0 (n - 2))) 0
 
 module _ (p : List ℕ) (n : ℕ) (zeros : (k : ℕ) → k < n → getD p k 0 ≡ 0) where
   pub another : getD p n 0 ≡ 0 → (k : ℕ) → k < n + 1 → getD p k 0 ≡ 0
@@ -237,10 +227,10 @@ module _ (p : List ℕ) (n : ℕ) (zeros : (k : ℕ) → k < n → getD p k 0 �
       go true f = let last : k ≡ n = omega (arith, leb-true n k f) in subst (λ j. getD p j 0 ≡ 0) (sym last) e
 
   -- the first byte other than 0 is the packet's FF, or the packet has no start
-  first-other : (z b : ℕ) → b ≡ getD p n 0 → (b ≡ 0 → ⊥) → isPadded z p ≡ true → (n ≡ suc (suc z)) × (b ≡ 0xFF)
+  first-other : (z b : ℕ) → b ≡ getD p n 0 → (b ≡ 0 → ⊥) → isPadded z p ≡ true → (n ≡ suc (suc z)) × (b ≡ startEnd)
   first-other z b e other h = go (leb (suc (suc z)) n) refl (leb n (suc (suc z))) refl
     where
-      go : (s : Bool) → leb (suc (suc z)) n ≡ s → (t : Bool) → leb n (suc (suc z)) ≡ t → (n ≡ suc (suc z)) × (b ≡ 0xFF)
+      go : (s : Bool) → leb (suc (suc z)) n ≡ s → (t : Bool) → leb n (suc (suc z)) ≡ t → (n ≡ suc (suc z)) × (b ≡ startEnd)
       go false f t g = absurd (other (e ∙ zeros-before z p h n (leb-false (suc (suc z)) n f)))
       go true f false g = absurd (omega (arith, zeros (suc (suc z)) (leb-false n (suc (suc z)) g), mark-behind z p h))
       go true f true g =
@@ -249,22 +239,22 @@ module _ (p : List ℕ) (n : ℕ) (zeros : (k : ℕ) → k < n → getD p k 0 �
 
   pub extra-found : (b r : ℕ) → r ≡ extraAt n b → b ≡ getD p n 0 → (b ≡ 0 → ⊥) → r ≡ extraZeros p
   unfolding extraAt pick
-  extra-found b r answer e other = answer ∙ go (eqb b 0xFF) refl (ltb n 2) refl (ltb mostZeros (n - 2)) refl
+  extra-found b r answer e other = answer ∙ go (eqb b startEnd) refl (ltb n 2) refl (ltb mostZeros (n - 2)) refl
     where
-      go : (s : Bool) → eqb b 0xFF ≡ s → (t : Bool) → ltb n 2 ≡ t → (u : Bool) → ltb mostZeros (n - 2) ≡ u
+      go : (s : Bool) → eqb b startEnd ≡ s → (t : Bool) → ltb n 2 ≡ t → (u : Bool) → ltb mostZeros (n - 2) ≡ u
           → pick s (pick t 0 (pick u 0 (n - 2))) 0 ≡ extraZeros p
-      go false f t g u k = sym (extra-none p (λ z l h. absurd (eqb-false b 0xFF f (first-other z b e other h .1))))
+      go false f t g u k = sym (extra-none p (λ z l h. absurd (eqb-false b startEnd f (first-other z b e other h .1))))
       go true f true g u k = sym (extra-none p (λ z l h. omega (arith, ltb-true n 2 g, first-other z b e other h .0)))
       go true f false g true k = sym (extra-none p (λ z l h. omega (arith, ltb-true mostZeros (n - 2) k, first-other z b e other h .0)))
       go true f false g false k =
           let here : suc (suc (n - 2)) ≡ n = omega (arith, ltb-false n 2 g) in
-          let mark : getD p (suc (suc (n - 2))) 0 ≡ 0xFF = ap (λ j. getD p j 0) here ∙ sym e ∙ eqb-true b 0xFF f in
+          let mark : getD p (suc (suc (n - 2))) 0 ≡ startEnd = ap (λ j. getD p j 0) here ∙ sym e ∙ eqb-true b startEnd f in
           sym (extra-is p (n - 2) (padded-from (n - 2) p (λ j l. zeros j (omega arith)) mark) (ltb-false mostZeros (n - 2) k))
 
-  pub all-zeros : (end : ℕ) → end ≡ min (length p) 19 → end ≤ n → 0 ≡ extraZeros p
+  pub all-zeros : (end : ℕ) → end ≡ min (length p) (mostZeros + sofSize) → end ≤ n → 0 ≡ extraZeros p
   all-zeros end at-end l = sym (extra-none p (λ z m h. absurd (go z m (mark-behind z p h) (leb n (suc (suc z))) refl)))
     where
-      go : (z : ℕ) → z ≤ 16 → getD p (suc (suc z)) 0 ≡ 0xFF → (t : Bool) → leb n (suc (suc z)) ≡ t → ⊥
+      go : (z : ℕ) → z ≤ mostZeros → getD p (suc (suc z)) 0 ≡ startEnd → (t : Bool) → leb n (suc (suc z)) ≡ t → ⊥
       go z m h false e = omega (arith, zeros (suc (suc z)) (leb-false n (suc (suc z)) e))
       go z m h true e =
           let short : length p ≤ suc (suc z) = omega (arith, leb-true n (suc (suc z)) e) in

@@ -4,6 +4,7 @@ use super::ErrorDetection;
 use super::FrameFormat;
 use super::LengthEncoding;
 use super::Place;
+use super::names;
 ghost use mathlib.Core.Path.{_≡_};
 ghost use Rattle.framing.specs.Build.{returned, left, buildOf};
 ghost use Rattle.framing.specs.Settings.{rcs956, commandPayload};
@@ -20,7 +21,7 @@ impl Rcs956Format {
 
     pub const ERROR: ErrorDetection = ErrorDetection::ErrorFrame;
 
-    pub const LIMIT: usize = 65535;
+    pub const LIMIT: usize = names::LONGEST_EXTENDED;
 
     pub fn format() -> FrameFormat
         ensures { λ r. ⌜ r ≡ rcs956 ⌝ }
@@ -44,7 +45,7 @@ pub fn build_command(code: u8, bytes: &[u8], buffer: &mut [u8]) -> Built
             buffer[start + 1] = code;
             bytes::copy(bytes, &mut buffer[start + 2..]);
             super::enclose(Rcs956Format::LENGTH, n, buffer);
-            Built::Frame(start + n + 2)
+            Built::Frame(start + n + names::ENDING_SIZE)
         }
         Place::Refused(refusal) => Built::Refused(refusal),
     }

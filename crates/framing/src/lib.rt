@@ -1,10 +1,12 @@
 // Frames on the host link of the PN532 family (framing.rs): checksums, the six settings, build and parse.
 pub mod frame;
+mod names;
 pub mod padded;
 pub mod settings;
 mod sums;
 
 use errors::Refusal;
+pub use names::ACK_BYTES;
 pub use sums::checksum;
 pub use sums::checksum_matches;
 pub use sums::length_checksum;
@@ -16,18 +18,12 @@ ghost use mathlib.Core.List.{[], _∷_, _++_};
 ghost use Prim.Native.Nat.{_+_, _-_, _≤_, _<_, _^_, min};
 ghost use lib.ListN.{length, drop};
 ghost use Rattle.framing.specs.Frames.{sof, longest, normalHead, extendedHead, headOf, startOf};
-ghost use Rattle.framing.specs.Lists.{starts, same};
+ghost use Rattle.errors.specs.Choice.{same};
+ghost use Rattle.framing.specs.Lists.{starts};
+ghost use Rattle.framing.specs.Names.{normalStart, extendedStart, endingSize, longestExtended, shortestExtended};
 ghost use Rattle.framing.specs.Build.{returned, left, buildOf, enclosed, placeOf};
 ghost use Rattle.framing.specs.Parse.{isError, normalOf, extendedOf, dataOf, parseOf, payloadOf};
 ghost use Rattle.framing.specs.Checks.{hasMarker, marked, pairLength, checked};
-
-pub const SOF: [u8; 3] = [0x00, 0x00, 0xFF];
-
-pub const ACK_BYTES: [u8; 6] = [0x00, 0x00, 0xFF, 0x00, 0xFF, 0x00];
-
-pub const ERROR_BYTES: [u8; 6] = [0x00, 0x00, 0xFF, 0xFF, 0xFF, 0x00];
-
-const STATUS_ERROR_BYTE: u8 = 0x7F;
 
 // How the length of the payload is written.
 pub enum LengthEncoding {
@@ -87,11 +83,11 @@ pub fn starts_with(packet: &[u8], prefix: &[u8]) -> bool
 pub fn has_sof(packet: &[u8]) -> bool
     ensures { λ r. ⌜ r ≡ starts sof (now (packet .entry)) ⌝ }
 {
-    starts_with(packet, &SOF)
+    starts_with(packet, &names::SOF)
 }
 
 // Whether the packet is these bytes, no more and no less.
-fn is_exactly(packet: &[u8], bytes: &[u8]) -> bool
+pub fn is_exactly(packet: &[u8], bytes: &[u8]) -> bool
     ensures { λ r. ⌜ r ≡ same (now (bytes .entry)) (now (packet .entry)) ⌝ }
 {
     if packet.len() != bytes.len() {
@@ -105,12 +101,12 @@ fn is_error(error: ErrorDetection, packet: &[u8]) -> bool
     ensures { λ r. ⌜ r ≡ isError error (now (packet .entry)) ⌝ }
 {
     match error {
-        ErrorDetection::ErrorFrame => is_exactly(packet, &ERROR_BYTES),
+        ErrorDetection::ErrorFrame => is_exactly(packet, &names::ERROR_BYTES),
         ErrorDetection::StatusByte => {
-            if packet.len() <= 5 {
+            if packet.len() <= names::STATUS_ERROR_OFFSET {
                 return false;
             }
-            packet[5] == STATUS_ERROR_BYTE
+            packet[names::STATUS_ERROR_OFFSET] == names::STATUS_ERROR_BYTE
         }
     }
 }
@@ -119,10 +115,11 @@ fn is_error(error: ErrorDetection, packet: &[u8]) -> bool
 fn has_marker(packet: &[u8]) -> bool
     ensures { λ r. ⌜ r ≡ hasMarker (now (packet .entry)) ⌝ }
 {
-    if packet.len() < 5 {
+    if packet.len() < names::NORMAL_START {
         return false;
     }
-    packet[3] == 0xFF && packet[4] == 0xFF
+    packet[names::LEN_OFFSET] == names::MARKER_BYTE
+        && packet[names::LCS_OFFSET] == names::MARKER_BYTE
 }
 
 // Whether the packet is laid out as an extended frame of the length form.
@@ -138,7 +135,7 @@ fn is_extended(encoding: LengthEncoding, packet: &[u8]) -> bool
 
 // The length that two length bytes give, in the order of the form.
 fn pair_length(encoding: LengthEncoding, first: u8, second: u8) -> usize
-    ensures { λ r. ⌜ (r ≡ pairLength encoding first second) × (r < 65536) ⌝ }
+    ensures { λ r. ⌜ (r ≡ pairLength encoding first second) × (r ≤ longestExtended) ⌝ }
 {
     match encoding {
         LengthEncoding::Normal => first as usize * 256 + second as usize,
@@ -155,7 +152,7 @@ fn validated(packet: &[u8], from: usize, start: usize, len: usize) -> bool
 {
     let lcs = start - 1;
     let dcs = start + len;
-    if packet.len() < dcs + 2 {
+    if packet.len() < dcs + names::ENDING_SIZE {
         return false;
     }
     if length_matches(&packet[from..lcs], packet[lcs]) {
@@ -174,15 +171,15 @@ fn parse_normal(packet: &[u8]) -> FrameType
     requires { ⌜ starts sof (now packet) ≡ Bool.true ⌝ }
     ensures { λ r. ⌜ r ≡ normalOf (now (packet .entry)) ⌝ }
 {
-    if packet.len() < 5 {
+    if packet.len() < names::NORMAL_START {
         return FrameType::Nothing;
     }
-    let len = wide(packet[3]);
-    if validated(packet, 3, 5, len) {
+    let len = wide(packet[names::LEN_OFFSET]);
+    if validated(packet, names::LEN_OFFSET, names::NORMAL_START, len) {
         FrameType::Data {
-            start: 5,
+            start: names::NORMAL_START,
             len,
-            frame: len + 7,
+            frame: len + names::NORMAL_OVERHEAD,
         }
     } else {
         FrameType::Nothing
@@ -194,15 +191,19 @@ fn parse_extended(encoding: LengthEncoding, packet: &[u8]) -> FrameType
     requires { ⌜ (starts sof (now packet) ≡ Bool.true) × (marked encoding (now packet) ≡ Bool.true) ⌝ }
     ensures { λ r. ⌜ r ≡ extendedOf encoding (now (packet .entry)) ⌝ }
 {
-    if packet.len() < 8 {
+    if packet.len() < names::EXTENDED_START {
         return FrameType::Nothing;
     }
-    let len = pair_length(encoding, packet[5], packet[6]);
-    if validated(packet, 5, 8, len) {
+    let len = pair_length(
+        encoding,
+        packet[names::FIRST_LEN_OFFSET],
+        packet[names::SECOND_LEN_OFFSET],
+    );
+    if validated(packet, names::FIRST_LEN_OFFSET, names::EXTENDED_START, len) {
         FrameType::Data {
-            start: 8,
+            start: names::EXTENDED_START,
             len,
-            frame: len + 10,
+            frame: len + names::EXTENDED_OVERHEAD,
         }
     } else {
         FrameType::Nothing
@@ -229,7 +230,7 @@ pub fn parse(format: FrameFormat, packet: &[u8]) -> FrameType
     let error = format.error;
     if has_sof(packet) {
         if is_exactly(packet, &ACK_BYTES) {
-            return FrameType::Ack(6);
+            return FrameType::Ack(names::ACK_SIZE);
         }
         if is_error(error, packet) {
             return FrameType::Error(packet.len());
@@ -277,9 +278,15 @@ fn data_start(encoding: LengthEncoding, n: usize) -> usize
     ensures { λ r. ⌜ r ≡ startOf encoding n ⌝ }
 {
     match encoding {
-        LengthEncoding::Normal => 5,
-        LengthEncoding::ExtendedLittleEndian => 8,
-        LengthEncoding::NormalOrExtendedBigEndian => { if n < 256 { 5 } else { 8 } }
+        LengthEncoding::Normal => names::NORMAL_START,
+        LengthEncoding::ExtendedLittleEndian => names::EXTENDED_START,
+        LengthEncoding::NormalOrExtendedBigEndian => {
+            if n < names::SHORTEST_EXTENDED {
+                names::NORMAL_START
+            } else {
+                names::EXTENDED_START
+            }
+        }
     }
 }
 
@@ -288,36 +295,36 @@ fn longest_payload(encoding: LengthEncoding) -> usize
     ensures { λ r. ⌜ r ≡ longest encoding ⌝ }
 {
     match encoding {
-        LengthEncoding::Normal => 255,
-        LengthEncoding::ExtendedLittleEndian => 65535,
-        LengthEncoding::NormalOrExtendedBigEndian => 65535,
+        LengthEncoding::Normal => names::LONGEST_NORMAL,
+        LengthEncoding::ExtendedLittleEndian => names::LONGEST_EXTENDED,
+        LengthEncoding::NormalOrExtendedBigEndian => names::LONGEST_EXTENDED,
     }
 }
 
 fn put_normal_head(buffer: &mut [u8], n: usize)
-    requires { ⌜ (n < 256) × (5 ≤ length (now buffer)) ⌝ }
-    ensures { λ _. ⌜ now (buffer .exit) ≡ normalHead n ++ drop 5 (now (buffer .entry)) ⌝ }
+    requires { ⌜ (n < shortestExtended) × (normalStart ≤ length (now buffer)) ⌝ }
+    ensures { λ _. ⌜ now (buffer .exit) ≡ normalHead n ++ drop normalStart (now (buffer .entry)) ⌝ }
 {
     let len = n as u8;
     buffer[0] = 0x00;
     buffer[1] = 0x00;
     buffer[2] = 0xFF;
-    buffer[3] = len;
-    buffer[4] = length_checksum(len);
+    buffer[names::LEN_OFFSET] = len;
+    buffer[names::LCS_OFFSET] = length_checksum(len);
 }
 
 fn put_extended_head(buffer: &mut [u8], first: u8, second: u8)
-    requires { ⌜ 8 ≤ length (now buffer) ⌝ }
-    ensures { λ _. ⌜ now (buffer .exit) ≡ extendedHead (first ∷ second ∷ []) ++ drop 8 (now (buffer .entry)) ⌝ }
+    requires { ⌜ extendedStart ≤ length (now buffer) ⌝ }
+    ensures { λ _. ⌜ now (buffer .exit) ≡ extendedHead (first ∷ second ∷ []) ++ drop extendedStart (now (buffer .entry)) ⌝ }
 {
     buffer[0] = 0x00;
     buffer[1] = 0x00;
     buffer[2] = 0xFF;
-    buffer[3] = 0xFF;
-    buffer[4] = 0xFF;
-    buffer[5] = first;
-    buffer[6] = second;
-    buffer[7] = pair_checksum(first, second);
+    buffer[names::LEN_OFFSET] = names::MARKER_BYTE;
+    buffer[names::LCS_OFFSET] = names::MARKER_BYTE;
+    buffer[names::FIRST_LEN_OFFSET] = first;
+    buffer[names::SECOND_LEN_OFFSET] = second;
+    buffer[names::EXTENDED_LCS_OFFSET] = pair_checksum(first, second);
 }
 
 // The head of a frame of n bytes of payload.
@@ -331,7 +338,7 @@ fn put_head(encoding: LengthEncoding, n: usize, buffer: &mut [u8])
         LengthEncoding::Normal => put_normal_head(buffer, n),
         LengthEncoding::ExtendedLittleEndian => put_extended_head(buffer, low, high),
         LengthEncoding::NormalOrExtendedBigEndian => {
-            if n < 256 {
+            if n < names::SHORTEST_EXTENDED {
                 put_normal_head(buffer, n)
             } else {
                 put_extended_head(buffer, high, low)
@@ -342,7 +349,7 @@ fn put_head(encoding: LengthEncoding, n: usize, buffer: &mut [u8])
 
 // Puts head and ending around the n bytes of payload that stand at their place in the buffer.
 fn enclose(encoding: LengthEncoding, n: usize, buffer: &mut [u8])
-    requires { ⌜ (n ≤ longest encoding) × (startOf encoding n + n + 2 ≤ length (now buffer)) ⌝ }
+    requires { ⌜ (n ≤ longest encoding) × (startOf encoding n + n + endingSize ≤ length (now buffer)) ⌝ }
     ensures { λ _. ⌜ now (buffer .exit) ≡ enclosed encoding n (now (buffer .entry)) ⌝ }
 {
     let start = data_start(encoding, n);
@@ -368,7 +375,7 @@ fn room_for(format: FrameFormat, n: usize, room: usize) -> Place
         return Place::Refused(Refusal::OverLong);
     }
     let start = data_start(length, n);
-    if room < start + n + 2 {
+    if room < start + n + names::ENDING_SIZE {
         return Place::Refused(Refusal::ShortBuffer);
     }
     Place::At(start)
@@ -384,7 +391,7 @@ pub fn build(format: FrameFormat, payload: &[u8], buffer: &mut [u8]) -> Built
         Place::At(start) => {
             bytes::copy(payload, &mut buffer[start..]);
             enclose(length, n, buffer);
-            Built::Frame(start + n + 2)
+            Built::Frame(start + n + names::ENDING_SIZE)
         }
         Place::Refused(refusal) => Built::Refused(refusal),
     }

@@ -1,9 +1,11 @@
 // Packets of boards that pad the start: up to 16 zeros before the start bytes (document 02, N2).
 use super::FrameFormat;
 use super::FrameType;
+use super::names;
 ghost use mathlib.Core.Path.{_≡_};
 ghost use Prim.Native.Nat.{_≤_};
-ghost use Rattle.framing.specs.Padded.{extraZeros, zerosIn, parsePadded};
+ghost use Rattle.framing.specs.Names.{extendedStart};
+ghost use Rattle.framing.specs.Padded.{mostZeros, extraZeros, zerosIn, parsePadded};
 ghost use Rattle.framing.specs.Padded.{behind as behindOf};
 ghost use Rattle.framing.specs.Unpadded.{extraAt};
 ghost use Rattle.framing.specs.PaddedAnswers.{payloadStart};
@@ -17,14 +19,11 @@ pub struct Padded {
 
 pub const MOST_ZEROS: usize = 16;
 
-// The last of the start bytes 00 00 FF.
-const START_END: u8 = 0xFF;
-
 // The extra zeros of a packet whose first byte other than 0 is `byte`, behind n zeros.
 fn extra_at(n: usize, byte: u8) -> usize
     ensures { λ r. ⌜ r ≡ extraAt n byte ⌝ }
 {
-    if byte != START_END {
+    if byte != names::START_END {
         return 0;
     }
     if n < 2 {
@@ -37,7 +36,7 @@ fn extra_at(n: usize, byte: u8) -> usize
 pub fn extra_zeros(packet: &[u8]) -> usize
     ensures { λ r. ⌜ r ≡ extraZeros (now (packet .entry)) ⌝ }
 {
-    let end = super::least(packet.len(), MOST_ZEROS + 3);
+    let end = super::least(packet.len(), MOST_ZEROS + names::SOF_SIZE);
     let mut n = 0;
     while n < end {
         if packet[n] != 0 {
@@ -57,7 +56,7 @@ fn zeros_in(padded: bool, packet: &[u8]) -> usize
 
 // The answer with its place counted from `zeros` bytes further in front.
 fn behind(zeros: usize, found: FrameType) -> FrameType
-    requires { ⌜ (zeros ≤ 16) × (payloadStart found ≤ 8) ⌝ }
+    requires { ⌜ (zeros ≤ mostZeros) × (payloadStart found ≤ extendedStart) ⌝ }
     ensures { λ r. ⌜ r ≡ behindOf zeros found ⌝ }
 {
     match found {

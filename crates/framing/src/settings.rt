@@ -2,6 +2,7 @@
 use super::ErrorDetection;
 use super::FrameFormat;
 use super::LengthEncoding;
+use super::names;
 ghost use mathlib.Core.Path.{_≡_};
 ghost use Rattle.framing.specs.Settings.{formatOf, settingOf};
 
@@ -32,7 +33,7 @@ impl NormalErrorFrame {
 
     pub const ERROR: ErrorDetection = ErrorDetection::ErrorFrame;
 
-    pub const LIMIT: usize = 255;
+    pub const LIMIT: usize = names::LONGEST_NORMAL;
 
     pub fn format() -> FrameFormat
         ensures { λ r. ⌜ r ≡ formatOf LengthEncoding.Normal ErrorDetection.ErrorFrame ⌝ }
@@ -52,7 +53,7 @@ impl NormalStatusByte {
 
     pub const ERROR: ErrorDetection = ErrorDetection::StatusByte;
 
-    pub const LIMIT: usize = 255;
+    pub const LIMIT: usize = names::LONGEST_NORMAL;
 
     pub fn format() -> FrameFormat
         ensures { λ r. ⌜ r ≡ formatOf LengthEncoding.Normal ErrorDetection.StatusByte ⌝ }
@@ -72,7 +73,7 @@ impl LittleEndianErrorFrame {
 
     pub const ERROR: ErrorDetection = ErrorDetection::ErrorFrame;
 
-    pub const LIMIT: usize = 65535;
+    pub const LIMIT: usize = names::LONGEST_EXTENDED;
 
     pub fn format() -> FrameFormat
         ensures { λ r. ⌜ r ≡ formatOf LengthEncoding.ExtendedLittleEndian ErrorDetection.ErrorFrame ⌝ }
@@ -92,7 +93,7 @@ impl LittleEndianStatusByte {
 
     pub const ERROR: ErrorDetection = ErrorDetection::StatusByte;
 
-    pub const LIMIT: usize = 65535;
+    pub const LIMIT: usize = names::LONGEST_EXTENDED;
 
     pub fn format() -> FrameFormat
         ensures { λ r. ⌜ r ≡ formatOf LengthEncoding.ExtendedLittleEndian ErrorDetection.StatusByte ⌝ }
@@ -112,7 +113,7 @@ impl BigEndianErrorFrame {
 
     pub const ERROR: ErrorDetection = ErrorDetection::ErrorFrame;
 
-    pub const LIMIT: usize = 65535;
+    pub const LIMIT: usize = names::LONGEST_EXTENDED;
 
     pub fn format() -> FrameFormat
         ensures { λ r. ⌜ r ≡ formatOf LengthEncoding.NormalOrExtendedBigEndian ErrorDetection.ErrorFrame ⌝ }
@@ -132,7 +133,7 @@ impl BigEndianStatusByte {
 
     pub const ERROR: ErrorDetection = ErrorDetection::StatusByte;
 
-    pub const LIMIT: usize = 65535;
+    pub const LIMIT: usize = names::LONGEST_EXTENDED;
 
     pub fn format() -> FrameFormat
         ensures { λ r. ⌜ r ≡ formatOf LengthEncoding.NormalOrExtendedBigEndian ErrorDetection.StatusByte ⌝ }

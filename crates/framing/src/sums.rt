@@ -5,6 +5,10 @@ ghost use Prim.Native.Nat.{_-_, _≤_, _%_};
 ghost use lib.ListN.{length, drop};
 ghost use Rattle.framing.specs.Frames.{total, checksumOf};
 ghost use Rattle.framing.specs.Checks.{matches};
+ghost use Rattle.framing.specs.Names.{pieceSize};
+
+// The bytes that the compiler adds at a time.
+const PIECE_SIZE: usize = 32;
 
 // The sum of the bytes, one after the other. The compiler adds 32 at a time, and singly what is left over.
 fn plain_sum(bytes: &[u8]) -> u8
@@ -21,13 +25,13 @@ fn plain_sum(bytes: &[u8]) -> u8
 
 // The sum of the last n of 32 bytes. With zeros behind them they are 32 again, so that none is left over.
 fn sum_of_last(bytes: &[u8], n: usize) -> u8
-    requires { ⌜ (length (now bytes) ≡ 32) × (n ≤ 32) ⌝ }
-    ensures { λ r. ⌜ r ≡ total (drop (32 - n) (now (bytes .entry))) % 256 ⌝ }
+    requires { ⌜ (length (now bytes) ≡ pieceSize) × (n ≤ pieceSize) ⌝ }
+    ensures { λ r. ⌜ r ≡ total (drop (pieceSize - n) (now (bytes .entry))) % 256 ⌝ }
 {
-    let mut padded = [0; 64];
+    let mut padded = [0; 2 * PIECE_SIZE];
     bytes::copy(bytes, &mut padded);
-    let from = 32 - n;
-    plain_sum(&padded[from..from + 32])
+    let from = PIECE_SIZE - n;
+    plain_sum(&padded[from..from + PIECE_SIZE])
 }
 
 // The sum of the bytes: of the pieces of 32, and of the fewer than 32 bytes behind them.
@@ -35,11 +39,11 @@ fn sum(bytes: &[u8]) -> u8
     ensures { λ r. ⌜ r ≡ total (now (bytes .entry)) % 256 ⌝ }
 {
     let len = bytes.len();
-    if len < 32 {
+    if len < PIECE_SIZE {
         return plain_sum(bytes);
     }
     let whole = len >> 5 << 5;
-    let last = len - 32;
+    let last = len - PIECE_SIZE;
     let pieces = plain_sum(&bytes[0..whole]);
     let rest = sum_of_last(&bytes[last..], len - whole);
     std::num::wrapping_add_u8(pieces, rest)

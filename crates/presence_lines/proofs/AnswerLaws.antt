@@ -8,7 +8,7 @@ use native.Mathlib.Nat.{zero-add}
 use native.Mathlib.Omega.{arith}
 use borrow.Author.Tests.{lt-ltb, le-ltb}
 use lib.Dec.{ltb}
-use lib.ListN.{length, take, drop, length-append, length-drop}
+use lib.ListN.{length, take, length-append, length-drop}
 use Rattle.errors.specs.Choice.{pick}
 use Rattle.errors.specs.declared.Refusal.the-variants.{BadArgument}
 use Rattle.errors.specs.declared.RoundRefusal.{RoundRefusal}

@@ -18,36 +18,37 @@ use Rattle.bench.specs.HexLaws.{hex-short}
 use Rattle.bench.specs.TextLaws.{appended, both-appended, then-put, both-put}
 use Rattle.bench.specs.Texts.{placed, placedAt, putAt, decimalOf, Appends}
 use Rattle.bench.specs.Words.{ahead, wordsOf}
+use Rattle.presence_list.specs.Names.{recordSize, identifierLimit, lengthOffset, bitrateOffset, cardLimit}
 use Rattle.presence_list.specs.Checks.{byte-in, first-in}
 use Rattle.presence_list.specs.Memory.{pieces, lengthIn}
 use Rattle.presence_list.specs.MemoryLaws.{length-pieces, piece-at}
 use Rattle.presence_lines.specs.Lines.{kinds, bitrates, cardText, bitrateText, cardsText, listsText, refusedText}
 
 -- the identifier's bytes of a record
-identifier-in : (b : List ℕ) (at : ℕ) → take 16 (drop 1 (take 20 (drop at b))) ≡ take 16 (drop (at + 1) b)
-identifier-in b at = inside (drop at b) ∙ ap (take 16) (drop-drop 1 at b)
+identifier-in : (b : List ℕ) (at : ℕ) → take identifierLimit (drop 1 (take recordSize (drop at b))) ≡ take identifierLimit (drop (at + 1) b)
+identifier-in b at = inside (drop at b) ∙ ap (take identifierLimit) (drop-drop 1 at b)
   where
-    inside : (x : List ℕ) → take 16 (drop 1 (take 20 x)) ≡ take 16 (drop 1 x)
+    inside : (x : List ℕ) → take identifierLimit (drop 1 (take recordSize x)) ≡ take identifierLimit (drop 1 x)
     inside [] = refl
-    inside (a ∷ x) = take-take 16 19 x (omega arith)
+    inside (a ∷ x) = take-take identifierLimit (recordSize - 1) x (omega arith)
 
 module _ (b : List ℕ) (i : ℕ) where
   pub card-done : (w p q o o₁ o₂ o₃ o₄ : List ℕ) (at r₁ r₂ r₃ r₄ : ℕ) → placed r₁ o₁ ≡ putAt at (ascii " ") o → placed r₂ o₂ ≡ putAt r₁ w o₁ → placed r₃ o₃ ≡ putAt r₂ (ascii ":") o₂
-      → placed r₄ o₄ ≡ putAt r₃ (hexOf q) o₃ → w ≡ getD (wordsOf (ascii "A T1 B F DEP")) (getD b (20 * i) 0) [] → q ≡ take (getD b (20 * i + 17) 0) p → p ≡ take (20 * i + 1 + 16 - (20 * i + 1)) (drop (20 * i + 1) b)
-      → Appends at (cardText (take 20 (drop (20 * i) b))) o r₄ o₄
+      → placed r₄ o₄ ≡ putAt r₃ (hexOf q) o₃ → w ≡ getD (wordsOf (ascii "A T1 B F DEP")) (getD b (recordSize * i) 0) [] → q ≡ take (getD b (recordSize * i + lengthOffset) 0) p → p ≡ take (recordSize * i + 1 + identifierLimit - (recordSize * i + 1)) (drop (recordSize * i + 1) b)
+      → Appends at (cardText (take recordSize (drop (recordSize * i) b))) o r₄ o₄
   unfolding cardText kinds
   card-done w p q o o₁ o₂ o₃ o₄ at r₁ r₂ r₃ r₄ e f g h kind part all =
-      let size : 20 * i + 1 + 16 - (20 * i + 1) ≡ 16 = omega arith in
-      let whole : p ≡ take 16 (drop 1 (take 20 (drop (20 * i) b))) = all ∙ ap (λ (k : ℕ). take k (drop (20 * i + 1) b)) size ∙ sym (identifier-in b (20 * i)) in
-      let is : q ≡ take (lengthIn (take 20 (drop (20 * i) b))) (take 16 (drop 1 (take 20 (drop (20 * i) b)))) = part ∙ rw (← byte-in b (20 * i) 17 (omega arith), whole) in
-      let named : w ≡ getD kinds (getD (take 20 (drop (20 * i) b)) 0 0) [] = kind ∙ ap (λ (k : ℕ). getD kinds k []) (sym (first-in b (20 * i))) in
+      let size : recordSize * i + 1 + identifierLimit - (recordSize * i + 1) ≡ identifierLimit = omega arith in
+      let whole : p ≡ take identifierLimit (drop 1 (take recordSize (drop (recordSize * i) b))) = all ∙ ap (λ (k : ℕ). take k (drop (recordSize * i + 1) b)) size ∙ sym (identifier-in b (recordSize * i)) in
+      let is : q ≡ take (lengthIn (take recordSize (drop (recordSize * i) b))) (take identifierLimit (drop 1 (take recordSize (drop (recordSize * i) b)))) = part ∙ rw (← byte-in b (recordSize * i) lengthOffset (omega arith), whole) in
+      let named : w ≡ getD kinds (getD (take recordSize (drop (recordSize * i) b)) 0 0) [] = kind ∙ ap (λ (k : ℕ). getD kinds k []) (sym (first-in b (recordSize * i))) in
       rw (← named, ← is) (then-put _ _ _ _ _ _ _ _ (then-put _ _ _ _ _ _ _ _ (both-put _ _ _ _ _ _ _ _ e f) g) h)
 
   pub bitrate-shown : (t : Bool) (w o o₁ o₂ : List ℕ) (at r₁ r₂ : ℕ) → t ≡ true → placed r₁ o₁ ≡ putAt at (ascii ":") o → placed r₂ o₂ ≡ putAt r₁ w o₁
-      → w ≡ getD (wordsOf (ascii "106A 212F 424F 106B 212B 424B 848B")) (getD b (20 * i + 18) 0) [] → Appends at (bitrateText t (take 20 (drop (20 * i) b))) o r₂ o₂
+      → w ≡ getD (wordsOf (ascii "106A 212F 424F 106B 212B 424B 848B")) (getD b (recordSize * i + bitrateOffset) 0) [] → Appends at (bitrateText t (take recordSize (drop (recordSize * i) b))) o r₂ o₂
   unfolding bitrateText bitrates pick
   bitrate-shown t w o o₁ o₂ at r₁ r₂ h e f is =
-      let named : w ≡ getD bitrates (getD (take 20 (drop (20 * i) b)) 18 0) [] = is ∙ ap (λ (k : ℕ). getD bitrates k []) (sym (byte-in b (20 * i) 18 (omega arith))) in
+      let named : w ≡ getD bitrates (getD (take recordSize (drop (recordSize * i) b)) bitrateOffset 0) [] = is ∙ ap (λ (k : ℕ). getD bitrates k []) (sym (byte-in b (recordSize * i) bitrateOffset (omega arith))) in
       rw (h, ← named) (both-put _ _ _ _ _ _ _ _ e f)
 
 -- no text
@@ -72,12 +73,12 @@ unfolding cardsText
 cards-none t es o at = none-put o at
 
 pub cards-turn : (t : Bool) (n i : ℕ) (b o o₁ o₂ o₃ : List ℕ) (at r₁ r₂ r₃ : ℕ) → i < n → Appends at (cardsText t (take i (pieces n b))) o r₁ o₁
-    → Appends r₁ (cardText (take 20 (drop (20 * i) b))) o₁ r₂ o₂ → Appends r₂ (bitrateText t (take 20 (drop (20 * i) b))) o₂ r₃ o₃ → Appends at (cardsText t (take (i + 1) (pieces n b))) o r₃ o₃
+    → Appends r₁ (cardText (take recordSize (drop (recordSize * i) b))) o₁ r₂ o₂ → Appends r₂ (bitrateText t (take recordSize (drop (recordSize * i) b))) o₂ r₃ o₃ → Appends at (cardsText t (take (i + 1) (pieces n b))) o r₃ o₃
 cards-turn t n i b o o₁ o₂ o₃ at r₁ r₂ r₃ h before card rate =
     let less : i < length (pieces n b) = rw (length-pieces n b) h in
-    let more : take (i + 1) (pieces n b) ≡ take i (pieces n b) ++ (take 20 (drop (20 * i) b) ∷ [])
+    let more : take (i + 1) (pieces n b) ≡ take i (pieces n b) ++ (take recordSize (drop (recordSize * i) b) ∷ [])
     = ap (λ (k : ℕ). take k (pieces n b)) (add-one i) ∙ take-suc (pieces n b) i [] less ∙ ap (λ (e : List ℕ). take i (pieces n b) ++ (e ∷ [])) (piece-at n i b h) in
-    rw (more, cards-more t (take i (pieces n b)) (take 20 (drop (20 * i) b))) (both-appended _ _ _ _ _ _ _ _ (both-appended _ _ _ _ _ _ _ _ before card) rate)
+    rw (more, cards-more t (take i (pieces n b)) (take recordSize (drop (recordSize * i) b))) (both-appended _ _ _ _ _ _ _ _ (both-appended _ _ _ _ _ _ _ _ before card) rate)
 
 pub cards-all : (t : Bool) (n i : ℕ) (b o o₁ : List ℕ) (at r : ℕ) → i ≤ n → n ≤ i → Appends at (cardsText t (take i (pieces n b))) o r o₁ → Appends at (cardsText t (pieces n b)) o r o₁
 cards-all t n i b o o₁ at r h k e =
@@ -123,13 +124,13 @@ bitrate-short (suc (suc (suc (suc (suc (suc (suc k))))))) = omega arith
 card-short : (e : List ℕ) → length (cardText e) ≤ 38
 unfolding cardText
 card-short e =
-    let p : List ℕ = take (lengthIn e) (take 16 (drop 1 e)) in
+    let p : List ℕ = take (lengthIn e) (take identifierLimit (drop 1 e)) in
     let w : List ℕ = getD kinds (getD e 0 0) [] in
-    omega (arith, length-append (ascii " " ++ w ++ ascii ":") (hexOf p), length-append (ascii " " ++ w) (ascii ":"), length-append (ascii " ") w, kind-short (getD e 0 0), hex-short p, length-take (lengthIn e) (take 16 (drop 1 e)), length-take 16 (drop 1 e))
+    omega (arith, length-append (ascii " " ++ w ++ ascii ":") (hexOf p), length-append (ascii " " ++ w) (ascii ":"), length-append (ascii " ") w, kind-short (getD e 0 0), hex-short p, length-take (lengthIn e) (take identifierLimit (drop 1 e)), length-take identifierLimit (drop 1 e))
 
 shown-short : (e : List ℕ) → length (bitrateText true e) ≤ 5
 unfolding bitrateText pick
-shown-short e = omega (arith, length-append (ascii ":") (getD bitrates (getD e 18 0) []), bitrate-short (getD e 18 0))
+shown-short e = omega (arith, length-append (ascii ":") (getD bitrates (getD e bitrateOffset 0) []), bitrate-short (getD e bitrateOffset 0))
 
 hidden-short : (e : List ℕ) → length (bitrateText false e) ≤ 0
 unfolding bitrateText pick
@@ -145,7 +146,7 @@ unfolding cardsText
 present-short [] = omega arith
 present-short (e ∷ es) = omega (arith, present-short es, length-append (cardText e ++ bitrateText true e) (cardsText true es), length-append (cardText e) (bitrateText true e), card-short e, shown-short e)
 
-pub lists-short : (came left present : List (List ℕ)) → length came ≤ 64 → length left ≤ 64 → length present ≤ 64 → length (listsText came left present) ≤ 8000
+pub lists-short : (came left present : List (List ℕ)) → length came ≤ cardLimit → length left ≤ cardLimit → length present ≤ cardLimit → length (listsText came left present) ≤ 8000
 unfolding listsText
 lists-short came left present a b c =
     omega (

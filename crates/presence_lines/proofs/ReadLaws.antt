@@ -6,28 +6,27 @@ use Prim.Native.Nat.{ℕ, suc, _+_, _-_, _/_, _≤_, _<_}
 use native.Mathlib.Nat.{zero-add}
 use native.Mathlib.Numerals.{add-one}
 use native.Mathlib.Omega.{arith}
-use borrow.Author.Tests.{lt-ltb, le-ltb}
-use lib.Dec.{ltb}
+use borrow.Author.Tests.{lt-ltb, le-ltb, lt-leb, le-leb}
 use lib.ListN.{length, take, drop, getD, replicate, length-take, length-drop, drop-of-length-le}
 use lib.Seq.{drop-cons, take-length, take-all, take-at}
 use Rattle.bytes.specs.Bytes.{indexOf, slice}
-use Rattle.errors.specs.Choice.{pick}
+use Rattle.errors.specs.Choice.{pick, same}
 use Rattle.errors.specs.declared.Refusal.{Refusal}
-use Rattle.framing.specs.Lists.{same}
 use Rattle.targets.specs.Bitrates.{ascii}
 use Rattle.bench.specs.Hex.{isHex, pairsOf, readOf}
 use Rattle.bench.specs.HexLaws.{length-pairs, read-count, read-into, not-read}
-use Rattle.bench.specs.TextLaws.{both-appended, then-put, both-put, appended}
+use Rattle.bench.specs.TextLaws.{both-appended, then-put, both-put}
 use Rattle.bench.specs.Texts.{returned, left, over, placed, putAt, Appends}
 use Rattle.bench.specs.WordLaws.{behind, next-word}
 use Rattle.bench.specs.Words.{wordsOf}
 use Rattle.bench.specs.declared.Put.{Put}
 use Rattle.bench.specs.declared.Put.the-variants.{Bytes as PutBytes, Refused}
 use Rattle.presence_lines.proofs.PrintLaws.{none-put}
-use Rattle.presence_lines.specs.Lines.{kinds, bitrates, placeOf, beforeColon, behindColon, kindOf, bitrateOf, identifierOf, isIdentifier, isCard, recordWith, identified, recordOf, areCards, recordsOf}
+use Rattle.presence_lines.specs.Lines.{kinds, bitrates, placeOf, beforeColon, behindColon, kindOf, bitrateOf, identifierOf, isIdentifier, isCard, recordWith, overLength, identified, recordOf, areCards, recordsOf}
 use Rattle.presence_lines.specs.Readings.{Puts, Filled}
 use Rattle.presence_lines.specs.declared.read.Cards.{Cards}
 use Rattle.presence_lines.specs.declared.read.Cards.the-variants.{Bytes, Unreadable}
+use Rattle.presence_list.specs.Names.{identifierLimit, lastCardKind, lastBitrate}
 
 -- the place of a word among others
 module _ (w : List ℕ) (ws : List (List ℕ)) (i : ℕ) (rest : placeOf w ws ≡ i + placeOf w (drop i ws)) where
@@ -74,17 +73,17 @@ module _ (w : List ℕ) (n : ℕ) (found : n ≡ 0 + indexOf 58 (slice 0 (length
 
 -- a record, and that of an identifier
 pub record-done : (kind n rate : ℕ) (p z o o₁ o₂ o₃ o₄ : List ℕ) (at r₁ r₂ r₃ r₄ : ℕ) → placed r₁ o₁ ≡ putAt at (kind ∷ []) o → placed r₂ o₂ ≡ putAt r₁ p o₁ → placed r₃ o₃ ≡ putAt r₂ z o₂
-    → placed r₄ o₄ ≡ putAt r₃ (n ∷ rate ∷ 0 ∷ []) o₃ → z ≡ take (16 - length p) (replicate 16 0) → Appends at (recordWith kind p n rate) o r₄ o₄
+    → placed r₄ o₄ ≡ putAt r₃ (n ∷ rate ∷ 0 ∷ []) o₃ → z ≡ take (identifierLimit - length p) (replicate identifierLimit 0) → Appends at (recordWith kind p n rate) o r₄ o₄
 unfolding recordWith
 record-done kind n rate p z o o₁ o₂ o₃ o₄ at r₁ r₂ r₃ r₄ e f g h is =
     rw (← is) (then-put _ _ _ _ _ _ _ _ (then-put _ _ _ _ _ _ _ _ (both-put _ _ _ _ _ _ _ _ e f) g) h)
 
 module _ (kind rate at r : ℕ) (w b o : List ℕ) where
-  pub identified-long : (p : List ℕ) → 16 < length w / 2 → p ≡ take 0 w → Appends at (recordWith kind p 17 rate) b r o → Appends at (identified kind w rate) b r o
+  pub identified-long : (p : List ℕ) → identifierLimit < length w / 2 → p ≡ take 0 w → Appends at (recordWith kind p overLength rate) b r o → Appends at (identified kind w rate) b r o
   unfolding identified pick
-  identified-long p h e d = rw (lt-ltb 16 (length w / 2) h) (rw e at d)
+  identified-long p h e d = rw (lt-ltb identifierLimit (length w / 2) h) (rw e at d)
 
-  module _ (z part : List ℕ) (q : Put) (known : left (returned q) part ≡ readOf w z) (few : length w / 2 ≤ 16) (room : length z ≡ 16) where
+  module _ (z part : List ℕ) (q : Put) (known : left (returned q) part ≡ readOf w z) (few : length w / 2 ≤ identifierLimit) (room : length z ≡ identifierLimit) where
     enough : length w / 2 ≤ length z
     enough = omega arith
 
@@ -94,9 +93,9 @@ module _ (kind rate at r : ℕ) (w b o : List ℕ) where
         let filled : part ≡ pairsOf w ++ drop (length (pairsOf w)) z = read-into w z part q enough known k e ∙ ap (λ (j : ℕ). pairsOf w ++ drop j z) (zero-add (length (pairsOf w))) in
         let count : k ≡ length (pairsOf w) = read-count w z part q enough known k e in
         let all : p ≡ pairsOf w = is ∙ rw (filled, count) (take-at (pairsOf w) (drop (length (pairsOf w)) z) (length (pairsOf w)) refl) in
-        rw (le-ltb 16 (length w / 2) few) (rw (all, size) at d)
+        rw (le-ltb identifierLimit (length w / 2) few) (rw (all, size) at d)
 
-    pub identified-short : (k : ℕ) (p : List ℕ) → q ≡ PutBytes k → p ≡ take k part → length p ≤ 16
+    pub identified-short : (k : ℕ) (p : List ℕ) → q ≡ PutBytes k → p ≡ take k part → length p ≤ identifierLimit
     identified-short k p e is = omega (arith, read-count w z part q enough known k e, length-pairs w, ap length is, length-take k part)
 
     pub identified-not : (e : Refusal) → q ≡ Refused e → isHex w ≡ true → Appends at (identified kind w rate) b at b
@@ -108,26 +107,26 @@ module _ (w p rest : List ℕ) (k : ℕ) (rest-is : rest ≡ behindColon w) (p-i
   unfolding kinds
   kind-is = kind ∙ ap (λ (x : List ℕ). placeOf x kinds) p-is
 
-  pub no-kind : 4 < k → isCard w ≡ false
+  pub no-kind : lastCardKind < k → isCard w ≡ false
   unfolding isCard pick
-  no-kind h = rw (le-ltb (kindOf w) 5 (omega (arith, kind-is)))
+  no-kind h = rw (lt-leb (kindOf w) lastCardKind (omega (arith, kind-is)))
 
-  module _ (q : List ℕ) (m : ℕ) (few : k ≤ 4) (q-is : q ≡ behindColon rest) (rate : m ≡ placeOf q (wordsOf (ascii "106A 212F 424F 106B 212B 424B 848B"))) where
+  module _ (q : List ℕ) (m : ℕ) (few : k ≤ lastCardKind) (q-is : q ≡ behindColon rest) (rate : m ≡ placeOf q (wordsOf (ascii "106A 212F 424F 106B 212B 424B 848B"))) where
     rate-is : m ≡ bitrateOf w
     unfolding bitrates
     rate-is = rate ∙ ap (λ (x : List ℕ). placeOf x bitrates) (q-is ∙ ap behindColon rest-is)
 
-    pub no-rate : 6 < m → isCard w ≡ false
+    pub no-rate : lastBitrate < m → isCard w ≡ false
     unfolding isCard pick
-    no-rate h = rw (lt-ltb (kindOf w) 5 (omega (arith, kind-is)), le-ltb (bitrateOf w) 7 (omega (arith, rate-is)))
+    no-rate h = rw (le-leb (kindOf w) lastCardKind (omega (arith, kind-is)), lt-leb (bitrateOf w) lastBitrate (omega (arith, rate-is)))
 
-    module _ (u : List ℕ) (t : Bool) (less : m ≤ 6) (u-is : u ≡ beforeColon rest) (test : t ≡ isIdentifier u) where
+    module _ (u : List ℕ) (t : Bool) (less : m ≤ lastBitrate) (u-is : u ≡ beforeColon rest) (test : t ≡ isIdentifier u) where
       identifier-is : u ≡ identifierOf w
       identifier-is = u-is ∙ ap beforeColon rest-is
 
       card-is : isCard w ≡ t
       unfolding isCard pick
-      card-is = rw (lt-ltb (kindOf w) 5 (omega (arith, kind-is)), lt-ltb (bitrateOf w) 7 (omega (arith, rate-is))) (ap isIdentifier (sym identifier-is) ∙ sym test)
+      card-is = rw (le-leb (kindOf w) lastCardKind (omega (arith, kind-is)), le-leb (bitrateOf w) lastBitrate (omega (arith, rate-is))) (ap isIdentifier (sym identifier-is) ∙ sym test)
 
       pub no-identifier : t ≡ false → isCard w ≡ false
       no-identifier h = card-is ∙ h

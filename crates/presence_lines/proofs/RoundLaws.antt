@@ -7,13 +7,12 @@ use Prim.Native.Nat.{ℕ, suc, _+_, _-_, _*_, _/_, _≤_, _<_}
 use native.Mathlib.Nat.{zero-add}
 use native.Mathlib.Numerals.{add-one}
 use native.Mathlib.Omega.{arith}
-use borrow.Author.Tests.{ltb-true, ltb-false, eqb-true}
+use borrow.Author.Tests.{ltb-false, leb-true}
 use lib.Dec.{eqb, ltb, leb}
 use lib.ListN.{length, take, drop, replicate, length-append, length-take, length-drop, drop-of-length-le}
 use lib.Seq.{drop-cons, take-at}
 use Rattle.bytes.specs.Bytes.{indexOf, slice}
-use Rattle.errors.specs.Choice.{pick}
-use Rattle.framing.specs.Lists.{both, same, starts}
+use Rattle.errors.specs.Choice.{pick, same, same-is}
 use Rattle.targets.specs.Bitrates.{ascii}
 use Rattle.bench.specs.Hex.{isHex, pairsOf}
 use Rattle.bench.specs.HexLaws.{length-pairs}
@@ -24,10 +23,11 @@ use Rattle.bench.specs.WordLaws.{behind, words-behind, next-word}
 use Rattle.bench.specs.Words.{ahead, wordsOf}
 use Rattle.bench.specs.declared.number.Number.{Number}
 use Rattle.bench.specs.declared.number.Number.the-variants.{Value, Unreadable as NoNumber}
-use Rattle.presence_lines.specs.Lines.{lineLimit, recordsRoom, kinds, bitrates, placeOf, beforeColon, behindColon, kindOf, bitrateOf, identifierOf, isCard, recordWith, identified, recordOf, areCards, recordsOf, said, numbered, saidOf}
+use Rattle.presence_lines.specs.Lines.{lineLimit, recordsRoom, kinds, bitrates, placeOf, beforeColon, behindColon, kindOf, bitrateOf, identifierOf, isCard, recordWith, overLength, identified, recordOf, areCards, recordsOf, said, numbered, saidOf}
 use Rattle.presence_lines.specs.Readings.{Puts}
 use Rattle.presence_lines.specs.declared.read.Cards.{Cards}
 use Rattle.presence_lines.specs.declared.read.Cards.the-variants.{Bytes, Unreadable}
+use Rattle.presence_list.specs.Names.{recordSize, identifierLimit, lastCardKind, lastBitrate}
 
 -- ---- a card has 8 bytes or more
 
@@ -35,49 +35,41 @@ Long : ℕ → List (List ℕ) → Type 0
 Long k [] = Unit {0}
 Long k (x ∷ xs) = (k ≤ length x) × Long k xs
 
-same-length : (x w : List ℕ) → same x w ≡ true → length w ≡ length x
-unfolding same
-same-length x w h = eqb-true (length w) (length x) (go (eqb (length w) (length x)) h)
-  where
-    go : (t : Bool) → both t (starts x w) ≡ true → t ≡ true
-    go true e = refl
-    go false e = e
-
 place-long : (k : ℕ) (w : List ℕ) (xs : List (List ℕ)) → Long k xs → placeOf w xs < length xs → k ≤ length w
 unfolding Long placeOf pick
 place-long k w [] l h = absurd (omega arith)
 place-long k w (x ∷ xs) l h = go (place-long k w xs (l .1)) (same x w) refl h
   where
     go : (placeOf w xs < length xs → k ≤ length w) → (t : Bool) → same x w ≡ t → pick t 0 (suc (placeOf w xs)) < suc (length xs) → k ≤ length w
-    go later true e g = omega (arith, same-length x w e, l .0)
+    go later true e g = omega (arith, ap length (same-is x w e), l .0)
     go later false e g = later (omega arith)
 
-kind-long : (w : List ℕ) → placeOf w kinds < 5 → 1 ≤ length w
+kind-long : (w : List ℕ) → placeOf w kinds ≤ lastCardKind → 1 ≤ length w
 unfolding Long kinds wordsOf ahead pick
-kind-long w h = place-long 1 w kinds (omega arith, (omega arith, (omega arith, (omega arith, (omega arith, tt))))) h
+kind-long w h = place-long 1 w kinds (omega arith, (omega arith, (omega arith, (omega arith, (omega arith, tt))))) (omega arith)
 
-bitrate-long : (w : List ℕ) → placeOf w bitrates < 7 → 4 ≤ length w
+bitrate-long : (w : List ℕ) → placeOf w bitrates ≤ lastBitrate → 4 ≤ length w
 unfolding Long bitrates wordsOf ahead pick
-bitrate-long w h = place-long 4 w bitrates (omega arith, (omega arith, (omega arith, (omega arith, (omega arith, (omega arith, (omega arith, tt))))))) h
+bitrate-long w h = place-long 4 w bitrates (omega arith, (omega arith, (omega arith, (omega arith, (omega arith, (omega arith, (omega arith, tt))))))) (omega arith)
 
 hex-long : (w : List ℕ) → isHex w ≡ true → 1 ≤ length w
-unfolding isHex same starts pick
+unfolding isHex same pick
 hex-long [] h = absurd (false≢true h)
 hex-long (x ∷ w) h = omega arith
 
 card-long : (w : List ℕ) → isCard w ≡ true → 8 ≤ length w
 unfolding isCard beforeColon behindColon pick
-card-long w h = go (ltb (kindOf w) 5) (ltb (bitrateOf w) 7) (isHex (identifierOf w)) refl refl refl h
+card-long w h = go (leb (kindOf w) lastCardKind) (leb (bitrateOf w) lastBitrate) (isHex (identifierOf w)) refl refl refl h
   where
-    go : (t u v : Bool) → ltb (kindOf w) 5 ≡ t → ltb (bitrateOf w) 7 ≡ u → isHex (identifierOf w) ≡ v → pick t (pick u (pick v (leb (length (identifierOf w) / 2) 1024) false) false) false ≡ true → 8 ≤ length w
+    go : (t u v : Bool) → leb (kindOf w) lastCardKind ≡ t → leb (bitrateOf w) lastBitrate ≡ u → isHex (identifierOf w) ≡ v → pick t (pick u (pick v (leb (length (identifierOf w) / 2) 1024) false) false) false ≡ true → 8 ≤ length w
     go true true true e f g i =
         let k : ℕ = indexOf 58 w in
         let r : List ℕ = drop (indexOf 58 w + 1) w in
         let j : ℕ = indexOf 58 (drop (indexOf 58 w + 1) w) in
         omega (
           arith,
-          kind-long (beforeColon w) (ltb-true (kindOf w) 5 e),
-          bitrate-long (behindColon (behindColon w)) (ltb-true (bitrateOf w) 7 f),
+          kind-long (beforeColon w) (leb-true (kindOf w) lastCardKind e),
+          bitrate-long (behindColon (behindColon w)) (leb-true (bitrateOf w) lastBitrate f),
           hex-long (identifierOf w) g,
           length-take k w,
           length-drop (k + 1) w,
@@ -90,22 +82,22 @@ card-long w h = go (ltb (kindOf w) 5) (ltb (bitrateOf w) 7) (isHex (identifierOf
 
 -- ---- room for the records
 
-with-short : (kind n rate : ℕ) (p : List ℕ) → length p ≤ 16 → length (recordWith kind p n rate) ≤ 20
+with-short : (kind n rate : ℕ) (p : List ℕ) → length p ≤ identifierLimit → length (recordWith kind p n rate) ≤ recordSize
 unfolding recordWith
 with-short kind n rate p h =
-    let zeros : List ℕ = take (16 - length p) (replicate 16 0) in
-    omega (arith, length-append ((kind ∷ []) ++ p ++ zeros) (n ∷ rate ∷ 0 ∷ []), length-append ((kind ∷ []) ++ p) zeros, length-append (kind ∷ []) p, length-take {A = ℕ} (16 - length p) (replicate 16 0))
+    let zeros : List ℕ = take (identifierLimit - length p) (replicate identifierLimit 0) in
+    omega (arith, length-append ((kind ∷ []) ++ p ++ zeros) (n ∷ rate ∷ 0 ∷ []), length-append ((kind ∷ []) ++ p) zeros, length-append (kind ∷ []) p, length-take {A = ℕ} (identifierLimit - length p) (replicate identifierLimit 0))
 
-record-short : (w : List ℕ) → length (recordOf w) ≤ 20
+record-short : (w : List ℕ) → length (recordOf w) ≤ recordSize
 unfolding recordOf identified pick
 record-short w = go (identifierOf w)
   where
-    go : (u : List ℕ) → length (identified (kindOf w) u (bitrateOf w)) ≤ 20
-    go u = by-length (ltb 16 (length u / 2)) refl
+    go : (u : List ℕ) → length (identified (kindOf w) u (bitrateOf w)) ≤ recordSize
+    go u = by-length (ltb identifierLimit (length u / 2)) refl
       where
-        by-length : (t : Bool) → ltb 16 (length u / 2) ≡ t → length (pick t (recordWith (kindOf w) [] 17 (bitrateOf w)) (recordWith (kindOf w) (pairsOf u) (length u / 2) (bitrateOf w))) ≤ 20
-        by-length true e = with-short (kindOf w) 17 (bitrateOf w) [] (omega arith)
-        by-length false e = with-short (kindOf w) (length u / 2) (bitrateOf w) (pairsOf u) (omega (arith, length-pairs u, ltb-false 16 (length u / 2) e))
+        by-length : (t : Bool) → ltb identifierLimit (length u / 2) ≡ t → length (pick t (recordWith (kindOf w) [] overLength (bitrateOf w)) (recordWith (kindOf w) (pairsOf u) (length u / 2) (bitrateOf w))) ≤ recordSize
+        by-length true e = with-short (kindOf w) overLength (bitrateOf w) [] (omega arith)
+        by-length false e = with-short (kindOf w) (length u / 2) (bitrateOf w) (pairsOf u) (omega (arith, length-pairs u, ltb-false identifierLimit (length u / 2) e))
 
 -- the bytes of some words, with one more for each
 total : List (List ℕ) → ℕ
@@ -130,12 +122,12 @@ unfolding behind total
 total-behind [] = omega arith
 total-behind (b ∷ l) = omega (arith, total-words l)
 
-records-short : (ws : List (List ℕ)) → areCards ws ≡ true → 9 * length (recordsOf ws) ≤ 20 * total ws
+records-short : (ws : List (List ℕ)) → areCards ws ≡ true → 9 * length (recordsOf ws) ≤ recordSize * total ws
 unfolding areCards recordsOf total pick
 records-short [] h = omega arith
 records-short (w ∷ ws) h = go (records-short ws) (isCard w) refl h
   where
-    go : (areCards ws ≡ true → 9 * length (recordsOf ws) ≤ 20 * total ws) → (t : Bool) → isCard w ≡ t → pick t (areCards ws) false ≡ true → 9 * length (recordOf w ++ recordsOf ws) ≤ 20 * (suc (length w) + total ws)
+    go : (areCards ws ≡ true → 9 * length (recordsOf ws) ≤ recordSize * total ws) → (t : Bool) → isCard w ≡ t → pick t (areCards ws) false ≡ true → 9 * length (recordOf w ++ recordsOf ws) ≤ recordSize * (suc (length w) + total ws)
     go later true e g = omega (arith, length-append (recordOf w) (recordsOf ws), record-short w, card-long w e, later g)
     go later false e g = absurd (false≢true g)
 

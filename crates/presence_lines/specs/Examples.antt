@@ -1,7 +1,7 @@
 -- Lines of document 02, N9, by computation from the definitions.
 use mathlib.Core.Path.{_≡_, refl}
-use Rattle.errors.specs.Choice.{pick}
-use Rattle.framing.specs.Lists.{starts, same}
+use Rattle.errors.specs.Choice.{pick, same}
+use Rattle.framing.specs.Lists.{starts}
 use Rattle.targets.specs.Bitrates.{ascii}
 use Rattle.bytes.specs.Bytes.{indexAfter, indexOf}
 use Rattle.bench.specs.Hex.{valueOf, allDigits, isHex, pairsOf, digitOf, digitsOf, hexOf}

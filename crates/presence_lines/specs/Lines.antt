@@ -6,12 +6,11 @@ use Prim.Native.Nat.{ℕ, suc, _+_, _-_, _/_}
 use lib.Dec.{leb, ltb}
 use lib.ListN.{length, take, drop, getD, replicate}
 use Rattle.bytes.specs.Bytes.{indexOf}
-use Rattle.errors.specs.Choice.{pick}
+use Rattle.errors.specs.Choice.{pick, same}
 use Rattle.errors.specs.Refusals.{roundNumbered}
 use Rattle.errors.specs.declared.Refusal.the-variants.{BadArgument}
 use Rattle.errors.specs.declared.RoundRefusal.{RoundRefusal}
 use Rattle.errors.specs.declared.RoundRefusal.the-variants.{AtOnce}
-use Rattle.framing.specs.Lists.{same}
 use Rattle.targets.specs.Bitrates.{ascii}
 use Rattle.bench.specs.Hex.{isHex, pairsOf, hexOf}
 use Rattle.bench.specs.Numbers.{numberOf}
@@ -19,6 +18,7 @@ use Rattle.bench.specs.Texts.{over, decimalOf}
 use Rattle.bench.specs.Words.{wordsOf}
 use Rattle.bench.specs.declared.lines.Line.{Line}
 use Rattle.bench.specs.declared.lines.Line.the-variants.{Text, OverLong, End}
+use Rattle.presence_list.specs.Names.{identifierLimit, bitrateOffset, lastCardKind, lastBitrate}
 use Rattle.presence_list.specs.Memory.{pieces, lengthIn}
 use Rattle.presence_list.specs.Steps.{roundOf}
 use Rattle.presence_list.specs.declared.list.Answer.{Answer}
@@ -72,15 +72,18 @@ abbrev pub isIdentifier : List ℕ → Bool
 isIdentifier w = pick (isHex w) (leb (length w / 2) 1024) false
 
 unfoldable pub isCard : List ℕ → Bool
-isCard w = pick (ltb (kindOf w) 5) (pick (ltb (bitrateOf w) 7) (isIdentifier (identifierOf w)) false) false
+isCard w = pick (leb (kindOf w) lastCardKind) (pick (leb (bitrateOf w) lastBitrate) (isIdentifier (identifierOf w)) false) false
 
--- a record: kind, identifier in 16 bytes, its length, bitrate, and a byte that is not looked at
+-- a record: kind, identifier with zeros behind it, its length, bitrate, and a byte that is not looked at
 unfoldable pub recordWith : ℕ → List ℕ → ℕ → ℕ → List ℕ
-recordWith kind p n bitrate = (kind ∷ []) ++ p ++ take (16 - length p) (replicate 16 0) ++ (n ∷ bitrate ∷ 0 ∷ [])
+recordWith kind p n bitrate = (kind ∷ []) ++ p ++ take (identifierLimit - length p) (replicate identifierLimit 0) ++ (n ∷ bitrate ∷ 0 ∷ [])
 
--- of an identifier over 16 bytes a record has the length alone, as 17
+-- of a longer identifier a record has the length alone, as one over the limit
+abbrev pub overLength : ℕ
+overLength = suc identifierLimit
+
 unfoldable pub identified : ℕ → List ℕ → ℕ → List ℕ
-identified kind w bitrate = pick (ltb 16 (length w / 2)) (recordWith kind [] 17 bitrate) (recordWith kind (pairsOf w) (length w / 2) bitrate)
+identified kind w bitrate = pick (ltb identifierLimit (length w / 2)) (recordWith kind [] overLength bitrate) (recordWith kind (pairsOf w) (length w / 2) bitrate)
 
 unfoldable pub recordOf : List ℕ → List ℕ
 recordOf w = identified (kindOf w) (identifierOf w) (bitrateOf w)
@@ -115,11 +118,11 @@ saidOf (name ∷ number ∷ cards) = pick (same (ascii "round") name) (numbered 
 
 -- a card of the list, `KIND:HEX` behind a space
 unfoldable pub cardText : List ℕ → List ℕ
-cardText e = ascii " " ++ getD kinds (getD e 0 0) [] ++ ascii ":" ++ hexOf (take (lengthIn e) (take 16 (drop 1 e)))
+cardText e = ascii " " ++ getD kinds (getD e 0 0) [] ++ ascii ":" ++ hexOf (take (lengthIn e) (take identifierLimit (drop 1 e)))
 
 -- its bitrate, where it is shown
 unfoldable pub bitrateText : Bool → List ℕ → List ℕ
-bitrateText shown e = pick shown (ascii ":" ++ getD bitrates (getD e 18 0) []) []
+bitrateText shown e = pick shown (ascii ":" ++ getD bitrates (getD e bitrateOffset 0) []) []
 
 unfoldable pub cardsText : Bool → List (List ℕ) → List ℕ
 cardsText shown [] = []

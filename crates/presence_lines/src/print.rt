@@ -1,24 +1,30 @@
 // What is printed for a round. Each function gives the place behind its text; a text that has no room is not put.
+use super::read::HELD;
 use bench::first;
 use bench::hex;
 use bench::text;
 use bench::words;
 use errors::RoundRefusal;
+use presence_list::BITRATE;
+use presence_list::LENGTH;
+use presence_list::RECORD;
+use presence_list::list::CARDS;
 ghost use Prim.Native.Nat.{_*_, _≤_, _<_};
 ghost use lib.ListN.{length, take, drop};
 ghost use Rattle.bench.specs.Texts.{Appends};
+ghost use Rattle.presence_list.specs.Names.{recordSize, cardLimit, cardsSize};
 ghost use Rattle.presence_list.specs.Memory.{pieces};
 ghost use Rattle.presence_lines.specs.Lines.{cardText, bitrateText, cardsText, refusedText, listsText};
 
 // A card of the list as `KIND:HEX`, a space before it.
 fn put_card(cards: &[u8], i: usize, out: &mut [u8], at: usize) -> usize
-    requires { ⌜ (i < 64) × (1280 ≤ length (now cards)) ⌝ }
-    ensures { λ r. ⌜ Appends at (cardText (take 20 (drop (20 * i) (now (cards .entry))))) (now (out .entry)) r (now (out .exit)) ⌝ }
+    requires { ⌜ (i < cardLimit) × (cardsSize ≤ length (now cards)) ⌝ }
+    ensures { λ r. ⌜ Appends at (cardText (take recordSize (drop (recordSize * i) (now (cards .entry))))) (now (out .entry)) r (now (out .exit)) ⌝ }
 {
-    let start = 20 * i;
+    let start = RECORD * i;
     let from = start + 1;
-    let to = from + 16;
-    let length = cards[start + 17] as usize;
+    let to = from + HELD;
+    let length = cards[start + LENGTH] as usize;
     let kind = cards[start] as usize;
     let second = text::put(b" ", out, at);
     let third = text::put(words::word(b"A T1 B F DEP", kind), out, second);
@@ -28,11 +34,11 @@ fn put_card(cards: &[u8], i: usize, out: &mut [u8], at: usize) -> usize
 
 // Its bitrate, where it is shown.
 fn put_bitrate(cards: &[u8], i: usize, shown: bool, out: &mut [u8], at: usize) -> usize
-    requires { ⌜ (i < 64) × (1280 ≤ length (now cards)) ⌝ }
-    ensures { λ r. ⌜ Appends at (bitrateText shown (take 20 (drop (20 * i) (now (cards .entry))))) (now (out .entry)) r (now (out .exit)) ⌝ }
+    requires { ⌜ (i < cardLimit) × (cardsSize ≤ length (now cards)) ⌝ }
+    ensures { λ r. ⌜ Appends at (bitrateText shown (take recordSize (drop (recordSize * i) (now (cards .entry))))) (now (out .entry)) r (now (out .exit)) ⌝ }
 {
     if shown {
-        let bitrate = cards[20 * i + 18] as usize;
+        let bitrate = cards[RECORD * i + BITRATE] as usize;
         let next = text::put(b":", out, at);
         return text::put(
             words::word(b"106A 212F 424F 106B 212B 424B 848B", bitrate),
@@ -45,7 +51,7 @@ fn put_bitrate(cards: &[u8], i: usize, shown: bool, out: &mut [u8], at: usize) -
 
 // The first cards of a list.
 fn put_cards(cards: &[u8], count: usize, shown: bool, out: &mut [u8], at: usize) -> usize
-    requires { ⌜ (count ≤ 64) × (1280 ≤ length (now cards)) ⌝ }
+    requires { ⌜ (count ≤ cardLimit) × (cardsSize ≤ length (now cards)) ⌝ }
     ensures { λ r. ⌜ Appends at (cardsText shown (pieces count (now (cards .entry)))) (now (out .entry)) r (now (out .exit)) ⌝ }
 {
     let mut next = at;
@@ -68,15 +74,15 @@ pub(crate) fn put_refused(refusal: RoundRefusal, out: &mut [u8]) -> usize
 
 // The arrivals, the departures and the list.
 pub(crate) fn put_report(
-    arrived: &[u8; 1280],
+    arrived: &[u8; CARDS],
     came: usize,
-    departed: &[u8; 1280],
+    departed: &[u8; CARDS],
     left: usize,
-    cards: &[u8; 1280],
+    cards: &[u8; CARDS],
     count: usize,
     out: &mut [u8],
 ) -> usize
-    requires { ⌜ (came ≤ 64) × (left ≤ 64) × (count ≤ 64) ⌝ }
+    requires { ⌜ (came ≤ cardLimit) × (left ≤ cardLimit) × (count ≤ cardLimit) ⌝ }
     ensures { λ r. ⌜ Appends 0 (listsText (pieces came (now (arrived .entry))) (pieces left (now (departed .entry))) (pieces count (now (cards .entry)))) (now (out .entry)) r (now (out .exit)) ⌝ }
 {
     let first = text::put(b"arrived", out, 0);

@@ -6,6 +6,9 @@ use bench::number;
 use bench::number::Number;
 use bench::text;
 use bench::words;
+use presence_list::IDENTIFIER;
+use presence_list::LAST_BITRATE;
+use presence_list::LAST_CARD_KIND;
 ghost use mathlib.Core.Path.{_≡_};
 ghost use mathlib.Core.Bool.{Bool};
 ghost use Prim.Native.Nat.{_≤_};
@@ -16,11 +19,20 @@ ghost use Rattle.bench.specs.Words.{wordsOf};
 ghost use Rattle.bench.specs.WordLaws.{behind};
 ghost use Rattle.presence_lines.specs.Lines.{lineLimit, recordsRoom, placeOf, beforeColon, behindColon, isIdentifier, isCard, recordWith, identified, recordOf, areCards, recordsOf, saidOf};
 ghost use Rattle.presence_lines.specs.Readings.{Puts, readIn, readBytes};
+ghost use Rattle.presence_list.specs.Names.{identifierLimit};
 
 // How many bytes an identifier has at most that can be read, and that a record holds.
 const READABLE: usize = 1024;
 
-const HELD: usize = 16;
+pub const HELD: usize = IDENTIFIER as usize;
+
+// The length in the record of a longer identifier.
+const OVER_LENGTH: u8 = IDENTIFIER + 1;
+
+// The places of the last kind and of the last bitrate among their names.
+const KIND_LIMIT: usize = LAST_CARD_KIND as usize;
+
+const BITRATE_LIMIT: usize = LAST_BITRATE as usize;
 
 // A round's number, and the bytes of its records at the start of the lent buffer.
 pub(crate) enum Read {
@@ -40,7 +52,7 @@ fn place(word: &[u8], text: &[u8]) -> usize
     let n = words::count(text);
     let mut i = 0;
     while i < n {
-        if words::is(word, words::word(text, i)) {
+        if framing::is_exactly(word, words::word(text, i)) {
             return i;
         }
         i += 1;
@@ -84,27 +96,27 @@ fn put_record(
     records: &mut [u8],
     at: usize,
 ) -> usize
-    requires { ⌜ length (now identifier) ≤ 16 ⌝ }
+    requires { ⌜ length (now identifier) ≤ identifierLimit ⌝ }
     ensures { λ r. ⌜ Appends at (recordWith kind (now (identifier .entry)) len bitrate) (now (records .entry)) r (now (records .exit)) ⌝ }
 {
-    let zeros = [0u8; 16];
+    let zeros = [0u8; HELD];
     let head = [kind];
     let last = [len, bitrate, 0];
     let second = text::put(&head, records, at);
     let third = text::put(identifier, records, second);
-    let fourth = text::put(first(16 - identifier.len(), &zeros), records, third);
+    let fourth = text::put(first(HELD - identifier.len(), &zeros), records, third);
     text::put(&last, records, fourth)
 }
 
-// The record of an identifier; of one that is too long for it the length alone, as 17.
+// The record of an identifier; of one that is too long for it the length alone, as one over the limit.
 fn put_identified(kind: u8, word: &[u8], bitrate: u8, records: &mut [u8], at: usize) -> usize
     requires { ⌜ isHex (now word) ≡ Bool.true ⌝ }
     ensures { λ r. ⌜ Appends at (identified kind (now (word .entry)) bitrate) (now (records .entry)) r (now (records .exit)) ⌝ }
 {
-    let mut identifier = [0u8; 16];
+    let mut identifier = [0u8; HELD];
     let n = word.len() / 2;
     if HELD < n {
-        return put_record(kind, first(0, word), 17, bitrate, records, at);
+        return put_record(kind, first(0, word), OVER_LENGTH, bitrate, records, at);
     }
     let Put::Bytes(k) = hex::read(word, &mut identifier) else {
         return at;
@@ -118,11 +130,11 @@ fn put_card(word: &[u8], records: &mut [u8], at: usize) -> Cards
 {
     let rest = behind_colon(word);
     let kind = place(before_colon(word), b"A T1 B F DEP");
-    if 4 < kind {
+    if KIND_LIMIT < kind {
         return Cards::Unreadable;
     }
     let bitrate = place(behind_colon(rest), b"106A 212F 424F 106B 212B 424B 848B");
-    if 6 < bitrate {
+    if BITRATE_LIMIT < bitrate {
         return Cards::Unreadable;
     }
     let identifier = before_colon(rest);
@@ -161,7 +173,7 @@ pub(crate) fn read_line(line: &[u8], records: &mut [u8]) -> Read
     if n <= end {
         return Read::Unreadable;
     }
-    if words::is(&line[..end], b"round") {
+    if framing::is_exactly(&line[..end], b"round") {
         let second = bytes::scan::find(line, end + 1, n, b' ');
         let Number::Value(number) = number::read(&line[end + 1..second]) else {
             return Read::Unreadable;

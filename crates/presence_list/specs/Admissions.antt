@@ -16,6 +16,7 @@ use Rattle.presence_list.specs.declared.list.Answer.{Answer}
 use Rattle.presence_list.specs.declared.list.Answer.the-variants.{Refused as Failed}
 use Rattle.presence_list.specs.declared.list.Admission.{Admission}
 use Rattle.presence_list.specs.declared.list.Admission.the-variants.{Admitted, Refused}
+use Rattle.presence_list.specs.Names.{cardLimit, cardsSize}
 use Rattle.presence_list.specs.CardsAt.{CardsAt}
 use Rattle.presence_list.specs.Lookups.{cards-at-in-range}
 use Rattle.presence_list.specs.Memory.{pieces, longIn, inRangeIn, ascending}
@@ -28,39 +29,39 @@ unfolding pick
 chosen true u h = (refl, h)
 chosen false u h = (cc, cc)
 
-pub range-cards-at : (s : State) (c : Seq ℕ) → length c ≡ 1280 → inRange s c ≡ true → CardsAt (s .count) c × (s .count ≤ 64)
+pub range-cards-at : (s : State) (c : Seq ℕ) → length c ≡ cardsSize → inRange s c ≡ true → CardsAt (s .count) c × (s .count ≤ cardLimit)
 unfolding inRange pick pieces every ascending
 range-cards-at s c l h = go (eqb (s .begun) 0) h
   where
-    none : (k : ℕ) → k ≡ 0 → CardsAt k c × (k ≤ 64)
+    none : (k : ℕ) → k ≡ 0 → CardsAt k c × (k ≤ cardLimit)
     none k e = rw e (record { room = omega arith; fit = tt; sorted = tt }, omega arith)
 
-    some : pick (eqb (s .begun) 1) (pick (leb (s .count) 64) (pick (every inRangeIn (pieces (s .count) c)) (ascending (pieces (s .count) c)) false) false) false ≡ true
-        → CardsAt (s .count) c × (s .count ≤ 64)
+    some : pick (eqb (s .begun) 1) (pick (leb (s .count) cardLimit) (pick (every inRangeIn (pieces (s .count) c)) (ascending (pieces (s .count) c)) false) false) false ≡ true
+        → CardsAt (s .count) c × (s .count ≤ cardLimit)
     some h =
-        let a = chosen (leb (s .count) 64) _ (chosen (eqb (s .begun) 1) _ h .1) in
+        let a = chosen (leb (s .count) cardLimit) _ (chosen (eqb (s .begun) 1) _ h .1) in
         let b = chosen (every inRangeIn (pieces (s .count) c)) _ (a .1) in
-        let m = leb-true (s .count) 64 (a .0) in
+        let m = leb-true (s .count) cardLimit (a .0) in
         (cards-at-in-range (s .count) c (omega arith) (b .0) (b .1), m)
 
     go : (t : Bool)
         → pick t (eqb (s .count) 0)
-        (pick (eqb (s .begun) 1) (pick (leb (s .count) 64) (pick (every inRangeIn (pieces (s .count) c)) (ascending (pieces (s .count) c)) false) false) false) ≡ true
-        → CardsAt (s .count) c × (s .count ≤ 64)
+        (pick (eqb (s .begun) 1) (pick (leb (s .count) cardLimit) (pick (every inRangeIn (pieces (s .count) c)) (ascending (pieces (s .count) c)) false) false) false) ≡ true
+        → CardsAt (s .count) c × (s .count ≤ cardLimit)
     go true h = none (s .count) (eqb-true (s .count) 0 h)
     go false h = some h
 
--- it has at most 64 cards
-pub range-few : (s : State) (c : Seq ℕ) → inRange s c ≡ true → s .count ≤ 64
+-- it has no more cards than a list takes
+pub range-few : (s : State) (c : Seq ℕ) → inRange s c ≡ true → s .count ≤ cardLimit
 unfolding inRange pick
 range-few s c h = go (eqb (s .begun) 0) h
   where
     go : (t : Bool)
         → pick t (eqb (s .count) 0)
-        (pick (eqb (s .begun) 1) (pick (leb (s .count) 64) (pick (every inRangeIn (pieces (s .count) c)) (ascending (pieces (s .count) c)) false) false) false) ≡ true
-        → s .count ≤ 64
+        (pick (eqb (s .begun) 1) (pick (leb (s .count) cardLimit) (pick (every inRangeIn (pieces (s .count) c)) (ascending (pieces (s .count) c)) false) false) false) ≡ true
+        → s .count ≤ cardLimit
     go true h = let z = eqb-true (s .count) 0 h in omega arith
-    go false h = leb-true (s .count) 64 (chosen (leb (s .count) 64) _ (chosen (eqb (s .begun) 1) _ h .1) .0)
+    go false h = leb-true (s .count) cardLimit (chosen (leb (s .count) cardLimit) _ (chosen (eqb (s .begun) 1) _ h .1) .0)
 
 pub admitted : (s : State) (c : Seq ℕ) (n : ℕ) (b : Seq ℕ) (r : Admission) → r ≡ admissionOf s c n b → r ≡ Admitted → (inRange s c ≡ true) × (any longIn (recordsOf b) ≡ false)
 unfolding admissionOf pick
@@ -87,10 +88,10 @@ left-as s c a d n b t g r e p q f =
     ap₂ (λ (x : State) (y : Answer). after x c a d y) (p .0) (p .1) ∙ ap (λ (x : Admission). byAdmission x s c a d n b) (sym q ∙ f)
 
 module _ (s : State) (c : Seq ℕ) where
-  pub range-ascends : (r u : Bool) → (s .begun ≡ 0 → ⊥) → s .begun ≡ 1 → s .count ≤ 64 → u ≡ every inRangeIn (pieces (s .count) c) → u ≡ true → r ≡ ascending (pieces (s .count) c) → r ≡ inRange s c
+  pub range-ascends : (r u : Bool) → (s .begun ≡ 0 → ⊥) → s .begun ≡ 1 → s .count ≤ cardLimit → u ≡ every inRangeIn (pieces (s .count) c) → u ≡ true → r ≡ ascending (pieces (s .count) c) → r ≡ inRange s c
   unfolding inRange pick
-  range-ascends r u a b l p q e = rw (ne-eqb (s .begun) 0 a, eq-eqb (s .begun) 1 b, le-leb (s .count) 64 l, ← p, q) e
+  range-ascends r u a b l p q e = rw (ne-eqb (s .begun) 0 a, eq-eqb (s .begun) 1 b, le-leb (s .count) cardLimit l, ← p, q) e
 
-  pub range-broken : (u : Bool) → (s .begun ≡ 0 → ⊥) → s .begun ≡ 1 → s .count ≤ 64 → u ≡ every inRangeIn (pieces (s .count) c) → u ≡ false → false ≡ inRange s c
+  pub range-broken : (u : Bool) → (s .begun ≡ 0 → ⊥) → s .begun ≡ 1 → s .count ≤ cardLimit → u ≡ every inRangeIn (pieces (s .count) c) → u ≡ false → false ≡ inRange s c
   unfolding inRange pick
-  range-broken u a b l p q = rw (ne-eqb (s .begun) 0 a, eq-eqb (s .begun) 1 b, le-leb (s .count) 64 l, ← p, q)
+  range-broken u a b l p q = rw (ne-eqb (s .begun) 0 a, eq-eqb (s .begun) 1 b, le-leb (s .count) cardLimit l, ← p, q)

@@ -2,13 +2,14 @@
 use mathlib.Core.Path.{_≡_, refl, sym, ap, ap₂, _∙_}
 use mathlib.Core.Bool.{Bool, true, false}
 use mathlib.Core.List.{List, [], _∷_, map}
-use Prim.Native.Nat.{ℕ, _≤_}
+use Prim.Native.Nat.{ℕ, _-_, _≤_}
 use native.Mathlib.Omega.{arith}
 use lib.Dec.{ltb, leb, eqb}
 use lib.ListN.{length, take, drop, getD, set, length-take, length-drop}
 use lib.Seq.{getD-set-same, getD-set-other}
 use borrow.Author.Tests.{lt-ltb, le-ltb, ltb-true, ltb-false, le-leb, leb-true}
 use Rattle.errors.specs.Choice.{pick}
+use Rattle.presence_list.specs.Names.{recordSize, identifierLimit, bitrateOffset, missedOffset, lastCardKind, lastBitrate}
 use Rattle.presence_list.specs.Keyed.{All, supersede, supersedeAll, Sorted, only}
 use Rattle.presence_list.specs.KeyedLaws.{supersede-sorted, only-supersede, all-append}
 use Rattle.presence_list.specs.CardsAt.{Fit}
@@ -21,13 +22,13 @@ use Rattle.presence_list.specs.Presence.{Found, Round, card, any, every,
 abbrev pub seen : List ℕ → Bool
 seen e = eqb (missedIn e) 0
 
-pub entry-found : (f : List ℕ) → length f ≡ 20 → lengthIn f ≤ 16 → foundIn (entryOf f) ≡ foundIn f
+pub entry-found : (f : List ℕ) → length f ≡ recordSize → lengthIn f ≤ identifierLimit → foundIn (entryOf f) ≡ foundIn f
 unfolding cardIn
 entry-found f n h =
     let c : card (foundIn (entryOf f)) ≡ card (foundIn f) = entry-card f n h in
     let k : foundIn (entryOf f) .kind ≡ foundIn f .kind = ap (λ (l : List ℕ). getD l 0 0) c in
     let i : foundIn (entryOf f) .identifier ≡ foundIn f .identifier = ap (λ (l : List ℕ). drop 1 l) c in
-    ap₂ (λ (x : ℕ) (l : List ℕ). record { kind = x; identifier = l; bitrate = getD (entryOf f) 18 0 }) k i
+    ap₂ (λ (x : ℕ) (l : List ℕ). record { kind = x; identifier = l; bitrate = getD (entryOf f) bitrateOffset 0 }) k i
     ∙ ap (λ (r : ℕ). record { kind = foundIn f .kind; identifier = foundIn f .identifier; bitrate = r }) (entry-bitrate f n h)
 
 pub entries-found : (fs : List (List ℕ)) → Whole fs → Fit fs → map foundIn (entries fs) ≡ map foundIn fs
@@ -41,7 +42,7 @@ unfolding aged only pick
 aged-found [] f = refl
 aged-found (e ∷ es) f = go (seen e) (aged-found es (f .1))
   where
-    go : (t : Bool) → map foundIn (aged es) ≡ map foundIn (only seen es) → map foundIn (pick t (set e 19 1 ∷ aged es) (aged es)) ≡ map foundIn (pick t (e ∷ only seen es) (only seen es))
+    go : (t : Bool) → map foundIn (aged es) ≡ map foundIn (only seen es) → map foundIn (pick t (set e missedOffset 1 ∷ aged es) (aged es)) ≡ map foundIn (pick t (e ∷ only seen es) (only seen es))
     go true r = ap₂ (λ (x : Found) (l : List Found). x ∷ l) (missed-found e (f .0)) r
     go false r = r
 
@@ -51,10 +52,10 @@ unfolding aged only pick
 aged-unseen [] w = refl
 aged-unseen (e ∷ es) w = go (seen e) (aged-unseen es (w .1))
   where
-    unseen : seen (set e 19 1) ≡ false
-    unseen = ap (λ (k : ℕ). eqb k 0) (getD-set-same e 19 1 0 (let l = w .0 in omega arith))
+    unseen : seen (set e missedOffset 1) ≡ false
+    unseen = ap (λ (k : ℕ). eqb k 0) (getD-set-same e missedOffset 1 0 (let l = w .0 in omega arith))
 
-    go : (t : Bool) → only seen (aged es) ≡ [] → only seen (pick t (set e 19 1 ∷ aged es) (aged es)) ≡ []
+    go : (t : Bool) → only seen (aged es) ≡ [] → only seen (pick t (set e missedOffset 1 ∷ aged es) (aged es)) ≡ []
     go true r = rw unseen r
     go false r = r
 
@@ -82,21 +83,21 @@ last-present [] r = refl
 last-present (p ∷ ps) r = sym (all-append card [] (p .found) (r .found))
 
 -- the tests of the records
-identifier-length : (e : List ℕ) → length e ≡ 20 → ltb 16 (length (take (lengthIn e) (drop 1 e))) ≡ ltb 16 (lengthIn e)
-identifier-length e n = go (ltb 16 (lengthIn e)) refl
+identifier-length : (e : List ℕ) → length e ≡ recordSize → ltb identifierLimit (length (take (lengthIn e) (drop 1 e))) ≡ ltb identifierLimit (lengthIn e)
+identifier-length e n = go (ltb identifierLimit (lengthIn e)) refl
   where
-    behind : length (drop 1 e) ≡ 19
+    behind : length (drop 1 e) ≡ recordSize - 1
     behind = let l = length-drop 1 e in omega arith
 
-    go : (t : Bool) → ltb 16 (lengthIn e) ≡ t → ltb 16 (length (take (lengthIn e) (drop 1 e))) ≡ t
+    go : (t : Bool) → ltb identifierLimit (lengthIn e) ≡ t → ltb identifierLimit (length (take (lengthIn e) (drop 1 e))) ≡ t
     go true h =
-        let m = ltb-true 16 (lengthIn e) h in
+        let m = ltb-true identifierLimit (lengthIn e) h in
         let l = length-take (lengthIn e) (drop 1 e) in
-        lt-ltb 16 (length (take (lengthIn e) (drop 1 e))) (let b = behind in omega arith)
+        lt-ltb identifierLimit (length (take (lengthIn e) (drop 1 e))) (let b = behind in omega arith)
     go false h =
-        let m = ltb-false 16 (lengthIn e) h in
+        let m = ltb-false identifierLimit (lengthIn e) h in
         let l = length-take (lengthIn e) (drop 1 e) in
-        le-ltb 16 (length (take (lengthIn e) (drop 1 e))) (let b = behind in omega arith)
+        le-ltb identifierLimit (length (take (lengthIn e) (drop 1 e))) (let b = behind in omega arith)
 
 pub any-long : (fs : List (List ℕ)) → Whole fs → any overLong (map foundIn fs) ≡ any longIn fs
 unfolding any
@@ -109,17 +110,17 @@ every-known [] = refl
 every-known (f ∷ fs) = rw (every-known fs)
 
 -- a record of the list stays in its range
-pub in-range : (e : List ℕ) → lengthIn e ≤ 16 → missedIn e ≤ 1 → knownIn e ≡ true → inRangeIn e ≡ true
+pub in-range : (e : List ℕ) → lengthIn e ≤ identifierLimit → missedIn e ≤ 1 → knownIn e ≡ true → inRangeIn e ≡ true
 unfolding pick
-in-range e h m k = rw (le-leb (lengthIn e) 16 h, le-leb (missedIn e) 1 m) k
+in-range e h m k = rw (le-leb (lengthIn e) identifierLimit h, le-leb (missedIn e) 1 m) k
 
-pub its-range : (e : List ℕ) → inRangeIn e ≡ true → (lengthIn e ≤ 16) × (knownIn e ≡ true)
+pub its-range : (e : List ℕ) → inRangeIn e ≡ true → (lengthIn e ≤ identifierLimit) × (knownIn e ≡ true)
 unfolding pick
-its-range e h = go (leb (lengthIn e) 16) (leb (missedIn e) 1) refl h
+its-range e h = go (leb (lengthIn e) identifierLimit) (leb (missedIn e) 1) refl h
   where
-    go : (t u : Bool) → leb (lengthIn e) 16 ≡ t → pick t (pick u (knownIn e) false) false ≡ true → (lengthIn e ≤ 16) × (knownIn e ≡ true)
-    go true true p h = (leb-true (lengthIn e) 16 p, h)
-    go true false p h = (leb-true (lengthIn e) 16 p, cc)
+    go : (t u : Bool) → leb (lengthIn e) identifierLimit ≡ t → pick t (pick u (knownIn e) false) false ≡ true → (lengthIn e ≤ identifierLimit) × (knownIn e ≡ true)
+    go true true p h = (leb-true (lengthIn e) identifierLimit p, h)
+    go true false p h = (leb-true (lengthIn e) identifierLimit p, cc)
     go false u p h = let z : _≡_ {A = ℕ} 0 1 = cc in (omega arith, cc)
 
 pub aged-range : (es : List (List ℕ)) → Whole es → All (λ e. inRangeIn e ≡ true) es → All (λ e. inRangeIn e ≡ true) (aged es)
@@ -127,14 +128,14 @@ unfolding aged pick
 aged-range [] w a = tt
 aged-range (e ∷ es) w a = go (seen e) (aged-range es (w .1) (a .1))
   where
-    here : inRangeIn (set e 19 1) ≡ true
+    here : inRangeIn (set e missedOffset 1) ≡ true
     here =
         let r = its-range e (a .0) in
-        let m = getD-set-same e 19 1 0 (let l = w .0 in omega arith) in
-        in-range (set e 19 1) (rw (missed-length e) (r .0)) (omega arith)
-        (ap₂ (λ (i j : ℕ). pick (leb i 4) (leb j 6) false) (getD-set-other e 19 0 1 0 (λ z. omega arith)) (getD-set-other e 19 18 1 0 (λ z. omega arith)) ∙ r .1)
+        let m = getD-set-same e missedOffset 1 0 (let l = w .0 in omega arith) in
+        in-range (set e missedOffset 1) (rw (missed-length e) (r .0)) (omega arith)
+        (ap₂ (λ (i j : ℕ). pick (leb i lastCardKind) (leb j lastBitrate) false) (getD-set-other e missedOffset 0 1 0 (λ z. omega arith)) (getD-set-other e missedOffset bitrateOffset 1 0 (λ z. omega arith)) ∙ r .1)
 
-    go : (t : Bool) → All (λ e. inRangeIn e ≡ true) (aged es) → All (λ e. inRangeIn e ≡ true) (pick t (set e 19 1 ∷ aged es) (aged es))
+    go : (t : Bool) → All (λ e. inRangeIn e ≡ true) (aged es) → All (λ e. inRangeIn e ≡ true) (pick t (set e missedOffset 1 ∷ aged es) (aged es))
     go true r = (here, r)
     go false r = r
 
@@ -147,7 +148,7 @@ entries-range (e ∷ es) w f k = go (knownIn e) refl k (entries-range es (w .1) 
     here h =
         let s = entry-seen e (w .0) (f .0) in
         in-range (entryOf e) (rw (entry-length e (w .0) (f .0)) (f .0)) (omega arith)
-        (ap (λ (x : Found). pick (leb (x .kind) 4) (leb (x .bitrate) 6) false) (entry-found e (w .0) (f .0)) ∙ h)
+        (ap (λ (x : Found). pick (leb (x .kind) lastCardKind) (leb (x .bitrate) lastBitrate) false) (entry-found e (w .0) (f .0)) ∙ h)
 
     go : (t : Bool) → knownIn e ≡ t → pick t (every knownIn es) false ≡ true → (every knownIn es ≡ true → All (λ e. inRangeIn e ≡ true) (entries es))
         → All (λ e. inRangeIn e ≡ true) (entryOf e ∷ entries es)

@@ -8,6 +8,7 @@ use lib.ListN.{length, take, drop, getD, take-append-drop}
 use lib.Seq.{take-all}
 use borrow.Author.Tests.{ltb-false}
 use Rattle.errors.specs.Choice.{pick}
+use Rattle.presence_list.specs.Names.{recordSize, identifierLimit, cardLimit, cardsSize}
 use Rattle.presence_list.specs.Keyed.{All, supersede, supersedeAll, Sorted}
 use Rattle.presence_list.specs.KeyedLaws.{all-sorted, all-grows, all-all, all-append, supersede-grows}
 use Rattle.presence_list.specs.CardsAt.{Fit, CardsAt, PutAll}
@@ -16,7 +17,7 @@ use Rattle.presence_list.specs.MemoryLaws.{piece-at, length-pieces, piec
 use Rattle.presence_list.specs.EntryLaws.{entry-length, entries-whole}
 use Rattle.presence_list.specs.Growth.{take-whole}
 use Rattle.presence_list.specs.Presence.{any}
-use Rattle.presence_list.specs.Puts.{twenty}
+use Rattle.presence_list.specs.Puts.{record-part}
 use Rattle.presence_list.specs.Turns.{any-at, take-more}
 
 pub not-long : (rs : List (List ℕ)) → any longIn rs ≡ false → Fit rs
@@ -29,7 +30,7 @@ not-long (r ∷ rs) h = go (longIn r) refl h (not-long rs)
       where
         never : _≡_ {A = Bool} true false → ⊥
         never z = let w : _≡_ {A = ℕ} 0 1 = cc in omega arith
-    go false p h f = (ltb-false 16 (lengthIn r) p, f h)
+    go false p h f = (ltb-false identifierLimit (lengthIn r) p, f h)
 
 take-all-of : {A : Type 0} (p : A → Type 0) (n : ℕ) (l : List A) → All p l → All p (take n l)
 take-all-of p zero l a = tt
@@ -52,9 +53,9 @@ filled b count records size i = supersedeAll cardIn (pieces count b) (entries (t
 
 abbrev pub Filled : List ℕ → ℕ → List ℕ → ℕ → ℕ → ℕ → List ℕ → Type 0
 Filled b count records size i n cards =
-    (i ≤ size) × (n ≤ 64) × (n ≡ length (filled b count records size i)) × (cards ≡ laid (filled b count records size i) b) × (length cards ≡ length b)
+    (i ≤ size) × (n ≤ cardLimit) × (n ≡ length (filled b count records size i)) × (cards ≡ laid (filled b count records size i) b) × (length cards ≡ length b)
 
-module _ (b : List ℕ) (count : ℕ) (records : List ℕ) (size : ℕ) (cards-at : CardsAt count b) (few : count ≤ 64) (room : 1280 ≤ length b) (all : 20 * size ≤ length records)
+module _ (b : List ℕ) (count : ℕ) (records : List ℕ) (size : ℕ) (cards-at : CardsAt count b) (few : count ≤ cardLimit) (room : cardsSize ≤ length b) (all : recordSize * size ≤ length records)
     (short : any longIn (pieces size records) ≡ false) where
   rs : List (List ℕ)
   rs = pieces size records
@@ -70,26 +71,26 @@ module _ (b : List ℕ) (count : ℕ) (records : List ℕ) (size : ℕ) (cards-a
   whole-filled : (i : ℕ) → Whole (filled b count records size i)
   unfolding filled rs
   whole-filled i =
-      all-all cardIn (λ e. length e ≡ 20) (pieces count b) (entries (take i rs)) (pieces-whole count b (cards-at .room))
-      (entries-whole (take i rs) (take-whole i rs whole-rs) (take-all-of (λ e. lengthIn e ≤ 16) i rs fit-rs))
+      all-all cardIn (λ e. length e ≡ recordSize) (pieces count b) (entries (take i rs)) (pieces-whole count b (cards-at .room))
+      (entries-whole (take i rs) (take-whole i rs whole-rs) (take-all-of (λ e. lengthIn e ≤ identifierLimit) i rs fit-rs))
 
   fit-filled : (i : ℕ) → Fit (filled b count records size i)
   unfolding filled rs
   fit-filled i =
-      all-all cardIn (λ e. lengthIn e ≤ 16) (pieces count b) (entries (take i rs)) (cards-at .fit)
-      (entries-fit (take i rs) (take-whole i rs whole-rs) (take-all-of (λ e. lengthIn e ≤ 16) i rs fit-rs))
+      all-all cardIn (λ e. lengthIn e ≤ identifierLimit) (pieces count b) (entries (take i rs)) (cards-at .fit)
+      (entries-fit (take i rs) (take-whole i rs whole-rs) (take-all-of (λ e. lengthIn e ≤ identifierLimit) i rs fit-rs))
 
   sorted-filled : (i : ℕ) → Sorted cardIn (filled b count records size i)
   unfolding filled rs
   sorted-filled i = all-sorted cardIn (pieces count b) (entries (take i rs)) (cards-at .sorted)
 
-  next : (i : ℕ) → i < size → filled b count records size (i + 1) ≡ supersede cardIn (entryOf (take 20 (drop (20 * i) records))) (filled b count records size i)
+  next : (i : ℕ) → i < size → filled b count records size (i + 1) ≡ supersede cardIn (entryOf (take recordSize (drop (recordSize * i) records))) (filled b count records size i)
   unfolding filled rs supersedeAll entries
   next i h =
       ap (λ (l : List (List ℕ)). supersedeAll cardIn (pieces count b) (entries l))
       (take-more rs i [] (let s = length-pieces size records in omega arith) ∙ ap (λ (x : List ℕ). take i rs ++ x ∷ []) (piece-at size i records h))
-      ∙ ap (supersedeAll cardIn (pieces count b)) (entries-append (take i rs) (take 20 (drop (20 * i) records) ∷ []))
-      ∙ all-append cardIn (pieces count b) (entries (take i rs)) (entryOf (take 20 (drop (20 * i) records)) ∷ [])
+      ∙ ap (supersedeAll cardIn (pieces count b)) (entries-append (take i rs) (take recordSize (drop (recordSize * i) records) ∷ []))
+      ∙ all-append cardIn (pieces count b) (entries (take i rs)) (entryOf (take recordSize (drop (recordSize * i) records)) ∷ [])
 
   -- what is put so far is part of what is put at last
   grows : (i : ℕ) → length (filled b count records size i) ≤ length (supersedeAll cardIn (pieces count b) (entries (pieces size records)))
@@ -116,21 +117,21 @@ module _ (b : List ℕ) (count : ℕ) (records : List ℕ) (size : ℕ) (cards-a
         record
         { room = let a = inv .1 in let z = inv .4 in omega arith; fit = rw so-far (fit-filled i); sorted = rw so-far (sorted-filled i) }
 
-    pub filled-fit : i < size → lengthIn (take (20 * i + 20 - 20 * i) (drop (20 * i) records)) ≤ 16
+    pub filled-fit : i < size → lengthIn (take (recordSize * i + recordSize - recordSize * i) (drop (recordSize * i) records)) ≤ identifierLimit
     unfolding rs
     filled-fit h =
-        rw (twenty records (20 * i))
-        (rw (piece-at size i records h) at (ltb-false 16 (lengthIn (getD rs i [])) (any-at longIn rs i [] short (let s = length-pieces size records in omega arith))))
+        rw (record-part records (recordSize * i))
+        (rw (piece-at size i records h) at (ltb-false identifierLimit (lengthIn (getD rs i [])) (any-at longIn rs i [] short (let s = length-pieces size records in omega arith))))
 
-    module _ (part : List ℕ) (r : ℕ) (cards₁ : List ℕ) (h : i < size) (p : part ≡ take (20 * i + 20 - 20 * i) (drop (20 * i) records))
-        (q : (r ≡ length (supersede cardIn (entryOf part) (pieces n cards))) × (r ≤ 64 → cards₁ ≡ laid (supersede cardIn (entryOf part) (pieces n cards)) cards)) where
+    module _ (part : List ℕ) (r : ℕ) (cards₁ : List ℕ) (h : i < size) (p : part ≡ take (recordSize * i + recordSize - recordSize * i) (drop (recordSize * i) records))
+        (q : (r ≡ length (supersede cardIn (entryOf part) (pieces n cards))) × (r ≤ cardLimit → cards₁ ≡ laid (supersede cardIn (entryOf part) (pieces n cards)) cards)) where
       step : supersede cardIn (entryOf part) (pieces n cards) ≡ filled b count records size (i + 1)
-      step = ap₂ (λ (x : List ℕ) (l : List (List ℕ)). supersede cardIn (entryOf x) l) (p ∙ twenty records (20 * i)) so-far ∙ sym (next i h)
+      step = ap₂ (λ (x : List ℕ) (l : List (List ℕ)). supersede cardIn (entryOf x) l) (p ∙ record-part records (recordSize * i)) so-far ∙ sym (next i h)
 
       longer : length (filled b count records size i) ≤ length (filled b count records size (i + 1))
-      longer = let g = supersede-grows cardIn (entryOf (take 20 (drop (20 * i) records))) (filled b count records size i) .0 in let e = ap length (next i h) in omega arith
+      longer = let g = supersede-grows cardIn (entryOf (take recordSize (drop (recordSize * i) records))) (filled b count records size i) .0 in let e = ap length (next i h) in omega arith
 
-      pub filled-more : r ≤ 64 → Filled b count records size (i + 1) r cards₁
+      pub filled-more : r ≤ cardLimit → Filled b count records size (i + 1) r cards₁
       filled-more small =
           let lies : cards₁ ≡ laid (filled b count records size (i + 1)) b =
           q .1 small
@@ -144,7 +145,7 @@ module _ (b : List ℕ) (count : ℕ) (records : List ℕ) (size : ℕ) (cards-a
             ap length lies ∙ length-laid (filled b count records size (i + 1)) b (whole-filled (i + 1)) (omega arith),
           )
 
-      pub filled-over : 64 < r → PutAll r (supersedeAll cardIn (pieces count b) (entries (pieces size records))) b cards₁
+      pub filled-over : cardLimit < r → PutAll r (supersedeAll cardIn (pieces count b) (entries (pieces size records))) b cards₁
       filled-over large =
           record {
             put = λ z. absurd (omega arith);

@@ -9,6 +9,7 @@ use lib.ListN.{length, take, drop, getD, set, length-append, length-set, take-ap
 use lib.Seq.{take-at, take-all, length-take-le, set-append-left}
 use borrow.Author.Tests.{eq-eqb, ne-eqb}
 use Rattle.errors.specs.Choice.{pick}
+use Rattle.presence_list.specs.Names.{recordSize, missedOffset}
 use Rattle.presence_list.specs.Keyed.{has, without}
 use Rattle.presence_list.specs.Memory.{pieces, joined, laid, added, Whole, missedIn, cardIn, aged}
 use Rattle.presence_list.specs.MemoryLaws.{piece-at, length-pieces, pieces-whole, length-joined, joined-append, laid-behind, length-laid}
@@ -18,25 +19,25 @@ use Rattle.presence_list.specs.Checks.{byte-in}
 pub added-laid : (es fs : List (List ℕ)) (b : List ℕ) (n : ℕ) → Whole es → n ≡ length es → added n fs (laid es b) ≡ laid (es ++ fs) b
 unfolding added laid
 added-laid es fs b n w e =
-    let j : length (joined es) ≡ 20 * n = let i = length-joined es w in omega arith in
+    let j : length (joined es) ≡ recordSize * n = let i = length-joined es w in omega arith in
     let all : n + length fs ≡ length (es ++ fs) = let i = length-append es fs in omega arith in
-    ap₂ (λ (x y : List ℕ). x ++ (joined fs ++ y)) (take-at (joined es) (drop (20 * length es) b) (20 * n) j)
-    (laid-behind es b (n + length fs) w (omega arith) ∙ ap (λ (k : ℕ). drop (20 * k) b) all)
-    ∙ sym (append-assoc (joined es) (joined fs) (drop (20 * length (es ++ fs)) b))
-    ∙ ap (λ (l : List ℕ). l ++ drop (20 * length (es ++ fs)) b) (sym (joined-append es fs))
+    ap₂ (λ (x y : List ℕ). x ++ (joined fs ++ y)) (take-at (joined es) (drop (recordSize * length es) b) (recordSize * n) j)
+    (laid-behind es b (n + length fs) w (omega arith) ∙ ap (λ (k : ℕ). drop (recordSize * k) b) all)
+    ∙ sym (append-assoc (joined es) (joined fs) (drop (recordSize * length (es ++ fs)) b))
+    ∙ ap (λ (l : List ℕ). l ++ drop (recordSize * length (es ++ fs)) b) (sym (joined-append es fs))
 
 pub added-none : (n : ℕ) (b : List ℕ) → b ≡ added n [] b
 unfolding added joined
-added-none n b = sym (ap (λ (k : ℕ). take (20 * n) b ++ drop (20 * k) b) (none n) ∙ take-append-drop (20 * n) b)
+added-none n b = sym (ap (λ (k : ℕ). take (recordSize * n) b ++ drop (recordSize * k) b) (none n) ∙ take-append-drop (recordSize * n) b)
   where
     none : (n : ℕ) → n + 0 ≡ n
     none n = omega arith
 
-pub added-one : (n : ℕ) (e b : List ℕ) → length e ≡ 20 → take (20 * n) b ++ (e ++ drop (20 * n + length e) b) ≡ added n (e ∷ []) b
+pub added-one : (n : ℕ) (e b : List ℕ) → length e ≡ recordSize → take (recordSize * n) b ++ (e ++ drop (recordSize * n + length e) b) ≡ added n (e ∷ []) b
 unfolding added joined
 added-one n e b h =
-    let next : 20 * n + length e ≡ 20 * (n + 1) = omega arith in
-    ap₂ (λ (x : List ℕ) (k : ℕ). take (20 * n) b ++ (x ++ drop k b)) (sym (append-nil e)) next
+    let next : recordSize * n + length e ≡ recordSize * (n + 1) = omega arith in
+    ap₂ (λ (x : List ℕ) (k : ℕ). take (recordSize * n) b ++ (x ++ drop k b)) (sym (append-nil e)) next
 
 -- a byte of the one that was put
 set-behind : (xs ys : List ℕ) (i a : ℕ) → set (xs ++ ys) (length xs + i) a ≡ xs ++ set ys i a
@@ -49,15 +50,15 @@ set-behind (x ∷ xs) ys i a = ap (λ (k : ℕ). set (x ∷ (xs ++ ys)) k a) (on
     one : (m n : ℕ) → suc m + n ≡ suc (m + n)
     one m n = omega arith
 
-pub added-set : (n k a : ℕ) (e b : List ℕ) → 20 * n ≤ length b → length e ≡ 20 → k < 20
-    → set (take (20 * n) b ++ (e ++ drop (20 * n + length e) b)) (20 * n + k) a ≡ added n (set e k a ∷ []) b
+pub added-set : (n k a : ℕ) (e b : List ℕ) → recordSize * n ≤ length b → length e ≡ recordSize → k < recordSize
+    → set (take (recordSize * n) b ++ (e ++ drop (recordSize * n + length e) b)) (recordSize * n + k) a ≡ added n (set e k a ∷ []) b
 added-set n k a e b room h l =
-    let t : length (take (20 * n) b) ≡ 20 * n = length-take-le (20 * n) b room in
-    let d : List ℕ = drop (20 * n + length e) b in
-    ap (λ (i : ℕ). set (take (20 * n) b ++ (e ++ d)) (i + k) a) (sym t)
-    ∙ set-behind (take (20 * n) b) (e ++ d) k a
-    ∙ ap (λ (x : List ℕ). take (20 * n) b ++ x) (set-append-left e d k a (omega arith))
-    ∙ ap (λ (i : ℕ). take (20 * n) b ++ (set e k a ++ drop (20 * n + i) b)) (sym (length-set e k a))
+    let t : length (take (recordSize * n) b) ≡ recordSize * n = length-take-le (recordSize * n) b room in
+    let d : List ℕ = drop (recordSize * n + length e) b in
+    ap (λ (i : ℕ). set (take (recordSize * n) b ++ (e ++ d)) (i + k) a) (sym t)
+    ∙ set-behind (take (recordSize * n) b) (e ++ d) k a
+    ∙ ap (λ (x : List ℕ). take (recordSize * n) b ++ x) (set-append-left e d k a (omega arith))
+    ∙ ap (λ (i : ℕ). take (recordSize * n) b ++ (set e k a ++ drop (recordSize * n + i) b)) (sym (length-set e k a))
     ∙ added-one n (set e k a) b (length-set e k a ∙ h)
 
 -- a list of records that is made record by record
@@ -77,12 +78,12 @@ abbrev pub Grown : (List (List ℕ) → List (List ℕ)) → List ℕ → ℕ �
 Grown f b count i n out₀ out =
     (i ≤ count) × (n ≤ i) × (n ≡ length (f (take i (pieces count b)))) × (out ≡ laid (f (take i (pieces count b))) out₀) × (length out ≡ length out₀)
 
-module _ (f : List (List ℕ) → List (List ℕ)) (g : Growing f) (b : List ℕ) (count : ℕ) (out₀ : List ℕ) (room : 20 * count ≤ length b) (out-room : 20 * count ≤ length out₀) where
+module _ (f : List (List ℕ) → List (List ℕ)) (g : Growing f) (b : List ℕ) (count : ℕ) (out₀ : List ℕ) (room : recordSize * count ≤ length b) (out-room : recordSize * count ≤ length out₀) where
   pub grown-none : Grown f b count 0 0 out₀ out₀
   unfolding laid joined
   grown-none = (omega arith, omega arith, ap length (sym (g .none)), ap (λ (l : List (List ℕ)). laid l out₀) (sym (g .none)), refl)
 
-  pub grown-more : (i n r : ℕ) (out out₁ e : List ℕ) → Grown f b count i n out₀ out → i < count → e ≡ take 20 (drop (20 * i) b)
+  pub grown-more : (i n r : ℕ) (out out₁ e : List ℕ) → Grown f b count i n out₀ out → i < count → e ≡ take recordSize (drop (recordSize * i) b)
       → r ≡ n + length (f (e ∷ [])) → out₁ ≡ added n (f (e ∷ [])) out → Grown f b count (i + 1) r out₀ out₁
   grown-more i n r out out₁ e inv h p q s =
       let all : List (List ℕ) = pieces count b in
@@ -118,8 +119,8 @@ module _ where
   aged-more [] ys = refl
   aged-more (e ∷ es) ys = go (eqb (missedIn e) 0) (aged-more es ys)
     where
-      go : (t : Bool) → aged (es ++ ys) ≡ aged es ++ aged ys → pick t (set e 19 1 ∷ aged (es ++ ys)) (aged (es ++ ys)) ≡ pick t (set e 19 1 ∷ aged es) (aged es) ++ aged ys
-      go true r = ap (λ (l : List (List ℕ)). set e 19 1 ∷ l) r
+      go : (t : Bool) → aged (es ++ ys) ≡ aged es ++ aged ys → pick t (set e missedOffset 1 ∷ aged (es ++ ys)) (aged (es ++ ys)) ≡ pick t (set e missedOffset 1 ∷ aged es) (aged es) ++ aged ys
+      go true r = ap (λ (l : List (List ℕ)). set e missedOffset 1 ∷ l) r
       go false r = r
 
   pub aged-whole : (es : List (List ℕ)) → Whole es → Whole (aged es)
@@ -127,8 +128,8 @@ module _ where
   aged-whole [] w = tt
   aged-whole (e ∷ es) w = go (eqb (missedIn e) 0) (aged-whole es (w .1))
     where
-      go : (t : Bool) → Whole (aged es) → Whole (pick t (set e 19 1 ∷ aged es) (aged es))
-      go true r = (length-set e 19 1 ∙ w .0, r)
+      go : (t : Bool) → Whole (aged es) → Whole (pick t (set e missedOffset 1 ∷ aged es) (aged es))
+      go true r = (length-set e missedOffset 1 ∙ w .0, r)
       go false r = r
 
   pub aged-short : (es : List (List ℕ)) → length (aged es) ≤ length es
@@ -136,7 +137,7 @@ module _ where
   aged-short [] = omega arith
   aged-short (e ∷ es) = go (eqb (missedIn e) 0) (aged-short es)
     where
-      go : (t : Bool) → length (aged es) ≤ length es → length (pick t (set e 19 1 ∷ aged es) (aged es)) ≤ suc (length es)
+      go : (t : Bool) → length (aged es) ≤ length es → length (pick t (set e missedOffset 1 ∷ aged es) (aged es)) ≤ suc (length es)
       go true r = omega arith
       go false r = omega arith
 
@@ -144,13 +145,13 @@ module _ where
   unfolding aged
   aged-grows = record { none = refl; more = aged-more; whole = aged-whole; short = aged-short }
 
-  pub aged-out : (b : List ℕ) (at : ℕ) → (getD b (at + 19) 0 ≡ 0 → ⊥) → aged (take 20 (drop at b) ∷ []) ≡ []
+  pub aged-out : (b : List ℕ) (at : ℕ) → (getD b (at + missedOffset) 0 ≡ 0 → ⊥) → aged (take recordSize (drop at b) ∷ []) ≡ []
   unfolding aged pick
-  aged-out b at h = rw (byte-in b at 19 (omega arith), ne-eqb (getD b (at + 19) 0) 0 h)
+  aged-out b at h = rw (byte-in b at missedOffset (omega arith), ne-eqb (getD b (at + missedOffset) 0) 0 h)
 
-  pub aged-stays : (b : List ℕ) (at : ℕ) → getD b (at + 19) 0 ≡ 0 → aged (take 20 (drop at b) ∷ []) ≡ set (take 20 (drop at b)) 19 1 ∷ []
+  pub aged-stays : (b : List ℕ) (at : ℕ) → getD b (at + missedOffset) 0 ≡ 0 → aged (take recordSize (drop at b) ∷ []) ≡ set (take recordSize (drop at b)) missedOffset 1 ∷ []
   unfolding aged pick
-  aged-stays b at h = rw (byte-in b at 19 (omega arith), eq-eqb (getD b (at + 19) 0) 0 h)
+  aged-stays b at h = rw (byte-in b at missedOffset (omega arith), eq-eqb (getD b (at + missedOffset) 0) 0 h)
 
 module _ (other : List (List ℕ)) where
   without-more : (xs ys : List (List ℕ)) → without cardIn other (xs ++ ys) ≡ without cardIn other xs ++ without cardIn other ys

@@ -3,8 +3,8 @@ use mathlib.Core.Path.{_≡_, refl, sym, ap, _∙_}
 use mathlib.Core.Bool.{Bool, true, false}
 use mathlib.Core.List.{List, [], _∷_}
 use Prim.Native.Nat.{ℕ}
-use Rattle.errors.specs.Choice.{pick, same}
-use Rattle.presence_list.specs.OrderLaws.{Compared, behind, equal, ahead, compared, first-not, same-self, same-eq}
+use Rattle.errors.specs.Choice.{pick, same, same-self, same-is}
+use Rattle.presence_list.specs.OrderLaws.{Compared, behind, equal, ahead, compared, first-not}
 use Rattle.presence_list.specs.Keyed.{supersede, supersedeAll, Below, Sorted, only}
 use Rattle.presence_list.specs.KeyedLaws.{below-trans, supersede-sorted, all-sorted}
 use Rattle.presence_list.specs.Presence.{Found, card, listed}
@@ -55,7 +55,7 @@ of-all k l (x ∷ xs) o = of-all k (supersede card x l) xs (supersede-sorted car
     go true e =
         rw e
         (ap (λ (m : List Found). lastOr m (only (ofCard k) xs))
-        (ap (λ (c : List ℕ). only (ofCard c) (supersede card x l)) (same-eq k (card x) e) ∙ of-own x l o))
+        (ap (λ (c : List ℕ). only (ofCard c) (supersede card x l)) (same-is k (card x) e) ∙ of-own x l o))
     go false e = rw e (ap (λ (m : List Found). lastOr m (only (ofCard k) xs)) (of-other k x l e))
 
 -- in order, and so no card twice

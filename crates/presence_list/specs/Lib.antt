@@ -14,11 +14,11 @@ pub mod Latest
 pub mod Lookups
 pub mod Memory
 pub mod MemoryLaws
+pub mod Names
 pub mod Order
 pub mod OrderLaws
 pub mod Presence
 pub mod Puts
-pub mod Rules
 pub mod Runs
 pub mod Shifts
 pub mod Sizes

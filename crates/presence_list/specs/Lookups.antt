@@ -8,6 +8,7 @@ use lib.Dec.{leb}
 use lib.ListN.{length, take, drop, getD}
 use borrow.Author.Tests.{leb-true, not-true, not-false}
 use Rattle.errors.specs.Choice.{pick}
+use Rattle.presence_list.specs.Names.{recordSize, identifierLimit}
 use Rattle.presence_list.specs.Order.{before}
 use Rattle.presence_list.specs.Keyed.{place, has, Sorted, Below}
 use Rattle.presence_list.specs.KeyedLaws.{place-le, place-not, place-behind, has-at, has-not-end, below-trans}
@@ -17,29 +18,29 @@ use Rattle.presence_list.specs.MemoryLaws.{piece-at, length-pieces}
 use Rattle.presence_list.specs.Presence.{every}
 use Rattle.presence_list.specs.Turns.{every-at, ascending-not, ascending-turn, ascending-end}
 
-fit-at : (es : List (List ℕ)) (i : ℕ) → Fit es → i < length es → lengthIn (getD es i []) ≤ 16
+fit-at : (es : List (List ℕ)) (i : ℕ) → Fit es → i < length es → lengthIn (getD es i []) ≤ identifierLimit
 fit-at [] i f h = absurd (omega arith)
 fit-at (e ∷ es) zero f h = f .0
 fit-at (e ∷ es) (suc i) f h = fit-at es i (f .1) (omega arith)
 
 module _ (b : List ℕ) (n : ℕ) (k : CardsAt n b) (i : ℕ) where
-  pub cards-at-room : i < n → 20 * i + 20 ≤ length b
+  pub cards-at-room : i < n → recordSize * i + recordSize ≤ length b
   cards-at-room h = let r = k .room in omega arith
 
-  pub cards-at-fit : i < n → lengthIn (take 20 (drop (20 * i) b)) ≤ 16
+  pub cards-at-fit : i < n → lengthIn (take recordSize (drop (recordSize * i) b)) ≤ identifierLimit
   cards-at-fit h = rw (piece-at n i b h) at (fit-at (pieces n b) i (k .fit) (rw (length-pieces n b) h))
 
   -- what a look at the middle shows
-  pub place-above : (c s : List ℕ) (r : Bool) → i < n → s ≡ cardIn (take 20 (drop (20 * i) b)) → r ≡ before s c → r ≡ true → i + 1 ≤ place cardIn c (pieces n b)
+  pub place-above : (c s : List ℕ) (r : Bool) → i < n → s ≡ cardIn (take recordSize (drop (recordSize * i) b)) → r ≡ before s c → r ≡ true → i + 1 ≤ place cardIn c (pieces n b)
   place-above c s r h e q t =
       let l = place-behind cardIn c (pieces n b) [] i (k .sorted) (rw (length-pieces n b) h) (ap (λ (x : List ℕ). before (cardIn x) c) (piece-at n i b h) ∙ ap (λ (x : List ℕ). before x c) (sym e) ∙ sym q ∙ t) in
       omega arith
 
-  pub place-below : (c s : List ℕ) (r : Bool) → i < n → s ≡ cardIn (take 20 (drop (20 * i) b)) → r ≡ before s c → r ≡ false → place cardIn c (pieces n b) ≤ i
+  pub place-below : (c s : List ℕ) (r : Bool) → i < n → s ≡ cardIn (take recordSize (drop (recordSize * i) b)) → r ≡ before s c → r ≡ false → place cardIn c (pieces n b) ≤ i
   place-below c s r h e q t =
       place-not cardIn c (pieces n b) [] i (rw (length-pieces n b) h) (ap (λ (x : List ℕ). before (cardIn x) c) (piece-at n i b h) ∙ ap (λ (x : List ℕ). before x c) (sym e) ∙ sym q ∙ t)
 
-  pub there : (c s : List ℕ) (r : Bool) → i ≡ place cardIn c (pieces n b) → i < n → s ≡ cardIn (take 20 (drop (20 * i) b)) → r ≡ before c s → not r ≡ has cardIn c (pieces n b)
+  pub there : (c s : List ℕ) (r : Bool) → i ≡ place cardIn c (pieces n b) → i < n → s ≡ cardIn (take recordSize (drop (recordSize * i) b)) → r ≡ before c s → not r ≡ has cardIn c (pieces n b)
   there c s r p h e q =
       sym
       (has-at cardIn c (pieces n b) [] (k .sorted) (rw (length-pieces n b, ← p) h)
@@ -51,28 +52,28 @@ module _ (b : List ℕ) (n : ℕ) (k : CardsAt n b) (i : ℕ) where
   pub not-there : (c : List ℕ) → i ≡ place cardIn c (pieces n b) → n ≤ i → false ≡ has cardIn c (pieces n b)
   not-there c p h = sym (has-not-end cardIn c (pieces n b) (rw (length-pieces n b, ← p) h))
 
-range-length : (e : List ℕ) → inRangeIn e ≡ true → lengthIn e ≤ 16
+range-length : (e : List ℕ) → inRangeIn e ≡ true → lengthIn e ≤ identifierLimit
 unfolding pick
-range-length e h = leb-true (lengthIn e) 16 (go (leb (lengthIn e) 16) h)
+range-length e h = leb-true (lengthIn e) identifierLimit (go (leb (lengthIn e) identifierLimit) h)
   where
     go : (t : Bool) → pick t (pick (leb (missedIn e) 1) (knownIn e) false) false ≡ true → t ≡ true
     go true h = refl
     go false h = cc
 
 module _ (b : List ℕ) (n : ℕ) where
-  pub range-fits : (i : ℕ) → every inRangeIn (pieces n b) ≡ true → i < n → lengthIn (take 20 (drop (20 * i) b)) ≤ 16
+  pub range-fits : (i : ℕ) → every inRangeIn (pieces n b) ≡ true → i < n → lengthIn (take recordSize (drop (recordSize * i) b)) ≤ identifierLimit
   range-fits i e h =
-      range-length (take 20 (drop (20 * i) b))
+      range-length (take recordSize (drop (recordSize * i) b))
       (sym (ap inRangeIn (piece-at n i b h)) ∙ every-at inRangeIn (pieces n b) i [] e (rw (length-pieces n b) h))
 
   module _ (i : ℕ) (one : 1 ≤ i) (rest : ascending (pieces n b) ≡ ascending (drop (i - 1) (pieces n b))) (s t : List ℕ) (r : Bool)
-      (p : s ≡ cardIn (take 20 (drop (20 * i - 20) b))) (q : t ≡ cardIn (take 20 (drop (20 * i) b))) (c : r ≡ before s t) where
+      (p : s ≡ cardIn (take recordSize (drop (recordSize * i - recordSize) b))) (q : t ≡ cardIn (take recordSize (drop (recordSize * i) b))) (c : r ≡ before s t) where
     here : i < n → before (cardIn (getD (pieces n b) (i - 1) [])) (cardIn (getD (pieces n b) (i - 1 + 1) [])) ≡ r
     here h =
-        let back : 20 * (i - 1) ≡ 20 * i - 20 = omega arith in
+        let back : recordSize * (i - 1) ≡ recordSize * i - recordSize = omega arith in
         let same : i - 1 + 1 ≡ i = omega arith in
         ap₂ (λ (x y : List ℕ). before (cardIn x) (cardIn y))
-        (piece-at n (i - 1) b (omega arith) ∙ ap (λ (k : ℕ). take 20 (drop k b)) back)
+        (piece-at n (i - 1) b (omega arith) ∙ ap (λ (k : ℕ). take recordSize (drop k b)) back)
         (ap (λ (k : ℕ). getD (pieces n b) k []) same ∙ piece-at n i b h)
         ∙ ap₂ before (sym p) (sym q)
         ∙ sym c
@@ -126,7 +127,7 @@ module _ where
           never : _≡_ {A = Bool} false true → ⊥
           never z = let w : _≡_ {A = ℕ} 0 1 = cc in omega arith
 
-  pub cards-at-in-range : (n : ℕ) (b : List ℕ) → 20 * n ≤ length b → every inRangeIn (pieces n b) ≡ true → ascending (pieces n b) ≡ true → CardsAt n b
+  pub cards-at-in-range : (n : ℕ) (b : List ℕ) → recordSize * n ≤ length b → every inRangeIn (pieces n b) ≡ true → ascending (pieces n b) ≡ true → CardsAt n b
   cards-at-in-range n b r e a = record { room = r; fit = every-fit (pieces n b) e; sorted = ascending-sorted (pieces n b) a }
 
 pub place-within : (c b : List ℕ) (n : ℕ) → place cardIn c (pieces n b) ≤ n

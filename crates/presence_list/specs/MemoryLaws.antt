@@ -6,29 +6,30 @@ use native.Mathlib.Omega.{arith}
 use lib.ListN.{length, take, drop, getD, length-append, length-drop, take-append-drop, drop-of-length-le}
 use lib.Seq.{length-take-le, take-at, drop-at, drop-drop, take-add, drop-append-add, take-all, take-length}
 use borrow.Rule.Slice.PartMut.{putMid}
+use Rattle.presence_list.specs.Names.{recordSize}
 use Rattle.presence_list.specs.Memory.{pieces, joined, laid, Whole}
 
 pub length-pieces : (n : ℕ) (b : List ℕ) → length (pieces n b) ≡ n
 unfolding pieces
 length-pieces zero b = refl
-length-pieces (suc n) b = ap suc (length-pieces n (drop 20 b))
+length-pieces (suc n) b = ap suc (length-pieces n (drop recordSize b))
 
-further : (i : ℕ) → 20 + 20 * i ≡ 20 * suc i
+further : (i : ℕ) → recordSize + recordSize * i ≡ recordSize * suc i
 further i = omega arith
 
-pub piece-at : (n i : ℕ) (b : List ℕ) → i < n → getD (pieces n b) i [] ≡ take 20 (drop (20 * i) b)
+pub piece-at : (n i : ℕ) (b : List ℕ) → i < n → getD (pieces n b) i [] ≡ take recordSize (drop (recordSize * i) b)
 unfolding pieces
 piece-at zero i b h = absurd (omega arith)
 piece-at (suc n) zero b h = refl
 piece-at (suc n) (suc i) b h =
-    piece-at n i (drop 20 b) (omega arith) ∙ ap (take 20) (drop-drop (20 * i) 20 b ∙ ap (λ k. drop k b) (further i))
+    piece-at n i (drop recordSize b) (omega arith) ∙ ap (take recordSize) (drop-drop (recordSize * i) recordSize b ∙ ap (λ k. drop k b) (further i))
 
-pub pieces-whole : (n : ℕ) (b : List ℕ) → 20 * n ≤ length b → Whole (pieces n b)
+pub pieces-whole : (n : ℕ) (b : List ℕ) → recordSize * n ≤ length b → Whole (pieces n b)
 unfolding pieces
 pieces-whole zero b h = tt
-pieces-whole (suc n) b h = (length-take-le 20 b (omega arith), pieces-whole n (drop 20 b) (rw (length-drop 20 b) (omega arith)))
+pieces-whole (suc n) b h = (length-take-le recordSize b (omega arith), pieces-whole n (drop recordSize b) (rw (length-drop recordSize b) (omega arith)))
 
-pub whole-at : (es : List (List ℕ)) (i : ℕ) → Whole es → i < length es → length (getD es i []) ≡ 20
+pub whole-at : (es : List (List ℕ)) (i : ℕ) → Whole es → i < length es → length (getD es i []) ≡ recordSize
 whole-at [] i w h = absurd (omega arith)
 whole-at (e ∷ es) zero w h = w .0
 whole-at (e ∷ es) (suc i) w h = whole-at es i (w .1) (omega arith)
@@ -37,7 +38,7 @@ pub whole-append : (es fs : List (List ℕ)) → Whole es → Whole fs → Whole
 whole-append [] fs w v = v
 whole-append (e ∷ es) fs w v = (w .0, whole-append es fs (w .1) v)
 
-pub length-joined : (es : List (List ℕ)) → Whole es → length (joined es) ≡ 20 * length es
+pub length-joined : (es : List (List ℕ)) → Whole es → length (joined es) ≡ recordSize * length es
 unfolding joined
 length-joined [] w = refl
 length-joined (e ∷ es) w = let r = length-joined es (w .1) in let z = w .0 in rw (length-append e (joined es)) (omega arith)
@@ -53,53 +54,53 @@ unfolding joined pieces
 pieces-joined [] t w = refl
 pieces-joined (e ∷ es) t w =
     ap (λ (l : List ℕ). pieces (suc (length es)) l) (append-assoc e (joined es) t)
-    ∙ ap₂ (λ (x : List ℕ) (l : List (List ℕ)). x ∷ l) (take-at e (joined es ++ t) 20 (w .0))
-    (ap (pieces (length es)) (drop-at e (joined es ++ t) 20 (w .0)) ∙ pieces-joined es t (w .1))
+    ∙ ap₂ (λ (x : List ℕ) (l : List (List ℕ)). x ∷ l) (take-at e (joined es ++ t) recordSize (w .0))
+    (ap (pieces (length es)) (drop-at e (joined es ++ t) recordSize (w .0)) ∙ pieces-joined es t (w .1))
 
 pub pieces-laid : (es : List (List ℕ)) (b : List ℕ) (n : ℕ) → Whole es → n ≡ length es → pieces n (laid es b) ≡ es
 unfolding laid
-pieces-laid es b n w e = ap (λ k. pieces k (joined es ++ drop (20 * length es) b)) e ∙ pieces-joined es (drop (20 * length es) b) w
+pieces-laid es b n w e = ap (λ k. pieces k (joined es ++ drop (recordSize * length es) b)) e ∙ pieces-joined es (drop (recordSize * length es) b) w
 
-pub joined-pieces : (n : ℕ) (b : List ℕ) → joined (pieces n b) ≡ take (20 * n) b
+pub joined-pieces : (n : ℕ) (b : List ℕ) → joined (pieces n b) ≡ take (recordSize * n) b
 unfolding joined pieces
 joined-pieces zero b = refl
 joined-pieces (suc n) b =
-    ap (λ (l : List ℕ). take 20 b ++ l) (joined-pieces n (drop 20 b)) ∙ sym (take-add 20 (20 * n) b) ∙ ap (λ k. take k b) (further n)
+    ap (λ (l : List ℕ). take recordSize b ++ l) (joined-pieces n (drop recordSize b)) ∙ sym (take-add recordSize (recordSize * n) b) ∙ ap (λ k. take k b) (further n)
 
 pub take-pieces : (p m : ℕ) (b : List ℕ) → take p (pieces (p + m) b) ≡ pieces p b
 unfolding pieces
 take-pieces zero m b = refl
-take-pieces (suc p) m b = ap (λ (k : ℕ). take (suc p) (pieces k b)) (one p m) ∙ ap (λ (l : List (List ℕ)). take 20 b ∷ l) (take-pieces p m (drop 20 b))
+take-pieces (suc p) m b = ap (λ (k : ℕ). take (suc p) (pieces k b)) (one p m) ∙ ap (λ (l : List (List ℕ)). take recordSize b ∷ l) (take-pieces p m (drop recordSize b))
   where
     one : (p m : ℕ) → suc p + m ≡ suc (p + m)
     one p m = omega arith
 
-pub drop-pieces : (p m : ℕ) (b : List ℕ) → drop p (pieces (p + m) b) ≡ pieces m (drop (20 * p) b)
+pub drop-pieces : (p m : ℕ) (b : List ℕ) → drop p (pieces (p + m) b) ≡ pieces m (drop (recordSize * p) b)
 unfolding pieces
 drop-pieces zero m b = ap (λ (k : ℕ). pieces k b) (none m)
   where
     none : (m : ℕ) → 0 + m ≡ m
     none m = omega arith
 drop-pieces (suc p) m b =
-    ap (λ (k : ℕ). drop (suc p) (pieces k b)) (one p m) ∙ drop-pieces p m (drop 20 b) ∙ ap (pieces m) (drop-drop (20 * p) 20 b ∙ ap (λ k. drop k b) (further p))
+    ap (λ (k : ℕ). drop (suc p) (pieces k b)) (one p m) ∙ drop-pieces p m (drop recordSize b) ∙ ap (pieces m) (drop-drop (recordSize * p) recordSize b ∙ ap (λ k. drop k b) (further p))
   where
     one : (p m : ℕ) → suc p + m ≡ suc (p + m)
     one p m = omega arith
 
-pub length-laid : (es : List (List ℕ)) (b : List ℕ) → Whole es → 20 * length es ≤ length b → length (laid es b) ≡ length b
+pub length-laid : (es : List (List ℕ)) (b : List ℕ) → Whole es → recordSize * length es ≤ length b → length (laid es b) ≡ length b
 unfolding laid
-length-laid es b w h = let j = length-joined es w in rw (length-append (joined es) (drop (20 * length es) b), length-drop (20 * length es) b) (omega arith)
+length-laid es b w h = let j = length-joined es w in rw (length-append (joined es) (drop (recordSize * length es) b), length-drop (recordSize * length es) b) (omega arith)
 
 -- behind them nothing changed
-pub laid-behind : (es : List (List ℕ)) (b : List ℕ) (n : ℕ) → Whole es → length es ≤ n → drop (20 * n) (laid es b) ≡ drop (20 * n) b
+pub laid-behind : (es : List (List ℕ)) (b : List ℕ) (n : ℕ) → Whole es → length es ≤ n → drop (recordSize * n) (laid es b) ≡ drop (recordSize * n) b
 unfolding laid
 laid-behind es b n w h =
-    let k : ℕ = 20 * (n - length es) in
-    let split : length (joined es) + k ≡ 20 * n = let j = length-joined es w in omega arith in
-    let behind : 20 * length es + k ≡ 20 * n = omega arith in
-    ap (λ (i : ℕ). drop i (joined es ++ drop (20 * length es) b)) (sym split)
-    ∙ drop-append-add (joined es) (drop (20 * length es) b) k
-    ∙ drop-drop k (20 * length es) b
+    let k : ℕ = recordSize * (n - length es) in
+    let split : length (joined es) + k ≡ recordSize * n = let j = length-joined es w in omega arith in
+    let behind : recordSize * length es + k ≡ recordSize * n = omega arith in
+    ap (λ (i : ℕ). drop i (joined es ++ drop (recordSize * length es) b)) (sym split)
+    ∙ drop-append-add (joined es) (drop (recordSize * length es) b) k
+    ∙ drop-drop k (recordSize * length es) b
     ∙ ap (λ (i : ℕ). drop i b) behind
 
 pub laid-again : (es fs : List (List ℕ)) (b : List ℕ) → Whole es → length es ≤ length fs → laid fs (laid es b) ≡ laid fs b
@@ -108,23 +109,7 @@ laid-again es fs b w h = ap (λ (l : List ℕ). joined fs ++ l) (laid-behind es 
 
 pub laid-pieces : (n : ℕ) (b : List ℕ) → laid (pieces n b) b ≡ b
 unfolding laid
-laid-pieces n b = rw (length-pieces n b, joined-pieces n b) (take-append-drop (20 * n) b)
-
--- one more behind them
-pub laid-more : (es : List (List ℕ)) (b e : List ℕ) (k : ℕ) → Whole es → k ≡ length es → length e ≡ 20 → 20 * k ≤ length b
-    → take (20 * k) (laid es b) ++ (e ++ drop (20 * k + length e) (laid es b)) ≡ laid (es ++ e ∷ []) b
-unfolding laid joined
-laid-more es b e k w n z h =
-    let j : length (joined es) ≡ 20 * k = let i = length-joined es w in omega arith in
-    let all : length (es ++ e ∷ []) ≡ k + 1 = let i = length-append es (e ∷ []) in omega arith in
-    let next : 20 * k + length e ≡ 20 * (k + 1) = omega arith in
-    let last : 20 * (k + 1) ≡ 20 * length (es ++ e ∷ []) = omega arith in
-    ap₂ (λ (x y : List ℕ). x ++ (e ++ y))
-    (take-at (joined es) (drop (20 * length es) b) (20 * k) j)
-    (ap (λ (i : ℕ). drop i (joined es ++ drop (20 * length es) b)) next ∙ laid-behind es b (k + 1) w (omega arith) ∙ ap (λ (i : ℕ). drop i b) last)
-    ∙ sym (append-assoc (joined es) e (drop (20 * length (es ++ e ∷ [])) b))
-    ∙ ap (λ (l : List ℕ). l ++ drop (20 * length (es ++ e ∷ [])) b)
-    (ap (λ (l : List ℕ). joined es ++ l) (sym (append-nil e)) ∙ sym (joined-append es (e ∷ [])))
+laid-pieces n b = rw (length-pieces n b, joined-pieces n b) (take-append-drop (recordSize * n) b)
 
 -- a list copied into a memory from a place on
 pub copied : (b p : List ℕ) (s : ℕ) → s + length p ≤ length b → (part : List ℕ)

@@ -1,11 +1,11 @@
 -- Laws of the order of texts: it is strict, and of two texts one comes first or they are the same.
 use mathlib.Core.Path.{_≡_, refl, sym, ap₂, _∙_}
-use mathlib.Core.Bool.{Bool, true, false, _&&_}
+use mathlib.Core.Bool.{Bool, true, false}
 use mathlib.Core.List.{List, [], _∷_}
 use Prim.Native.Nat.{ℕ}
 use native.Mathlib.Omega.{arith}
 use lib.Dec.{ltb, eqb}
-use borrow.Author.Tests.{lt-ltb, le-ltb, eq-eqb, ne-eqb, ltb-true, ltb-false, eqb-true}
+use borrow.Author.Tests.{lt-ltb, le-ltb, eq-eqb, ne-eqb, ltb-true, ltb-false}
 use Rattle.errors.specs.Choice.{pick, same}
 use Rattle.presence_list.specs.Order.{before}
 
@@ -34,24 +34,6 @@ pub before-self : (a : List ℕ) → before a a ≡ false
 unfolding before pick
 before-self [] = refl
 before-self (x ∷ xs) = rw (eq-eqb x x refl) (before-self xs)
-
-pub same-self : (a : List ℕ) → same a a ≡ true
-unfolding same
-same-self [] = refl
-same-self (x ∷ xs) = rw (eq-eqb x x refl) (same-self xs)
-
-pub same-eq : (a b : List ℕ) → same a b ≡ true → a ≡ b
-unfolding same
-same-eq [] [] h = refl
-same-eq [] (y ∷ ys) h = cc
-same-eq (x ∷ xs) [] h = cc
-same-eq (x ∷ xs) (y ∷ ys) h = go (eqb x y) (same xs ys) refl refl h (same-eq xs ys)
-  where
-    go : (s t : Bool) → eqb x y ≡ s → same xs ys ≡ t → (s && t) ≡ true → (same xs ys ≡ true → xs ≡ ys) → _≡_ {A = List ℕ} (x ∷ xs) (y ∷ ys)
-    go true true p q h f = ap₂ (λ i l. i ∷ l) (eqb-true x y p) (f q)
-    go true false p q h f = cc
-    go false true p q h f = cc
-    go false false p q h f = cc
 
 pub before-trans : (a b c : List ℕ) → before a b ≡ true → before b c ≡ true → before a c ≡ true
 unfolding before pick

@@ -5,6 +5,7 @@ use Prim.Native.Nat.{ℕ}
 use lib.Dec.{ltb, leb}
 use lib.ListN.{length}
 use Rattle.errors.specs.Choice.{pick}
+use Rattle.presence_list.specs.Names.{identifierLimit, cardLimit, lastCardKind, lastBitrate}
 use Rattle.presence_list.specs.Keyed.{supersedeAll, without}
 
 -- A card that was found, with its bitrate. A kind is its place in the order A, Type 1, B, F, DEP; a bitrate its place in 106A, 212F, 424F,
@@ -53,13 +54,13 @@ unfoldable pub every : {A : Type 0} → (A → Bool) → List A → Bool
 every q [] = true
 every q (x ∷ xs) = pick (q x) (every q xs) false
 
--- an identifier has at most 16 bytes
+-- an identifier over the limit
 abbrev pub overLong : Found → Bool
-overLong f = ltb 16 (length (f .identifier))
+overLong f = ltb identifierLimit (length (f .identifier))
 
 -- a kind and a bitrate that there are
 abbrev pub known : Found → Bool
-known f = pick (leb (f .kind) 4) (leb (f .bitrate) 6) false
+known f = pick (leb (f .kind) lastCardKind) (leb (f .bitrate) lastBitrate) false
 
 abbrev pub readable : Round → Bool
 readable r = pick (r .whole) (every known (r .found)) false
@@ -69,9 +70,9 @@ unfoldable pub stale : List Round → ℕ → Bool
 stale [] n = false
 stale (p ∷ ps) n = leb n (p .number)
 
--- the list after the round would pass 64
+-- the list after the round would pass the limit
 abbrev pub full : List Round → Round → Bool
-full past r = ltb 64 (length (presentOf (r ∷ past)))
+full past r = ltb cardLimit (length (presentOf (r ∷ past)))
 
 -- what a round is answered, behind the accepted ones: a report, or a refusal by its number. 3 comes before all else, and 27 before 28.
 pub data Answer : Type 0 where
@@ -84,15 +85,15 @@ answerTo past r =
     (pick (readable r) (pick (stale past (r .number)) (refused 27) (pick (full past r) (refused 28) (accepted (reportOf past r)))) (refused 4))
 
 -- the accepted rounds with one more: a refused round is none of them
-abbrev pub keptBy : Answer → Round → List Round → List Round
-keptBy (accepted p) r past = r ∷ past
-keptBy (refused n) r past = past
+abbrev pub acceptedWith : Answer → Round → List Round → List Round
+acceptedWith (accepted p) r past = r ∷ past
+acceptedWith (refused n) r past = past
 
 -- the accepted rounds of a list of rounds, behind others, and all the answers
 unfoldable pub acceptedOf : List Round → List Round → List Round
 acceptedOf past [] = past
-acceptedOf past (r ∷ rs) = acceptedOf (keptBy (answerTo past r) r past) rs
+acceptedOf past (r ∷ rs) = acceptedOf (acceptedWith (answerTo past r) r past) rs
 
 unfoldable pub answersOf : List Round → List Round → List Answer
 answersOf past [] = []
-answersOf past (r ∷ rs) = answerTo past r ∷ answersOf (keptBy (answerTo past r) r past) rs
+answersOf past (r ∷ rs) = answerTo past r ∷ answersOf (acceptedWith (answerTo past r) r past) rs

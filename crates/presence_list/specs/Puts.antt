@@ -6,6 +6,7 @@ use Prim.Native.Nat.{ℕ, suc, _+_, _*_, _-_, _≤_, _<_}
 use native.Mathlib.Omega.{arith}
 use lib.ListN.{length, take, drop, getD, set, length-append, length-drop}
 use lib.Seq.{length-take-le}
+use Rattle.presence_list.specs.Names.{recordSize, identifierLimit, missedOffset, cardLimit}
 use Rattle.presence_list.specs.Keyed.{supersede, place, has}
 use Rattle.presence_list.specs.KeyedLaws.{place-le, supersede-new, supersede-old}
 use Rattle.presence_list.specs.CardsAt.{CardsAt}
@@ -16,20 +17,20 @@ use Rattle.presence_list.specs.Growth.{added-none, added-one, added-set,
 use Rattle.presence_list.specs.Inserts.{replaced}
 use Rattle.presence_list.specs.Keyed.{without}
 
--- the part of 20 bytes from a place on
-pub twenty : (b : List ℕ) (at : ℕ) → take (at + 20 - at) (drop at b) ≡ take 20 (drop at b)
-twenty b at = ap (λ (k : ℕ). take k (drop at b)) (same at)
+-- the part of the size of a record from a place on
+pub record-part : (b : List ℕ) (at : ℕ) → take (at + recordSize - at) (drop at b) ≡ take recordSize (drop at b)
+record-part b at = ap (λ (k : ℕ). take k (drop at b)) (same at)
   where
-    same : (n : ℕ) → n + 20 - n ≡ 20
+    same : (n : ℕ) → n + recordSize - n ≡ recordSize
     same n = omega arith
 
-record-whole : (b : List ℕ) (at : ℕ) → at + 20 ≤ length b → length (take 20 (drop at b)) ≡ 20
-record-whole b at h = length-take-le 20 (drop at b) (rw (length-drop at b) (omega arith))
+record-whole : (b : List ℕ) (at : ℕ) → at + recordSize ≤ length b → length (take recordSize (drop at b)) ≡ recordSize
+record-whole b at h = length-take-le recordSize (drop at b) (rw (length-drop at b) (omega arith))
 
 -- a record that is put behind others, or not
 module _ (b out : List ℕ) (at n : ℕ) where
   one : List ℕ → List ℕ → List ℕ
-  one e o = take (20 * n) o ++ (e ++ drop (20 * n + length e) o)
+  one e o = take (recordSize * n) o ++ (e ++ drop (recordSize * n + length e) o)
 
   counted : (es : List (List ℕ)) (k : ℕ) → length es ≡ k → n + k ≡ n + length es
   counted es k e = ap (λ (j : ℕ). n + j) (sym e)
@@ -37,45 +38,45 @@ module _ (b out : List ℕ) (at n : ℕ) where
   same-count : (es : List (List ℕ)) → es ≡ [] → n ≡ n + length es
   same-count es e = let l = ap length e in omega arith
 
-  pub not-aged : (getD b (at + 19) 0 ≡ 0 → ⊥) → (n ≡ n + length (aged (take 20 (drop at b) ∷ []))) × (out ≡ added n (aged (take 20 (drop at b) ∷ [])) out)
+  pub not-aged : (getD b (at + missedOffset) 0 ≡ 0 → ⊥) → (n ≡ n + length (aged (take recordSize (drop at b) ∷ []))) × (out ≡ added n (aged (take recordSize (drop at b) ∷ [])) out)
   not-aged h =
       let e = aged-out b at h in
-      (same-count (aged (take 20 (drop at b) ∷ [])) e, added-none n out ∙ ap (λ (l : List (List ℕ)). added n l out) (sym e))
+      (same-count (aged (take recordSize (drop at b) ∷ [])) e, added-none n out ∙ ap (λ (l : List (List ℕ)). added n l out) (sym e))
 
-  pub put-aged : (out₁ : List ℕ) → at + 20 ≤ length b → 20 * n + 20 ≤ length out → getD b (at + 19) 0 ≡ 0
-      → out₁ ≡ take (20 * n) out ++ (take (at + 20 - at) (drop at b) ++ drop (20 * n + length (take (at + 20 - at) (drop at b))) out)
-      → (n + 1 ≡ n + length (aged (take 20 (drop at b) ∷ []))) × (set out₁ (20 * n + 19) 1 ≡ added n (aged (take 20 (drop at b) ∷ [])) out)
+  pub put-aged : (out₁ : List ℕ) → at + recordSize ≤ length b → recordSize * n + recordSize ≤ length out → getD b (at + missedOffset) 0 ≡ 0
+      → out₁ ≡ take (recordSize * n) out ++ (take (at + recordSize - at) (drop at b) ++ drop (recordSize * n + length (take (at + recordSize - at) (drop at b))) out)
+      → (n + 1 ≡ n + length (aged (take recordSize (drop at b) ∷ []))) × (set out₁ (recordSize * n + missedOffset) 1 ≡ added n (aged (take recordSize (drop at b) ∷ [])) out)
   unfolding one
   put-aged out₁ r s h q =
       let e = aged-stays b at h in (
         ap (λ (l : List (List ℕ)). n + length l) (sym e),
-        ap (λ (o : List ℕ). set o (20 * n + 19) 1) (q ∙ ap (λ (p : List ℕ). one p out) (twenty b at))
-            ∙ added-set n 19 1 (take 20 (drop at b)) out (omega arith) (record-whole b at r) (omega arith)
+        ap (λ (o : List ℕ). set o (recordSize * n + missedOffset) 1) (q ∙ ap (λ (p : List ℕ). one p out) (record-part b at))
+            ∙ added-set n missedOffset 1 (take recordSize (drop at b)) out (omega arith) (record-whole b at r) (omega arith)
             ∙ ap (λ (l : List (List ℕ)). added n l out) (sym e),
       )
 
-  module _ (other : List (List ℕ)) (c : List ℕ) (r : Bool) (p : c ≡ cardIn (take 20 (drop at b))) (q : r ≡ has cardIn c other) where
+  module _ (other : List (List ℕ)) (c : List ℕ) (r : Bool) (p : c ≡ cardIn (take recordSize (drop at b))) (q : r ≡ has cardIn c other) where
     pub not-missing : r ≡ true
-        → (n ≡ n + length (without cardIn other (take 20 (drop at b) ∷ []))) × (out ≡ added n (without cardIn other (take 20 (drop at b) ∷ [])) out)
+        → (n ≡ n + length (without cardIn other (take recordSize (drop at b) ∷ []))) × (out ≡ added n (without cardIn other (take recordSize (drop at b) ∷ [])) out)
     not-missing t =
-        let e = without-known other (take 20 (drop at b)) c r p q t in
-        (same-count (without cardIn other (take 20 (drop at b) ∷ [])) e, added-none n out ∙ ap (λ (l : List (List ℕ)). added n l out) (sym e))
+        let e = without-known other (take recordSize (drop at b)) c r p q t in
+        (same-count (without cardIn other (take recordSize (drop at b) ∷ [])) e, added-none n out ∙ ap (λ (l : List (List ℕ)). added n l out) (sym e))
 
-    pub put-missing : (out₁ : List ℕ) → at + 20 ≤ length b → r ≡ false
-        → out₁ ≡ take (20 * n) out ++ (take (at + 20 - at) (drop at b) ++ drop (20 * n + length (take (at + 20 - at) (drop at b))) out)
-        → (n + 1 ≡ n + length (without cardIn other (take 20 (drop at b) ∷ []))) × (out₁ ≡ added n (without cardIn other (take 20 (drop at b) ∷ [])) out)
+    pub put-missing : (out₁ : List ℕ) → at + recordSize ≤ length b → r ≡ false
+        → out₁ ≡ take (recordSize * n) out ++ (take (at + recordSize - at) (drop at b) ++ drop (recordSize * n + length (take (at + recordSize - at) (drop at b))) out)
+        → (n + 1 ≡ n + length (without cardIn other (take recordSize (drop at b) ∷ []))) × (out₁ ≡ added n (without cardIn other (take recordSize (drop at b) ∷ [])) out)
     unfolding one
     put-missing out₁ room t s =
-        let e = without-new other (take 20 (drop at b)) c r p q t in (
+        let e = without-new other (take recordSize (drop at b)) c r p q t in (
           ap (λ (l : List (List ℕ)). n + length l) (sym e),
           s
-              ∙ ap (λ (x : List ℕ). one x out) (twenty b at)
-              ∙ added-one n (take 20 (drop at b)) out (record-whole b at room)
+              ∙ ap (λ (x : List ℕ). one x out) (record-part b at)
+              ∙ added-one n (take recordSize (drop at b)) out (record-whole b at room)
               ∙ ap (λ (l : List (List ℕ)). added n l out) (sym e),
         )
 
 -- one record put into a list
-module _ (b f c : List ℕ) (count p : ℕ) (r : Bool) (n : length f ≡ 20) (h : lengthIn f ≤ 16) (cards-at : CardsAt count b) (u : c ≡ cardIn (take 20 (drop 0 f)))
+module _ (b f c : List ℕ) (count p : ℕ) (r : Bool) (n : length f ≡ recordSize) (h : lengthIn f ≤ identifierLimit) (cards-at : CardsAt count b) (u : c ≡ cardIn (take recordSize (drop 0 f)))
     (v : p ≡ place cardIn c (pieces count b)) (w : r ≡ has cardIn c (pieces count b)) where
   abbrev after : List (List ℕ)
   after = supersede cardIn (entryOf f) (pieces count b)
@@ -92,8 +93,8 @@ module _ (b f c : List ℕ) (count p : ℕ) (r : Bool) (n : length f ≡ 20) (h 
   pub old-place : r ≡ true → p < count
   old-place t = let o = supersede-old cardIn (entryOf f) (pieces count b) (cards-at .sorted) (has-key true t) .0 in let l = length-pieces count b in let a = at-key in omega arith
 
-  pub put-old : (e b₁ : List ℕ) → e ≡ entryOf f → r ≡ true → b₁ ≡ take (20 * p) b ++ (e ++ drop (20 * p + length e) b)
-      → (count ≡ length (supersede cardIn (entryOf f) (pieces count b))) × (count ≤ 64 → b₁ ≡ laid (supersede cardIn (entryOf f) (pieces count b)) b)
+  pub put-old : (e b₁ : List ℕ) → e ≡ entryOf f → r ≡ true → b₁ ≡ take (recordSize * p) b ++ (e ++ drop (recordSize * p + length e) b)
+      → (count ≡ length (supersede cardIn (entryOf f) (pieces count b))) × (count ≤ cardLimit → b₁ ≡ laid (supersede cardIn (entryOf f) (pieces count b)) b)
   put-old e b₁ i t s =
       let lies : b₁ ≡ laid after b =
       replaced b e b₁ count p (old-place t) (ap length i ∙ entry-whole f n h) (cards-at .room) s
@@ -128,7 +129,7 @@ module _ (b f c : List ℕ) (count p : ℕ) (r : Bool) (n : length f ≡ 20) (h 
       omega arith
 
   pub put-new : (e b₁ : List ℕ) → e ≡ entryOf f → r ≡ false → b₁ ≡ laid (take p (pieces count b) ++ e ∷ drop p (pieces count b)) b
-      → (count + 1 ≡ length (supersede cardIn (entryOf f) (pieces count b))) × (count + 1 ≤ 64 → b₁ ≡ laid (supersede cardIn (entryOf f) (pieces count b)) b)
+      → (count + 1 ≡ length (supersede cardIn (entryOf f) (pieces count b))) × (count + 1 ≤ cardLimit → b₁ ≡ laid (supersede cardIn (entryOf f) (pieces count b)) b)
   put-new e b₁ i t s = (
     new-sized t,
     λ z.
@@ -139,6 +140,6 @@ module _ (b f c : List ℕ) (count p : ℕ) (r : Bool) (n : length f ≡ 20) (h 
         ∙ sym (supersede-new cardIn (entryOf f) (pieces count b) (has-key false t))),
   )
 
-  pub put-not : r ≡ false → 64 ≤ count
-      → (count + 1 ≡ length (supersede cardIn (entryOf f) (pieces count b))) × (count + 1 ≤ 64 → b ≡ laid (supersede cardIn (entryOf f) (pieces count b)) b)
+  pub put-not : r ≡ false → cardLimit ≤ count
+      → (count + 1 ≡ length (supersede cardIn (entryOf f) (pieces count b))) × (count + 1 ≤ cardLimit → b ≡ laid (supersede cardIn (entryOf f) (pieces count b)) b)
   put-not t full = (new-sized t, λ z. absurd (omega arith))

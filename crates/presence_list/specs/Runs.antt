@@ -8,6 +8,7 @@ use Rattle.presence_list.specs.declared.list.Presence.{Presence}
 use Rattle.presence_list.specs.declared.list.Round.{Round as Result}
 use Rattle.presence_list.specs.declared.list.Answer.{Answer as CodeAnswer}
 use Rattle.presence_list.specs.declared.list.Answer.the-variants.{Accepted, Refused}
+use Rattle.presence_list.specs.Names.{recordSize}
 use Rattle.presence_list.specs.Memory.{pieces, foundIn}
 use Rattle.presence_list.specs.Presence.{Found, Round, Answer, accepted, refused}
 use Rattle.presence_list.specs.Steps.{recordsOf, roundOf}
@@ -19,7 +20,7 @@ pub record Input : Type 0 where
 
 -- the round that it stands for
 abbrev pub roundIn : Input → Round
-roundIn i = record { number = i .number; found = map foundIn (recordsOf (i .records)); whole = eqb (length (i .records) % 20) 0 }
+roundIn i = record { number = i .number; found = map foundIn (recordsOf (i .records)); whole = eqb (length (i .records) % recordSize) 0 }
 
 -- the cards of a list
 abbrev pub presentIn : Presence → Seq Found
@@ -35,9 +36,9 @@ abbrev pub answerIn : Result → Answer
 answerIn r = said (r .list) (r .answer)
 
 -- the list that is kept, and all the answers
-unfoldable pub keptAfter : Presence → Seq Input → Presence
-keptAfter l [] = l
-keptAfter l (i ∷ is) = keptAfter (roundOf l (i .number) (i .records) .list) is
+unfoldable pub presenceAfter : Presence → Seq Input → Presence
+presenceAfter l [] = l
+presenceAfter l (i ∷ is) = presenceAfter (roundOf l (i .number) (i .records) .list) is
 
 unfoldable pub answersIn : Presence → Seq Input → Seq Answer
 answersIn l [] = []

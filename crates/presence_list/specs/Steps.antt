@@ -15,6 +15,7 @@ use Rattle.presence_list.specs.declared.list.Answer.{Answer}
 use Rattle.presence_list.specs.declared.list.Answer.the-variants.{Accepted, Refused}
 use Rattle.presence_list.specs.declared.list.Admission.{Admission}
 use Rattle.presence_list.specs.declared.list.Admission.the-variants.{Admitted, Refused as NotAdmitted}
+use Rattle.presence_list.specs.Names.{recordSize, cardLimit, cardsSize}
 use Rattle.presence_list.specs.Keyed.{supersedeAll, without}
 use Rattle.presence_list.specs.Memory.{pieces, laid, cardIn, longIn, knownIn, inRangeIn, ascending, aged, entries}
 use Rattle.presence_list.specs.Presence.{any, every}
@@ -23,17 +24,17 @@ use Rattle.presence_list.specs.Presence.{any, every}
 unfoldable pub inRange : State → Seq ℕ → Bool
 inRange s cards =
     pick (eqb (s .begun) 0) (eqb (s .count) 0)
-    (pick (eqb (s .begun) 1) (pick (leb (s .count) 64) (pick (every inRangeIn (pieces (s .count) cards)) (ascending (pieces (s .count) cards)) false) false) false)
+    (pick (eqb (s .begun) 1) (pick (leb (s .count) cardLimit) (pick (every inRangeIn (pieces (s .count) cards)) (ascending (pieces (s .count) cards)) false) false) false)
 
 unfoldable pub staleAt : State → ℕ → Bool
 staleAt s n = pick (eqb (s .begun) 0) false (leb n (s .number))
 
 -- the lent records
 abbrev pub recordsOf : Seq ℕ → Seq (Seq ℕ)
-recordsOf b = pieces (length b / 20) b
+recordsOf b = pieces (length b / recordSize) b
 
 unfoldable pub readableIn : Seq ℕ → Bool
-readableIn b = pick (eqb (length b % 20) 0) (every knownIn (recordsOf b)) false
+readableIn b = pick (eqb (length b % recordSize) 0) (every knownIn (recordsOf b)) false
 
 unfoldable pub admissionOf : State → Seq ℕ → ℕ → Seq ℕ → Admission
 admissionOf s cards n b =
@@ -63,12 +64,12 @@ listAfter now found = supersedeAll cardIn (aged now) (entries found)
 -- what is left of a list, arrivals and departures where the list's records now become others
 abbrev pub changed : Seq (Seq ℕ) → Seq (Seq ℕ) → ℕ → Seq ℕ → Seq ℕ → After
 changed now next n a d =
-    after (record { number = n; begun = 1; count = length next }) (laid next (replicate 1280 0)) (laid (without cardIn now next) a) (laid (without cardIn next now) d)
+    after (record { number = n; begun = 1; count = length next }) (laid next (replicate cardsSize 0)) (laid (without cardIn now next) a) (laid (without cardIn next now) d)
     (Accepted (length (without cardIn now next)) (length (without cardIn next now)))
 
 unfoldable pub acceptOf : State → Seq ℕ → Seq ℕ → Seq ℕ → ℕ → Seq ℕ → After
 acceptOf s c a d n b =
-    pick (ltb 64 (length (listAfter (pieces (s .count) c) (recordsOf b)))) (unchanged s c a d ListFull)
+    pick (ltb cardLimit (length (listAfter (pieces (s .count) c) (recordsOf b)))) (unchanged s c a d ListFull)
     (changed (pieces (s .count) c) (listAfter (pieces (s .count) c) (recordsOf b)) n a d)
 
 abbrev pub byAdmission : Admission → State → Seq ℕ → Seq ℕ → Seq ℕ → ℕ → Seq ℕ → After
@@ -88,4 +89,4 @@ roundOf l n b = listed (stepOf (l .state) (l .cards) (l .arrived) (l .departed) 
 abbrev pub emptyList : Presence
 emptyList =
     record
-    { cards = replicate 1280 0; arrived = replicate 1280 0; departed = replicate 1280 0; state = record { number = 0; begun = 0; count = 0 } }
+    { cards = replicate cardsSize 0; arrived = replicate cardsSize 0; departed = replicate cardsSize 0; state = record { number = 0; begun = 0; count = 0 } }

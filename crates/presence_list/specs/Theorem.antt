@@ -18,6 +18,7 @@ use Rattle.presence_list.specs.declared.list.Presence.{Presence}
 use Rattle.presence_list.specs.declared.list.Round.{Round as Result}
 use Rattle.presence_list.specs.declared.list.Admission.{Admission}
 use Rattle.presence_list.specs.declared.list.Admission.the-variants.{Admitted, Refused as NotAdmitted}
+use Rattle.presence_list.specs.Names.{recordSize, cardLimit, cardsSize}
 use Rattle.presence_list.specs.Keyed.{supersedeAll, without, only}
 use Rattle.presence_list.specs.KeyedLaws.{map-all, map-without, all-all, all-sorted}
 use Rattle.presence_list.specs.CardsAt.{CardsAt, Fit}
@@ -30,9 +31,9 @@ use Rattle.presence_list.specs.Fills.{not-long}
 use Rattle.presence_list.specs.Lookups.{sorted-ascending}
 use Rattle.presence_list.specs.Admissions.{range-cards-at}
 use Rattle.presence_list.specs.Afresh.{seen, lastOf, last-present, entries-found, aged-found, aged-unseen, entries-seen, only-all, any-long, every-known, aged-range, entries-range, every-all, all-every}
-use Rattle.presence_list.specs.Presence.{Round, Answer, accepted, refused, card, any, every, readable, stale, full, listed, presentOf, reportOf, answerTo, keptBy, acceptedOf, answersOf}
+use Rattle.presence_list.specs.Presence.{Round, Answer, accepted, refused, card, any, every, readable, stale, full, listed, presentOf, reportOf, answerTo, acceptedWith, acceptedOf, answersOf}
 use Rattle.presence_list.specs.Steps.{inRange, staleAt, readableIn, recordsOf, admissionOf, listAfter, changed, unchanged, byAdmission, acceptOf, stepOf, listed as asList, roundOf, emptyList}
-use Rattle.presence_list.specs.Runs.{Input, roundIn, presentIn, answerIn, keptAfter, answersIn}
+use Rattle.presence_list.specs.Runs.{Input, roundIn, presentIn, answerIn, presenceAfter, answersIn}
 
 -- the numbers of a list whose accepted rounds these are
 abbrev pub Numbered : Seq Round → State → Type 0
@@ -41,7 +42,7 @@ Numbered (p ∷ ps) s = (s .begun ≡ 1) × (s .number ≡ p .number)
 
 -- a list is the one of these accepted rounds
 pub record Represents (past : Seq Round) (l : Presence) : Type 0 where
-  pub room : length (l .cards) ≡ 1280
+  pub room : length (l .cards) ≡ cardsSize
   pub numbered : Numbered past (l .state)
   pub range : inRange (l .state) (l .cards) ≡ true
   pub records : every inRangeIn (pieces (l .state .count) (l .cards)) ≡ true
@@ -50,7 +51,7 @@ pub record Represents (past : Seq Round) (l : Presence) : Type 0 where
 
 pub empty-represents : Represents [] emptyList
 unfolding presentOf lastOf pieces only every inRange pick
-empty-represents = record { room = length-replicate {A = ℕ} 1280 0; numbered = (refl, refl); range = refl; records = refl; present = refl; last = refl }
+empty-represents = record { room = length-replicate {A = ℕ} cardsSize 0; numbered = (refl, refl); range = refl; records = refl; present = refl; last = refl }
 
 stale-same : (past : Seq Round) (s : State) (n : ℕ) → Numbered past s → staleAt s n ≡ stale past n
 unfolding staleAt stale pick
@@ -75,13 +76,13 @@ module _ (past : Seq Round) (l : Presence) (i : Input) (rep : Represents past l)
   whole-es = pieces-whole (l .state .count) (l .cards) (cards-at .room)
 
   whole-fs : Whole fs
-  whole-fs = pieces-whole (length (i .records) / 20) (i .records) (omega arith)
+  whole-fs = pieces-whole (length (i .records) / recordSize) (i .records) (omega arith)
 
   fit-fs : Fit fs
   fit-fs = not-long fs short
 
   whole-next : Whole next
-  whole-next = all-all cardIn (λ e. length e ≡ 20) (aged es) (entries fs) (aged-whole es whole-es) (entries-whole fs whole-fs fit-fs)
+  whole-next = all-all cardIn (λ e. length e ≡ recordSize) (aged es) (entries fs) (aged-whole es whole-es) (entries-whole fs whole-fs fit-fs)
 
   cards-next : map foundIn next ≡ presentOf (roundIn i ∷ past)
   unfolding cardIn
@@ -110,8 +111,8 @@ module _ (past : Seq Round) (l : Presence) (i : Input) (rep : Represents past l)
   abbrev result : Result
   result = asList (changed es next (i .number) (l .arrived) (l .departed))
 
-  lies : pieces (length next) (laid next (replicate 1280 0)) ≡ next
-  lies = pieces-laid next (replicate 1280 0) (length next) whole-next refl
+  lies : pieces (length next) (laid next (replicate cardsSize 0)) ≡ next
+  lies = pieces-laid next (replicate cardsSize 0) (length next) whole-next refl
 
   said-present : presentIn (result .list) ≡ presentOf (roundIn i ∷ past)
   said-present = ap (map foundIn) lies ∙ cards-next
@@ -135,35 +136,35 @@ module _ (past : Seq Round) (l : Presence) (i : Input) (rep : Represents past l)
       said-present
 
   -- and the list that it leaves
-  pub represents : length next ≤ 64 → Represents (roundIn i ∷ past) (result .list)
+  pub represents : length next ≤ cardLimit → Represents (roundIn i ∷ past) (result .list)
   unfolding lastOf inRange pick
   represents h =
       record {
-        room = length-laid next (replicate 1280 0) whole-next (let z = length-replicate {A = ℕ} 1280 0 in omega arith) ∙ length-replicate {A = ℕ} 1280 0;
+        room = length-laid next (replicate cardsSize 0) whole-next (let z = length-replicate {A = ℕ} cardsSize 0 in omega arith) ∙ length-replicate {A = ℕ} cardsSize 0;
         numbered = (refl, refl);
-        range = ranges (pieces (length next) (laid next (replicate 1280 0))) lies h;
+        range = ranges (pieces (length next) (laid next (replicate cardsSize 0))) lies h;
         records = rw lies range-next;
         present = said-present;
         last = ap (λ (m : Seq (Seq ℕ)). map foundIn (only seen m)) lies ∙ seen-next;
       }
     where
-      ranges : (ps : Seq (Seq ℕ)) → ps ≡ next → length next ≤ 64
-          → pick (eqb 1 0) (eqb (length next) 0) (pick (eqb 1 1) (pick (leb (length next) 64) (pick (every inRangeIn ps) (ascending ps) false) false) false) ≡ true
+      ranges : (ps : Seq (Seq ℕ)) → ps ≡ next → length next ≤ cardLimit
+          → pick (eqb 1 0) (eqb (length next) 0) (pick (eqb 1 1) (pick (leb (length next) cardLimit) (pick (every inRangeIn ps) (ascending ps) false) false) false) ≡ true
       ranges ps e h =
-          rw (e, le-leb (length next) 64 h, range-next) (sorted-ascending next (all-sorted cardIn (aged es) (entries fs) (aged-sorted es (cards-at .fit) (cards-at .sorted))))
+          rw (e, le-leb (length next) cardLimit h, range-next) (sorted-ascending next (all-sorted cardIn (aged es) (entries fs) (aged-sorted es (cards-at .fit) (cards-at .sorted))))
 
 -- one round: its answer, and the list after it
 pub record Agrees (past : Seq Round) (i : Input) (r : Result) : Type 0 where
   pub answered : answerIn r ≡ answerTo past (roundIn i)
-  pub leaves : Represents (keptBy (answerTo past (roundIn i)) (roundIn i) past) (r .list)
+  pub leaves : Represents (acceptedWith (answerTo past (roundIn i)) (roundIn i) past) (r .list)
 
 readable-same : (i : Input) → readable (roundIn i) ≡ readableIn (i .records)
 unfolding readableIn
-readable-same i = ap (λ (t : Bool). pick (eqb (length (i .records) % 20) 0) t false) (every-known (recordsOf (i .records)))
+readable-same i = ap (λ (t : Bool). pick (eqb (length (i .records) % recordSize) 0) t false) (every-known (recordsOf (i .records)))
 
 readable-known : (b : Seq ℕ) → readableIn b ≡ true → every knownIn (recordsOf b) ≡ true
 unfolding readableIn pick
-readable-known b h = go (eqb (length b % 20) 0) h
+readable-known b h = go (eqb (length b % recordSize) 0) h
   where
     go : (t : Bool) → pick t (every knownIn (recordsOf b)) false ≡ true → every knownIn (recordsOf b) ≡ true
     go true h = h
@@ -174,7 +175,7 @@ module _ (past : Seq Round) (l : Presence) (i : Input) (rep : Represents past l)
   admission = admissionOf (l .state) (l .cards) (i .number) (i .records)
 
   whole-records : Whole (recordsOf (i .records))
-  whole-records = pieces-whole (length (i .records) / 20) (i .records) (omega arith)
+  whole-records = pieces-whole (length (i .records) / recordSize) (i .records) (omega arith)
 
   -- a round that is refused leaves the list alone
   refused-agrees : (e : RoundRefusal) (r : Result) → r ≡ asList (unchanged (l .state) (l .cards) (l .arrived) (l .departed) e)
@@ -204,14 +205,14 @@ module _ (past : Seq Round) (l : Presence) (i : Input) (rep : Represents past l)
     unfolding admissionOf pick
     admits = rw (short, rep .range, open-to, fresh)
 
-    to-room : answerTo past (roundIn i) ≡ pick (full past (roundIn i)) (refused 28) (accepted (reportOf past (roundIn i)))
+    to-room : answerTo past (roundIn i) ≡ pick (full past (roundIn i)) (refused (roundNumbered ListFull .number)) (accepted (reportOf past (roundIn i)))
     unfolding answerTo pick
     to-room = rw (any-long (recordsOf (i .records)) whole-records, short, readable-same i, open-to, ← stale-same past (l .state) (i .number) (rep .numbered), fresh)
 
-    same-room : full past (roundIn i) ≡ ltb 64 (length after)
-    same-room = ap (λ (k : ℕ). ltb 64 k) (sym (size-next past l i rep short all-known))
+    same-room : full past (roundIn i) ≡ ltb cardLimit (length after)
+    same-room = ap (λ (k : ℕ). ltb cardLimit k) (sym (size-next past l i rep short all-known))
 
-    by-room : (t : Bool) → ltb 64 (length after) ≡ t → Agrees past i (roundOf l (i .number) (i .records))
+    by-room : (t : Bool) → ltb cardLimit (length after) ≡ t → Agrees past i (roundOf l (i .number) (i .records))
     unfolding acceptOf pick
     by-room true h =
         refused-agrees ListFull (roundOf l (i .number) (i .records)) (is-admitted admits ∙ (rw h)) (to-room ∙ (rw (same-room, h)))
@@ -221,7 +222,7 @@ module _ (past : Seq Round) (l : Presence) (i : Input) (rep : Represents past l)
         is-admitted admits ∙ (rw h) in
         record {
           answered = ap answerIn r ∙ says past l i rep short all-known ∙ sym taken;
-          leaves = rw (taken, r) (represents past l i rep short all-known (ltb-false 64 (length after) h));
+          leaves = rw (taken, r) (represents past l i rep short all-known (ltb-false cardLimit (length after) h));
         }
 
   pub agrees : Agrees past i (roundOf l (i .number) (i .records))
@@ -232,7 +233,7 @@ module _ (past : Seq Round) (l : Presence) (i : Input) (rep : Represents past l)
       by-number s o true h =
           refused-agrees StaleRound (roundOf l (i .number) (i .records)) (not-admitted StaleRound (rw (s, rep .range, o, h)))
           (rw (any-long (recordsOf (i .records)) whole-records, s, readable-same i, o, ← stale-same past (l .state) (i .number) (rep .numbered), h))
-      by-number s o false h = by-room s o h (ltb 64 (length (listAfter (pieces (l .state .count) (l .cards)) (recordsOf (i .records))))) refl
+      by-number s o false h = by-room s o h (ltb cardLimit (length (listAfter (pieces (l .state .count) (l .cards)) (recordsOf (i .records))))) refl
 
       by-records : any longIn (recordsOf (i .records)) ≡ false → (t : Bool) → readableIn (i .records) ≡ t → Agrees past i (roundOf l (i .number) (i .records))
       by-records s true h = by-number s h (staleAt (l .state) (i .number)) refl
@@ -248,12 +249,12 @@ module _ (past : Seq Round) (l : Presence) (i : Input) (rep : Represents past l)
 
 -- any list of rounds, behind accepted ones
 pub all-agree : (past : Seq Round) (l : Presence) (is : Seq Input) → Represents past l
-    → (answersIn l is ≡ answersOf past (map roundIn is)) × Represents (acceptedOf past (map roundIn is)) (keptAfter l is)
-unfolding answersIn answersOf acceptedOf keptAfter
+    → (answersIn l is ≡ answersOf past (map roundIn is)) × Represents (acceptedOf past (map roundIn is)) (presenceAfter l is)
+unfolding answersIn answersOf acceptedOf presenceAfter
 all-agree past l [] rep = (refl, rep)
 all-agree past l (i ∷ is) rep =
     let a = agrees past l i rep in
-    let r = all-agree (keptBy (answerTo past (roundIn i)) (roundIn i) past) (roundOf l (i .number) (i .records) .list) is (a .leaves) in
+    let r = all-agree (acceptedWith (answerTo past (roundIn i)) (roundIn i) past) (roundOf l (i .number) (i .records) .list) is (a .leaves) in
     (ap₂ (λ (x : Answer) (xs : Seq Answer). x ∷ xs) (a .answered) (r .0), r .1)
 
 -- From empty: each answer is the one that the accepted rounds before it call for.
@@ -261,5 +262,5 @@ pub presence-answers : (is : Seq Input) → answersIn emptyList is ≡ answersOf
 presence-answers is = all-agree [] emptyList is empty-represents .0
 
 -- And the list kept is the one worked out afresh from all accepted rounds.
-pub presence-list : (is : Seq Input) → presentIn (keptAfter emptyList is) ≡ presentOf (acceptedOf [] (map roundIn is))
+pub presence-list : (is : Seq Input) → presentIn (presenceAfter emptyList is) ≡ presentOf (acceptedOf [] (map roundIn is))
 presence-list is = all-agree [] emptyList is empty-represents .1 .present

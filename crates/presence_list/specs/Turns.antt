@@ -10,6 +10,7 @@ use lib.ListN.{length, take, drop, getD, drop-of-length-le}
 use lib.Seq.{drop-cons, take-suc, getD-take, getD-drop}
 use borrow.Author.Tests.{eq-eqb, ne-eqb, ltb-true, ltb-false}
 use Rattle.errors.specs.Choice.{pick}
+use Rattle.presence_list.specs.Names.{recordSize}
 use Rattle.presence_list.specs.Order.{before}
 use Rattle.presence_list.specs.Memory.{pieces, cardIn, ascending}
 use Rattle.presence_list.specs.MemoryLaws.{piece-at}
@@ -20,8 +21,8 @@ pub rest-at : {A : Type 0} (l : List A) (i : ℕ) (d : A) → i < length l → d
 rest-at l i d h = rw (add-one i) (drop-cons l i d h)
 
 -- a byte of a piece
-pub byte-at : (n i k : ℕ) (b : List ℕ) → i < n → k < 20 → getD (getD (pieces n b) i []) k 0 ≡ getD b (20 * i + k) 0
-byte-at n i k b h j = ap (λ (e : List ℕ). getD e k 0) (piece-at n i b h) ∙ getD-take 20 (drop (20 * i) b) k 0 j ∙ getD-drop (20 * i) b k 0
+pub byte-at : (n i k : ℕ) (b : List ℕ) → i < n → k < recordSize → getD (getD (pieces n b) i []) k 0 ≡ getD b (recordSize * i + k) 0
+byte-at n i k b h j = ap (λ (e : List ℕ). getD e k 0) (piece-at n i b h) ∙ getD-take recordSize (drop (recordSize * i) b) k 0 j ∙ getD-drop (recordSize * i) b k 0
 
 module _ (a b : List ℕ) (i : ℕ) (rest : before a b ≡ before (drop i a) (drop i b)) where
   pub before-short : i < length a → length b ≤ i → false ≡ before a b

@@ -5,3 +5,10 @@ mod order;
 mod put;
 mod range;
 mod records;
+
+pub use range::IDENTIFIER;
+pub use range::LAST_BITRATE;
+pub use range::LAST_CARD_KIND;
+pub use records::BITRATE;
+pub use records::LENGTH;
+pub use records::RECORD;

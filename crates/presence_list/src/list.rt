@@ -16,8 +16,8 @@ ghost use Rattle.presence_list.specs.Memory.{longIn};
 ghost use Rattle.presence_list.specs.Presence.{any};
 ghost use Rattle.presence_list.specs.Steps.{inRange, staleAt, recordsOf, readableIn, admissionOf, after, acceptOf, stepOf, roundOf, emptyList};
 
-// The bytes of 64 records.
-pub const CARDS: usize = 1280;
+// The bytes of the records of a full list.
+pub const CARDS: usize = ROOM * RECORD;
 
 // Whether a round was accepted (0 or 1), the last one's number, and how many cards the list has.
 #[repr(C)]

@@ -8,6 +8,7 @@ ghost use mathlib.Core.Path.{_≡_};
 ghost use mathlib.Core.List.{[], _∷_};
 ghost use Prim.Native.Nat.{_+_, _*_, _≤_};
 ghost use lib.ListN.{length, take, drop};
+ghost use Rattle.presence_list.specs.Names.{recordSize, identifierLimit};
 ghost use Rattle.presence_list.specs.Keyed.{place as placeOf, has, without as withoutOf};
 ghost use Rattle.presence_list.specs.Memory.{pieces, laid, added, cardIn, lengthIn, aged};
 ghost use Rattle.presence_list.specs.CardsAt.{CardsAt};
@@ -50,8 +51,8 @@ fn put_missing(
     out: &mut [u8],
     n: usize,
 ) -> usize
-    requires { ⌜ CardsAt size (now other) × (at + 20 ≤ length (now cards)) × (lengthIn (take 20 (drop at (now cards))) ≤ 16) × (20 * n + 20 ≤ length (now out)) ⌝ }
-    ensures { λ r. ⌜ (r ≡ n + length (withoutOf cardIn (pieces size (now (other .entry))) (take 20 (drop at (now (cards .entry))) ∷ []))) × (now (out .exit) ≡ added n (withoutOf cardIn (pieces size (now (other .entry))) (take 20 (drop at (now (cards .entry))) ∷ [])) (now (out .entry))) ⌝ }
+    requires { ⌜ CardsAt size (now other) × (at + recordSize ≤ length (now cards)) × (lengthIn (take recordSize (drop at (now cards))) ≤ identifierLimit) × (recordSize * n + recordSize ≤ length (now out)) ⌝ }
+    ensures { λ r. ⌜ (r ≡ n + length (withoutOf cardIn (pieces size (now (other .entry))) (take recordSize (drop at (now (cards .entry))) ∷ []))) × (now (out .exit) ≡ added n (withoutOf cardIn (pieces size (now (other .entry))) (take recordSize (drop at (now (cards .entry))) ∷ [])) (now (out .entry))) ⌝ }
 {
     let card = card_at(cards, at);
     let p = place(other, size, card);
@@ -70,7 +71,7 @@ pub(crate) fn without(
     count: usize,
     out: &mut [u8],
 ) -> usize
-    requires { ⌜ CardsAt size (now other) × CardsAt count (now cards) × (20 * count ≤ length (now out)) ⌝ }
+    requires { ⌜ CardsAt size (now other) × CardsAt count (now cards) × (recordSize * count ≤ length (now out)) ⌝ }
     ensures { λ r. ⌜ (r ≡ length (withoutOf cardIn (pieces size (now (other .entry))) (pieces count (now (cards .entry))))) × (now (out .exit) ≡ laid (withoutOf cardIn (pieces size (now (other .entry))) (pieces count (now (cards .entry)))) (now (out .entry))) ⌝ }
 {
     let mut n = 0;
@@ -84,8 +85,8 @@ pub(crate) fn without(
 
 // Puts a record behind the first `n` of `out`, as missed, where it was not missed before; and how many they are then.
 fn put_aged(cards: &[u8], at: usize, out: &mut [u8], n: usize) -> usize
-    requires { ⌜ (at + 20 ≤ length (now cards)) × (20 * n + 20 ≤ length (now out)) ⌝ }
-    ensures { λ r. ⌜ (r ≡ n + length (aged (take 20 (drop at (now (cards .entry))) ∷ []))) × (now (out .exit) ≡ added n (aged (take 20 (drop at (now (cards .entry))) ∷ [])) (now (out .entry))) ⌝ }
+    requires { ⌜ (at + recordSize ≤ length (now cards)) × (recordSize * n + recordSize ≤ length (now out)) ⌝ }
+    ensures { λ r. ⌜ (r ≡ n + length (aged (take recordSize (drop at (now (cards .entry))) ∷ []))) × (now (out .exit) ≡ added n (aged (take recordSize (drop at (now (cards .entry))) ∷ [])) (now (out .entry))) ⌝ }
 {
     if cards[at + MISSED] != 0 {
         return n;
@@ -98,7 +99,7 @@ fn put_aged(cards: &[u8], at: usize, out: &mut [u8], n: usize) -> usize
 // The list before the records of a round, put at the start of `out`: who was missed already has left, and all others are missed until they
 // are seen. The answer is how many they are.
 pub(crate) fn age(cards: &[u8], count: usize, out: &mut [u8]) -> usize
-    requires { ⌜ (20 * count ≤ length (now cards)) × (20 * count ≤ length (now out)) ⌝ }
+    requires { ⌜ (recordSize * count ≤ length (now cards)) × (recordSize * count ≤ length (now out)) ⌝ }
     ensures { λ r. ⌜ (r ≡ length (aged (pieces count (now (cards .entry))))) × (now (out .exit) ≡ laid (aged (pieces count (now (cards .entry)))) (now (out .entry))) ⌝ }
 {
     let mut n = 0;

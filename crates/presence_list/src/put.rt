@@ -10,6 +10,7 @@ ghost use mathlib.Core.Bool.{Bool};
 ghost use mathlib.Core.List.{_++_, _∷_};
 ghost use Prim.Native.Nat.{_+_, _*_, _-_, _/_, _≤_, _<_};
 ghost use lib.ListN.{length, take, drop};
+ghost use Rattle.presence_list.specs.Names.{recordSize, identifierLimit, cardLimit, cardsSize};
 ghost use Rattle.presence_list.specs.Keyed.{supersede, supersedeAll};
 ghost use Rattle.presence_list.specs.Memory.{pieces, laid, cardIn, lengthIn, longIn, entryOf, entries};
 ghost use Rattle.presence_list.specs.Presence.{any};
@@ -20,8 +21,8 @@ pub const ROOM: usize = 64;
 
 // Moves the bytes from `at` to `end` up by a record.
 fn shift(cards: &mut [u8], at: usize, end: usize)
-    requires { ⌜ (at ≤ end) × (end + 20 ≤ length (now cards)) ⌝ }
-    ensures { λ _. ⌜ (take at (now (cards .exit)) ≡ take at (now (cards .entry))) × (drop (at + 20) (now (cards .exit)) ≡ take (end - at) (drop at (now (cards .entry))) ++ drop (end + 20) (now (cards .entry))) ⌝ }
+    requires { ⌜ (at ≤ end) × (end + recordSize ≤ length (now cards)) ⌝ }
+    ensures { λ _. ⌜ (take at (now (cards .exit)) ≡ take at (now (cards .entry))) × (drop (at + recordSize) (now (cards .exit)) ≡ take (end - at) (drop at (now (cards .entry))) ++ drop (end + recordSize) (now (cards .entry))) ⌝ }
 {
     let mut i = end;
     while at < i {
@@ -32,7 +33,7 @@ fn shift(cards: &mut [u8], at: usize, end: usize)
 
 // Puts a record between those of a list of so many.
 fn insert(entry: &[u8; RECORD], cards: &mut [u8], count: usize, place: usize)
-    requires { ⌜ (place ≤ count) × (20 * count + 20 ≤ length (now cards)) ⌝ }
+    requires { ⌜ (place ≤ count) × (recordSize * count + recordSize ≤ length (now cards)) ⌝ }
     ensures { λ _. ⌜ now (cards .exit) ≡ laid (take place (pieces count (now (cards .entry))) ++ now (entry .entry) ∷ drop place (pieces count (now (cards .entry)))) (now (cards .entry)) ⌝ }
 {
     let at = RECORD * place;
@@ -42,8 +43,8 @@ fn insert(entry: &[u8; RECORD], cards: &mut [u8], count: usize, place: usize)
 
 // Puts a record into the list. The answer is how many cards the list has then; where they are more than it takes, nothing is put.
 fn put(found: &[u8], cards: &mut [u8], count: usize) -> usize
-    requires { ⌜ (length (now found) ≡ 20) × (lengthIn (now found) ≤ 16) × CardsAt count (now cards) × (count ≤ 64) × (1280 ≤ length (now cards)) ⌝ }
-    ensures { λ r. ⌜ (r ≡ length (supersede cardIn (entryOf (now (found .entry))) (pieces count (now (cards .entry))))) × (r ≤ 64 → now (cards .exit) ≡ laid (supersede cardIn (entryOf (now (found .entry))) (pieces count (now (cards .entry)))) (now (cards .entry))) ⌝ }
+    requires { ⌜ (length (now found) ≡ recordSize) × (lengthIn (now found) ≤ identifierLimit) × CardsAt count (now cards) × (count ≤ cardLimit) × (cardsSize ≤ length (now cards)) ⌝ }
+    ensures { λ r. ⌜ (r ≡ length (supersede cardIn (entryOf (now (found .entry))) (pieces count (now (cards .entry))))) × (r ≤ cardLimit → now (cards .exit) ≡ laid (supersede cardIn (entryOf (now (found .entry))) (pieces count (now (cards .entry)))) (now (cards .entry))) ⌝ }
 {
     let card = card_at(found, 0);
     let entry = entry_of(found);
@@ -61,8 +62,8 @@ fn put(found: &[u8], cards: &mut [u8], count: usize) -> usize
 
 // Puts the records into the list, one after the other. The answer is how many cards the list has then, or more than it takes.
 pub(crate) fn put_all(records: &[u8], cards: &mut [u8], count: usize) -> usize
-    requires { ⌜ (any longIn (pieces (length (now records) / 20) (now records)) ≡ Bool.false) × CardsAt count (now cards) × (count ≤ 64) × (1280 ≤ length (now cards)) ⌝ }
-    ensures { λ r. ⌜ PutAll r (supersedeAll cardIn (pieces count (now (cards .entry))) (entries (pieces (length (now (records .entry)) / 20) (now (records .entry))))) (now (cards .entry)) (now (cards .exit)) ⌝ }
+    requires { ⌜ (any longIn (pieces (length (now records) / recordSize) (now records)) ≡ Bool.false) × CardsAt count (now cards) × (count ≤ cardLimit) × (cardsSize ≤ length (now cards)) ⌝ }
+    ensures { λ r. ⌜ PutAll r (supersedeAll cardIn (pieces count (now (cards .entry))) (entries (pieces (length (now (records .entry)) / recordSize) (now (records .entry))))) (now (cards .entry)) (now (cards .exit)) ⌝ }
 {
     let size = records.len() / RECORD;
     let mut n = count;

@@ -9,20 +9,21 @@ ghost use mathlib.Core.Path.{_≡_};
 ghost use mathlib.Core.Bool.{Bool};
 ghost use Prim.Native.Nat.{_+_, _*_, _/_, _≤_};
 ghost use lib.ListN.{length, take, drop};
-ghost use Rattle.presence_list.specs.Memory.{pieces, lengthIn, longIn, knownIn, inRangeIn, ascending as ascendingOf};
+ghost use Rattle.presence_list.specs.Names.{recordSize};
+ghost use Rattle.presence_list.specs.Memory.{pieces, longIn, knownIn, inRangeIn, ascending as ascendingOf};
 ghost use Rattle.presence_list.specs.Presence.{any, every};
 
 // How many bytes an identifier has at most.
 pub const IDENTIFIER: u8 = 16;
 
 // The last kind, DEP, and the last bitrate, 848B.
-pub const LAST_KIND: u8 = 4;
+pub const LAST_CARD_KIND: u8 = 4;
 
 pub const LAST_BITRATE: u8 = 6;
 
 // Whether an identifier of the records is too long.
 pub(crate) fn any_over_long(records: &[u8]) -> bool
-    ensures { λ r. ⌜ r ≡ any longIn (pieces (length (now (records .entry)) / 20) (now (records .entry))) ⌝ }
+    ensures { λ r. ⌜ r ≡ any longIn (pieces (length (now (records .entry)) / recordSize) (now (records .entry))) ⌝ }
 {
     let size = records.len() / RECORD;
     let mut i = 0;
@@ -37,10 +38,10 @@ pub(crate) fn any_over_long(records: &[u8]) -> bool
 
 // Whether the kind and the bitrate of the record that starts at a place are some.
 fn is_known(records: &[u8], at: usize) -> bool
-    requires { ⌜ at + 20 ≤ length (now records) ⌝ }
-    ensures { λ r. ⌜ r ≡ knownIn (take 20 (drop at (now (records .entry)))) ⌝ }
+    requires { ⌜ at + recordSize ≤ length (now records) ⌝ }
+    ensures { λ r. ⌜ r ≡ knownIn (take recordSize (drop at (now (records .entry)))) ⌝ }
 {
-    if records[at] <= LAST_KIND {
+    if records[at] <= LAST_CARD_KIND {
         return records[at + BITRATE] <= LAST_BITRATE;
     }
     false
@@ -48,7 +49,7 @@ fn is_known(records: &[u8], at: usize) -> bool
 
 // Whether all kinds and bitrates of the records are some.
 pub(crate) fn are_known(records: &[u8]) -> bool
-    ensures { λ r. ⌜ r ≡ every knownIn (pieces (length (now (records .entry)) / 20) (now (records .entry))) ⌝ }
+    ensures { λ r. ⌜ r ≡ every knownIn (pieces (length (now (records .entry)) / recordSize) (now (records .entry))) ⌝ }
 {
     let size = records.len() / RECORD;
     let mut i = 0;
@@ -63,8 +64,8 @@ pub(crate) fn are_known(records: &[u8]) -> bool
 
 // Whether the fields of the list's record that starts at a place are in range.
 fn is_in_range(cards: &[u8], at: usize) -> bool
-    requires { ⌜ at + 20 ≤ length (now cards) ⌝ }
-    ensures { λ r. ⌜ r ≡ inRangeIn (take 20 (drop at (now (cards .entry)))) ⌝ }
+    requires { ⌜ at + recordSize ≤ length (now cards) ⌝ }
+    ensures { λ r. ⌜ r ≡ inRangeIn (take recordSize (drop at (now (cards .entry)))) ⌝ }
 {
     if cards[at + LENGTH] <= IDENTIFIER {
         if cards[at + MISSED] <= 1 {
@@ -76,7 +77,7 @@ fn is_in_range(cards: &[u8], at: usize) -> bool
 
 // Whether the fields of all records of a list are in range.
 pub(crate) fn are_in_range(cards: &[u8], count: usize) -> bool
-    requires { ⌜ 20 * count ≤ length (now cards) ⌝ }
+    requires { ⌜ recordSize * count ≤ length (now cards) ⌝ }
     ensures { λ r. ⌜ r ≡ every inRangeIn (pieces count (now (cards .entry))) ⌝ }
 {
     let mut i = 0;
@@ -91,7 +92,7 @@ pub(crate) fn are_in_range(cards: &[u8], count: usize) -> bool
 
 // Whether each card of a list comes before the next.
 pub(crate) fn are_ascending(cards: &[u8], count: usize) -> bool
-    requires { ⌜ (20 * count ≤ length (now cards)) × (every inRangeIn (pieces count (now cards)) ≡ Bool.true) ⌝ }
+    requires { ⌜ (recordSize * count ≤ length (now cards)) × (every inRangeIn (pieces count (now cards)) ≡ Bool.true) ⌝ }
     ensures { λ r. ⌜ r ≡ ascendingOf (pieces count (now (cards .entry))) ⌝ }
 {
     let mut i = 1;

@@ -2,8 +2,9 @@
 // last round.
 ghost use mathlib.Core.Path.{_≡_};
 ghost use mathlib.Core.List.{_++_};
-ghost use Prim.Native.Nat.{_+_, _*_, _≤_};
+ghost use Prim.Native.Nat.{_+_, _≤_};
 ghost use lib.ListN.{length, take, drop};
+ghost use Rattle.presence_list.specs.Names.{recordSize, identifierLimit};
 ghost use Rattle.presence_list.specs.Memory.{lengthIn, cardIn, entryOf as entryIn};
 
 pub const RECORD: usize = 20;
@@ -16,8 +17,8 @@ pub const MISSED: usize = 19;
 
 // Kind and identifier of the record that starts at a place.
 pub(crate) fn card_at(cards: &[u8], at: usize) -> &[u8]
-    requires { ⌜ (at + 20 ≤ length (now cards)) × (lengthIn (take 20 (drop at (now cards))) ≤ 16) ⌝ }
-    ensures { λ r. ⌜ now r ≡ cardIn (take 20 (drop at (now (cards .entry)))) ⌝ }
+    requires { ⌜ (at + recordSize ≤ length (now cards)) × (lengthIn (take recordSize (drop at (now cards))) ≤ identifierLimit) ⌝ }
+    ensures { λ r. ⌜ now r ≡ cardIn (take recordSize (drop at (now (cards .entry)))) ⌝ }
 {
     let n = cards[at + LENGTH] as usize;
     let end = at + 1 + n;
@@ -34,7 +35,7 @@ pub(crate) fn put_at(text: &[u8], cards: &mut [u8], at: usize)
 
 // A lent record as the list keeps it: zeros behind its identifier, and not missed.
 pub(crate) fn entry_of(found: &[u8]) -> [u8; RECORD]
-    requires { ⌜ (length (now found) ≡ 20) × (lengthIn (now found) ≤ 16) ⌝ }
+    requires { ⌜ (length (now found) ≡ recordSize) × (lengthIn (now found) ≤ identifierLimit) ⌝ }
     ensures { λ r. ⌜ r ≡ entryIn (now (found .entry)) ⌝ }
 {
     let card = card_at(found, 0);

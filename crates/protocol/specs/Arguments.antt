@@ -36,18 +36,35 @@ initData mode mifare felica nfcid3t gt = mode ∷ mifare ++ felica ++ nfcid3t ++
 
 -- ---- what is asserted
 
--- whole words or triples, of at most 64 registers
+-- the most registers of one command
+abbrev pub registerLimit : ℕ
+registerLimit = 64
+
+-- whole words or triples
 abbrev pub registers : ℕ → List ℕ → Bool
-registers size bytes = both (eqb (length bytes % size) 0) (leb (length bytes / size) 64)
+registers size bytes = both (eqb (length bytes % size) 0) (leb (length bytes / size) registerLimit)
+
+abbrev pub mifareSize : ℕ
+mifareSize = 6
+
+abbrev pub felicaSize : ℕ
+felicaSize = 18
+
+abbrev pub nfcid3Size : ℕ
+nfcid3Size = 10
 
 -- the lengths that tg_init_target asserts, and a mode of 0 or 2
 abbrev pub initFits : ℕ → List ℕ → List ℕ → List ℕ → Bool
 initFits mode mifare felica nfcid3t =
-    both (both (leb mode 2) (eqb (mode % 2) 0)) (both (eqb (length mifare) 6) (both (eqb (length felica) 18) (eqb (length nfcid3t) 10)))
+    both (both (leb mode 2) (eqb (mode % 2) 0)) (both (eqb (length mifare) mifareSize) (both (eqb (length felica) felicaSize) (eqb (length nfcid3t) nfcid3Size)))
 
--- 1 to 16 whole words
+-- the most system codes of one list
+abbrev pub systemCodes : ℕ
+systemCodes = 16
+
+-- 1 to so many whole words
 abbrev pub systemCodesFit : List ℕ → Bool
-systemCodesFit words = both (eqb (length words % 2) 0) (both (leb 1 (length words / 2)) (leb (length words / 2) 16))
+systemCodesFit words = both (eqb (length words % 2) 0) (both (leb 1 (length words / 2)) (leb (length words / 2) systemCodes))
 
 -- an ATR_REQ without general bytes, and the longest
 abbrev pub shortestAtrReq : ℕ

@@ -1,7 +1,8 @@
 -- Read and Write Without Encryption (document 02, N5), each sent through InCommunicateThru: the card's reply stands behind the status byte.
 use mathlib.Core.List.{List, []}
-use Prim.Native.Nat.{ℕ, _*_}
+use Prim.Native.Nat.{ℕ, _+_, _*_}
 use lib.ListN.{length, drop}
+use Rattle.felica.specs.Names.{blockSize, blocksOffset}
 use Rattle.felica.specs.Packets.{readRequest, writeRequest}
 use Rattle.felica.specs.Checks.{readCheck, writeCheck}
 use Rattle.felica.specs.declared.check.Checked.{Checked}
@@ -14,9 +15,13 @@ abbrev pub byCheck : Script → Checked → Script
 byCheck s Good = s
 byCheck s (Faulty r) = refuse r
 
--- the block data: behind the status byte and 13 bytes of the reply, 16 bytes a block in the order asked for
+-- where block data starts in a response: behind the status byte, in the card's reply
+abbrev pub responseBlocksOffset : ℕ
+responseBlocksOffset = 1 + blocksOffset
+
+-- the block data, 16 bytes a block in the order asked for
 abbrev pub blockBytes : ℕ → List ℕ → Script
-blockBytes n bs = finish (done (part 0 bs 14 (16 * n)))
+blockBytes n bs = finish (done (part 0 bs responseBlocksOffset (blockSize * n)))
 
 abbrev pub readBlocks : List ℕ → ℕ → List ℕ → ℕ → Script
 readBlocks idm service blocks ms =

@@ -1,17 +1,16 @@
 -- The scripts of Read and Write Without Encryption are sound: one frame, and each byte of a read's answer at its place.
 use mathlib.Core.Path.{_≡_, refl}
-use mathlib.Core.Bool.{Bool, true, false}
 use mathlib.Core.List.{List, [], _∷_}
-use Prim.Native.Nat.{ℕ, _+_, _*_, _≤_}
+use Prim.Native.Nat.{ℕ, _*_}
 use native.Mathlib.Omega.{arith}
-use lib.Dec.{eqb}
-use lib.ListN.{length, drop, length-drop}
+use lib.ListN.{drop, length-drop}
 use Rattle.felica.specs.Accepted.{good-read}
-use Rattle.felica.specs.Checks.{readCheck, writeCheck}
+use Rattle.felica.specs.Checks.{readCheck}
+use Rattle.felica.specs.Names.{blockSize}
 use Rattle.felica.specs.declared.check.Checked.{Checked}
 use Rattle.felica.specs.declared.check.Checked.the-variants.{Good, Faulty}
-use Rattle.protocol.specs.Scripts.{Script, finish, done, part}
-use Rattle.protocol.specs.Blocks.{byCheck, blockBytes}
+use Rattle.protocol.specs.Scripts.{Script, finish, done}
+use Rattle.protocol.specs.Blocks.{byCheck, blockBytes, responseBlocksOffset}
 use Rattle.protocol.specs.Own.{onlyCards}
 use Rattle.protocol.specs.Sound.{Within, Correct, part-placed, cards-part, no-bytes}
 
@@ -26,7 +25,7 @@ blocks-placed idm n bs = go (readCheck idm n (drop 1 bs)) refl
     go : (c : Checked) → readCheck idm n (drop 1 bs) ≡ c → Correct onlyCards (byCheck (blockBytes n bs) c) (bs ∷ [])
     go Good e =
         let long = good-read idm n (drop 1 bs) e .long in
-        (part-placed (bs ∷ []) 0 bs 14 (16 * n) refl (omega (arith, long, length-drop 1 bs)), cards-part 0 bs 14 (16 * n))
+        (part-placed (bs ∷ []) 0 bs responseBlocksOffset (blockSize * n) refl (omega (arith, long, length-drop 1 bs)), cards-part 0 bs responseBlocksOffset (blockSize * n))
     go (Faulty r) e = tt
 
 pub written-placed : (c : Checked) (rs : List (List ℕ)) → Correct onlyCards (byCheck (finish (done [])) c) rs

@@ -10,7 +10,7 @@ use Rattle.framing.specs.Lists.{starts}
 use Rattle.framing.specs.Starts.{starts-append}
 use Rattle.framing.specs.Valid.{both-left}
 use Rattle.exchange.specs.Packets.{resetCode, isAck, hasStart, ackLed, isEmpty, Reply}
-use Rattle.exchange.specs.Exchange.{Order, write, read, drain, pause, Event, ok, bad, pkt, time, fail, late, slept, unfit, pending, ended}
+use Rattle.exchange.specs.Exchange.{Order, write, read, drain, pause, Event, ok, bad, pkt, time, fail, late, slept, unfit, pending, ended, firstReadTime}
 use Rattle.exchange.specs.Exchange.{sending, reading, waiting, cancelling, ExchangeResult, afterAck, onFirstPacket, onLaterPacket, advance}
 use Rattle.protocol.specs.Scripts.{Script, finish, command, reset, fieldPause}
 use Rattle.protocol.specs.Calls.{Call}
@@ -21,6 +21,7 @@ use Rattle.protocol.specs.Claim.{allowedBetween}
 use Rattle.protocol.specs.Laws.{split, by-write, by-read, by-pause, ack-is-ack}
 use Rattle.protocol.specs.PollAlong.{Bare, bare}
 use Rattle.protocol.specs.Chatter.{unanswered, waits, isFurther, eventsBut}
+use Rattle.protocol.specs.Names.{commandClock}
 
 -- ---- an order that is a command frame leads into its exchange
 
@@ -44,7 +45,7 @@ proper-ack phase h = not-both (rw ack-is-ack refl) h
 proper-enter : (s : Script) → Proper (enter s)
 proper-enter (finish a) = tt
 proper-enter (command code clock bytes k) = λ _. record { code = code; clock = clock; rest = byReply k; is = refl }
-proper-enter (reset s) = λ _. record { code = resetCode; clock = 100; rest = ofReset s; is = refl }
+proper-enter (reset s) = λ _. record { code = resetCode; clock = commandClock; rest = ofReset s; is = refl }
 proper-enter (fieldPause s) = not-both refl
 
 proper-reply : (rest : Rest) (r : Reply) → Proper (afterReply rest r)
@@ -137,12 +138,12 @@ module _ (c : Call) where
   bookResult (pending x phase) b = bookOrder x b
   bookResult (ended a) b = bookAnswer c a b
 
-  abbrev pub come : CallResult → Books → List (List ℕ) → Trace
-  come r b ws = trace r (bookResult r b) (wrote r ws)
+  abbrev pub resultTrace : CallResult → Books → List (List ℕ) → Trace
+  resultTrace r b ws = trace r (bookResult r b) (wrote r ws)
 
   abbrev nextBy : Event → CallResult → Books → List (List ℕ) → Trace
   nextBy e unfit b ws = trace unfit b ws
-  nextBy e (pending x phase) b ws = come (progress phase e) b ws
+  nextBy e (pending x phase) b ws = resultTrace (progress phase e) b ws
   nextBy e (ended a) b ws = trace unfit b ws
 
   abbrev pub next : Event → Trace → Trace
@@ -261,7 +262,7 @@ module _ (c : Call) where
 
       at-ok : (u a : Bool) (r : CallResult) → At u a r → (u ≡ true → a ≡ true → Acked r → Waits r) → (then ok r ≡ unfit → ⊥) → At u a (then ok r)
       at-ok false a r i w f = tt
-      at-ok true false r (isSent x code clock rest e) w f = isRead (read 100) code clock rest (ap (then ok) e)
+      at-ok true false r (isSent x code clock rest e) w f = isRead (read firstReadTime) code clock rest (ap (then ok) e)
       at-ok true false r (isRead x code clock rest e) w f = absurd (f (ap (then ok) e))
       at-ok true true r i w f = absurd (f (ap (then ok) ((w refl refl i) .is)))
 
@@ -306,7 +307,7 @@ module _ (c : Call) where
     led-stays : (e : Event) (s : Trace) → Waits (s .result) → isFurther e ≡ true → next e s ≡ s
     led-stays e s w f =
         ap (λ r. nextBy e r (s .books) (s .writes)) (w .is)
-        ∙ ap (λ r. come r (s .books) (s .writes)) (led-again (w .code) (w .clock) (w .rest) e (w .runs) f)
+        ∙ ap (λ r. resultTrace r (s .books) (s .writes)) (led-again (w .code) (w .clock) (w .rest) e (w .runs) f)
         ∙ ap (λ b. trace (pending (read (w .clock)) (exchange (waiting (w .code) (w .clock)) (w .rest))) b (s .writes)) (read-books (w .clock) (s .books))
         ∙ ap (λ r. trace r (s .books) (s .writes)) (sym (w .is))
 

@@ -13,10 +13,10 @@ use Rattle.framing.specs.Frames.{ack}
 use Rattle.framing.specs.Lists.{starts}
 use Rattle.framing.specs.Unpadded.{unpadded-start}
 use Rattle.exchange.specs.Packets.{ackLed}
-use Rattle.exchange.specs.Exchange.{write, read, Event, ok, bad, pkt, time, fail, late, slept, pending, sending, reading, waiting, cancelling}
+use Rattle.exchange.specs.Exchange.{write, read, Event, ok, bad, pkt, time, fail, late, slept, pending, sending, reading, waiting, cancelling, firstReadTime}
 use Rattle.protocol.specs.Scripts.{Byte}
 use Rattle.protocol.specs.Calls.{Call}
-use Rattle.protocol.specs.Session.{Rest, Phase, CallResult, exchange, progress, busy, Books, bookOrder, Session, packetLimit, seen, call, event, Output, orders, answers, rejects}
+use Rattle.protocol.specs.Session.{Rest, Phase, CallResult, exchange, progress, busy, Books, bookOrder, Session, packetLimit, seen, call, event, Output, orders, answers, rejects, bufferNeed}
 use Rattle.protocol.specs.Session.{runs, bufferNeed, packetLength, eventEffect, after, given, step, outputs, sessionAfter}
 use Rattle.protocol.specs.Record.{Item, ordered, accepted, Record, Note, Observed, observed, add, observe, isCommand, events, isAckLed, acked}
 use Rattle.protocol.specs.Claim.{allowedBetween}
@@ -82,7 +82,7 @@ Furthers mode (e ∷ es) =
 
 -- n times the bare ACK
 abbrev pub acks : ℕ → List EventAndRoom
-acks n = replicate n (pkt ack, 1024)
+acks n = replicate n (pkt ack, bufferNeed)
 
 seen-ack : (mode : Bool) → seen mode (pkt ack) ≡ pkt ack
 unfolding starts
@@ -229,52 +229,52 @@ further-pairs s caller c room es ps ds h f = begun-pairs ps ds es _ _ (begins ca
 pub any-length : (s : Session) (caller : ℕ) (c : Call) (room : ℕ) (es : List EventAndRoom) → waits (linesFrom s caller c room es) ≡ true
     → (n : ℕ) (ds : List EventAndRoom) → Beside n (linesFrom s caller c room (es ++ ds)) (linesFrom s caller c room (es ++ (acks n ++ ds)))
 any-length s caller c room es h n ds =
-    subst (λ m. Beside m (linesFrom s caller c room (es ++ ds)) (linesFrom s caller c room (es ++ (acks n ++ ds)))) (length-replicate n (pkt ack, 1024))
+    subst (λ m. Beside m (linesFrom s caller c room (es ++ ds)) (linesFrom s caller c room (es ++ (acks n ++ ds)))) (length-replicate n (pkt ack, bufferNeed))
     (further-pairs s caller c room es (acks n) ds h (bare-acks _ n))
 
 -- ---- a command that was ordered comes to wait
 
 -- its frame is written, and ACK comes
 abbrev pub acknowledged : List EventAndRoom
-acknowledged = (ok, 1024) ∷ (pkt ack, 1024) ∷ []
+acknowledged = (ok, bufferNeed) ∷ (pkt ack, bufferNeed) ∷ []
 
 seen-ok : (mode : Bool) → seen mode ok ≡ ok
 seen-ok false = refl
 seen-ok true = refl
 
 module _ (c : Call) (code clock : ℕ) (rest : Rest) (z : eqb clock 0 ≡ false) where
-  ok-step : (b : Books) → step (busyIn c (exchange (sending code clock) rest) b) (event ok 1024) ≡ (busyIn c (exchange (reading code clock) rest) (bookOrder (read 100) b), orders (read 100))
+  ok-step : (b : Books) → step (busyIn c (exchange (sending code clock) rest) b) (event ok bufferNeed) ≡ (busyIn c (exchange (reading code clock) rest) (bookOrder (read firstReadTime) b), orders (read firstReadTime))
   ok-step b =
       let s : Session = busyIn c (exchange (sending code clock) rest) b in
-      ap (λ e. let o = eventEffect c e 1024 (progress (exchange (sending code clock) rest) e) in (after s (event ok 1024) o, given o)) (seen-ok (b .padded))
+      ap (λ e. let o = eventEffect c e bufferNeed (progress (exchange (sending code clock) rest) e) in (after s (event ok bufferNeed) o, given o)) (seen-ok (b .padded))
 
   ack-again : progress (exchange (reading code clock) rest) (pkt ack) ≡ pending (read clock) (exchange (waiting code clock) rest)
   ack-again = rw (led-start ack ack-led, ack-led, z) refl
 
-  ack-step : (b : Books) → step (busyIn c (exchange (reading code clock) rest) b) (event (pkt ack) 1024) ≡ (busyIn c (exchange (waiting code clock) rest) (bookOrder (read clock) b), orders (read clock))
+  ack-step : (b : Books) → step (busyIn c (exchange (reading code clock) rest) b) (event (pkt ack) bufferNeed) ≡ (busyIn c (exchange (waiting code clock) rest) (bookOrder (read clock) b), orders (read clock))
   ack-step b =
       let s : Session = busyIn c (exchange (reading code clock) rest) b in
-      ap (λ e. let o = eventEffect c e 1024 (progress (exchange (reading code clock) rest) e) in (after s (event (pkt ack) 1024) o, given o)) (seen-ack (b .padded))
-      ∙ ap (λ r. let o = eventEffect c (pkt ack) 1024 r in (after s (event (pkt ack) 1024) o, given o)) ack-again
+      ap (λ e. let o = eventEffect c e bufferNeed (progress (exchange (reading code clock) rest) e) in (after s (event (pkt ack) bufferNeed) o, given o)) (seen-ack (b .padded))
+      ∙ ap (λ r. let o = eventEffect c (pkt ack) bufferNeed r in (after s (event (pkt ack) bufferNeed) o, given o)) ack-again
 
-  comes-to-wait : (b : Books) (l : Record) (y : Note) → unanswered (seenOf (b .padded) l) ≡ true
+  reaches-wait : (b : Books) (l : Record) (y : Note) → unanswered (seenOf (b .padded) l) ≡ true
       → waits (shown (b .padded) (observed l (y ∷ [])) (busyIn c (exchange (sending code clock) rest) b) acknowledged) ≡ true
-  comes-to-wait b l y u =
+  reaches-wait b l y u =
       let first = ok-step b in
-      let second = ack-step (bookOrder (read 100) b) in
+      let second = ack-step (bookOrder (read firstReadTime) b) in
       let w : Observed = observed l (y ∷ []) in
-      let r : Observed = observed ((0, ordered (read 100)) ∷ (0, accepted ok) ∷ l) (y ∷ []) in
-      ap (λ p. waits (shown (b .padded) (add w (event ok 1024) (p .1)) (p .0) ((pkt ack, 1024) ∷ []))) first
-      ∙ ap (λ p. waits (seenOf (b .padded) ((add r (event (pkt ack) 1024) (p .1)) .lines))) second
+      let r : Observed = observed ((0, ordered (read firstReadTime)) ∷ (0, accepted ok) ∷ l) (y ∷ []) in
+      ap (λ p. waits (shown (b .padded) (add w (event ok bufferNeed) (p .1)) (p .0) ((pkt ack, bufferNeed) ∷ []))) first
+      ∙ ap (λ p. waits (seenOf (b .padded) ((add r (event (pkt ack) bufferNeed) (p .1)) .lines))) second
       ∙ rw (seen-ack (b .padded), seen-ok (b .padded), ack-led, u) refl
 
 module _ (es : List EventAndRoom) (d : Call) (code clock : ℕ) (rest : Rest) (z : eqb clock 0 ≡ false) where
-  abbrev ComesToWait : Session → Observed → Type 0
-  ComesToWait s w =
+  abbrev ReachesWait : Session → Observed → Type 0
+  ReachesWait s w =
       unanswered (shown (s .books .padded) w s es) ≡ true → (sessionAfter s (map eventEntry es)) .running ≡ busy d (exchange (sending code clock) rest)
       → waits (shown (s .books .padded) w s (es ++ acknowledged)) ≡ true
 
-  going-waits : (c : Call) (t : Trace) (l : Record) (y : Note) (phase : Phase) (b : Books) → Here c t l b phase [] → ComesToWait (busyIn c phase b) (observed l (y ∷ []))
+  going-waits : (c : Call) (t : Trace) (l : Record) (y : Note) (phase : Phase) (b : Books) → Here c t l b phase [] → ReachesWait (busyIn c phase b) (observed l (y ∷ []))
   going-waits c t l y phase b k u p =
       let v : Observed = observed l (y ∷ []) in
       let r : Session = busyIn c phase b in
@@ -283,7 +283,7 @@ module _ (es : List EventAndRoom) (d : Call) (code clock : ℕ) (rest : Rest) (z
       let g = run-on c t es l y phase b [] k in
       let n = g .noted in
       let here : waits (shown (s .books .padded) (observed (w .lines) (n .0 ∷ [])) (busyIn d (exchange (sending code clock) rest) (s .books)) acknowledged) ≡ true =
-      comes-to-wait d code clock rest z (s .books) (w .lines) (n .0) (subst (λ m. unanswered (seenOf m (w .lines)) ≡ true) (sym (g .inMode)) u) in
+      reaches-wait d code clock rest z (s .books) (w .lines) (n .0) (subst (λ m. unanswered (seenOf m (w .lines)) ≡ true) (sym (g .inMode)) u) in
       let in-session : waits (shown (s .books .padded) (observed (w .lines) (n .0 ∷ [])) s acknowledged) ≡ true =
       subst (λ q. waits (shown (s .books .padded) (observed (w .lines) (n .0 ∷ [])) (record { running = q; books = s .books }) acknowledged) ≡ true) (sym p) here in
       let seen-so : waits (shown (s .books .padded) w s acknowledged) ≡ true =
@@ -291,11 +291,11 @@ module _ (es : List EventAndRoom) (d : Call) (code clock : ℕ) (rest : Rest) (z
       subst (λ x. waits (seenOf (b .padded) (x .lines)) ≡ true) (sym (seen-append es acknowledged v r))
       (subst (λ m. waits (shown m w s acknowledged) ≡ true) (g .inMode) seen-so)
 
-  begun-waits : (s : Session) (w : Observed) → Begins s w → ComesToWait s w
+  begun-waits : (s : Session) (w : Observed) → Begins s w → ReachesWait s w
   begun-waits s w (silent b p q) =
-      subst (λ r. ComesToWait r w) (sym p) (λ u h. absurd (false≢true (ap isIdle (sym h ∙ ap (λ r. r .running) (idle-after b es)))))
+      subst (λ r. ReachesWait r w) (sym p) (λ u h. absurd (false≢true (ap isIdle (sym h ∙ ap (λ r. r .running) (idle-after b es)))))
   begun-waits s w (going c t l y phase b i k p q) =
-      subst (λ r. ComesToWait r w) (sym p) (subst (λ v. ComesToWait (busyIn c phase b) v) (sym q) (going-waits c t l y phase b k))
+      subst (λ r. ReachesWait r w) (sym p) (subst (λ v. ReachesWait (busyIn c phase b) v) (sym q) (going-waits c t l y phase b k))
 
 -- behind any events es after which a command frame has been ordered: its `ok` and ACK, if its clock is not 0 ms
 pub command-waits : (s : Session) (caller : ℕ) (c : Call) (room : ℕ) (es : List EventAndRoom) (d : Call) (code clock : ℕ) (rest : Rest) → eqb clock 0 ≡ false

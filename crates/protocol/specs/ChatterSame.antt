@@ -17,7 +17,7 @@ use Rattle.protocol.specs.Record.{Item, ordered, accepted, Record, Note,
 use Rattle.protocol.specs.Laws.{split}
 use Rattle.protocol.specs.PollList.{EventAndRoom, eventEntry, idleWith}
 use Rattle.protocol.specs.Chatter.{waits, Alike, callEntries, watching, linesFrom, answersIn, writesIn, SameFor}
-use Rattle.protocol.specs.ChatterLaws.{Proper, proper-begin, Trace, trace, come, withWrite, next, replay, reached, IsAsked, AskedBy, Real, replayed}
+use Rattle.protocol.specs.ChatterLaws.{Proper, proper-begin, Trace, trace, resultTrace, withWrite, next, replay, reached, IsAsked, AskedBy, Real, replayed}
 
 -- a call's lines as a mode sees them
 abbrev pub seenOf : Bool → Record → List Item
@@ -39,7 +39,7 @@ module _ (c : Call) (t : Trace) (mode : Bool) where
   abbrev pub behind : Observed → Trace
   behind w = reached c t (seenOf mode (w .lines))
 
-  pub record Followed (ws : List (List ℕ)) (w : Observed) (s : Session) (outs : List (Output Byte)) : Type 0 where
+  pub record MatchesTrace (ws : List (List ℕ)) (w : Observed) (s : Session) (outs : List (Output Byte)) : Type 0 where
     pub real : Real c t (seenOf mode (w .lines))
     pub asked : AskedBy c t ((behind w) .result) (seenOf mode (w .lines))
     pub noted : (y : Note) × (w .notes ≡ y ∷ [])
@@ -50,8 +50,8 @@ module _ (c : Call) (t : Trace) (mode : Bool) where
     pub written : reverseAux (writesIn outs) ws ≡ (behind w) .writes
 
 -- the same behind other outputs
-outs-as : {c : Call} {t : Trace} {mode : Bool} {vs ws : List (List ℕ)} {w : Observed} {s : Session} {xs ys : List (Output Byte)} → Followed c t mode vs w s xs
-    → answersIn ys ≡ answersBy ((behind c t mode w) .result) → reverseAux (writesIn ys) ws ≡ (behind c t mode w) .writes → Followed c t mode ws w s ys
+outs-as : {c : Call} {t : Trace} {mode : Bool} {vs ws : List (List ℕ)} {w : Observed} {s : Session} {xs ys : List (Output Byte)} → MatchesTrace c t mode vs w s xs
+    → answersIn ys ≡ answersBy ((behind c t mode w) .result) → reverseAux (writesIn ys) ws ≡ (behind c t mode w) .writes → MatchesTrace c t mode ws w s ys
 outs-as f p q =
     record { real = f .real; asked = f .asked; noted = f .noted; inMode = f .inMode; running = f .running; books = f .books; answered = p; written = q }
 
@@ -97,13 +97,13 @@ module _ (c : Call) (t : Trace) where
     pub order : Order
     pub is : reached c t (seenOf (b .padded) l) ≡ trace (pending order phase) b ws
 
-  abbrev pub FollowsFrom : Bool → List (List ℕ) → Observed → Session → List EventAndRoom → Type 0
-  FollowsFrom mode ws w s es =
-      Followed c t mode ws (seenBehind w s es) (sessionAfter s (map eventEntry es)) (outputs s (map eventEntry es))
+  abbrev pub MatchesFrom : Bool → List (List ℕ) → Observed → Session → List EventAndRoom → Type 0
+  MatchesFrom mode ws w s es =
+      MatchesTrace c t mode ws (seenBehind w s es) (sessionAfter s (map eventEntry es)) (outputs s (map eventEntry es))
 
   abbrev pub RunsOn : List EventAndRoom → Type 0
   RunsOn es = (l : Record) (y : Note) (phase : Phase) (b : Books) (ws : List (List ℕ)) → Here l b phase ws
-      → FollowsFrom (b .padded) ws (observed l (y ∷ [])) (busyIn c phase b) es
+      → MatchesFrom (b .padded) ws (observed l (y ∷ [])) (busyIn c phase b) es
 
   module _ (e : Event) (room : ℕ) (es : List EventAndRoom) (on : RunsOn es) (l : Record) (y : Note) (phase : Phase) (b : Books) (ws : List (List ℕ)) (h : Here l b phase ws) where
     abbrev d : Event
@@ -112,7 +112,7 @@ module _ (c : Call) (t : Trace) where
     -- what an effect of the event leads to
     abbrev Goal : Effect → Type 0
     Goal o =
-        Followed c t (b .padded) ws
+        MatchesTrace c t (b .padded) ws
         (seenBehind (addEvent e l (y ∷ []) (given o)) (after (busyIn c phase b) (event e room) o) es)
         (sessionAfter (after (busyIn c phase b) (event e room) o) (map eventEntry es))
         (given o ∷ outputs (after (busyIn c phase b) (event e room) o) (map eventEntry es))
@@ -123,15 +123,15 @@ module _ (c : Call) (t : Trace) where
         outs-as f (f .answered) (f .written)
 
     -- the event is accepted
-    event-comes : (r : CallResult) → progress phase d ≡ r → next c d (reached c t (seenOf (b .padded) l)) ≡ come c r b ws
-    event-comes r p = ap (next c d) (h .is) ∙ ap (λ z. come c z b ws) p
+    event-next : (r : CallResult) → progress phase d ≡ r → next c d (reached c t (seenOf (b .padded) l)) ≡ resultTrace c r b ws
+    event-next r p = ap (next c d) (h .is) ∙ ap (λ z. resultTrace c z b ws) p
 
     fits : (r : CallResult) → progress phase d ≡ r → (r ≡ unfit → ⊥) → (next c d (reached c t (seenOf (b .padded) l))) .result ≡ unfit → ⊥
-    fits r p n u = n (sym (ap (λ z. z .result) (event-comes r p)) ∙ u)
+    fits r p n u = n (sym (ap (λ z. z .result) (event-next r p)) ∙ u)
 
     runs-goal : (x : Order) (new : Phase) → progress phase d ≡ pending x new → Goal (runs c x new)
     runs-goal x new p =
-        let is : next c d (reached c t (seenOf (b .padded) l)) ≡ come c (pending x new) b ws = event-comes (pending x new) p in
+        let is : next c d (reached c t (seenOf (b .padded) l)) ≡ resultTrace c (pending x new) b ws = event-next (pending x new) p in
         let f = on ((0, ordered x) ∷ (0, accepted e) ∷ l) y new (bookOrder x b) (withWrite x ws) (record {
           real = ((h .real, h .asked, fits (pending x new) p (λ u. false≢true (ap isUnfit u))), (new, ap (λ z. z .result) is));
           asked = tt;
@@ -142,12 +142,12 @@ module _ (c : Call) (t : Trace) where
 
     ends-goal : (a : Answer Byte) → progress phase d ≡ ended a → Goal (ends c a)
     ends-goal a p =
-        let is : next c d (reached c t (seenOf (b .padded) l)) ≡ come c (ended a) b ws = event-comes (ended a) p in
+        let is : next c d (reached c t (seenOf (b .padded) l)) ≡ resultTrace c (ended a) b ws = event-next (ended a) p in
         let s : Session = idleWith (bookAnswer c a b) in
         let outs : List (Output Byte) = answers a ∷ outputs s (map eventEntry es) in
         let none-more = idle-outs (bookAnswer c a b) es in
         let w : Observed = observed ((0, accepted e) ∷ l) (note (y .caller) (y .call) (some a) ∷ []) in
-        let ended-here : Followed c t (b .padded) ws w s outs = record {
+        let ended-here : MatchesTrace c t (b .padded) ws w s outs = record {
           real = (h .real, h .asked, fits (ended a) p (λ u. false≢true (ap isUnfit u)));
           asked = subst (λ r. AskedBy c t r (seenOf (b .padded) (w .lines))) (ap (λ z. z .result) (sym is)) tt;
           noted = (_, refl);
@@ -157,9 +157,9 @@ module _ (c : Call) (t : Trace) where
           answered = ap (λ others. a ∷ others) (none-more .0) ∙ ap (λ z. answersBy (z .result)) (sym is);
           written = ap (λ vs. reverseAux vs ws) (none-more .1) ∙ ap (λ z. z .writes) (sym is);
         } in
-        subst (λ k. Followed c t (b .padded) ws k (sessionAfter s (map eventEntry es)) outs)
+        subst (λ k. MatchesTrace c t (b .padded) ws k (sessionAfter s (map eventEntry es)) outs)
         (sym (idle-seen (bookAnswer c a b) (w .lines) (w .notes) es))
-        (subst (λ r. Followed c t (b .padded) ws w r outs) (sym (idle-after (bookAnswer c a b) es)) ended-here)
+        (subst (λ r. MatchesTrace c t (b .padded) ws w r outs) (sym (idle-after (bookAnswer c a b) es)) ended-here)
 
     admitted-goal : (o : Effect) → Goal o → Goal (admitted d room o)
     admitted-goal o g =
@@ -244,7 +244,7 @@ pub record Both (r s : Session) (xs ys : List (Output Byte)) : Type 0 where
   pub session : r ≡ s
 
 module _ (c : Call) (t : Trace) (mode : Bool) (p : Proper (t .result)) (v w : Observed) (r s : Session) (xs ys : List (Output Byte)) where
-  same-trace : Followed c t mode [] v r xs → Followed c t mode [] w s ys → Alike waits (seenOf mode (v .lines)) (seenOf mode (w .lines)) → Both r s xs ys
+  same-trace : MatchesTrace c t mode [] v r xs → MatchesTrace c t mode [] w s ys → Alike waits (seenOf mode (v .lines)) (seenOf mode (w .lines)) → Both r s xs ys
   same-trace f g a =
       let q : behind c t mode v ≡ behind c t mode w =
       replayed c t (seenOf mode (v .lines)) p (f .real) ∙ ap (replay c t) a ∙ sym (replayed c t (seenOf mode (w .lines)) p (g .real)) in

@@ -12,7 +12,7 @@ use Rattle.exchange.specs.Packets.{commandFrame}
 use Rattle.exchange.specs.Exchange.{write, read, drain, ok, pkt, time}
 use Rattle.protocol.specs.Scripts.{refused}
 use Rattle.protocol.specs.Calls.{Call, reader, request, version}
-use Rattle.protocol.specs.Session.{noCounts, Session, Output, orders, answers, outputs}
+use Rattle.protocol.specs.Session.{noCounts, Session, Output, orders, answers, outputs, bufferNeed}
 use Rattle.protocol.specs.Machine.{plain}
 use Rattle.protocol.specs.PollList.{EventAndRoom, idleWith}
 use Rattle.protocol.specs.Chatter.{unanswered, Alike, callEntries, linesFrom, answersIn, SameFor}
@@ -25,20 +25,20 @@ abbrev asksVersion : Call
 asksVersion = reader (request version)
 
 abbrev falseStart : EventAndRoom
-falseStart = (pkt (0x00 ∷ []), 1024)
+falseStart = (pkt (0x00 ∷ []), bufferNeed)
 
 -- without ACK before it, and with ACK
 abbrev first : List EventAndRoom
-first = (ok, 1024) ∷ falseStart ∷ []
+first = (ok, bufferNeed) ∷ falseStart ∷ []
 
 abbrev second : List EventAndRoom
-second = (ok, 1024) ∷ (pkt ack, 1024) ∷ falseStart ∷ []
+second = (ok, bufferNeed) ∷ (pkt ack, bufferNeed) ∷ falseStart ∷ []
 
 abbrev givenFor : List EventAndRoom → List (Output ℕ)
-givenFor es = map plain (outputs openReader (callEntries 0 asksVersion 1024 es))
+givenFor es = map plain (outputs openReader (callEntries 0 asksVersion bufferNeed es))
 
 -- the first writes ACK, drains and ends with 9; the second ends with 10
-first-run : givenFor (first ++ ((ok, 1024) ∷ (time, 1024) ∷ []))
+first-run : givenFor (first ++ ((ok, bufferNeed) ∷ (time, bufferNeed) ∷ []))
     ≡ orders (write (commandFrame 0x02 [])) ∷ orders (read 100) ∷ orders (write ack) ∷ orders drain ∷ answers (refused FalseStart) ∷ []
 unfolding formats
 first-run = refl
@@ -47,12 +47,12 @@ second-run : givenFor second ≡ orders (write (commandFrame 0x02 [])) ∷ order
 unfolding formats
 second-run = refl
 
-alike-widened : Alike unanswered (linesFrom openReader 0 asksVersion 1024 first) (linesFrom openReader 0 asksVersion 1024 second)
+alike-widened : Alike unanswered (linesFrom openReader 0 asksVersion bufferNeed first) (linesFrom openReader 0 asksVersion bufferNeed second)
 unfolding formats
 alike-widened = refl
 
 -- the first has no answer yet
-answers-differ : answersIn (outputs openReader (callEntries 0 asksVersion 1024 first)) ≡ answersIn (outputs openReader (callEntries 0 asksVersion 1024 second)) → ⊥
+answers-differ : answersIn (outputs openReader (callEntries 0 asksVersion bufferNeed first)) ≡ answersIn (outputs openReader (callEntries 0 asksVersion bufferNeed second)) → ⊥
 unfolding formats
 answers-differ e = let z : _≡_ {A = ℕ} 0 1 = ap length e in omega arith
 
@@ -60,4 +60,4 @@ pub widened-refuted : ((s : Session) (caller : ℕ) (c : Call) (room : ℕ) (es 
     → Alike unanswered (linesFrom s caller c room es) (linesFrom s caller c room ds)
     → SameFor s (callEntries caller c room es) (callEntries caller c room ds))
     → ⊥
-widened-refuted f = answers-differ ((f openReader 0 asksVersion 1024 first second alike-widened) .result)
+widened-refuted f = answers-differ ((f openReader 0 asksVersion bufferNeed first second alike-widened) .result)

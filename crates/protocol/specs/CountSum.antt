@@ -1,9 +1,8 @@
 -- The counts of the eight callers add up to the record's command frames since the last opening began, where none has reached the ceiling.
-use mathlib.Core.Path.{_≡_, refl, ap, _∙_}
+use mathlib.Core.Path.{_≡_, refl, _∙_}
 use mathlib.Core.Bool.{Bool, true, false, cond}
 use mathlib.Core.List.{List, [], _∷_}
-use mathlib.Core.Option.{Option}
-use Prim.Native.Nat.{ℕ, zero, suc, _+_, _≤_, _<_, min}
+use Prim.Native.Nat.{ℕ, zero, suc, _+_, _≤_, _<_}
 use native.Mathlib.Omega.{arith}
 use borrow.Author.Tests.{leb-true}
 use lib.Dec.{eqb, leb, ltb}
@@ -13,7 +12,7 @@ use Rattle.protocol.specs.Scripts.{Byte}
 use Rattle.protocol.specs.Calls.{Call, isOpening}
 use Rattle.protocol.specs.Starts.{Start, refuses, starts, startOf}
 use Rattle.protocol.specs.Session.{CallResult, begin, Running, idle, busy, Books, lastCaller, ceiling, admits, Session, fresh, Entry, call, event, Output, orders, answers, rejects}
-use Rattle.protocol.specs.Session.{Effect, unchanged, runs, ends, effect, bufferNeed, started, callEffect, effectOf, given, step, outputs, sessionAfter}
+use Rattle.protocol.specs.Session.{Effect, effect, bufferNeed, started, callEffect, effectOf, given, step, outputs, sessionAfter}
 use Rattle.protocol.specs.Record.{Record, Note, Observed, observed, addCall, addEvent, add, observe, recordOf, linesOf, frames, framesSinceOpening, framesBy}
 use Rattle.protocol.specs.Laws.{split}
 use Rattle.protocol.specs.Count.{counts-right}

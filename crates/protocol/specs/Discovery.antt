@@ -11,23 +11,23 @@ use Rattle.targets.specs.TypeA.{isTargetData}
 use Rattle.crc.specs.Crc.{typeA as crcA, checks}
 use Rattle.protocol.specs.Scripts.{Byte, own, behind, Answer, done, type1, uidAndAts, nothing, refused, refusedAfter}
 use Rattle.protocol.specs.Scripts.{Script, finish, command, fieldPause, refuse, either, ifElse, andThen, byteAt, part, rest}
-use Rattle.protocol.specs.Arguments.{word}
+use Rattle.protocol.specs.Arguments.{word, shortestAtrReq, nfcid3Size}
 use Rattle.protocol.specs.Chipset.{readSingleRegister, writeSingleRegister, rfConfiguration, inListPassiveTarget, inDataExchange, inDataExchangeElse, inCommunicateThru, inCommunicateThruElse, inJumpForDepElse}
-use Rattle.protocol.specs.Names.{ciuFifoData, ciuMode, ciuRxMode, ciuTxControl, registersClock, rfNotActivated, timeoutStatus, typeBClock}
+use Rattle.protocol.specs.Names.{ciuFifoData, ciuMode, ciuRxMode, ciuTxControl, registersClock, rfNotActivated, timeoutStatus, typeBClock, ridClock, cascadeTag, deselectCode, idmAndPmm, listedIdmOffset, pmmEnd, protocolOffset, ridCode, selResOffset, sensReq, sensResOffset, targetOffset, uidLengthOffset, uidOffset, wupbCode, wupbParameter}
 use Rattle.protocol.specs.Calls.{inCommunicateThruCode, readRegisterCode}
 
 -- ---- detect_type_a
 
 -- a UID over 4 bytes gets 0x88 at 0; if then over 8, 0x88 at 4
 abbrev pub prefixed : List ℕ → List ℕ
-prefixed uid = cond (ltb 4 (length uid)) (0x88 ∷ uid) uid
+prefixed uid = cond (ltb 4 (length uid)) (cascadeTag ∷ uid) uid
 
 abbrev pub cascaded : List ℕ → List ℕ
-cascaded uid = cond (ltb 8 (length (prefixed uid))) (take 4 (prefixed uid) ++ (0x88 ∷ drop 4 (prefixed uid))) (prefixed uid)
+cascaded uid = cond (ltb 8 (length (prefixed uid))) (take 4 (prefixed uid) ++ (cascadeTag ∷ drop 4 (prefixed uid))) (prefixed uid)
 
 -- SENS_RES in the other order, SEL_RES, SDD_RES
 abbrev pub cardA : List ℕ → List Byte
-cardA list = byteAt 0 list 3 ∷ byteAt 0 list 2 ∷ byteAt 0 list 4 ∷ rest 0 list 6
+cardA list = byteAt 0 list (sensResOffset + 1) ∷ byteAt 0 list sensResOffset ∷ byteAt 0 list selResOffset ∷ rest 0 list uidOffset
 
 -- Type 2: the CRC check is switched off in the RX mode before the answer
 abbrev pub withoutCrc : Answer Byte → Script
@@ -38,26 +38,26 @@ isType2 selRes = eqb (selRes / 32 % 4) 0
 
 -- the answer, at once or behind the RX mode
 abbrev pub byType2 : List ℕ → Answer Byte → Script
-byType2 list a = ifElse (isType2 (getD list 4 0)) (withoutCrc a) (finish a)
+byType2 list a = ifElse (isType2 (getD list selResOffset 0)) (withoutCrc a) (finish a)
 
 abbrev pub foundA : List ℕ → Script
-foundA list = ifElse (ltb (length list) 6) (finish nothing) (byType2 list (done (cardA list)))
+foundA list = ifElse (ltb (length list) uidOffset) (finish nothing) (byType2 list (done (cardA list)))
 
 -- the RID exchange: 15 is none; short list data gives 16 behind it
 abbrev pub noneOnStatus : Fault → Script
 noneOnStatus r = byStatus (λ _. finish nothing) (refuse r) r
 
 abbrev pub cardType1 : List ℕ → List ℕ → Script
-cardType1 list rid = ifElse (ltb (length list) 4) (refuse ShortResponse) (finish (type1 (byteAt 2 list 3 ∷ byteAt 2 list 2 ∷ rest 3 rid 1)))
+cardType1 list rid = ifElse (ltb (length list) 4) (refuse ShortResponse) (finish (type1 (byteAt 2 list (sensResOffset + 1) ∷ byteAt 2 list sensResOffset ∷ rest 3 rid 1)))
 
 abbrev pub tryType1 : Script
 tryType1 =
     inListPassiveTarget 1 4 [] (finish nothing)
-    (λ list. inDataExchangeElse (0x78 ∷ 0x00 ∷ 0x00 ∷ 0x00 ∷ 0x00 ∷ 0x00 ∷ 0x00 ∷ []) 100 (cardType1 list) noneOnStatus)
+    (λ list. inDataExchangeElse (ridCode ∷ 0x00 ∷ 0x00 ∷ 0x00 ∷ 0x00 ∷ 0x00 ∷ 0x00 ∷ []) ridClock (cardType1 list) noneOnStatus)
 
 -- no target: FIFO 0x26 is none; any other value, or a refused read, leads to the Type 1 try
 abbrev pub noTarget : Script
-noTarget = command readRegisterCode registersClock (word ciuFifoData) (either (λ bs. ifElse (eqb (getD bs 0 0) 0x26) (finish nothing) tryType1) (λ _. tryType1))
+noTarget = command readRegisterCode registersClock (word ciuFifoData) (either (λ bs. ifElse (eqb (getD bs 0 0) sensReq) (finish nothing) tryType1) (λ _. tryType1))
 
 abbrev pub detectTypeA : ℕ → List ℕ → Script
 detectTypeA code uid = inListPassiveTarget 1 code (cascaded uid) noTarget foundA
@@ -66,15 +66,15 @@ detectTypeA code uid = inListPassiveTarget 1 code (cascaded uid) noTarget foundA
 -- ATS's is its first byte. List data that is no target data of Type A is refused at once.
 
 abbrev pub uidLength : List ℕ → ℕ
-uidLength list = getD list 5 0
+uidLength list = getD list uidLengthOffset 0
 
 abbrev pub atsLength : List ℕ → ℕ
-atsLength list = getD list (6 + uidLength list) 0
+atsLength list = getD list (uidOffset + uidLength list) 0
 
 abbrev pub foundSplit : List ℕ → Script
 foundSplit list =
-    ifElse (ltb (length list) 6) (finish nothing)
-    (ifElse (isTargetData (drop 2 list)) (byType2 list (uidAndAts (cardA list) (uidLength list) (atsLength list))) (refuse UidLayout))
+    ifElse (ltb (length list) uidOffset) (finish nothing)
+    (ifElse (isTargetData (drop targetOffset list)) (byType2 list (uidAndAts (cardA list) (uidLength list) (atsLength list))) (refuse UidLayout))
 
 abbrev pub detectTypeASplit : ℕ → List ℕ → Script
 detectTypeASplit code uid = inListPassiveTarget 1 code (cascaded uid) noTarget foundSplit
@@ -83,17 +83,17 @@ detectTypeASplit code uid = inListPassiveTarget 1 code (cascaded uid) noTarget f
 
 -- the wake-up's failure is none
 abbrev pub wakeUp : ℕ → Script
-wakeUp afi = inCommunicateThruElse (0x05 ∷ afi ∷ 0x08 ∷ []) 500 (λ bs. finish (done (rest 2 bs 1))) (λ _. finish nothing)
+wakeUp afi = inCommunicateThruElse (wupbCode ∷ afi ∷ wupbParameter ∷ []) typeBClock (λ bs. finish (done (rest 2 bs 1))) (λ _. finish nothing)
 
 -- the deselect's outcome is ignored
 abbrev pub deselect : ℕ → Script
-deselect afi = command inCommunicateThruCode typeBClock (0xC2 ∷ []) (λ _. wakeUp afi)
+deselect afi = command inCommunicateThruCode typeBClock (deselectCode ∷ []) (λ _. wakeUp afi)
 
 -- byte 10 of the data, masked with 9, is 1
 abbrev pub foundB : ℕ → List ℕ → Script
 foundB afi list =
-    ifElse (ltb (length list) 13) (finish nothing)
-    (ifElse (eqb (getD list 12 0 % 2) 1) (ifElse (eqb (getD list 12 0 / 8 % 2) 0) (deselect afi) (finish nothing)) (finish nothing))
+    ifElse (ltb (length list) (protocolOffset + 1)) (finish nothing)
+    (ifElse (eqb (getD list protocolOffset 0 % 2) 1) (ifElse (eqb (getD list protocolOffset 0 / 8 % 2) 0) (deselect afi) (finish nothing)) (finish nothing))
 
 abbrev pub detectTypeB : ℕ → ℕ → Script
 detectTypeB code afi = inListPassiveTarget 1 code (afi ∷ []) (finish nothing) (foundB afi)
@@ -106,7 +106,7 @@ sensfReq systemCode requestCode timeSlots = 0x00 ∷ word systemCode ++ (request
 abbrev pub poll : ℕ → ℕ → List ℕ → Script
 poll k code req =
     inListPassiveTarget 1 code req (refuse NoCard)
-    (λ list. ifElse (ltb (length list) 20) (refuse ShortResponse) (finish (done (rest k list 4))))
+    (λ list. ifElse (ltb (length list) pmmEnd) (refuse ShortResponse) (finish (done (rest k list listedIdmOffset))))
 
 abbrev pub detectTypeF : ℕ → List ℕ → Script
 detectTypeF code req =
@@ -136,7 +136,7 @@ byNoCard x a UidLayout = a
 
 -- what a code adds to the answer: 01, IDm and PMm of an answer that has the optional bytes behind them; 00 where no card was met
 abbrev pub cardMet : List Byte → List Byte
-cardMet bytes = own 0x01 ∷ take 16 bytes
+cardMet bytes = own 0x01 ∷ take idmAndPmm bytes
 
 abbrev pub noCardMet : List Byte
 noCardMet = own 0x00 ∷ []
@@ -171,7 +171,7 @@ noPartner r = byStatus (λ status. ifElse (eqb status timeoutStatus || eqb statu
 abbrev pub detectDep : ℕ → List ℕ → Script
 detectDep code atrReq =
     rfConfiguration 0x02 (0x0B ∷ 0x0B ∷ 0x0A ∷ [])
-    (inJumpForDepElse 1 code [] (take 10 (drop 2 atrReq)) (drop 16 atrReq)
+    (inJumpForDepElse 1 code [] (take nfcid3Size (drop 2 atrReq)) (drop shortestAtrReq atrReq)
     (λ bs. writeSingleRegister ciuMode 0x3B (finish (done (own 0xD5 ∷ own 0x01 ∷ rest 1 bs 2)))) noPartner)
 
 -- ---- transceive

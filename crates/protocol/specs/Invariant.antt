@@ -10,7 +10,7 @@ use borrow.Author.Tests.{eqb-true}
 use lib.Dec.{eqb}
 use lib.ListN.{length, drop, getElem?}
 use Rattle.framing.specs.Frames.{ack}
-use Rattle.framing.specs.Lists.{same}
+use Rattle.errors.specs.Choice.{same, same-self}
 use Rattle.exchange.specs.Packets.{commandFrame, resetCode, resetData, Reply, response, failed, replyOf}
 use Rattle.exchange.specs.Exchange.{write, read, drain, pause, pkt}
 use Rattle.exchange.specs.Exchange.{unfit, pending, ended, Step, sending, reading, waiting, cancelling, rejecting, draining}
@@ -21,8 +21,9 @@ use Rattle.protocol.specs.Session.{CallResult, enter}
 use Rattle.protocol.specs.Record.{Item, ordered, accepted, Record, linesOf, oneIf, frames, events, pendingOrder, acked, allowed}
 use Rattle.protocol.specs.Claim.{allowedBetween, Between, CardByte, bytesOf, Ended}
 use Rattle.protocol.specs.Own.{Form, onlyCards, versionAndName, cardsAndFlag, cardAndRates, depAndCards, polledCodes, HasForm, Formed, formOf}
-use Rattle.protocol.specs.Sound.{Within, responseTo, responseIn, Placed, no-bytes, own-byte, card-byte, Stands, Final, OfExchange, Correct}
-use Rattle.protocol.specs.Laws.{frame-not-ack, same-refl, ack-is-ack, lines-own}
+use Rattle.protocol.specs.Sound.{Within, responseTo, responseIn, Placed, no-bytes, own-byte, card-byte, IsResponseByte, Final, OfExchange, Correct}
+use Rattle.protocol.specs.Laws.{frame-not-ack, ack-is-ack, lines-own}
+use Rattle.protocol.specs.Names.{commandClock, openingReadTime}
 
 -- ---- the invariant
 
@@ -125,7 +126,7 @@ module _ (n : ℕ) (c : Call) where
   At (resetPause s) l xs k = frames xs ≡ k
   At (fieldPausing s) l xs k = frames xs ≡ k
   At (openingAck s) l xs k = (frames xs ≡ k) × (k ≡ 0)
-  At (openingReads s) l xs k = (frames xs ≡ k) × (k ≡ 0) × (pendingOrder xs ≡ some (read 10))
+  At (openingReads s) l xs k = (frames xs ≡ k) × (k ≡ 0) × (pendingOrder xs ≡ some (read openingReadTime))
 
   -- the responses rs stand in the record
   abbrev pub Sourced : Record → List (List ℕ) → Type 0
@@ -203,9 +204,9 @@ module _ (n : ℕ) (c : Call) where
   final-cards l rs f (refusedAfter r j) h k p b m = absurd (List·Memᴰ·not-nil m)
 
   final-form : (l : Record) (rs : List (List ℕ)) → Sourced l rs → (a : Answer Byte) → Final (formOf c) rs a → Formed (CardByte l n) (formOf c) a
-  final-form l rs f (done bs) h = form-by (Stands rs) (CardByte l n) f (formOf c) (done bs) (h .1)
-  final-form l rs f (type1 bs) h = form-by (Stands rs) (CardByte l n) f (formOf c) (type1 bs) (h .1)
-  final-form l rs f (uidAndAts bs uid ats) h = form-by (Stands rs) (CardByte l n) f (formOf c) (uidAndAts bs uid ats) (h .1)
+  final-form l rs f (done bs) h = form-by (IsResponseByte rs) (CardByte l n) f (formOf c) (done bs) (h .1)
+  final-form l rs f (type1 bs) h = form-by (IsResponseByte rs) (CardByte l n) f (formOf c) (type1 bs) (h .1)
+  final-form l rs f (uidAndAts bs uid ats) h = form-by (IsResponseByte rs) (CardByte l n) f (formOf c) (uidAndAts bs uid ats) (h .1)
   final-form l rs f nothing h = tt
   final-form l rs f (refused r) h = tt
   final-form l rs f (refusedAfter r j) h = tt
@@ -251,8 +252,8 @@ module _ (n : ℕ) (c : Call) where
     entered (reset s) zero b q w e f = absurd (w .0)
     entered (reset s) (suc m) b q w e f =
         let h : frames (ordered (write (commandFrame resetCode resetData)) ∷ xs) ≡ suc (frames xs) = counts resetCode resetData in
-        let g : oneIf (same (commandFrame resetCode resetData) (commandFrame resetCode resetData)) ≡ 1 = rw (same-refl (commandFrame resetCode resetData)) in
-        sent resetCode 100 resetData (ofReset s) m (omega arith) q w e f
+        let g : oneIf (same (commandFrame resetCode resetData) (commandFrame resetCode resetData)) ≡ 1 = rw (same-self (commandFrame resetCode resetData)) in
+        sent resetCode commandClock resetData (ofReset s) m (omega arith) q w e f
     entered (fieldPause s) m b q w e f = record {
       lines = lines-own n l (ordered (pause 20400)) xs own-lines;
       responses = rs;

@@ -1,5 +1,5 @@
 -- Laws of tests, of faults, of scripts one behind the other, of events by the order that they answer, of frames, and of a call's lines.
-use mathlib.Core.Path.{_≡_, refl}
+use mathlib.Core.Path.{_≡_, refl, ap}
 use mathlib.Core.Bool.{Bool, true, false, cond}
 use mathlib.Core.List.{List, [], _∷_}
 use Prim.Native.Nat.{ℕ, _+_, _%_, _≤_, _<_}
@@ -9,8 +9,7 @@ use lib.Dec.{eqb, ltb}
 use lib.ListN.{length}
 use Rattle.framing.specs.Enclose.{length-frame}
 use Rattle.framing.specs.Frames.{ack, startOf}
-use Rattle.errors.specs.Choice.{pick}
-use Rattle.framing.specs.Lists.{starts, same}
+use Rattle.errors.specs.Choice.{pick, same-self, same-not}
 use Rattle.framing.specs.Parse.{parseOf, payloadOf}
 use Rattle.framing.specs.Settings.{rcs956, commandPayload}
 use Rattle.framing.specs.declared.FrameType.{FrameType}
@@ -18,9 +17,9 @@ use Rattle.framing.specs.declared.FrameType.the-variants.{Ack, Error, Data, Not
 use Rattle.framing.specs.declared.LengthEncoding.the-variants.{NormalOrExtendedBigEndian}
 use Rattle.errors.specs.declared.Fault.{Fault}
 use Rattle.errors.specs.declared.Fault.the-variants.{Transport, TimeOut, FalseStart, BrokenFrame, Length, FrameKind, Identifier, Code, Status, ShortResponse, NoCard, CrcA, Rate, CardStatus, OtherCard, UidLayout}
-use Rattle.exchange.specs.Packets.{commandFrame, isAck, Reply, response, failed, codeReply, payloadReply, filling, frameReply, replyOf}
+use Rattle.exchange.specs.Packets.{commandFrame, isAck, Reply, codeReply, payloadReply, filling, frameReply, replyOf}
 use Rattle.exchange.specs.Exchange.{Event, ok, bad, pkt, time, fail, late, slept, onWrite, onRead, onPause}
-use Rattle.protocol.specs.Scripts.{Byte, Answer, Script, either, ifElse, andThen}
+use Rattle.protocol.specs.Scripts.{Byte, Answer, Script, ifElse, andThen}
 use Rattle.protocol.specs.Discovery.{byNoCard}
 use Rattle.protocol.specs.Record.{Item, Record, linesOf}
 use Rattle.protocol.specs.Sound.{OfExchange}
@@ -72,15 +71,11 @@ pub of-exchange : (code : ℕ) (packet : List ℕ) → OfExchange (replyOf code 
 unfolding replyOf
 of-exchange code packet = frame-reply code packet (parseOf rcs956 packet)
 
--- a script behind one that begins with a test, or with a reply taken apart
+-- a script behind one that begins with a test
 module _ (k : ℕ) (f : ℕ → Answer Byte → Script) where
   pub then-if : (b : Bool) (x y : Script) → andThen (ifElse b x y) k f ≡ ifElse b (andThen x k f) (andThen y k f)
   then-if true x y = refl
   then-if false x y = refl
-
-  pub then-either : (g : List ℕ → Script) (h : Fault → Script) (r : Reply) → andThen (either g h r) k f ≡ either (λ bs. andThen (g bs) k f) (λ e. andThen (h e) k f) r
-  then-either g h (response bs) = refl
-  then-either g h (failed e) = refl
 
 -- an event, by the kind of order that it answers
 module _ {X : Type 0} (P : Event → X → Type 0) (u : X) (others : (e : Event) → P e u) where
@@ -113,8 +108,8 @@ module _ {X : Type 0} (P : Event → X → Type 0) (u : X) (others : (e : Event)
 
 -- no command frame is the bare ACK: it is longer
 longer : (x : List ℕ) → 6 < length x → isAck x ≡ false
-unfolding isAck same
-longer x h = rw (ne-eqb (length x) 6 (λ e. omega arith))
+unfolding isAck
+longer x h = same-not ack x (λ e. omega (arith, ap length e))
 
 start-least : (n : ℕ) → 5 ≤ startOf NormalOrExtendedBigEndian n
 unfolding startOf pick
@@ -130,19 +125,9 @@ frame-not-ack code bytes =
     let payload : List ℕ = commandPayload code bytes in
     longer (commandFrame code bytes) (rw (length-frame NormalOrExtendedBigEndian payload) (omega (arith, start-least (length payload))))
 
--- bytes are the same as themselves
-starts-refl : (x : List ℕ) → starts x x ≡ true
-unfolding starts
-starts-refl [] = refl
-starts-refl (b ∷ x) = rw (eq-eqb b b refl) (starts-refl x)
-
-pub same-refl : (x : List ℕ) → same x x ≡ true
-unfolding same
-same-refl x = rw (eq-eqb (length x) (length x) refl) (starts-refl x)
-
 pub ack-is-ack : isAck ack ≡ true
 unfolding isAck
-ack-is-ack = same-refl ack
+ack-is-ack = same-self ack
 
 -- lines of the call, and of another
 pub lines-own : (n : ℕ) (l : Record) (x : Item) (xs : List Item) → linesOf n l ≡ xs → linesOf n ((n, x) ∷ l) ≡ x ∷ xs

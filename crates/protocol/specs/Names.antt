@@ -58,3 +58,51 @@ resetPauseTime = 10000
 
 abbrev pub fieldPauseTime : ℕ
 fieldPauseTime = 20400
+
+-- a card's commands: the cascade tag of a UID, SENS_REQ, RID, DESELECT, WUPB and its parameter
+abbrev pub cascadeTag : ℕ
+cascadeTag = 0x88
+
+abbrev pub sensReq : ℕ
+sensReq = 0x26
+
+abbrev pub ridCode : ℕ
+ridCode = 0x78
+
+abbrev pub deselectCode : ℕ
+deselectCode = 0xC2
+
+abbrev pub wupbCode : ℕ
+wupbCode = 0x05
+
+abbrev pub wupbParameter : ℕ
+wupbParameter = 0x08
+
+-- InListPassiveTarget's response: the number of targets and of the first, and behind them its data. Of Type A SENS_RES, SEL_RES, the UID's length and the UID;
+-- of Type B a byte for the protocol; of Type F IDm and PMm behind two bytes.
+abbrev pub targetOffset : ℕ
+targetOffset = 2
+
+abbrev pub sensResOffset : ℕ
+sensResOffset = 2
+
+abbrev pub selResOffset : ℕ
+selResOffset = 4
+
+abbrev pub uidLengthOffset : ℕ
+uidLengthOffset = 5
+
+abbrev pub uidOffset : ℕ
+uidOffset = 6
+
+abbrev pub protocolOffset : ℕ
+protocolOffset = 12
+
+abbrev pub listedIdmOffset : ℕ
+listedIdmOffset = 4
+
+abbrev pub idmAndPmm : ℕ
+idmAndPmm = 16
+
+abbrev pub pmmEnd : ℕ
+pmmEnd = 20

@@ -13,6 +13,7 @@ use Rattle.protocol.specs.Rules.{Rule, version, noBytes, allBytes, regis
 use Rattle.protocol.specs.Device.{chipsetName}
 use Rattle.protocol.specs.Calls.{Request, Row, row, resets, rowOf, Call, opening, reader, request, device, unknown}
 use Rattle.protocol.specs.Calls.{DeviceCall, detectTypeA, detectTypeASplit, detectTypeB, detectTypeF, pollTypeF, detectDep, transceive, readWithoutEncryption, writeWithoutEncryption}
+use Rattle.protocol.specs.Names.{idmAndPmm, listedIdmOffset, selResOffset, sensResOffset, targetOffset, uidLengthOffset, uidOffset}
 
 -- ---- the forms of an answer
 
@@ -48,7 +49,7 @@ pub record DepAndCards (bytes : List Byte) : Type 0 where
 pub data Polled : ℕ → ℕ → List Byte → Type 0 where
   no-codes : Polled 0 0 []
   met : (n k more : ℕ) (bytes : List Byte) (response : List ℕ) → Polled n k bytes → more ≤ 1
-      → Polled (suc n) (k + (more + 2)) (bytes ++ (own 0x01 ∷ part (k + (more + 1)) response 4 16))
+      → Polled (suc n) (k + (more + 2)) (bytes ++ (own 0x01 ∷ part (k + (more + 1)) response listedIdmOffset idmAndPmm))
   not-met : (n k more : ℕ) (bytes : List Byte) → Polled n k bytes → more ≤ 1 → Polled (suc n) (k + (more + 2)) (bytes ++ (own 0x00 ∷ []))
 
 pub record PolledCodes (n : ℕ) (bytes : List Byte) : Type 0 where
@@ -82,11 +83,11 @@ module _ (At : ℕ → ℕ → ℕ → Type 0) where
     pub list : List ℕ
     pub uid : List ℕ
     pub ats : List ℕ
-    pub form : bytes ≡ byteAt 0 list 3 ∷ byteAt 0 list 2 ∷ byteAt 0 list 4 ∷ rest 0 list 6
-    pub target : TargetData (drop 2 list) uid ats
+    pub form : bytes ≡ byteAt 0 list (sensResOffset + 1) ∷ byteAt 0 list sensResOffset ∷ byteAt 0 list selResOffset ∷ rest 0 list uidOffset
+    pub target : TargetData (drop targetOffset list) uid ats
     pub uidIs : uidLength ≡ length uid
     pub atsIs : atsLength ≡ length ats
-    pub source : At 0 5 uidLength
+    pub source : At 0 uidLengthOffset uidLength
 
 pub data Form : Type 0 where
   onlyCards : Form

@@ -84,8 +84,8 @@ module _ (caller : ℕ) (known : leb caller lastCaller ≡ true) (text words : L
   n = length (wordsIn words)
 
   -- what follows a code's single script in the list's
-  abbrev follows : ℕ → ℕ → List Byte → List ℕ → ℕ → Answer Byte → Script
-  follows first finished found codes next a =
+  abbrev restOfList : ℕ → ℕ → List Byte → List ℕ → ℕ → Answer Byte → Script
+  restOfList first finished found codes next a =
       codeEnd (λ bytes. pollCodes code next (suc finished) (found ++ map (behind first) bytes) codes) (λ r. finish (refusedAfter r finished)) a
 
   -- the single calls ns are over: in the record m they took `first` commands, and they add the bytes `found`
@@ -101,7 +101,7 @@ module _ (caller : ℕ) (known : leb caller lastCaller ≡ true) (text words : L
     pub first : ℕ
     pub found : List Byte
     pub k : ℕ
-    pub phases : Along (follows first (length ns) found codes) k p q
+    pub phases : Along (restOfList first (length ns) found codes) k p q
     pub lines : items l ≡ items m
     pub before : Behind m ns first found
     pub commands : k ≡ first + frames (linesOf (length ns) m)
@@ -206,7 +206,7 @@ module _ (caller : ℕ) (known : leb caller lastCaller ≡ true) (text words : L
         lines-own (length ns) (withEvent m ns e) (ordered y) _ (lines-own (length ns) m (accepted (e .0)) (linesOf (length ns) m) refl) in
         rw own-lines (omega (arith, g .commands))
 
-    both-run : (y : Order) (p′ q′ : Phase) → Along (follows (g .first) (length ns) (g .found) codes) (oneIf (isCommand (ordered y)) + g .k) p′ q′
+    both-run : (y : Order) (p′ q′ : Phase) → Along (restOfList (g .first) (length ns) (g .found) codes) (oneIf (isCommand (ordered y)) + g .k) p′ q′
         → Both (runs listCall y p′) (runs (single text systemCode) y q′)
     both-run y p′ q′ i =
         ih (bookOrder y (hers b)) ((0, ordered y) ∷ (0, accepted (e .0)) ∷ l) ((length ns, ordered y) ∷ withEvent m ns e) ns systemCode codes p′ q′ x isOpen record {
@@ -239,7 +239,7 @@ module _ (caller : ℕ) (known : leb caller lastCaller ≡ true) (text words : L
     both-stop a r newest = idle-equal n caller room es (hers b) _ _ x _ record { lines = ap (λ (xs : List Item). accepted (e .0) ∷ xs) (g .lines); answer = sym (newest _) }
 
     abbrev AfterCode : Answer Byte → Type 0
-    AfterCode a = Both (effect listCall (enter (follows (g .first) (length ns) (g .found) codes (g .k) a))) (ends (single text systemCode) a)
+    AfterCode a = Both (effect listCall (enter (restOfList (g .first) (length ns) (g .found) codes (g .k) a))) (ends (single text systemCode) a)
 
     both-go-on : (a : Answer Byte) → ((o : Option (Answer Byte)) → byNewest o (length ns) (some a) ≡ o) → Equal n
         (oneAfter (effect listCall (enter (pollCodes code (g .k) (suc (length ns)) (g .found ++ map (behind (g .first)) (codeBytes (some a))) codes))))
@@ -259,12 +259,12 @@ module _ (caller : ℕ) (known : leb caller lastCaller ≡ true) (text words : L
     both-end (refusedAfter r j) = both-stop (refusedAfter r j) r (λ o. refl)
 
     -- d: the event as the mode sees it
-    by-result : (d : Event) (r s : CallResult) → Goes (follows (g .first) (length ns) (g .found) codes) (g .k) r s
+    by-result : (d : Event) (r s : CallResult) → Goes (restOfList (g .first) (length ns) (g .found) codes) (g .k) r s
         → Both (eventEffect listCall d (e .1) r) (eventEffect (single text systemCode) d (e .1) s)
     by-result d r unfit i = rw i (both-unchanged OutOfTurn)
     by-result d r (pending y q′) (p′, i, h) = rw i (both-admitted Both d (e .1) _ _ both-unchanged (both-run y p′ q′ h))
     by-result d r (ended a) i =
-        rw (i, entered-admitted listCall d (e .1) (follows (g .first) (length ns) (g .found) codes (g .k) a))
+        rw (i, entered-admitted listCall d (e .1) (restOfList (g .first) (length ns) (g .found) codes (g .k) a))
         (both-admitted Both d (e .1) _ _ both-unchanged (both-end a))
 
   busy-equal : (es : List EventAndRoom) → BusyEqual es
@@ -272,7 +272,7 @@ module _ (caller : ℕ) (known : leb caller lastCaller ≡ true) (text words : L
   busy-equal (e ∷ es) b l m ns systemCode codes p q x isOpen g =
       let d = seen (b .padded) (e .0) in
       by-result es (busy-equal es) b l m ns systemCode codes p q x isOpen g e d (progress p d) (progress q d)
-      (along (follows (g .first) (length ns) (g .found) codes) (g .k) p q (g .phases) d)
+      (along (restOfList (g .first) (length ns) (g .found) codes) (g .k) p q (g .phases) d)
 
 -- ---- the start
 

@@ -15,8 +15,9 @@ use Rattle.protocol.specs.Arguments.{wordsIn}
 use Rattle.protocol.specs.Discovery.{sensfReq, poll, detectTypeF, byNoCard, cardMet, noCardMet, codeEnd, pollCodes}
 use Rattle.protocol.specs.Own.{Form, Polled, met, not-met, polledCodes}
 use Rattle.protocol.specs.Laws.{by-fault}
-use Rattle.protocol.specs.Sound.{Within, responseTo, responseIn, Placed, no-bytes, own-byte, card-byte, Stands, Final, Ends, Correct}
+use Rattle.protocol.specs.Sound.{Within, responseTo, responseIn, Placed, no-bytes, own-byte, card-byte, IsResponseByte, Final, Ends, Correct}
 use Rattle.protocol.specs.Sound.{ends-either, ends-if, ends-short, placed-part, placed-append, sound-rules}
+use Rattle.protocol.specs.Names.{idmAndPmm, listedIdmOffset, pmmEnd}
 
 -- ---- at most three frames a code
 
@@ -87,8 +88,8 @@ beyond : (rs : List (List ℕ)) (k : ℕ) → length rs ≤ k → responseTo rs 
 beyond [] k h = refl
 beyond (bs ∷ rs) k h = rw (ne-eqb k (length rs) (λ e. omega arith)) (beyond rs k (omega arith))
 
-stands-later : (rs : List (List ℕ)) (bs : List ℕ) (k p b : ℕ) → Stands rs k p b → Stands (bs ∷ rs) k p b
-stands-later rs bs k p b h = go (eqb k (length rs)) refl
+response-byte-later : (rs : List (List ℕ)) (bs : List ℕ) (k p b : ℕ) → IsResponseByte rs k p b → IsResponseByte (bs ∷ rs) k p b
+response-byte-later rs bs k p b h = go (eqb k (length rs)) refl
   where
     go : (t : Bool) → eqb k (length rs) ≡ t → getElem? (cond t bs (responseTo rs k)) p ≡ some b
     go true e =
@@ -100,7 +101,7 @@ stands-later rs bs k p b h = go (eqb k (length rs)) refl
 placed-later : (rs : List (List ℕ)) (bs : List ℕ) (xs : List Byte) → Placed rs xs → Placed (bs ∷ rs) xs
 placed-later rs bs xs no-bytes = no-bytes
 placed-later rs bs xs (own-byte h) = own-byte (placed-later rs bs _ h)
-placed-later rs bs xs (card-byte {k} {p} {b} e h) = card-byte (stands-later rs bs k p b e) (placed-later rs bs _ h)
+placed-later rs bs xs (card-byte {k} {p} {b} e h) = card-byte (response-byte-later rs bs k p b e) (placed-later rs bs _ h)
 
 -- what detect_type_f adds to the responses rs, and how it ends: with the bytes behind position 4 of the response to its poll, or with a fault
 pub record Found (rs rs′ : List (List ℕ)) (bytes : List Byte) : Type 0 where
@@ -108,8 +109,8 @@ pub record Found (rs rs′ : List (List ℕ)) (bytes : List Byte) : Type 0 where
   pub more : ℕ
   pub few : more ≤ 1
   pub took : length rs′ ≡ length rs + (more + 2)
-  pub form : bytes ≡ rest (more + 1) list 4
-  pub enough : 20 ≤ length list
+  pub form : bytes ≡ rest (more + 1) list listedIdmOffset
+  pub enough : pmmEnd ≤ length list
   pub source : responseTo rs′ (length rs + (more + 1)) ≡ list
 
 pub record NotFound (rs rs′ : List (List ℕ)) : Type 0 where
@@ -141,7 +142,7 @@ module _ (code : ℕ) (req : List ℕ) (rs : List (List ℕ)) where
 
   -- IDm and PMm are in the list
   card-ends : (before : List (List ℕ)) (list : List ℕ) (more : ℕ) → more ≤ 1 → length before ≡ length rs + (more + 1)
-      → ((xs : List Byte) → Placed rs xs → Placed before xs) → 20 ≤ length list → CodeEnds rs (list ∷ before) (done (rest (more + 1) list 4))
+      → ((xs : List Byte) → Placed rs xs → Placed before xs) → pmmEnd ≤ length list → CodeEnds rs (list ∷ before) (done (rest (more + 1) list listedIdmOffset))
   card-ends before list more few e w h = (
     λ xs p. placed-later before list xs (w xs p),
     record {
@@ -159,7 +160,7 @@ module _ (code : ℕ) (req : List ℕ) (rs : List (List ℕ)) where
       → ((xs : List Byte) → Placed rs xs → Placed before xs) → Ends (CodeEnds rs) (poll (more + 1) code req) before
   poll-ends before more few e w =
       let fault : (bs : List ℕ) (r : Fault) → CodeEnds rs (bs ∷ before) (refused r) = λ bs r. none-ends before bs more r few e w in
-      let found : (list : List ℕ) → 20 ≤ length list → CodeEnds rs (list ∷ before) (done (rest (more + 1) list 4)) =
+      let found : (list : List ℕ) → pmmEnd ≤ length list → CodeEnds rs (list ∷ before) (done (rest (more + 1) list listedIdmOffset)) =
       λ list h. card-ends before list more few e w h in
       search (fault, found, ends-either, ends-if, ends-short) depth 30
 
@@ -189,12 +190,12 @@ unfolding part
 behind-part m k bs p zero = refl
 behind-part m k bs p (suc n) = ap (λ (xs : List Byte). card (m + k) p (getD bs p 0) ∷ xs) (behind-part m k bs (suc p) n)
 
-first-16 : (m k : ℕ) (bs : List ℕ) → 20 ≤ length bs → map (behind m) (take 16 (rest k bs 4)) ≡ part (m + k) bs 4 16
+first-16 : (m k : ℕ) (bs : List ℕ) → pmmEnd ≤ length bs → map (behind m) (take idmAndPmm (rest k bs listedIdmOffset)) ≡ part (m + k) bs listedIdmOffset idmAndPmm
 unfolding rest
 first-16 m k bs h =
-    let e : length bs - 4 ≡ 16 + (length bs - 20) = omega arith in
-    let t : take 16 (part k bs 4 (length bs - 4)) ≡ part k bs 4 16 = rw e (take-part k bs 4 16 (length bs - 20)) in
-    ap (map (behind m)) t ∙ behind-part m k bs 4 16
+    let e : length bs - listedIdmOffset ≡ idmAndPmm + (length bs - pmmEnd) = omega arith in
+    let t : take idmAndPmm (part k bs listedIdmOffset (length bs - listedIdmOffset)) ≡ part k bs listedIdmOffset idmAndPmm = rw e (take-part k bs listedIdmOffset idmAndPmm (length bs - pmmEnd)) in
+    ap (map (behind m)) t ∙ behind-part m k bs listedIdmOffset idmAndPmm
 
 -- the codes finished, and what they found, after the responses rs
 pub record SoFar (rs : List (List ℕ)) (finished : ℕ) (found : List Byte) : Type 0 where
@@ -204,10 +205,10 @@ pub record SoFar (rs : List (List ℕ)) (finished : ℕ) (found : List Byte) : T
 module _ (rs rs′ : List (List ℕ)) (finished : ℕ) (found : List Byte) (so : SoFar rs finished found) (w : (xs : List Byte) → Placed rs xs → Placed rs′ xs) where
   card-found : (bytes : List Byte) → Found rs rs′ bytes → SoFar rs′ (suc finished) (found ++ map (behind (length rs)) (cardMet bytes))
   card-found bytes f =
-      let e : map (behind (length rs)) (cardMet bytes) ≡ own 0x01 ∷ part (length rs + (f .more + 1)) (f .list) 4 16 =
+      let e : map (behind (length rs)) (cardMet bytes) ≡ own 0x01 ∷ part (length rs + (f .more + 1)) (f .list) listedIdmOffset idmAndPmm =
       rw (f .form) (ap (λ (xs : List Byte). own 0x01 ∷ xs) (first-16 (length rs) (f .more + 1) (f .list) (f .enough))) in
       rw e record {
-        placed = placed-append rs′ found _ (w found (so .placed)) (own-byte (placed-part rs′ _ (f .list) 4 16 20 (f .source) (f .enough) tt));
+        placed = placed-append rs′ found _ (w found (so .placed)) (own-byte (placed-part rs′ _ (f .list) listedIdmOffset idmAndPmm pmmEnd (f .source) (f .enough) tt));
         polled = rw (f .took) (met finished (length rs) (f .more) found (f .list) (so .polled) (f .few));
       }
 

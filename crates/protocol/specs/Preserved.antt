@@ -11,7 +11,7 @@ use Rattle.errors.specs.declared.Fault.{Fault}
 use Rattle.errors.specs.declared.Fault.the-variants.{Transport, TimeOut, FalseStart}
 use Rattle.framing.specs.Frames.{ack}
 use Rattle.exchange.specs.Packets.{hasStart, ackLed, isEmpty, Reply, failed, replyOf}
-use Rattle.exchange.specs.Exchange.{Order, write, read, drain, pause, Event, ok, bad, pkt, time, fail, late, slept}
+use Rattle.exchange.specs.Exchange.{Order, write, read, drain, pause, Event, ok, bad, pkt, time, fail, late, slept, firstReadTime}
 use Rattle.exchange.specs.Exchange.{unfit, pending, ended, Step, sending, reading, waiting, cancelling, rejecting, draining}
 use Rattle.exchange.specs.Exchange.{ExchangeResult, afterAck, onFirstPacket, onLaterPacket, onDrained, advance}
 use Rattle.protocol.specs.Scripts.{refused, Script}
@@ -24,15 +24,16 @@ use Rattle.protocol.specs.Sound.{responseIn, OfExchange}
 use Rattle.protocol.specs.Laws.{split, of-exchange, by-write, by-read, by-pause, lines-own}
 use Rattle.protocol.specs.Invariant.{dueStep, step-due, due, phase-due, Left, LeftPhase, Asked, At, Invariant, Preserved}
 use Rattle.protocol.specs.Invariant.{later-sourced, asked-later, closed, entered, bare, Brought, sourced-more, nothing-brought, brought}
+use Rattle.protocol.specs.Names.{resetPauseTime, openingReadTime}
 
 -- n: the call's number. c: the call. l: the record before the event. xs: the call's lines in it.
 module _ (n : ℕ) (c : Call) (l : Record) (xs : List Item) where
   -- of what the event leads to, and of what it does to the exchange
-  abbrev pub KeptBy : Event → CallResult → Type 0
-  KeptBy e r = Preserved n c ((n, accepted e) ∷ l) (accepted e ∷ xs) r
+  abbrev pub PreservedBy : Event → CallResult → Type 0
+  PreservedBy e r = Preserved n c ((n, accepted e) ∷ l) (accepted e ∷ xs) r
 
-  abbrev KeptIn : Rest → Event → ExchangeResult → Type 0
-  KeptIn rest e r = KeptBy e (afterExchange rest r)
+  abbrev PreservedIn : Rest → Event → ExchangeResult → Type 0
+  PreservedIn rest e r = PreservedBy e (afterExchange rest r)
 
   -- ---- ways on
 
@@ -45,7 +46,7 @@ module _ (n : ℕ) (c : Call) (l : Record) (xs : List Item) where
       → frames (ordered x ∷ accepted e ∷ xs) ≡ frames xs
       → LeftPhase (formOf c) new (g .left) (g .responses)
       → At n c new ((n, ordered x) ∷ (n, accepted e) ∷ l) (ordered x ∷ accepted e ∷ xs) (length (g .responses))
-      → KeptBy e (pending x new)
+      → PreservedBy e (pending x new)
   goes-on new e x g b q w s = record {
     lines = lines-own n ((n, accepted e) ∷ l) (ordered x) (accepted e ∷ xs) (own-lines e g);
     responses = g .responses;
@@ -58,21 +59,21 @@ module _ (n : ℕ) (c : Call) (l : Record) (xs : List Item) where
   }
 
   -- the call ends with a refusal
-  stops : {phase : Phase} (e : Event) (r : Fault) → Invariant n c l xs phase → KeptBy e (ended (refused r))
+  stops : {phase : Phase} (e : Event) (r : Fault) → Invariant n c l xs phase → PreservedBy e (ended (refused r))
   stops {phase} e r g =
       closed n c _ _ (g .responses) (refused r) (own-lines e g) (omega arith) (omega (arith, phase-due phase)) tt
       (later-sourced n c (g .responses) (g .source))
 
   -- the script goes on
   resumes : {phase : Phase} (s : Script) (e : Event) (g : Invariant n c l xs phase) → Left (formOf c) s (g .left) (g .responses) → frames xs ≡ length (g .responses)
-      → KeptBy e (enter s)
+      → PreservedBy e (enter s)
   resumes {phase} s e g w q =
       entered n c _ _ (g .responses) (own-lines e g) s (g .left) (omega (arith, phase-due phase)) (omega arith) w (omega arith)
       (later-sourced n c (g .responses) (g .source))
 
   -- the exchange ends with a reply
   replies : {step : Step} (rest : Rest) (e : Event) (r : Reply) (g : Invariant n c l xs (exchange step rest)) → OfExchange r
-      → Brought n c ((n, accepted e) ∷ l) (length (g .responses)) (responseIn r) → KeptIn rest e (ended r)
+      → Brought n c ((n, accepted e) ∷ l) (length (g .responses)) (responseIn r) → PreservedIn rest e (ended r)
   replies {step} (byReply k) e r g q f =
       entered n c _ _ (responseIn r ∷ g .responses) (own-lines e g) (k r) (g .left) (omega (arith, step-due step)) (omega arith)
       (g .script .0 r, g .script .1 r q) (omega arith)
@@ -93,17 +94,17 @@ module _ (n : ℕ) (c : Call) (l : Record) (xs : List Item) where
       }
 
   -- with a refusal; with what step 5 makes of the packet
-  fails : {step : Step} {rest : Rest} (e : Event) (r : Fault) → OfExchange (failed r) → Invariant n c l xs (exchange step rest) → KeptIn rest e (ended (failed r))
+  fails : {step : Step} {rest : Rest} (e : Event) (r : Fault) → OfExchange (failed r) → Invariant n c l xs (exchange step rest) → PreservedIn rest e (ended (failed r))
   fails {rest = rest} e r q g = replies rest e (failed r) g q (nothing-brought n c _ (length (g .responses)))
 
   replies-to : {step : Step} {rest : Rest} (code : ℕ) (packet : List ℕ) (g : Invariant n c l xs (exchange step rest))
-      → Asked n c l (length (g .responses)) code → KeptIn rest (pkt packet) (ended (replyOf code packet))
+      → Asked n c l (length (g .responses)) code → PreservedIn rest (pkt packet) (ended (replyOf code packet))
   replies-to {rest = rest} code packet g a =
       replies rest (pkt packet) (replyOf code packet) g (of-exchange code packet) (brought n c l (length (g .responses)) code packet (replyOf code packet) a refl)
 
   -- ACK is written, and the exchange then ends with a refusal
   cancels : {step : Step} {rest : Rest} (e : Event) (r : Fault) → OfExchange (failed r) → Invariant n c l xs (exchange step rest) → 2 ≤ dueStep step
-      → KeptIn rest e (pending (write ack) (cancelling r))
+      → PreservedIn rest e (pending (write ack) (cancelling r))
   cancels {rest = rest} e r q g d =
       let b : frames (ordered (write ack) ∷ xs) ≡ frames xs = bare n c xs in
       goes-on (exchange (cancelling r) rest) e (write ack) g (omega arith) (omega arith) (g .script) (omega arith, q)
@@ -111,9 +112,9 @@ module _ (n : ℕ) (c : Call) (l : Record) (xs : List Item) where
   -- an ACK-led packet comes: the first, or an idle read
   reads-on : {step : Step} {rest : Rest} (code clock : ℕ) (packet : List ℕ) (g : Invariant n c l xs (exchange step rest)) → 2 ≤ dueStep step
       → 3 ≤ dueStep step + oneIf (idleUnder (pendingOrder xs) xs (pkt packet)) → Asked n c l (length (g .responses)) code → ackLed packet ≡ true
-      → KeptIn rest (pkt packet) (afterAck code clock)
+      → PreservedIn rest (pkt packet) (afterAck code clock)
   reads-on {rest = rest} code clock packet g d b a v =
-      split (KeptIn rest (pkt packet)) (eqb clock 0) _ _
+      split (PreservedIn rest (pkt packet)) (eqb clock 0) _ _
       (λ _. cancels (pkt packet) TimeOut refl g d)
       (λ _. goes-on (exchange (waiting code clock) rest) (pkt packet) (read clock) g (omega arith) (omega arith) (g .script)
       (omega arith, (asked-later n c (ordered (read clock)) (asked-later n c (accepted (pkt packet)) a v) refl, refl, rw v)))
@@ -125,89 +126,89 @@ module _ (n : ℕ) (c : Call) (l : Record) (xs : List Item) where
 
   -- the drain goes on
   drains : {step : Step} {rest : Rest} (e : Event) → Invariant n c l xs (exchange step rest)
-      → 2 ≤ dueStep step + oneIf (idleUnder (pendingOrder xs) xs e) → KeptIn rest e (pending drain draining)
+      → 2 ≤ dueStep step + oneIf (idleUnder (pendingOrder xs) xs e) → PreservedIn rest e (pending drain draining)
   drains {rest = rest} e g i = goes-on (exchange draining rest) e drain g (omega arith) (omega arith) (g .script) (omega arith, refl)
 
   -- ---- packets
 
-  first-kept : {rest : Rest} (code clock : ℕ) (packet : List ℕ) → Invariant n c l xs (exchange (reading code clock) rest)
-      → KeptIn rest (pkt packet) (onFirstPacket code clock packet)
-  first-kept {rest} code clock packet g =
-      split (KeptIn rest (pkt packet)) (isEmpty packet) _ _
+  first-preserved : {rest : Rest} (code clock : ℕ) (packet : List ℕ) → Invariant n c l xs (exchange (reading code clock) rest)
+      → PreservedIn rest (pkt packet) (onFirstPacket code clock packet)
+  first-preserved {rest} code clock packet g =
+      split (PreservedIn rest (pkt packet)) (isEmpty packet) _ _
       (λ _. fails (pkt packet) TimeOut refl g)
-      (λ _. split (KeptIn rest (pkt packet)) (hasStart packet) _ _
-      (λ _. split (KeptIn rest (pkt packet)) (ackLed packet) _ _
+      (λ _. split (PreservedIn rest (pkt packet)) (hasStart packet) _ _
+      (λ _. split (PreservedIn rest (pkt packet)) (ackLed packet) _ _
       (λ v. reads-on code clock packet g (omega arith) (omega arith) (g .place .1) v)
       (λ _. replies-to code packet g (g .place .1)))
       (λ _. let b : frames (ordered (write ack) ∷ xs) ≡ frames xs = bare n c xs in
       goes-on (exchange rejecting rest) (pkt packet) (write ack) g (omega arith) (omega arith) (g .script) (omega arith, tt)))
 
-  later-kept : {rest : Rest} (code clock : ℕ) (packet : List ℕ) → Invariant n c l xs (exchange (waiting code clock) rest)
-      → KeptIn rest (pkt packet) (onLaterPacket code clock packet)
-  later-kept {rest} code clock packet g =
-      split (KeptIn rest (pkt packet)) (isEmpty packet) _ _
+  later-preserved : {rest : Rest} (code clock : ℕ) (packet : List ℕ) → Invariant n c l xs (exchange (waiting code clock) rest)
+      → PreservedIn rest (pkt packet) (onLaterPacket code clock packet)
+  later-preserved {rest} code clock packet g =
+      split (PreservedIn rest (pkt packet)) (isEmpty packet) _ _
       (λ _. fails (pkt packet) TimeOut refl g)
-      (λ _. split (KeptIn rest (pkt packet)) (ackLed packet) _ _
+      (λ _. split (PreservedIn rest (pkt packet)) (ackLed packet) _ _
       (λ v. reads-on code clock packet g (omega arith) (omega (arith, idle-ack packet g v)) (g .place .1 .0) v)
       (λ _. replies-to code packet g (g .place .1 .0)))
 
-  drained-kept : {rest : Rest} (packet : List ℕ) → Invariant n c l xs (exchange draining rest) → KeptIn rest (pkt packet) (onDrained packet)
-  drained-kept {rest} packet g =
-      split (KeptIn rest (pkt packet)) (isEmpty packet) _ _
+  drained-preserved : {rest : Rest} (packet : List ℕ) → Invariant n c l xs (exchange draining rest) → PreservedIn rest (pkt packet) (onDrained packet)
+  drained-preserved {rest} packet g =
+      split (PreservedIn rest (pkt packet)) (isEmpty packet) _ _
       (λ _. fails (pkt packet) FalseStart refl g)
       (λ e. let i : oneIf (idleUnder (pendingOrder xs) xs (pkt packet)) ≡ 1 = rw (g .place .1, e) in drains (pkt packet) g (omega arith))
 
   -- ---- every event
 
   -- in the exchange
-  advance-kept : (step : Step) (rest : Rest) → Invariant n c l xs (exchange step rest) → (e : Event) → KeptIn rest e (advance step e)
-  advance-kept (sending code clock) rest g =
-      by-write (KeptIn rest) unfit (λ _. tt) _ _
-      (goes-on (exchange (reading code clock) rest) ok (read 100) g (omega arith) (omega arith) (g .script)
-      (omega arith, asked-later n c (ordered (read 100)) (asked-later n c (accepted ok) (g .place .1) refl) refl))
+  advance-preserved : (step : Step) (rest : Rest) → Invariant n c l xs (exchange step rest) → (e : Event) → PreservedIn rest e (advance step e)
+  advance-preserved (sending code clock) rest g =
+      by-write (PreservedIn rest) unfit (λ _. tt) _ _
+      (goes-on (exchange (reading code clock) rest) ok (read firstReadTime) g (omega arith) (omega arith) (g .script)
+      (omega arith, asked-later n c (ordered (read firstReadTime)) (asked-later n c (accepted ok) (g .place .1) refl) refl))
       (cancels bad Transport refl g (omega arith))
-  advance-kept (reading code clock) rest g =
-      by-read (KeptIn rest) unfit (λ _. tt) (onFirstPacket code clock) _ _ _
-      (λ p. first-kept code clock p g)
+  advance-preserved (reading code clock) rest g =
+      by-read (PreservedIn rest) unfit (λ _. tt) (onFirstPacket code clock) _ _ _
+      (λ p. first-preserved code clock p g)
       (fails time TimeOut refl g)
       (fails fail Transport refl g)
       tt
-  advance-kept (waiting code clock) rest g =
-      by-read (KeptIn rest) unfit (λ _. tt) (onLaterPacket code clock) _ _ _
-      (λ p. later-kept code clock p g)
+  advance-preserved (waiting code clock) rest g =
+      by-read (PreservedIn rest) unfit (λ _. tt) (onLaterPacket code clock) _ _ _
+      (λ p. later-preserved code clock p g)
       (fails time TimeOut refl g)
       (fails fail Transport refl g)
       (cancels late TimeOut refl g (omega arith))
-  advance-kept (cancelling r) rest g =
-      by-write (KeptIn rest) unfit (λ _. tt) _ _ (fails ok r (g .place .1) g) (fails bad r (g .place .1) g)
-  advance-kept rejecting rest g =
-      by-write (KeptIn rest) unfit (λ _. tt) _ _ (drains ok g (omega arith)) (drains bad g (omega arith))
-  advance-kept draining rest g =
+  advance-preserved (cancelling r) rest g =
+      by-write (PreservedIn rest) unfit (λ _. tt) _ _ (fails ok r (g .place .1) g) (fails bad r (g .place .1) g)
+  advance-preserved rejecting rest g =
+      by-write (PreservedIn rest) unfit (λ _. tt) _ _ (drains ok g (omega arith)) (drains bad g (omega arith))
+  advance-preserved draining rest g =
       let i : oneIf (idleUnder (pendingOrder xs) xs fail) ≡ 1 = rw (g .place .1) in
-      by-read (KeptIn rest) unfit (λ _. tt) onDrained _ _ _
-      (λ p. drained-kept p g)
+      by-read (PreservedIn rest) unfit (λ _. tt) onDrained _ _ _
+      (λ p. drained-preserved p g)
       (fails time FalseStart refl g)
       (drains fail g (omega arith))
       (fails late FalseStart refl g)
 
   -- in the call
-  pub kept : (phase : Phase) → Invariant n c l xs phase → (e : Event) → KeptBy e (progress phase e)
-  kept (exchange step rest) g = advance-kept step rest g
-  kept (resetAck s) g =
-      by-write KeptBy unfit (λ _. tt) _ _
-      (goes-on (resetPause s) ok (pause 10000) g (omega arith) (omega arith) (g .script) (omega arith))
+  pub preserved : (phase : Phase) → Invariant n c l xs phase → (e : Event) → PreservedBy e (progress phase e)
+  preserved (exchange step rest) g = advance-preserved step rest g
+  preserved (resetAck s) g =
+      by-write PreservedBy unfit (λ _. tt) _ _
+      (goes-on (resetPause s) ok (pause resetPauseTime) g (omega arith) (omega arith) (g .script) (omega arith))
       (stops bad Transport g)
-  kept (resetPause s) g = by-pause KeptBy unfit (λ _. tt) _ (resumes s slept g (g .script) (g .place))
-  kept (fieldPausing s) g = by-pause KeptBy unfit (λ _. tt) _ (resumes s slept g (g .script) (g .place))
-  kept (openingAck s) g =
-      by-write KeptBy unfit (λ _. tt) _ _
-      (goes-on (openingReads s) ok (read 10) g (omega arith) (omega arith) (g .script) (omega arith, g .place .1, refl))
+  preserved (resetPause s) g = by-pause PreservedBy unfit (λ _. tt) _ (resumes s slept g (g .script) (g .place))
+  preserved (fieldPausing s) g = by-pause PreservedBy unfit (λ _. tt) _ (resumes s slept g (g .script) (g .place))
+  preserved (openingAck s) g =
+      by-write PreservedBy unfit (λ _. tt) _ _
+      (goes-on (openingReads s) ok (read openingReadTime) g (omega arith) (omega arith) (g .script) (omega arith, g .place .1, refl))
       (stops bad Transport g)
-  kept (openingReads s) g =
-      by-read KeptBy unfit (λ _. tt) (λ p. pending (read 10) (openingReads s)) _ _ _
+  preserved (openingReads s) g =
+      by-read PreservedBy unfit (λ _. tt) (λ p. pending (read openingReadTime) (openingReads s)) _ _ _
       (λ p. let z : frames xs ≡ 0 = omega arith in
       let i : oneIf (idleUnder (pendingOrder xs) xs (pkt p)) ≡ 1 = rw (g .place .2, z) in
-      goes-on (openingReads s) (pkt p) (read 10) g (omega arith) (omega arith) (g .script) (omega arith, g .place .1, refl))
+      goes-on (openingReads s) (pkt p) (read openingReadTime) g (omega arith) (omega arith) (g .script) (omega arith, g .place .1, refl))
       (resumes s time g (g .script) (g .place .0))
       (resumes s fail g (g .script) (g .place .0))
       tt

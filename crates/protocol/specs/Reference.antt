@@ -13,7 +13,7 @@ use Rattle.framing.specs.Unpadded.{unpadded-none}
 use Rattle.exchange.specs.Exchange.{Event, ok, bad, pkt, time, fail, late, slept, unfit, pending, ended}
 use Rattle.protocol.specs.Calls.{Call, opening, reader, isOpening}
 use Rattle.protocol.specs.Starts.{Start, refuses, starts, startOf, readerStart}
-use Rattle.protocol.specs.Session.{Phase, CallResult, enter, progress, Running, idle, busy, Books, lastCaller, admits, Session, fresh, packetLimit, seen, Entry, call, event, seenEntry, Output}
+use Rattle.protocol.specs.Session.{CallResult, enter, progress, Running, idle, busy, Books, lastCaller, admits, Session, fresh, packetLimit, seen, Entry, call, event, seenEntry}
 use Rattle.protocol.specs.Session.{Effect, unchanged, runs, ends, effect, bufferNeed, withRoom, withCaller, packetLength, admitted, eventEffect, started, callEffect, effectOf, runningAfter, booksAfter, after, given, step, outputs, sessionAfter}
 use Rattle.protocol.specs.Laws.{split}
 use Rattle.protocol.specs.Machine.{plain, Machine, givenOut, stateAfter, entries, same-given, same-counts}

@@ -7,10 +7,10 @@ use lib.ListN.{replicate, take}
 use Rattle.errors.specs.declared.Refusal.the-variants.{OutOfTurn, ShortBuffer, OverLong, BadArgument}
 use Rattle.errors.specs.declared.Fault.the-variants.{Transport, TimeOut, BrokenFrame, Length, FrameKind, Identifier, Code, Status, UidLayout}
 use Rattle.framing.specs.Frames.{ack, total, checksumOf, lengthBytes, normalFrame, extendedFrame, headOf, frameOf}
-use Rattle.errors.specs.Choice.{pick, same as sameText}
+use Rattle.errors.specs.Choice.{pick, same}
 use Rattle.targets.specs.Form.{inRange, allDigits}
 use Rattle.targets.specs.Bitrates.{isRate, sendLength, isBitrate, parseOf as parseText, codeOf, choiceOf}
-use Rattle.framing.specs.Lists.{starts, same}
+use Rattle.framing.specs.Lists.{starts}
 use Rattle.framing.specs.Padded.{isPadded, zerosUpTo, extraZeros, unpadded}
 use Rattle.framing.specs.Parse.{isError, extends, lengthAt, normalAt, extendedAt, normalOf, extendedOf, dataOf, parseOf, payloadOf}
 use Rattle.exchange.specs.Packets.{commandFrame, isAck, hasStart, ackLed, Reply, replyOf, response, failed}
@@ -194,7 +194,7 @@ secondCode =
 
 -- to unfold this is to unfold the bitrate's text and an answer's bytes
 texts : Unit {0}
-unfolding inRange allDigits isRate sendLength isBitrate parseText codeOf choiceOf sameText part rest
+unfolding inRange allDigits isRate sendLength isBitrate parseText codeOf choiceOf same part rest
 texts = tt
 
 polled : Runs (openingRun 0 0 ++ (firstCode ++ secondCode))

@@ -50,39 +50,28 @@ add-seen l (x ∷ ns) (event e room) (orders o) u = rw (eq-eqb (length ns) (leng
 add-seen l (x ∷ ns) (event e room) (answers a) u = rw (eq-eqb (length ns) (length ns) refl, seen-answered l x (some a) ns)
 add-seen l (x ∷ ns) (event e room) (rejects r) u = refl
 
--- the session's mode is that of the newest opening in the notes
-pub mode-after : (b : Books) (l : Record) (ns : List Note) (e : Entry) (o : Effect) → b .padded ≡ modeAt ns
-    → (booksAfter b e o) .padded ≡ modeAt ((add (observed l ns) e (given o)) .notes)
-mode-after b l ns (call k c room) (unchanged r) h = h
-mode-after b l ns (call k (opening m) room) (runs d x phase) h = refl
-mode-after b l ns (call k (opening m) room) (ends d a) h = refl
-mode-after b l ns (call k (reader c) room) (runs d x phase) h = h
-mode-after b l ns (call k (reader c) room) (ends d a) h = h
-mode-after b l [] (event e room) (unchanged r) h = h
-mode-after b l [] (event e room) (runs d x phase) h = h
-mode-after b l [] (event e room) (ends d a) h = h
-mode-after b l (y ∷ ns) (event e room) (unchanged r) h = h
-mode-after b l (y ∷ ns) (event e room) (runs d x phase) h = h
-mode-after b l (y ∷ ns) (event e room) (ends d a) h = h
-
 -- the session's caller is that of the newest call
 abbrev pub callerAt : List Note → ℕ
 callerAt [] = 0
 callerAt (x ∷ ns) = x .caller
 
-pub caller-after : (b : Books) (l : Record) (ns : List Note) (e : Entry) (o : Effect) → b .caller ≡ callerAt ns
-    → (booksAfter b e o) .caller ≡ callerAt ((add (observed l ns) e (given o)) .notes)
-caller-after b l ns (call k c room) (unchanged r) h = h
-caller-after b l ns (call k (opening m) room) (runs d x phase) h = refl
-caller-after b l ns (call k (opening m) room) (ends d a) h = refl
-caller-after b l ns (call k (reader c) room) (runs d x phase) h = refl
-caller-after b l ns (call k (reader c) room) (ends d a) h = refl
-caller-after b l [] (event e room) (unchanged r) h = h
-caller-after b l [] (event e room) (runs d x phase) h = h
-caller-after b l [] (event e room) (ends d a) h = h
-caller-after b l (y ∷ ns) (event e room) (unchanged r) h = h
-caller-after b l (y ∷ ns) (event e room) (runs d x phase) h = h
-caller-after b l (y ∷ ns) (event e room) (ends d a) h = h
+-- and its mode is that of the newest opening in the notes
+abbrev pub BooksAt : Books → List Note → Type 0
+BooksAt b ns = (b .padded ≡ modeAt ns) × (b .caller ≡ callerAt ns)
+
+pub books-after : (b : Books) (l : Record) (ns : List Note) (e : Entry) (o : Effect) → BooksAt b ns
+    → BooksAt (booksAfter b e o) ((add (observed l ns) e (given o)) .notes)
+books-after b l ns (call k c room) (unchanged r) h = h
+books-after b l ns (call k (opening m) room) (runs d x phase) h = (refl, refl)
+books-after b l ns (call k (opening m) room) (ends d a) h = (refl, refl)
+books-after b l ns (call k (reader c) room) (runs d x phase) h = (h .0, refl)
+books-after b l ns (call k (reader c) room) (ends d a) h = (h .0, refl)
+books-after b l [] (event e room) (unchanged r) h = h
+books-after b l [] (event e room) (runs d x phase) h = h
+books-after b l [] (event e room) (ends d a) h = h
+books-after b l (y ∷ ns) (event e room) (unchanged r) h = h
+books-after b l (y ∷ ns) (event e room) (runs d x phase) h = h
+books-after b l (y ∷ ns) (event e room) (ends d a) h = h
 
 -- ---- with the mode off the record is seen as it is
 

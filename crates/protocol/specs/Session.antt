@@ -15,7 +15,7 @@ use Rattle.exchange.specs.Exchange.{Result, unfit, pending, ended, onWrite, onR
 use Rattle.protocol.specs.Scripts.{Byte, Answer, done, type1, uidAndAts, nothing, refused, Script, finish, command, reset, fieldPause, refusedAfter}
 use Rattle.protocol.specs.Calls.{Call, opening, reader, isOpening, isPaddedMode}
 use Rattle.protocol.specs.Starts.{Start, refuses, starts, startOf}
-use Rattle.protocol.specs.Names.{fieldPauseTime, openingReadTime, resetPauseTime}
+use Rattle.protocol.specs.Names.{fieldPauseTime, openingReadTime, resetPauseTime, commandClock}
 
 -- ---- a running call
 
@@ -39,7 +39,7 @@ CallResult = Result Phase (Answer Byte)
 abbrev pub enter : Script → CallResult
 enter (finish a) = ended a
 enter (command code clock bytes k) = pending (write (commandFrame code bytes)) (exchange (sending code clock) (byReply k))
-enter (reset s) = pending (write (commandFrame resetCode resetData)) (exchange (sending resetCode 100) (ofReset s))
+enter (reset s) = pending (write (commandFrame resetCode resetData)) (exchange (sending resetCode commandClock) (ofReset s))
 enter (fieldPause s) = pending (pause fieldPauseTime) (fieldPausing s)
 
 -- what a reply leads to

@@ -25,6 +25,7 @@ use Rattle.protocol.specs.Rules.{rateBytes, versionBytes, rate, sendInde
 use Rattle.protocol.specs.Device.{hexDigit, hex, chipsetName}
 use Rattle.protocol.specs.Discovery.{byNoCard, cardA, uidLength, atsLength}
 use Rattle.protocol.specs.Own.{Cards, Owns, CardsAndFlag, CardAndRates, DepAndCards, Form, versionAndName, HasForm, Formed}
+use Rattle.protocol.specs.Names.{selResOffset, sensResOffset, targetOffset, uidLengthOffset, uidOffset}
 
 -- on no path more than n command frames
 abbrev pub Within : Script → ℕ → Type 0
@@ -51,13 +52,13 @@ pub data Placed (rs : List (List ℕ)) : List Byte → Type 0 where
   card-byte : {k p b : ℕ} {bs : List Byte} → getElem? (responseTo rs k) p ≡ some b → Placed rs bs → Placed rs (card k p b ∷ bs)
 
 -- b is the byte at position p of the response to command k
-abbrev pub Stands : List (List ℕ) → ℕ → ℕ → ℕ → Type 0
-Stands rs k p b = getElem? (responseTo rs k) p ≡ some b
+abbrev pub IsResponseByte : List (List ℕ) → ℕ → ℕ → ℕ → Type 0
+IsResponseByte rs k p b = getElem? (responseTo rs k) p ≡ some b
 
 abbrev pub Final : Form → List (List ℕ) → Answer Byte → Type 0
-Final o rs (done bs) = Placed rs bs × HasForm (Stands rs) o bs
-Final o rs (type1 bs) = Placed rs bs × HasForm (Stands rs) o bs
-Final o rs (uidAndAts bs uid ats) = Placed rs bs × Formed (Stands rs) o (uidAndAts bs uid ats)
+Final o rs (done bs) = Placed rs bs × HasForm (IsResponseByte rs) o bs
+Final o rs (type1 bs) = Placed rs bs × HasForm (IsResponseByte rs) o bs
+Final o rs (uidAndAts bs uid ats) = Placed rs bs × Formed (IsResponseByte rs) o (uidAndAts bs uid ats)
 Final o rs nothing = Unit {0}
 Final o rs (refused r) = Unit {0}
 Final o rs (refusedAfter r n) = Unit {0}
@@ -245,7 +246,7 @@ pub first-byte : (bs : List ℕ) → T (not (isEmpty bs)) → getElem? bs 0 ≡ 
 first-byte [] h = absurd h
 first-byte (b ∷ bs) h = refl
 
-pub cards-flag : (rs : List (List ℕ)) (cards : List Byte) (status : ℕ) → Cards cards → Stands rs 0 0 status → CardsAndFlag (Stands rs) (cards ++ (own (status / 64 % 2) ∷ []))
+pub cards-flag : (rs : List (List ℕ)) (cards : List Byte) (status : ℕ) → Cards cards → IsResponseByte rs 0 0 status → CardsAndFlag (IsResponseByte rs) (cards ++ (own (status / 64 % 2) ∷ []))
 cards-flag rs cards status h k = record { cards = cards; status = status; form = refl; allCards = h; source = k }
 
 T→true : (t : Bool) → T t → t ≡ true
@@ -257,12 +258,12 @@ not-true true h = absurd h
 not-true false h = refl
 
 pub rates-active : (bs : List ℕ) → T (eqb (getD bs 0 0) 1) → 2 ≤ length bs
-    → CardAndRates (Stands (bs ∷ [])) (byteAt 0 bs 0 ∷ (rateBytes (rate (sendIndex bs)) ++ rateBytes (rate (receiveIndex bs))))
+    → CardAndRates (IsResponseByte (bs ∷ [])) (byteAt 0 bs 0 ∷ (rateBytes (rate (sendIndex bs)) ++ rateBytes (rate (receiveIndex bs))))
 rates-active bs h k =
     record { state = getD bs 0 0; indices = getD bs 1 0; form = rw (T→true (eqb (getD bs 0 0) 1) h) refl; source = in-range bs 1 k }
 
 pub rates-none : (bs : List ℕ) → T (not (eqb (getD bs 0 0) 1)) → 2 ≤ length bs
-    → CardAndRates (Stands (bs ∷ [])) (byteAt 0 bs 0 ∷ (rateBytes 0 ++ rateBytes 0))
+    → CardAndRates (IsResponseByte (bs ∷ [])) (byteAt 0 bs 0 ∷ (rateBytes 0 ++ rateBytes 0))
 rates-none bs h k =
     record { state = getD bs 0 0; indices = getD bs 1 0; form = rw (not-true (eqb (getD bs 0 0) 1) h) refl; source = in-range bs 1 k }
 
@@ -270,21 +271,21 @@ pub dep-cards : (cards : List Byte) → Cards cards → DepAndCards (own 0xD5 �
 dep-cards cards h = record { cards = cards; form = refl; allCards = h }
 
 -- Type A's answer with two lengths, whose list is command 0
-module _ (o : Form) (rs : List (List ℕ)) (list : List ℕ) (e : responseTo rs 0 ≡ list) (long : 6 ≤ length list) where
+module _ (o : Form) (rs : List (List ℕ)) (list : List ℕ) (e : responseTo rs 0 ≡ list) (long : uidOffset ≤ length list) where
   cards-placed : Placed rs (cardA list)
   cards-placed =
-      let at : (p : ℕ) → p < 6 → getElem? (responseTo rs 0) p ≡ some (getD list p 0) = λ p h. rw e (in-range list p (omega arith)) in
-      card-byte (at 3 (omega arith)) (card-byte (at 2 (omega arith)) (card-byte (at 4 (omega arith)) (placed-rest rs 0 list 6 e)))
+      let at : (p : ℕ) → p < uidOffset → getElem? (responseTo rs 0) p ≡ some (getD list p 0) = λ p h. rw e (in-range list p (omega arith)) in
+      card-byte (at (sensResOffset + 1) (omega arith)) (card-byte (at sensResOffset (omega arith)) (card-byte (at selResOffset (omega arith)) (placed-rest rs 0 list uidOffset e)))
 
-  pub target-answer : T (isTargetData (drop 2 list)) → Final o rs (uidAndAts (cardA list) (uidLength list) (atsLength list))
+  pub target-answer : T (isTargetData (drop targetOffset list)) → Final o rs (uidAndAts (cardA list) (uidLength list) (atsLength list))
   target-answer t =
-      let s = target-only (drop 2 list) (T→true (isTargetData (drop 2 list)) t) in
-      let u : uidLength list ≡ length (s .uid) = sym (getD-drop 2 list 3 0) ∙ uid-length-at (s .is) in
+      let s = target-only (drop targetOffset list) (T→true (isTargetData (drop targetOffset list)) t) in
+      let u : uidLength list ≡ length (s .uid) = sym (getD-drop targetOffset list 3 0) ∙ uid-length-at (s .is) in
       let a : atsLength list ≡ length (s .ats) =
-      ap (λ k. getD list k 0) (omega arith) ∙ (sym (getD-drop 2 list (4 + length (s .uid)) 0) ∙ ats-length-at (s .is)) in
-      let stands : Stands rs 0 5 (uidLength list) = rw e (in-range list 5 (omega arith)) in (
+      ap (λ k. getD list k 0) (omega arith) ∙ (sym (getD-drop targetOffset list (4 + length (s .uid)) 0) ∙ ats-length-at (s .is)) in
+      let length-byte : IsResponseByte rs 0 uidLengthOffset (uidLength list) = rw e (in-range list uidLengthOffset (omega arith)) in (
         cards-placed,
-        (cards-rest 0 list 6, record { list = list; uid = s .uid; ats = s .ats; form = refl; target = s .is; uidIs = u; atsIs = a; source = stands }),
+        (cards-rest 0 list uidOffset, record { list = list; uid = s .uid; ats = s .ats; form = refl; target = s .is; uidIs = u; atsIs = a; source = length-byte }),
       )
 
 -- for a script whose answer has card bytes alone; for any

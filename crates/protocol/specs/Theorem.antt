@@ -21,8 +21,8 @@ use Rattle.protocol.specs.Sound.{Sound}
 use Rattle.protocol.specs.CallsSound.{sound}
 use Rattle.protocol.specs.Laws.{split, lines-own, lines-other}
 use Rattle.protocol.specs.Invariant.{phase-due, Left, Sourced, Invariant, Preserved, later-card, later-sourced, form-by, bare, entered}
-use Rattle.protocol.specs.Preserved.{KeptBy, kept}
-use Rattle.protocol.specs.Seen.{Unused, no-lines, more-unused, unused-seen, add-seen, mode-after, callerAt, caller-after}
+use Rattle.protocol.specs.Preserved.{PreservedBy, preserved}
+use Rattle.protocol.specs.Seen.{Unused, no-lines, more-unused, unused-seen, add-seen, callerAt, books-after}
 
 -- ---- lines of a later call
 
@@ -100,7 +100,7 @@ module _ (c : Call) (phase : Phase) (l : Record) (y : Note) (ns : List Note) (e 
   none-used : Unused ((n, accepted e) ∷ l) (suc n)
   none-used = (omega arith, i .2)
 
-  result-agrees : (r : CallResult) → KeptBy n c l (i .0 .ownLines) e r → Agreed (effect c r)
+  result-agrees : (r : CallResult) → PreservedBy n c l (i .0 .ownLines) e r → Agreed (effect c r)
   result-agrees unfit q = i
   result-agrees (pending x new) q = (
     record { sameCall = i .0 .sameCall; unanswered = i .0 .unanswered; ownLines = ordered x ∷ accepted e ∷ i .0 .ownLines; invariant = q },
@@ -116,7 +116,7 @@ module _ (c : Call) (phase : Phase) (l : Record) (y : Note) (ns : List Note) (e 
   admitted-agrees : (room : ℕ) (o : Effect) → Agreed o → Agreed (admitted e room o)
   admitted-agrees room o h = room-agrees room _ (split Agreed (ltb packetLimit (packetLength e)) _ _ (λ _. i) (λ _. h))
 
-  event-result-agrees : (room : ℕ) (r : CallResult) → KeptBy n c l (i .0 .ownLines) e r → Agreed (eventEffect c e room r)
+  event-result-agrees : (room : ℕ) (r : CallResult) → PreservedBy n c l (i .0 .ownLines) e r → Agreed (eventEffect c e room r)
   event-result-agrees room unfit q = i
   event-result-agrees room (pending x new) q = admitted-agrees room (effect c (pending x new)) (result-agrees (pending x new) q)
   event-result-agrees room (ended a) q = admitted-agrees room (effect c (ended a)) (result-agrees (ended a) q)
@@ -127,7 +127,7 @@ event-agrees : (c : Call) (phase : Phase) (l : Record) (ns : List Note) (e : Eve
     (addEvent e l ns (given (eventEffect c e room (progress phase e))))
 event-agrees c phase l [] e room i = absurd i
 event-agrees c phase l (y ∷ ns) e room i =
-    event-result-agrees c phase l y ns e i room (progress phase e) (kept (length ns) c l (i .0 .ownLines) phase (i .0 .invariant) e)
+    event-result-agrees c phase l y ns e i room (progress phase e) (preserved (length ns) c l (i .0 .ownLines) phase (i .0 .invariant) e)
 
 -- ---- a call
 
@@ -141,8 +141,8 @@ module _ (caller : ℕ) (l : Record) (ns : List Note) (c : Call) (i : Agrees idl
   no-line : linesOf (length ns) l ≡ []
   no-line = no-lines l (length ns) (length ns) (i .1) (omega arith)
 
-  begin-kept : (b : Bool) (s : Script) → isOpening c ≡ b → Left (formOf c) s (limit c) [] → Preserved (length ns) c l [] (begin b s)
-  begin-kept true s e h =
+  begin-preserved : (b : Bool) (s : Script) → isOpening c ≡ b → Left (formOf c) s (limit c) [] → Preserved (length ns) c l [] (begin b s)
+  begin-preserved true s e h =
       let f : frames (ordered (write ack) ∷ []) ≡ 0 = bare (length ns) c [] in
       let a : 2 ≤ allowed c (ordered (write ack) ∷ []) = rw e (omega arith) in
       record {
@@ -155,12 +155,12 @@ module _ (caller : ℕ) (l : Record) (ns : List Note) (c : Call) (i : Agrees idl
         place = (f, refl);
         source = later-sourced (length ns) c [] no-source;
       }
-  begin-kept false s e h =
+  begin-preserved false s e h =
       entered (length ns) c l [] [] no-line s (limit c) (omega arith) (omega arith) h refl no-source
 
   started-agrees : (s : Start) → Sound (formOf c) s (limit c) → Starts (started c s)
   started-agrees (refuses r) h = i
-  started-agrees (starts s) h = begun caller l ns c (begin (isOpening c) s) (i .0) (i .1) (begin-kept (isOpening c) s refl h)
+  started-agrees (starts s) h = begun caller l ns c (begin (isOpening c) s) (i .0) (i .1) (begin-preserved (isOpening c) s refl h)
 
   call-agrees : (isAdmitted : Bool) (room : ℕ) → Starts (callEffect isAdmitted caller c room)
   call-agrees isAdmitted room =
@@ -184,11 +184,8 @@ agrees s w e i =
     let p = ((step s e) .0) .running in
     let seen-step : AgreesAt p (add (asSeen w) (seenEntry (s .books .padded) e) out) = step-agrees (s .running) (s .books) _ (w .notes) e (i .running) in
     let by-notes : AgreesAt p (add (asSeen w) (seenEntry (modeAt (w .notes)) e) out) = subst (λ t. AgreesAt p (add (asSeen w) (seenEntry t e) out)) (i .mode) seen-step in
-    record {
-      running = subst (AgreesAt p) (sym (add-seen (w .lines) (w .notes) e out (unused s w i))) by-notes;
-      mode = mode-after (s .books) (w .lines) (w .notes) e (effectOf (s .running) (s .books) e) (i .mode);
-      caller = caller-after (s .books) (w .lines) (w .notes) e (effectOf (s .running) (s .books) e) (i .caller);
-    }
+    let books = books-after (s .books) (w .lines) (w .notes) e (effectOf (s .running) (s .books) e) (i .mode, i .caller) in
+    record { running = subst (AgreesAt p) (sym (add-seen (w .lines) (w .notes) e out (unused s w i))) by-notes; mode = books .0; caller = books .1 }
 
 -- what the invariant says of the running call
 still-runs : (n : ℕ) (c : Call) (l : Record) (xs : List Item) (phase : Phase) → Invariant n c l xs phase → Claimed l n c

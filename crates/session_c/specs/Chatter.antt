@@ -5,7 +5,7 @@ use mathlib.Core.Option.{Option}
 use Prim.Native.Nat.{ℕ}
 use Rattle.protocol.specs.Calls.{Call}
 use Rattle.protocol.specs.Session as Spec
-use Rattle.protocol.specs.Machine.{Machine, entries, stateAfter}
+use Rattle.protocol.specs.Machine.{entries, stateAfter}
 use Rattle.protocol.specs.PollList.{EventAndRoom}
 use Rattle.protocol.specs.Chatter.{waits, Alike, callEntries, linesFrom, answersIn, writesIn}
 use Rattle.engine.specs.Inputs.{Input}

@@ -9,7 +9,7 @@ use Rattle.calls.specs.Numbers.{callOf}
 use Rattle.calls.specs.declared.start.Numbers.{Numbers}
 use Rattle.engine.specs.Numbers.{callInput, eventBy}
 use Rattle.engine.specs.declared.session.Session.{Session}
-use Rattle.session_c.specs.Outcomes.{Report, report, reportOf, refusedKind, withRefusal}
+use Rattle.session_c.specs.Outcomes.{Report, report, reportOf, refusedOutcome, withRefusal}
 
 -- a call or an event as the host gives it: a number, its arguments and the bytes of the buffer
 pub data HostEntry : Type 0 where
@@ -31,7 +31,7 @@ bufferIn (hostEvent number packet b) = b
 
 -- what has no entry of the engine is refused as out of turn, and nothing changes
 abbrev pub reportWith : Session → Option Input → List ℕ → Report
-reportWith s none b = report s (withRefusal refusedKind (plain 1) 0) b
+reportWith s none b = report s (withRefusal refusedOutcome (plain 1) 0) b
 reportWith s (some i) b = reportOf (stepWith s i)
 
 abbrev pub reportFor : Session → HostEntry → Report

@@ -11,35 +11,35 @@ use Rattle.engine.specs.declared.core.Output.the-variants.{Ack, Command, Read, 
 use Rattle.session_c.specs.declared.outcome.Outcome.{Outcome}
 
 -- the kinds of an outcome
-abbrev pub writeKind : ℕ
-writeKind = 0
+abbrev pub writeOutcome : ℕ
+writeOutcome = 0
 
-abbrev pub readKind : ℕ
-readKind = 1
+abbrev pub readOutcome : ℕ
+readOutcome = 1
 
-abbrev pub drainKind : ℕ
-drainKind = 2
+abbrev pub drainOutcome : ℕ
+drainOutcome = 2
 
-abbrev pub pauseKind : ℕ
-pauseKind = 3
+abbrev pub pauseOutcome : ℕ
+pauseOutcome = 3
 
-abbrev pub doneKind : ℕ
-doneKind = 4
+abbrev pub doneOutcome : ℕ
+doneOutcome = 4
 
-abbrev pub type1Kind : ℕ
-type1Kind = 5
+abbrev pub type1Outcome : ℕ
+type1Outcome = 5
 
-abbrev pub noneKind : ℕ
-noneKind = 6
+abbrev pub noneOutcome : ℕ
+noneOutcome = 6
 
-abbrev pub refusedKind : ℕ
-refusedKind = 7
+abbrev pub refusedOutcome : ℕ
+refusedOutcome = 7
 
-abbrev pub listRefusedKind : ℕ
-listRefusedKind = 8
+abbrev pub listRefusedOutcome : ℕ
+listRefusedOutcome = 8
 
-abbrev pub uidAndAtsKind : ℕ
-uidAndAtsKind = 9
+abbrev pub uidAndAtsOutcome : ℕ
+uidAndAtsOutcome = 9
 
 -- a kind with a number of bytes, and one with a time
 abbrev pub withBytes : ℕ → ℕ → Outcome
@@ -50,25 +50,25 @@ withTime kind t = record { kind = kind; refusal = 0; status = 0; status2 = 0; fi
 
 -- an answer's bytes, with the lengths of the UID and the ATS among them
 abbrev pub withLengths : ℕ → ℕ → ℕ → Outcome
-withLengths n uid ats = record { kind = uidAndAtsKind; refusal = 0; status = 0; status2 = 0; finished = 0; uid = uid; ats = ats; time = 0; len = n }
+withLengths n uid ats = record { kind = uidAndAtsOutcome; refusal = 0; status = 0; status2 = 0; finished = 0; uid = uid; ats = ats; time = 0; len = n }
 
 -- a refusal by its number, the status byte of 15 and the status flags of 20, and of a list the number of its codes that were finished
 abbrev pub withRefusal : ℕ → Numbered → ℕ → Outcome
 withRefusal kind n finished = record { kind = kind; refusal = n .number; status = n .status; status2 = n .status2; finished = finished; uid = 0; ats = 0; time = 0; len = 0 }
 
 abbrev pub outcomeOf : Output → Outcome
-outcomeOf Ack = withBytes writeKind 6
-outcomeOf (Command n) = withBytes writeKind n
-outcomeOf (Read ms) = withTime readKind ms
-outcomeOf Drain = withBytes drainKind 0
-outcomeOf (Pause us) = withTime pauseKind us
-outcomeOf (Done n) = withBytes doneKind n
-outcomeOf (Type1 n) = withBytes type1Kind n
+outcomeOf Ack = withBytes writeOutcome 6
+outcomeOf (Command n) = withBytes writeOutcome n
+outcomeOf (Read ms) = withTime readOutcome ms
+outcomeOf Drain = withBytes drainOutcome 0
+outcomeOf (Pause us) = withTime pauseOutcome us
+outcomeOf (Done n) = withBytes doneOutcome n
+outcomeOf (Type1 n) = withBytes type1Outcome n
 outcomeOf (UidAndAts n uid ats) = withLengths n uid ats
-outcomeOf Nothing = withBytes noneKind 0
-outcomeOf (Failed e) = withRefusal refusedKind (faultNumbered e) 0
-outcomeOf (FailedAfter e finished) = withRefusal listRefusedKind (faultNumbered e) finished
-outcomeOf (Refused e) = withRefusal refusedKind (numbered e) 0
+outcomeOf Nothing = withBytes noneOutcome 0
+outcomeOf (Failed e) = withRefusal refusedOutcome (faultNumbered e) 0
+outcomeOf (FailedAfter e finished) = withRefusal listRefusedOutcome (faultNumbered e) finished
+outcomeOf (Refused e) = withRefusal refusedOutcome (numbered e) 0
 
 -- a session of its parts
 abbrev pub joined : List ℕ → List ℕ → List ℕ → List ℕ → Core → Session

@@ -21,14 +21,14 @@ use Rattle.engine.specs.Unchanged.{refused-unchanged, refused-ends, list-ends}
 use Rattle.engine.specs.declared.session.Session.{Session}
 use Rattle.engine.specs.declared.core.Output.{Output}
 use Rattle.engine.specs.declared.core.Output.the-variants.{Ack, Command, Read, Drain, Pause, Done, Type1, UidAndAts, Nothing, Failed, FailedAfter, Refused}
-use Rattle.session_c.specs.Outcomes.{Report, reportOf, refusedKind, listRefusedKind, outcomeOf}
+use Rattle.session_c.specs.Outcomes.{Report, reportOf, refusedOutcome, listRefusedOutcome, outcomeOf}
 use Rattle.session_c.specs.Entries.{HostEntry, hostCall, hostEvent, bufferIn, eventInput, reportWith, reportFor}
 
 -- what a report has to say of the session s and the buffer b that went in
 pub record RefusedUnchanged (s : Session) (b : List ℕ) (r : Report) : Type 0 where
-  pub early : (r .outcome) .kind ≡ refusedKind → (r .outcome) .refusal ≤ 6 → (r .session ≡ s) × (r .buffer ≡ b)
-  pub late : (r .outcome) .kind ≡ refusedKind → 7 ≤ (r .outcome) .refusal → (isFree (stateIn (r .session)) ≡ true) × (r .buffer ≡ b)
-  pub listed : (r .outcome) .kind ≡ listRefusedKind → (isFree (stateIn (r .session)) ≡ true) × (r .buffer ≡ b)
+  pub early : (r .outcome) .kind ≡ refusedOutcome → (r .outcome) .refusal ≤ 6 → (r .session ≡ s) × (r .buffer ≡ b)
+  pub late : (r .outcome) .kind ≡ refusedOutcome → 7 ≤ (r .outcome) .refusal → (isFree (stateIn (r .session)) ≡ true) × (r .buffer ≡ b)
+  pub listed : (r .outcome) .kind ≡ listRefusedOutcome → (isFree (stateIn (r .session)) ≡ true) × (r .buffer ≡ b)
 
 -- a fault's number is none of the first six, and only a refusal and a fault have the kind of a refusal
 fault-late : (r : Fault) → 7 ≤ faultNumbered r .number
@@ -61,7 +61,7 @@ data IsRefused (o : Output) : Type 0 where
   at-once : (r : Refusal) → o ≡ Refused r → IsRefused o
   later : (r : Fault) → o ≡ Failed r → IsRefused o
 
-refused-by : (o : Output) → (outcomeOf o) .kind ≡ refusedKind → IsRefused o
+refused-by : (o : Output) → (outcomeOf o) .kind ≡ refusedOutcome → IsRefused o
 refused-by Ack e = absurd (omega (arith, e))
 refused-by (Command n) e = absurd (omega (arith, e))
 refused-by (Read ms) e = absurd (omega (arith, e))
@@ -80,7 +80,7 @@ record IsListed (o : Output) : Type 0 where
   finished : ℕ
   is : o ≡ FailedAfter fault finished
 
-listed-by : (o : Output) → (outcomeOf o) .kind ≡ listRefusedKind → IsListed o
+listed-by : (o : Output) → (outcomeOf o) .kind ≡ listRefusedOutcome → IsListed o
 listed-by Ack e = absurd (omega (arith, e))
 listed-by (Command n) e = absurd (omega (arith, e))
 listed-by (Read ms) e = absurd (omega (arith, e))
@@ -94,8 +94,8 @@ listed-by (Failed r) e = absurd (omega (arith, e))
 listed-by (FailedAfter r n) e = record { fault = r; finished = n; is = refl }
 listed-by (Refused r) e = absurd (omega (arith, e))
 
-step-kept : (s : Session) (i : Input) → RefusedUnchanged s (bufferOf i) (reportOf (stepWith s i))
-step-kept s i = record {
+step-unchanged : (s : Session) (i : Input) → RefusedUnchanged s (bufferOf i) (reportOf (stepWith s i))
+step-unchanged s i = record {
   early = λ k h. early (refused-by ((stepWith s i) .output) k) h;
   late = λ k h. late (refused-by ((stepWith s i) .output) k) h;
   listed = λ k. let l = listed-by ((stepWith s i) .output) k in list-ends s i (l .fault) (l .finished) (l .is);
@@ -112,15 +112,15 @@ step-kept s i = record {
     late (at-once r e) h = absurd (omega (arith, h, ap (λ x. (outcomeOf x) .refusal) e, refusal-early r))
     late (later r e) h = refused-ends s i r e
 
-call-kept : (s : Session) (k : ℕ) (c : Call) (b : List ℕ) → RefusedUnchanged s b (reportOf (stepWith s (callInput k c b)))
-call-kept s k (opening mode) b = step-kept s (opens k mode b)
-call-kept s k (reader c) b = step-kept s (asks k c b)
+call-unchanged : (s : Session) (k : ℕ) (c : Call) (b : List ℕ) → RefusedUnchanged s b (reportOf (stepWith s (callInput k c b)))
+call-unchanged s k (opening mode) b = step-unchanged s (opens k mode b)
+call-unchanged s k (reader c) b = step-unchanged s (asks k c b)
 
-event-kept : (s : Session) (e : Option Event) (b : List ℕ) → RefusedUnchanged s b (reportWith s (eventInput e b) b)
-event-kept s none b = record { early = λ k h. (refl, refl); late = λ k h. absurd (omega (arith, h)); listed = λ k. absurd (omega (arith, k)) }
-event-kept s (some e) b = step-kept s (gives e b)
+event-unchanged : (s : Session) (e : Option Event) (b : List ℕ) → RefusedUnchanged s b (reportWith s (eventInput e b) b)
+event-unchanged s none b = record { early = λ k h. (refl, refl); late = λ k h. absurd (omega (arith, h)); listed = λ k. absurd (omega (arith, k)) }
+event-unchanged s (some e) b = step-unchanged s (gives e b)
 
 -- for every session and every entry
-pub host-kept : (s : Session) (h : HostEntry) → RefusedUnchanged s (bufferIn h) (reportFor s h)
-host-kept s (hostCall number numbers first second third fourth b) = call-kept s (numbers .caller) (callOf number numbers first second third fourth) b
-host-kept s (hostEvent number packet b) = event-kept s (eventBy number packet) b
+pub host-refusals : (s : Session) (h : HostEntry) → RefusedUnchanged s (bufferIn h) (reportFor s h)
+host-refusals s (hostCall number numbers first second third fourth b) = call-unchanged s (numbers .caller) (callOf number numbers first second third fourth) b
+host-refusals s (hostEvent number packet b) = event-unchanged s (eventBy number packet) b

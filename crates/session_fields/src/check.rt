@@ -1,4 +1,6 @@
 // The outcomes counted, and what an outcome must not be.
+use engine::books::BOOKS;
+use engine::books::CALLERS;
 use engine::core::Core;
 use engine::core::Output;
 use engine::session::Session;
@@ -131,7 +133,7 @@ fn same_core(before: Core, after: Core) -> bool {
     same_running(before, after)
 }
 
-fn same_frames(before: [u32; 8], after: [u32; 8]) -> bool {
+fn same_frames(before: [u32; CALLERS], after: [u32; CALLERS]) -> bool {
     if before[0] != after[0] {
         return false;
     }
@@ -156,7 +158,7 @@ fn same_frames(before: [u32; 8], after: [u32; 8]) -> bool {
     before[7] == after[7]
 }
 
-fn same_books(before: [u8; 3], after: [u8; 3]) -> bool {
+fn same_books(before: [u8; BOOKS], after: [u8; BOOKS]) -> bool {
     if before[0] != after[0] {
         return false;
     }

@@ -1,4 +1,5 @@
 // Numbers drawn from a seed, and sessions made of them.
+use engine::books::BOOKS;
 use engine::call::Call;
 use engine::core::Core;
 use engine::session::Session;
@@ -128,7 +129,7 @@ pub(crate) fn caller(x: u64) -> u8 {
     }
 }
 
-fn books(seed: u64) -> [u8; 3] {
+fn books(seed: u64) -> [u8; BOOKS] {
     [
         opened(number(seed, 9)),
         mode(number(seed, 14)),

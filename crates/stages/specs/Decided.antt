@@ -32,12 +32,22 @@ foundLimit = 1024
 abbrev pub responseLimit : ℕ
 responseLimit = 1022
 
+-- the head and the tail of a layout, and the data that a stage's command has by itself
+abbrev pub headLimit : ℕ
+headLimit = 3
+
+abbrev pub tailLimit : ℕ
+tailLimit = 12
+
+abbrev pub fixedLimit : ℕ
+fixedLimit = 12
+
 -- each part lies in its bytes, and the found bytes and a buffer have room for them all
 pub record Fitting (f b : List ℕ) (l : Layout) : Type 0 where
   pub kept : l .kept ≤ length f
-  pub head : l .«head_len» ≤ 3
+  pub head : l .«head_len» ≤ headLimit
   pub part : l .start + l .len ≤ length b
-  pub tail : l .«tail_len» ≤ 12
+  pub tail : l .«tail_len» ≤ tailLimit
   pub room : length f ≤ foundLimit → length b ≤ responseLimit → l .kept + (l .«head_len» + (l .len + l .«tail_len»)) ≤ foundLimit
 
 -- a layout of these bytes
@@ -93,9 +103,9 @@ commandIn c pending = cmd (c .code) (c .clock) (pick (c .«is_pending») pending
 -- the same, and the data is within the bytes
 pub record Sends (c : Command) (pending : List ℕ) (m : stages.Command) : Type 0 where
   pub is : commandIn c pending ≡ m
-  pub fits : c .len ≤ 12
+  pub fits : c .len ≤ fixedLimit
 
 -- whatever the pending command is
 pub record Commands (c : Command) (f : List ℕ → stages.Command) : Type 0 where
   pub is : (pending : List ℕ) → commandIn c pending ≡ f pending
-  pub fits : c .len ≤ 12
+  pub fits : c .len ≤ fixedLimit

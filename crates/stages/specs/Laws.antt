@@ -14,7 +14,7 @@ use Rattle.errors.specs.declared.Fault.the-variants.{Status}
 use Rattle.protocol.specs.Scripts.{Answer, done, type1, uidAndAts, nothing, refused, refusedAfter}
 use Rattle.stages.specs.Stages.{send, keep, next, put, pause, ends, refuse}
 use Rattle.stages.specs.Stages as stages
-use Rattle.stages.specs.Decided.{headBytes, tailBytes, Lays, DecisionRefines, AnswerRefines, Sends, Commands, foundLimit, responseLimit}
+use Rattle.stages.specs.Decided.{headBytes, tailBytes, Lays, DecisionRefines, AnswerRefines, Sends, Commands, foundLimit, responseLimit, tailLimit}
 use Rattle.stages.specs.declared.Command.{Command}
 use Rattle.stages.specs.declared.Decision.{Decision}
 use Rattle.stages.specs.declared.Decision.the-variants.{Send, Keep, Next, Put, Pause, Done, Part, Type1, UidAndAts, Nothing, Refused, RefusedAfter}
@@ -53,7 +53,7 @@ module _ (f b : List ℕ) (h : Head) (t : Tail) where
         fits = record { kept = omega arith; head = p; part = omega arith; tail = omega arith; room = λ u v. omega arith };
       }
 
-  pub lays-tailed : (s n j : ℕ) → s + n ≤ length b → j ≤ 12 → (length b ≤ responseLimit → n + j ≤ foundLimit) → Lays f b (laid 0 h 0 s n t j) (take n (drop s b) ++ take j (tailBytes t))
+  pub lays-tailed : (s n j : ℕ) → s + n ≤ length b → j ≤ tailLimit → (length b ≤ responseLimit → n + j ≤ foundLimit) → Lays f b (laid 0 h 0 s n t j) (take n (drop s b) ++ take j (tailBytes t))
   lays-tailed s n j p q r =
       record { is = refl; fits = record { kept = omega arith; head = omega arith; part = p; tail = q; room = λ u v. omega (arith, r v) } }
 

@@ -7,6 +7,7 @@ use borrow.Rule.Slice.PartMut.{putMid}
 use lib.ListN.{length, take, drop, length-append, length-take, take-append-drop}
 use lib.Seq.{take-length, take-append-seam, drop-append-add, drop-drop, length-take-le, take-take}
 use Rattle.framing.specs.Copied.{copied}
+use Rattle.protocol.specs.Starts.{dataLimit}
 
 -- bytes at the start of a list
 abbrev pub put : List ℕ → List ℕ → List ℕ
@@ -25,13 +26,13 @@ pub record Appends (part t₀ t₁ : List ℕ) (len r : ℕ) : Type 0 where
 
 -- n is the sum m, or both are over the limit
 pub record Sum (n m : ℕ) : Type 0 where
-  pub within : n ≤ 512 → n ≡ m
-  pub over : 512 < n → 512 < m
+  pub within : n ≤ dataLimit → n ≡ m
+  pub over : dataLimit < n → dataLimit < m
 
 -- the list l has been put at the start of c₀, which is c₁ now, and n is its length; one over the limit of 512 has not, and n is over it too
 pub record Joins (n : ℕ) (c₀ c₁ l : List ℕ) : Type 0 where
-  pub within : length l ≤ 512 → Puts c₁ n l c₀
-  pub over : 512 < length l → (512 < n) × (c₁ ≡ c₀)
+  pub within : length l ≤ dataLimit → Puts c₁ n l c₀
+  pub over : dataLimit < length l → (dataLimit < n) × (c₁ ≡ c₀)
 
 -- ---- laws
 
@@ -81,21 +82,21 @@ pub take-put : (bytes l : List ℕ) → take (length bytes) (put bytes l) ≡ by
 take-put bytes l = take-append-seam bytes (drop (length bytes) l)
 
 module _ (n : ℕ) (c₀ c₁ l : List ℕ) where
-  pub joins-within : length l ≤ 512 → Puts c₁ n l c₀ → Joins n c₀ c₁ l
+  pub joins-within : length l ≤ dataLimit → Puts c₁ n l c₀ → Joins n c₀ c₁ l
   joins-within h p = record { within = λ _. p; over = λ k. absurd (omega arith) }
 
-  pub joins-over : 512 < length l → 512 < n → c₁ ≡ c₀ → Joins n c₀ c₁ l
+  pub joins-over : dataLimit < length l → dataLimit < n → c₁ ≡ c₀ → Joins n c₀ c₁ l
   joins-over h k e = record { within = λ m. absurd (omega arith); over = λ _. (k, e) }
 
 pub sum-none : Sum 0 0
 sum-none = record { within = λ _. refl; over = λ h. absurd (omega arith) }
 
 module _ (n m p : ℕ) (h : Sum n m) where
-  pub sum-over : 512 < n → Sum n (m + p)
+  pub sum-over : dataLimit < n → Sum n (m + p)
   sum-over k = record { within = λ l. absurd (omega arith); over = λ l. omega (arith, h .over k) }
 
-  pub sum-passed : n ≤ 512 → 512 - n < p → Sum 513 (m + p)
+  pub sum-passed : n ≤ dataLimit → dataLimit - n < p → Sum (dataLimit + 1) (m + p)
   sum-passed k l = record { within = λ r. absurd (omega arith); over = λ r. omega (arith, h .within k) }
 
-  pub sum-more : n ≤ 512 → p ≤ 512 - n → Sum (n + p) (m + p)
+  pub sum-more : n ≤ dataLimit → p ≤ dataLimit - n → Sum (n + p) (m + p)
   sum-more k l = record { within = λ r. omega (arith, h .within k); over = λ r. absurd (omega arith) }

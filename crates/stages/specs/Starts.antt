@@ -10,6 +10,7 @@ use lib.ListN.{length}
 use Rattle.errors.specs.Choice.{pick}
 use Rattle.errors.specs.declared.Refusal.{Refusal}
 use Rattle.errors.specs.declared.Refusal.the-variants.{OverLong, BadArgument}
+use Rattle.protocol.specs.Starts.{dataLimit}
 use Rattle.stages.specs.Put.{Puts, Joins}
 use Rattle.stages.specs.Stages.{Command, cmd}
 use Rattle.stages.specs.declared.start.First.{First}
@@ -25,10 +26,10 @@ pub data Start : Type 0 where
 
 -- command data of at most 512 bytes, else 3; what the Rust asserts, else 4
 unfoldable pub limited : ℕ → Command → Start
-limited kind c = pick (ltb 512 (length (c .bytes))) (refuses OverLong) (sends kind c)
+limited kind c = pick (ltb dataLimit (length (c .bytes))) (refuses OverLong) (sends kind c)
 
 unfoldable pub stagedLimited : ℕ → List ℕ → Start
-stagedLimited kind bytes = pick (ltb 512 (length bytes)) (refuses OverLong) (staged kind bytes)
+stagedLimited kind bytes = pick (ltb dataLimit (length bytes)) (refuses OverLong) (staged kind bytes)
 
 unfoldable pub asserted : Bool → Start → Start
 asserted t s = pick t s (refuses BadArgument)
@@ -38,14 +39,14 @@ asserted t s = pick t s (refuses BadArgument)
 -- the start, with the array of the pending command before and after it
 pub data Starts : code.Start → List ℕ → List ℕ → Start → Type 0 where
   starts-refused : (r : Refusal) (c : List ℕ) → Starts (variants.Refused r) c c (refuses r)
-  starts-command : (f : First) (c₀ c₁ l : List ℕ) → length l ≤ 512 → Puts c₁ (f .len) l c₀
+  starts-command : (f : First) (c₀ c₁ l : List ℕ) → length l ≤ dataLimit → Puts c₁ (f .len) l c₀
       → Starts (variants.Command f) c₀ c₁ (sends (f .kind) (cmd (f .code) (f .clock) l))
-  starts-staged : (kind n : ℕ) (c₀ c₁ l : List ℕ) → length l ≤ 512 → Puts c₁ n l c₀ → Starts (variants.Staged kind n) c₀ c₁ (staged kind l)
+  starts-staged : (kind n : ℕ) (c₀ c₁ l : List ℕ) → length l ≤ dataLimit → Puts c₁ n l c₀ → Starts (variants.Staged kind n) c₀ c₁ (staged kind l)
 
 -- what is put by is within the limit
 abbrev pub StartFits : code.Start → Type 0
-StartFits (variants.Command f) = f .len ≤ 512
-StartFits (variants.Staged kind n) = n ≤ 512
+StartFits (variants.Command f) = f .len ≤ dataLimit
+StartFits (variants.Staged kind n) = n ≤ dataLimit
 StartFits (variants.Refused r) = Unit
 
 -- ---- laws
@@ -66,32 +67,32 @@ module _ (r : code.Start) (c₀ c₁ : List ℕ) (a b : Start) (t : Bool) where
 
 -- within the limit or over it, as the bytes were put
 module _ (n : ℕ) (c₀ c₁ l : List ℕ) (h : Joins n c₀ c₁ l) where
-  pub over-limit : 512 < n → (s : Start) → Starts (variants.Refused OverLong) c₀ c₁ (pick (ltb 512 (length l)) (refuses OverLong) s)
+  pub over-limit : dataLimit < n → (s : Start) → Starts (variants.Refused OverLong) c₀ c₁ (pick (ltb dataLimit (length l)) (refuses OverLong) s)
   unfolding pick
-  over-limit k s = go (ltb 512 (length l)) refl
+  over-limit k s = go (ltb dataLimit (length l)) refl
     where
-      go : (t : Bool) → ltb 512 (length l) ≡ t → Starts (variants.Refused OverLong) c₀ c₁ (pick t (refuses OverLong) s)
-      go true e = rw (h .over (ltb-true 512 (length l) e) .1) (starts-refused OverLong c₀)
-      go false e = let m = ltb-false 512 (length l) e in absurd (omega (arith, m, h .within m .count))
+      go : (t : Bool) → ltb dataLimit (length l) ≡ t → Starts (variants.Refused OverLong) c₀ c₁ (pick t (refuses OverLong) s)
+      go true e = rw (h .over (ltb-true dataLimit (length l) e) .1) (starts-refused OverLong c₀)
+      go false e = let m = ltb-false dataLimit (length l) e in absurd (omega (arith, m, h .within m .count))
 
-  pub within-limit : n ≤ 512 → (r : code.Start) (s : Start) → (length l ≤ 512 → Puts c₁ n l c₀ → Starts r c₀ c₁ s)
-      → Starts r c₀ c₁ (pick (ltb 512 (length l)) (refuses OverLong) s)
+  pub within-limit : n ≤ dataLimit → (r : code.Start) (s : Start) → (length l ≤ dataLimit → Puts c₁ n l c₀ → Starts r c₀ c₁ s)
+      → Starts r c₀ c₁ (pick (ltb dataLimit (length l)) (refuses OverLong) s)
   unfolding pick
-  within-limit k r s f = go (ltb 512 (length l)) refl
+  within-limit k r s f = go (ltb dataLimit (length l)) refl
     where
-      go : (t : Bool) → ltb 512 (length l) ≡ t → Starts r c₀ c₁ (pick t (refuses OverLong) s)
-      go true e = absurd (omega (arith, h .over (ltb-true 512 (length l) e) .0))
-      go false e = let m = ltb-false 512 (length l) e in f m (h .within m)
+      go : (t : Bool) → ltb dataLimit (length l) ≡ t → Starts r c₀ c₁ (pick t (refuses OverLong) s)
+      go true e = absurd (omega (arith, h .over (ltb-true dataLimit (length l) e) .0))
+      go false e = let m = ltb-false dataLimit (length l) e in f m (h .within m)
 
 module _ (r : code.Start) (c₀ c₁ : List ℕ) where
   -- data within the limit is sent
-  pub short-command : (kind : ℕ) (c : Command) → length (c .bytes) ≤ 512 → Starts r c₀ c₁ (limited kind c) → Starts r c₀ c₁ (sends kind c)
+  pub short-command : (kind : ℕ) (c : Command) → length (c .bytes) ≤ dataLimit → Starts r c₀ c₁ (limited kind c) → Starts r c₀ c₁ (sends kind c)
   unfolding limited pick
-  short-command kind c h e = rw (le-ltb 512 (length (c .bytes)) h) at e
+  short-command kind c h e = rw (le-ltb dataLimit (length (c .bytes)) h) at e
 
-  pub short-staged : (kind : ℕ) (l : List ℕ) → length l ≤ 512 → Starts r c₀ c₁ (stagedLimited kind l) → Starts r c₀ c₁ (staged kind l)
+  pub short-staged : (kind : ℕ) (l : List ℕ) → length l ≤ dataLimit → Starts r c₀ c₁ (stagedLimited kind l) → Starts r c₀ c₁ (staged kind l)
   unfolding stagedLimited pick
-  short-staged kind l h e = rw (le-ltb 512 (length l) h) at e
+  short-staged kind l h e = rw (le-ltb dataLimit (length l) h) at e
 
   -- the same data, put together otherwise
   pub same-command : (kind code clock : ℕ) (l m : List ℕ) → l ≡ m → Starts r c₀ c₁ (limited kind (cmd code clock l)) → Starts r c₀ c₁ (limited kind (cmd code clock m))
@@ -103,7 +104,7 @@ module _ (r : code.Start) (c₀ c₁ : List ℕ) where
 -- a start of a command, and one of stages, as the code's variant gives
 pub record Commanded (f : First) (c₀ c₁ : List ℕ) (s : Start) : Type 0 where
   pub bytes : List ℕ
-  pub few : length bytes ≤ 512
+  pub few : length bytes ≤ dataLimit
   pub is : s ≡ sends (f .kind) (cmd (f .code) (f .clock) bytes)
   pub puts : Puts c₁ (f .len) bytes c₀
 
@@ -112,7 +113,7 @@ commanded (starts-command f c₀ c₁ l h p) = record { bytes = l; few = h; is =
 
 pub record Staged (kind n : ℕ) (c₀ c₁ : List ℕ) (s : Start) : Type 0 where
   pub bytes : List ℕ
-  pub few : length bytes ≤ 512
+  pub few : length bytes ≤ dataLimit
   pub is : s ≡ staged kind bytes
   pub puts : Puts c₁ n bytes c₀
 

@@ -3,12 +3,15 @@ pub mod put;
 pub mod start;
 
 use errors::Fault;
-ghost use mathlib.Core.List.{List, [], _∷_, _++_};
+ghost use mathlib.Core.List.{List, _∷_, _++_};
 ghost use mathlib.Core.Path.{_≡_};
 ghost use Prim.Native.Nat.{ℕ, _+_, _≤_};
 ghost use lib.ListN.{length, take, drop, getD};
-ghost use Rattle.stages.specs.Decided.{Lays, headBytes, tailBytes, Commands, foundLimit, responseLimit};
+ghost use Rattle.stages.specs.Decided.{Lays, headBytes, tailBytes, Commands, foundLimit, responseLimit, fixedLimit, tailLimit};
 ghost use Rattle.stages.specs.Stages.{cmd};
+
+// The most bytes of data that a stage has by itself.
+pub const FIXED_LIMIT: usize = 12;
 
 // The command of a stage: its code, its clock in ms, whether its data is the pending command, the bytes of any other data, and how many
 // they are. Bytes behind them are free, and so are all bytes and their number beside the pending command: nothing reads them.
@@ -16,14 +19,14 @@ pub struct Command {
     pub code: u8,
     pub clock: u32,
     pub is_pending: bool,
-    pub bytes: [u8; 12],
+    pub bytes: [u8; FIXED_LIMIT],
     pub len: usize,
 }
 
 impl Command {
     // With data of its own: the first `len` bytes.
-    pub fn with(code: u8, clock: u32, bytes: [u8; 12], len: usize) -> Command
-        ensures { λ r. ⌜ (len ≤ 12 → Commands r (λ pending. cmd code clock (take len bytes))) ⌝ }
+    pub fn with(code: u8, clock: u32, bytes: [u8; FIXED_LIMIT], len: usize) -> Command
+        ensures { λ r. ⌜ (len ≤ fixedLimit → Commands r (λ pending. cmd code clock (take len bytes))) ⌝ }
     {
         Command {
             code,
@@ -42,7 +45,7 @@ impl Command {
             code,
             clock,
             is_pending: true,
-            bytes: [0; 12],
+            bytes: [0; FIXED_LIMIT],
             len: 0,
         }
     }
@@ -143,7 +146,7 @@ impl Layout {
 
     // A part of the response, and some bytes behind it.
     pub fn tailed(start: usize, len: usize, tail: Tail, tail_len: usize) -> Layout
-        ensures { λ r. ⌜ ((f b : List ℕ) → start + len ≤ length b → «tail_len» ≤ 12 → (length b ≤ responseLimit → len + «tail_len» ≤ foundLimit) → Lays f b r (take len (drop start b) ++ take «tail_len» (tailBytes tail))) ⌝ }
+        ensures { λ r. ⌜ ((f b : List ℕ) → start + len ≤ length b → «tail_len» ≤ tailLimit → (length b ≤ responseLimit → len + «tail_len» ≤ foundLimit) → Lays f b r (take len (drop start b) ++ take «tail_len» (tailBytes tail))) ⌝ }
     {
         Layout {
             kept: 0,

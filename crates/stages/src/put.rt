@@ -35,7 +35,7 @@ fn longer(len: usize, part: &[u8]) -> usize
 }
 
 // Puts two lists at the start, one behind the other, and answers their length; over the limit, where they are left alone.
-pub fn put_two(head: &[u8], rest: &[u8], command: &mut [u8; 512]) -> usize
+pub fn put_two(head: &[u8], rest: &[u8], command: &mut [u8; DATA_LIMIT]) -> usize
     ensures { λ r. ⌜ Joins r (now (command .entry)) (now (command .exit)) (now (head .entry) ++ now (rest .entry)) ⌝ }
 {
     let len = longer(longer(0, head), rest);
@@ -53,7 +53,7 @@ pub fn put_all(
     second: &[u8],
     third: &[u8],
     fourth: &[u8],
-    command: &mut [u8; 512],
+    command: &mut [u8; DATA_LIMIT],
 ) -> usize
     ensures { λ r. ⌜ Joins r (now (command .entry)) (now (command .exit)) (now (head .entry) ++ now (first .entry) ++ now (second .entry) ++ now (third .entry) ++ now (fourth .entry)) ⌝ }
 {

@@ -1,4 +1,4 @@
--- `isRate` and `parseOf` take exactly the texts of `Form`, and `same` is equality; with some texts, those that document 01 names among them.
+-- `isRate` and `parseOf` take exactly the texts of `Form`; with some texts, those that document 01 names among them.
 use mathlib.Core.Bool.{Bool, true, false, cond, _&&_, _||_, or-true}
 use mathlib.Core.List.{List, [], _∷_, _++_, append-assoc, append-nil}
 use mathlib.Core.Logic.{_↔_}
@@ -15,7 +15,7 @@ use Rattle.targets.specs.declared.Bitrate.the-variants.{B848B, Other}
 use Rattle.errors.specs.Choice.{same}
 use Rattle.targets.specs.Bitrates.{ascii, choiceOf, chosen, codeOf, isBitrate, isRate, noCode, parseOf, sendLength}
 use Rattle.targets.specs.Form.{Rate, Sends, allDigits, inRange, isCapital, isDigit, one, rate, two}
-use Rattle.targets.proofs.Laws.{and-l, and-r, send-le, same-is, sent}
+use Rattle.targets.proofs.Laws.{and-l, and-r, send-le, sent}
 
 pub rate-yes : {t : List ℕ} → Rate t → isRate t ≡ true
 unfolding isRate
@@ -116,14 +116,6 @@ refused-exact t h = go (isBitrate t) (λ e. h (sendLength t) (sends-only t (send
         → cond b (answered (sendLength t)) (refused (plain 5)) ≡ refused (plain 5)
     go true f = absurd (f refl)
     go false f = refl
-
-pub same-exact : (s u : List ℕ) → (same s u ≡ true) ↔ (s ≡ u)
-unfolding same
-same-exact s u = (same-is s u, λ e. rw e (itself u))
-  where
-    itself : (u : List ℕ) → same u u ≡ true
-    itself [] = refl
-    itself (x ∷ xs) = rw (eq-eqb x x refl) (itself xs)
 
 pub texts : (parseOf (ascii "106A") ≡ answered 4)
     × (parseOf (ascii "212F/424F") ≡ answered 4)

@@ -1,10 +1,9 @@
 -- The laws that the proofs of `bitrate_code` and `code` cite; those of the other functions are in RateLaws.
 use mathlib.Core.Bool.{Bool, true, false, cond, _&&_, true≢false}
 use mathlib.Core.List.{List, [], _∷_}
-use mathlib.Core.Path.{_≡_, refl, sym, _∙_, ap, ap₂}
+use mathlib.Core.Path.{_≡_, refl, sym, _∙_, ap}
 use Prim.Native.Nat.{ℕ, suc, _+_, _-_, _*_, _<_, _≤_}
 use native.Mathlib.Omega.{arith}
-use borrow.Author.Tests.{eqb-true}
 use lib.Dec.{eqb}
 use lib.ListN.{length, take, getD}
 use lib.Seq.{length-take-le, take-all}
@@ -17,7 +16,7 @@ use Rattle.targets.specs.declared.Bitrate.{Bitrate}
 use Rattle.targets.specs.declared.Bitrate.the-variants.{B106A, B212F, B424F, B106B, B212B, B424B, B848B, Other}
 use Rattle.targets.specs.declared.Parsed.{Parsed}
 use Rattle.targets.specs.declared.Parsed.the-variants.{Send, Refused}
-use Rattle.errors.specs.Choice.{same}
+use Rattle.errors.specs.Choice.{same, same-is, same-not}
 use Rattle.targets.specs.Form.{inRange, allDigits}
 use Rattle.targets.specs.Bitrates.{sendLength, isRate, isBitrate, parseOf, codeOf, ascii, choiceOf, choiceOn, chosen, noCode, parsed}
 
@@ -45,21 +44,9 @@ same-number a b c d e f g h p q n x k =
     let two = last-same _ _ _ _ (p .0) (q .0) (three .0) in
     rw (two .0, two .1, three .1, four .1) k
 
-pub same-is : (s u : List ℕ) → same s u ≡ true → s ≡ u
-unfolding same
-same-is [] [] e = refl
-same-is [] (y ∷ ys) e = absurd (true≢false (sym e))
-same-is (x ∷ xs) [] e = absurd (true≢false (sym e))
-same-is (x ∷ xs) (y ∷ ys) e =
-    ap₂ (λ (z : ℕ) (zs : List ℕ). z ∷ zs) (eqb-true x y (and-l (eqb x y) (same xs ys) e)) (same-is xs ys (and-r (eqb x y) (same xs ys) e))
-
 -- two texts that a measure f gives apart
 differ : (f : List ℕ → ℕ) (s u : List ℕ) → (f s ≡ f u → ⊥) → same s u ≡ false
-differ f s u n = go (same s u) (same-is s u)
-  where
-    go : (t : Bool) → (t ≡ true → s ≡ u) → t ≡ false
-    go true g = absurd (n (ap f (g refl)))
-    go false g = refl
+differ f s u n = same-not s u (λ e. n (ap f e))
 
 pub other : (f : List ℕ → ℕ) (s : List ℕ) → (f s ≡ f (ascii "106A") → ⊥) → (f s ≡ f (ascii "212F") → ⊥) → (f s ≡ f (ascii "424F") → ⊥)
     → (f s ≡ f (ascii "106B") → ⊥) → (f s ≡ f (ascii "212B") → ⊥) → (f s ≡ f (ascii "424B") → ⊥) → (f s ≡ f (ascii "848B") → ⊥)

@@ -1,5 +1,5 @@
 -- `four_words` meets its contract.
-use Rattle.framing.specs.Rules.{same-value}
+use Rattle.errors.specs.Rules.{same-value}
 use Rattle.bench.specs.TextLaws.{when-true, when-false}
 use borrow.Author.Needs.{needs}
 use Rattle.bench_codec.proofs.four_words.Statement.{statement}

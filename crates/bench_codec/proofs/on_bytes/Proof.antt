@@ -1,5 +1,5 @@
 -- `on_bytes` meets its contract.
-use Rattle.framing.specs.Rules.{same-value}
+use Rattle.errors.specs.Rules.{same-value}
 use Rattle.bench.specs.TextLaws.{when-true, when-false}
 use Rattle.bench_codec.proofs.FrameLaws.{same-answer}
 use borrow.Author.Needs.{needs}

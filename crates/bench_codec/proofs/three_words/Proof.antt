@@ -1,5 +1,5 @@
 -- `three_words` meets its contract.
-use Rattle.framing.specs.Rules.{same-value}
+use Rattle.errors.specs.Rules.{same-value}
 use Rattle.bench.specs.TextLaws.{when-true, when-false}
 use Rattle.bench_codec.proofs.CodecLaws.{no-setting, some-setting, read-refused, read-format, read-fits, read-part}
 use borrow.Author.Needs.{needs}

@@ -1,5 +1,5 @@
 -- `two_words` meets its contract.
-use Rattle.framing.specs.Rules.{same-value}
+use Rattle.errors.specs.Rules.{same-value}
 use Rattle.bench.specs.TextLaws.{when-true, when-false}
 use Rattle.bench_codec.proofs.CodecLaws.{read-refused, read-bytes, read-fits, read-part, read-short}
 use borrow.Author.Needs.{needs}

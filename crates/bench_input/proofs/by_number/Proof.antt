@@ -3,8 +3,8 @@ use mathlib.Core.Path.{refl, sym, ap, _∙_}
 use borrow.Author.Tests.{lt-ltb, le-ltb}
 use native.Mathlib.Omega.{arith}
 use lib.ListN.{drop}
-use Rattle.framing.specs.Rules.{at-true, at-false}
-use Rattle.bench_input.proofs.StandLaws.{ended-order, ended-one, said-taken}
+use Rattle.errors.specs.Rules.{at-true, at-false}
+use Rattle.bench_input.proofs.EndLaws.{ended-order, ended-one, said-taken}
 use Rattle.bench_input.proofs.by_number.Statement.{statement}
 use Rattle.bench_input.proofs.by_number.Tie as tie
 

@@ -5,7 +5,7 @@ use mathlib.Core.List.{List}
 use Prim.Native.Nat.{ℕ, _+_}
 use native.Mathlib.Omega.{arith}
 use lib.ListN.{length}
-use Rattle.bench_input.proofs.StandLaws.{grown-at, all-taken, none-taken}
+use Rattle.bench_input.proofs.EndLaws.{grown-at, all-taken, none-taken}
 use Rattle.bench_input.proofs.TableLaws.{table-short, word-at, number-is, number-there, no-row, row-inside, row-words, row-said}
 use Rattle.bench_input.proofs.by_table.Statement.{statement}
 use Rattle.bench_input.proofs.by_table.Tie as tie
@@ -13,7 +13,7 @@ use Rattle.bench_input.proofs.by_table.Tie as tie
 returns : tie.Need-returns
 returns c =
     let at-row = c .before .before in
-    record { says = no-row (at-row .before .before .before .before .args .line .now) _ (at-row .row .ensures .0) (c .enum-told .given .1); stands = tt }
+    record { says = no-row (at-row .before .before .before .before .args .line .now) _ (at-row .row .ensures .0) (c .enum-told .given .1); inOrder = tt }
 
 mul-read-byte : tie.Need-mul-read-byte
 mul-read-byte c =
@@ -80,7 +80,7 @@ returns-3 c =
     let number = number-is (start .args .table .now) (start .pre .0) _ inside _ (at-read-byte .read-byte .ensures) _ (at-number .number .given .1) in
     record {
       says = row-said (start .args .line .now) _ (at-row .row .ensures .0) _ (at-i .i .given .1) _ _ _ _ letters number (none-taken _ _ _ (at-read .read .ensures .0) (c .enum-told3 .given .1)) refl;
-      stands = tt;
+      inOrder = tt;
     }
 
 by-number-requires : tie.Need-by-number-requires
@@ -104,7 +104,7 @@ returns-4 c =
     let grown = grown-at _ _ _ _ _ _ (at-read .read .ensures .1) (at-taken .taken .given .1) in
     record {
       says = row-said (start .args .line .now) _ (at-row .row .ensures .0) _ (at-i .i .given .1) _ _ _ _ letters number (all-taken _ _ _ (at-read .read .ensures .0) _ (at-taken .taken .given .1)) (c .by-number .ensures .0 _);
-      stands = c .by-number .ensures .1 _ _ (omega arith) (grown .3);
+      inOrder = c .by-number .ensures .1 _ _ (omega arith) (grown .3);
     }
 
 pub by-table-spec : {M : Type 1} → statement M

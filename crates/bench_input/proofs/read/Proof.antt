@@ -2,7 +2,7 @@
 use borrow.Author.Needs.{needs}
 use mathlib.Core.Path.{refl}
 use borrow.Author.Tests.{lt-ltb, le-ltb}
-use Rattle.framing.specs.Rules.{at-true, at-false}
+use Rattle.errors.specs.Rules.{at-true, at-false}
 use Rattle.errors.specs.Choice.{pick}
 use Rattle.bench.specs.Hex.{digitOf, digitsOf}
 use Rattle.bench.specs.Words.{ahead, wordsOf}
@@ -20,7 +20,7 @@ unfolding inputOf
 read-spec =
     tie.close
     (tie.spec
-    (λ c. record { says = at-true _ _ _ _ (lt-ltb _ _ (c .if1 .taken)) refl; stands = tt })
+    (λ c. record { says = at-true _ _ _ _ (lt-ltb _ _ (c .if1 .taken)) refl; inOrder = tt })
     (λ c. search needs)
     by-table-requires
-    (λ c. record { says = at-false _ _ _ _ (le-ltb _ _ (c .before .before .before .if1 .left)) (c .by-table .ensures .says); stands = c .by-table .ensures .stands }))
+    (λ c. record { says = at-false _ _ _ _ (le-ltb _ _ (c .before .before .before .if1 .left)) (c .by-table .ensures .says); inOrder = c .by-table .ensures .inOrder }))

@@ -1,4 +1,4 @@
-use Rattle.stages.specs.Laws.{decided, decision-true, decision-false}
+use Rattle.stages.specs.Laws.{decided, decision-true}
 use Rattle.device.specs.Opening.{openingDecision}
 use borrow.Author.Needs.{needs}
 use Rattle.device.proofs.decided.Statement.{statement}

@@ -1,5 +1,6 @@
 -- `framing::is_error` meets its contract.
 use mathlib.Core.Path.{refl}
+use Rattle.framing.specs.Names.{statusErrorOffset, statusErrorByte}
 use Rattle.framing.specs.Parse.{isError}
 use Rattle.framing.specs.Valid.{byte-past}
 use borrow.Author.Needs.{needs}
@@ -15,7 +16,7 @@ is-error-spec =
     (λ c. search needs)
     (λ c κs. search needs)
     (λ c. search needs)
-    (λ c. rw (c .before .enum-told2 .given .1) (byte-past (c .before .before .before .before .args .packet .now) 5 0x7F (c .if1 .taken) refl))
+    (λ c. rw (c .before .enum-told2 .given .1) (byte-past (c .before .before .before .before .args .packet .now) statusErrorOffset statusErrorByte (c .if1 .taken) refl))
     (λ c. search needs)
     (λ c. rw (c .before .before .enum-told .given .1) (c .is-exactly .ensures))
     (λ c. rw (c .before .before .enum-told2 .given .1)))

@@ -1,10 +1,8 @@
 -- `arguments::read_byte` meets its contract.
-use mathlib.Core.Path.{refl, sym, ap, _∙_}
+use mathlib.Core.Path.{refl}
 use borrow.Author.Needs.{needs}
-use borrow.Author.Tests.{eq-eqb, ne-eqb}
-use lib.ListN.{length, getD}
-use Rattle.framing.specs.Rules.{at-true, at-false}
-use Rattle.bench_input.proofs.ReadLaws.{pairs-read, pairs-unread}
+use lib.ListN.{getD}
+use Rattle.bench_input.proofs.ReadLaws.{pairs-read, pairs-unread, pairs-other}
 use Rattle.bench_input.specs.Arguments.{byteArg}
 use Rattle.bench_input.proofs.arguments.read_byte.Statement.{statement}
 use Rattle.bench_input.proofs.arguments.read_byte.Tie as tie
@@ -12,24 +10,18 @@ use Rattle.bench_input.proofs.arguments.read_byte.Tie as tie
 returns : tie.Need-returns
 unfolding byteArg
 returns c = λ f.
-    let at-read = c .before .before .before in
-    let at-if1 = at-read .before .before in
-    let at-word = at-if1 .before in
-    at-true _ _ _ _ (eq-eqb _ _ (sym (ap length (at-word .word .ensures)) ∙ at-if1 .if1 .taken))
-    (pairs-unread _ _ _ _ _ 1 (at-word .word .ensures) (at-if1 .if1 .taken) refl (at-read .read .ensures) _ (c .enum-told2 .given .1) _)
+    let r = c .before .before .before in
+    pairs-unread _ _ _ _ _ 1 (r .before .before .before .word .ensures) (r .before .before .if1 .taken) refl (r .read .ensures) _ (c .enum-told2 .given .1) (λ p. f (getD p 0 0))
 
 returns-2 : tie.Need-returns-2
 unfolding byteArg
 returns-2 c = λ f.
-    let at-read = c .before .before .before in
-    let at-if1 = at-read .before .before in
-    let at-word = at-if1 .before in
-    at-true _ _ _ _ (eq-eqb _ _ (sym (ap length (at-word .word .ensures)) ∙ at-if1 .if1 .taken))
-    (pairs-read _ _ _ _ _ 1 (at-word .word .ensures) (at-if1 .if1 .taken) refl (at-read .read .ensures) _ (c .enum-told .given .1) (λ p. f (getD p 0 0)))
+    let r = c .before .before .before in
+    pairs-read _ _ _ _ _ 1 (r .before .before .before .word .ensures) (r .before .before .if1 .taken) refl (r .read .ensures) _ (c .enum-told .given .1) (λ p. f (getD p 0 0))
 
 returns-3 : tie.Need-returns-3
 unfolding byteArg
-returns-3 c = λ f. at-false _ _ _ _ (ne-eqb _ _ (λ h. c .if1 .left (ap length (c .before .word .ensures) ∙ h))) refl
+returns-3 c = λ f. pairs-other _ _ 1 (c .before .word .ensures) (c .if1 .left) (λ p. f (getD p 0 0))
 
 pub read-byte-spec : {M : Type 1} → statement M
 read-byte-spec =

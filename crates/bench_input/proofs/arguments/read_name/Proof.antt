@@ -1,8 +1,8 @@
 -- `arguments::read_name` meets its contract.
 use mathlib.Core.Path.{refl, sym, ap, _∙_}
 use borrow.Author.Needs.{needs}
-use Rattle.framing.specs.Lists.{same}
-use Rattle.framing.specs.Rules.{at-true, at-false}
+use Rattle.errors.specs.Choice.{same}
+use Rattle.errors.specs.Rules.{at-true, at-false}
 use Rattle.bench_input.specs.Arguments.{nameArg}
 use Rattle.bench_input.proofs.arguments.read_name.Statement.{statement}
 use Rattle.bench_input.proofs.arguments.read_name.Tie as tie
@@ -14,5 +14,5 @@ read-name-spec =
     (tie.spec
     (λ c κs. search needs)
     (λ c κs. search needs)
-    (λ c. λ f. at-true _ _ _ _ (sym (c .before .is .ensures ∙ ap (same _) (c .before .before .word .ensures)) ∙ c .if1 .taken) refl)
-    (λ c. λ f. at-false _ _ _ _ (sym (c .before .is .ensures ∙ ap (same _) (c .before .before .word .ensures)) ∙ c .if1 .left) refl))
+    (λ c. λ f. at-true _ _ _ _ (sym (c .before .is-exactly .ensures ∙ ap (same _) (c .before .before .word .ensures)) ∙ c .if1 .taken) refl)
+    (λ c. λ f. at-false _ _ _ _ (sym (c .before .is-exactly .ensures ∙ ap (same _) (c .before .before .word .ensures)) ∙ c .if1 .left) refl))

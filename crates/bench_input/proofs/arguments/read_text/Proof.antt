@@ -12,7 +12,7 @@ returns-2 c =
     let at-if1 = c .before .before .before in
     let at-word = at-if1 .before in
     let start = at-word .before .before .before in (
-      λ f. ap f (slice-none (start .args .at) (start .args .at) (start .args .bytes .now) (omega arith)) ∙ text-dash _ _ (at-word .word .ensures) f (at-if1 .if1 .left) (sym (c .before .is .ensures) ∙ c .if2 .taken),
+      λ f. ap f (slice-none (start .args .at) (start .args .at) (start .args .bytes .now) (omega arith)) ∙ text-dash _ _ (at-word .word .ensures) f (at-if1 .if1 .left) (sym (c .before .is-exactly .ensures) ∙ c .if2 .taken),
       none-stays _ _ _,
     )
 
@@ -35,7 +35,7 @@ returns-3 c =
     let at-if1 = at-is .before .before in
     let at-word = at-if1 .before in
     let start = at-word .before .before .before in (
-      λ f. text-read _ _ (at-word .word .ensures) (start .args .bytes .now) _ (start .args .at) (start .pre) (at-copy .copy .ensures .1) f (at-if1 .if1 .left) (sym (at-is .is .ensures) ∙ at-if2 .if2 .left),
+      λ f. text-read _ _ (at-word .word .ensures) (start .args .bytes .now) _ (start .args .at) (start .pre) (at-copy .copy .ensures .1) f (at-if1 .if1 .left) (sym (at-is .is-exactly .ensures) ∙ at-if2 .if2 .left),
       text-between _ _ (at-word .word .ensures) (start .args .bytes .now) _ (start .args .at) (start .pre) (at-copy .copy .ensures .1),
     )
 

@@ -2,7 +2,7 @@
 use borrow.Author.Needs.{needs}
 use mathlib.Core.Path.{refl}
 use borrow.Author.Tests.{ne-eqb}
-use Rattle.framing.specs.Rules.{at-false}
+use Rattle.errors.specs.Rules.{at-false}
 use Rattle.errors.specs.Choice.{pick}
 use Rattle.bench_input.specs.Letters.{stringArg}
 use Rattle.bench_input.proofs.letters.string.Statement.{statement}

@@ -3,7 +3,7 @@ use borrow.Author.Needs.{needs}
 use mathlib.Core.Path.{refl}
 use borrow.Author.Tests.{le-ltb}
 use native.Mathlib.Omega.{arith}
-use Rattle.framing.specs.Rules.{at-false}
+use Rattle.errors.specs.Rules.{at-false}
 use Rattle.bench_input.specs.Letters.{argument}
 use Rattle.bench_input.proofs.ArgumentLaws.{number-value, number-none}
 use Rattle.bench_input.proofs.letters.with_number.Statement.{statement}
@@ -14,7 +14,7 @@ unfolding argument
 returns c = λ b.
     let at-number = c .before .before in
     let start = at-number .before .before .before in
-    record { says = λ f. at-false _ _ _ _ (le-ltb _ _ (start .pre .0)) (number-none _ _ (at-number .number .ensures) _ (c .enum-told .given .1)); stands = tt }
+    record { says = λ f. at-false _ _ _ _ (le-ltb _ _ (start .pre .0)) (number-none _ _ (at-number .number .ensures) _ (c .enum-told .given .1)); inOrder = tt }
 
 returns-2 : tie.Need-returns-2
 unfolding argument
@@ -23,7 +23,7 @@ returns-2 c = λ b.
     let start = at-number .before .before .before in
     record {
       says = λ f. at-false _ _ _ _ (le-ltb _ _ (start .pre .0)) (number-value _ _ (at-number .number .ensures) _ _ _ (c .before .numbers .given .1) refl);
-      stands = (start .pre .1, omega arith, omega arith, refl);
+      inOrder = (start .pre .1, omega arith, omega arith, refl);
     }
 
 pub with-number-spec : {M : Type 1} → statement M

@@ -6,7 +6,7 @@ use Prim.Native.Nat.{ℕ, _+_}
 use native.Mathlib.Omega.{arith}
 use lib.Dec.{eqb}
 use lib.ListN.{length}
-use Rattle.framing.specs.Lists.{same}
+use Rattle.errors.specs.Choice.{same}
 use Rattle.framing.specs.Rules.{both-true, both-false}
 use Rattle.bench_input.specs.Table.{isFor}
 use Rattle.bench_input.proofs.TableLaws.{table-short, word-at, name-at}
@@ -20,7 +20,7 @@ returns c =
     let start = at-is .before .before .before .before in
     let name = name-at (start .args .table .now) (start .pre .0) (start .args .i) (start .pre .1) _ (at-is .before .word .ensures) in
     let letters = c .word2 .ensures ∙ word-at (start .args .table .now) (start .pre .0) (start .args .i) (start .pre .1) 1 (omega arith) in
-    both-true _ _ _ (ap (λ (l : List ℕ). same l (start .args .name .now)) (sym name) ∙ sym (at-is .is .ensures) ∙ c .before .if1 .taken) (ap (λ (l : List ℕ). eqb (length l + 1) (start .args .n)) letters)
+    both-true _ _ _ (ap (λ (l : List ℕ). same l (start .args .name .now)) (sym name) ∙ sym (at-is .is-exactly .ensures) ∙ c .before .if1 .taken) (ap (λ (l : List ℕ). eqb (length l + 1) (start .args .n)) letters)
 
 returns-2 : tie.Need-returns-2
 unfolding isFor
@@ -28,7 +28,7 @@ returns-2 c =
     let at-is = c .before in
     let start = at-is .before .before .before .before in
     let name = name-at (start .args .table .now) (start .pre .0) (start .args .i) (start .pre .1) _ (at-is .before .word .ensures) in
-    both-false _ _ (ap (λ (l : List ℕ). same l (start .args .name .now)) (sym name) ∙ sym (at-is .is .ensures) ∙ c .if1 .left)
+    both-false _ _ (ap (λ (l : List ℕ). same l (start .args .name .now)) (sym name) ∙ sym (at-is .is-exactly .ensures) ∙ c .if1 .left)
 
 pub is-for-spec : {M : Type 1} → statement M
 is-for-spec =

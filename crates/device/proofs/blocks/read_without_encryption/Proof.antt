@@ -3,6 +3,7 @@ use Rattle.device.specs.Blocks.{readFirst, thru-clock, read-few}
 use mathlib.Core.Path.{_≡_}
 use lib.ListN.{length}
 use borrow.Author.Needs.{needs}
+use Rattle.protocol.specs.Starts.{dataLimit}
 use Rattle.device.proofs.blocks.read_without_encryption.Statement.{statement}
 use Rattle.device.proofs.blocks.read_without_encryption.Tie as tie
 
@@ -10,7 +11,7 @@ returns : tie.Need-returns
 unfolding readFirst
 returns c =
     let l = c .before .before .before .before .before .before .args .command .now in
-    let n : length l ≡ 512 = search needs in
+    let n : length l ≡ dataLimit = search needs in
     thru-clock _ _ _ _ _ _ _ _ (c .before .before .before .clock .ensures) (c .sent .ensures _ _ _ _ (read-few _ _ l _ n) (c .before .build-read-request .ensures))
 
 pub read-without-encryption-spec : {M : Type 1} → statement M

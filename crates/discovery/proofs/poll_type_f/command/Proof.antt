@@ -6,7 +6,6 @@ use Rattle.errors.specs.Choice.{pick}
 use Rattle.stages.specs.Stages.{cmd}
 use Rattle.discovery.specs.Decisions.{pollOf, pollCommand}
 use Rattle.discovery.specs.PollLaws.{poll-bytes}
-use Rattle.stages.specs.Laws.{sends-any}
 use borrow.Author.Needs.{needs}
 use Rattle.discovery.proofs.poll_type_f.command.Statement.{statement}
 use Rattle.discovery.proofs.poll_type_f.command.Tie as tie

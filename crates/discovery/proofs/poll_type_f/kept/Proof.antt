@@ -2,7 +2,6 @@ use mathlib.Core.Path.{_∙_}
 use native.Mathlib.Omega.{arith}
 use lib.Seq.{take-length}
 use Rattle.discovery.specs.PollLaws.{none-yet, all-found, most-found}
-use borrow.Author.Needs.{needs}
 use Rattle.discovery.proofs.poll_type_f.kept.Statement.{statement}
 use Rattle.discovery.proofs.poll_type_f.kept.Tie as tie
 

@@ -1,8 +1,7 @@
 use Rattle.discovery.specs.Laws.{same-afi}
-use mathlib.Core.Path.{_≡_}
 use Rattle.stages.specs.Stages.{withLength}
 use Rattle.stages.specs.Laws.{decided, decision-false}
-use Rattle.discovery.specs.Decisions.{listedB, isoDep}
+use Rattle.discovery.specs.Decisions.{listedB}
 use borrow.Author.Needs.{needs}
 use Rattle.discovery.proofs.type_b.listed_b.Statement.{statement}
 use Rattle.discovery.proofs.type_b.listed_b.Tie as tie

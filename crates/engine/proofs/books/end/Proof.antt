@@ -1,6 +1,6 @@
 use borrow.Author.Needs.{needs}
 use mathlib.Core.Path.{refl}
-use Rattle.framing.specs.Rules.{at-true, at-false}
+use Rattle.errors.specs.Rules.{at-true, at-false}
 use Rattle.engine.specs.Books.{ended}
 use Rattle.engine.proofs.books.end.Statement.{statement}
 use Rattle.engine.proofs.books.end.Tie as tie

@@ -1,7 +1,7 @@
 use borrow.Author.Needs.{needs}
 use mathlib.Core.Path.{sym, ap, _∙_}
 use borrow.Author.Tests.{lt-ltb, le-ltb}
-use Rattle.framing.specs.Rules.{at-true, at-false}
+use Rattle.errors.specs.Rules.{at-true, at-false}
 use Rattle.stages.specs.Starts.{starts-fit}
 use Rattle.engine.specs.Sessions.{withBooks, startAfter, bookedAfter}
 use Rattle.engine.specs.Laws.{booked-after}

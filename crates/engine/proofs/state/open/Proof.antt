@@ -2,7 +2,7 @@ use borrow.Author.Needs.{needs}
 use mathlib.Core.Bool.{true}
 use mathlib.Core.Path.{sym, ap, ap₂, _∙_}
 use borrow.Author.Tests.{lt-ltb, le-ltb}
-use Rattle.framing.specs.Rules.{at-true, at-false}
+use Rattle.errors.specs.Rules.{at-true, at-false}
 use Rattle.engine.specs.Sessions.{withBooks, bookedAfter, openAfter}
 use Rattle.engine.specs.Laws.{booked-after}
 use Rattle.engine.proofs.state.open.Statement.{statement}

@@ -2,22 +2,22 @@
 use mathlib.Core.Path.{refl}
 use borrow.Author.Needs.{needs}
 use Rattle.exchange.specs.Packets.{hasStart}
-use Rattle.exchange.specs.Rules.{fails, stays, follows}
+use Rattle.exchange.specs.Rules.{fails, stays, step-rules}
 use Rattle.exchange.specs.Steps.{stepOf}
 use Rattle.exchange.proofs.Tags.{not-read-first}
 use Rattle.exchange.proofs.Exchange.on_first_read.Statement.{statement}
 use Rattle.exchange.proofs.Exchange.on_first_read.Tie as tie
 
 returns : tie.Need-returns
-returns c = rw (c .before .enum-told .given .1) (search (follows, needs) depth 8)
+returns c = rw (c .before .enum-told .given .1) (search (step-rules, needs) depth 8)
 
 returns-2 : tie.Need-returns-2
 unfolding hasStart
-returns-2 c = rw (c .before .before .before .before .enum-told .given .1) (search (follows, needs) depth 8)
+returns-2 c = rw (c .before .before .before .before .enum-told .given .1) (search (step-rules, needs) depth 8)
 
 returns-3 : tie.Need-returns-3
 unfolding stepOf hasStart
-returns-3 c = rw (c .before .before .before .before .enum-told .given .1) (search (follows, needs) depth 8)
+returns-3 c = rw (c .before .before .before .before .enum-told .given .1) (search (step-rules, needs) depth 8)
 
 returns-4 : tie.Need-returns-4
 returns-4 c = rw (c .enum-told2 .given .1) (fails _ _ _ _ refl)

@@ -1,17 +1,17 @@
 -- `exchange::Exchange::on_later_read` meets its contract.
 use mathlib.Core.Path.{refl}
 use borrow.Author.Needs.{needs}
-use Rattle.exchange.specs.Rules.{goes-on, fails, stays, follows}
+use Rattle.exchange.specs.Rules.{goes-on, fails, stays, step-rules}
 use Rattle.exchange.specs.Steps.{stepOf}
 use Rattle.exchange.proofs.Tags.{not-read}
 use Rattle.exchange.proofs.Exchange.on_later_read.Statement.{statement}
 use Rattle.exchange.proofs.Exchange.on_later_read.Tie as tie
 
 returns : tie.Need-returns
-returns c = rw (c .before .enum-told .given .1) (search (follows, needs) depth 8)
+returns c = rw (c .before .enum-told .given .1) (search (step-rules, needs) depth 8)
 
 returns-2 : tie.Need-returns-2
-returns-2 c = rw (c .before .before .enum-told .given .1) (search (follows, needs) depth 8)
+returns-2 c = rw (c .before .before .enum-told .given .1) (search (step-rules, needs) depth 8)
 
 returns-3 : tie.Need-returns-3
 returns-3 c = rw (c .enum-told2 .given .1) (fails _ _ _ _ refl)

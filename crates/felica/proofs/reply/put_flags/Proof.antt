@@ -11,6 +11,7 @@ put-flags-spec =
     tie.close
     (tie.spec
     (λ c. search (reply-no-room, needs))
+    (λ c. search needs)
     (λ c κs. search needs)
     (λ c. search needs)
     (λ c κs. search needs)

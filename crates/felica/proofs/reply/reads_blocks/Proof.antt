@@ -14,6 +14,7 @@ reads-blocks-spec =
     (λ c κs. search needs)
     (λ c κs. search needs)
     (λ c. search (bounds, needs) depth 10)
+    (λ c. search needs)
     (λ c. search (bounds, needs) depth 10)
     (λ c κs. search needs)
     (λ c. search (known-blocks, bounds, needs) depth 10)

@@ -1,5 +1,5 @@
 -- `felica::request::asks_blocks` meets its contract.
-use Rattle.felica.specs.Taken.{product-fits, sum-fits, list-within, asks-none, asks-many, asks-other, asks-list}
+use Rattle.felica.specs.Taken.{product-fits, sum-fits, asks-none, asks-many, asks-other, asks-list}
 use borrow.Author.Needs.{needs}
 use Rattle.felica.proofs.request.asks_blocks.Statement.{statement}
 use Rattle.felica.proofs.request.asks_blocks.Tie as tie

@@ -5,6 +5,7 @@ use Rattle.presence_lines.proofs.PrintLaws.{bitrate-shown, bitrate-not}
 use borrow.Author.Needs.{needs}
 use Rattle.presence_lines.proofs.print.put_bitrate.Statement.{statement}
 use Rattle.presence_lines.proofs.print.put_bitrate.Tie as tie
+use Rattle.presence_list.specs.Names.{recordSize, bitrateOffset}
 
 returns : tie.Need-returns
 returns c =
@@ -22,7 +23,7 @@ put-bitrate-spec =
     (λ c. search needs)
     (λ c. search needs)
     (λ c. search needs)
-    (λ c. omega (arith, c .shared-slice-known2 .given (20 * c .before .before .before .before .args .i + 18)))
+    (λ c. omega (arith, c .shared-slice-known2 .given (recordSize * c .before .before .before .before .args .i + bitrateOffset)))
     (λ c. search needs)
     (λ c κs. search needs)
     (λ c. search needs)

@@ -6,6 +6,7 @@ use Rattle.presence_lines.proofs.PrintLaws.{card-done}
 use borrow.Author.Needs.{needs}
 use Rattle.presence_lines.proofs.print.put_card.Statement.{statement}
 use Rattle.presence_lines.proofs.print.put_card.Tie as tie
+use Rattle.presence_list.specs.Names.{recordSize, lengthOffset}
 
 returns : tie.Need-returns
 returns c =
@@ -28,9 +29,9 @@ put-card-spec =
     (λ c. search needs)
     (λ c. search needs)
     (λ c. search needs)
-    (λ c. omega (arith, c .shared-slice-known2 .given (20 * c .before .before .before .args .i + 17)))
+    (λ c. omega (arith, c .shared-slice-known2 .given (recordSize * c .before .before .before .args .i + lengthOffset)))
     (λ c. search needs)
-    (λ c. omega (arith, c .shared-slice-known3 .given (20 * c .before .before .before .before .args .i)))
+    (λ c. omega (arith, c .shared-slice-known3 .given (recordSize * c .before .before .before .before .args .i)))
     (λ c. search needs)
     (λ c κs. search needs)
     (λ c. search needs)

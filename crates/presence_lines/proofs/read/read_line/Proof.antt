@@ -15,7 +15,7 @@ returns-2 c =
     let at-is = at-if2 .before in
     let at-if1 = at-is .before .before .before in
     let at-find = at-if1 .before in (
-      no-number _ _ (at-find .find .ensures .0) (at-if1 .if1 .left) _ (at-find2 .find2 .ensures .0) _ (at-is .is .ensures)
+      no-number _ _ (at-find .find .ensures .0) (at-if1 .if1 .left) _ (at-find2 .find2 .ensures .0) _ (at-is .is-exactly .ensures)
           _ _ (at-if2 .if2 .taken) refl (at-read .read .ensures) (c .enum-told .given .1),
       search needs,
     )
@@ -30,7 +30,7 @@ returns-3 c =
     let at-is = at-if2 .before in
     let at-if1 = at-is .before .before .before in
     let at-find = at-if1 .before in (
-      no-cards _ _ (at-find .find .ensures .0) (at-if1 .if1 .left) _ (at-find2 .find2 .ensures .0) _ (at-is .is .ensures)
+      no-cards _ _ (at-find .find .ensures .0) (at-if1 .if1 .left) _ (at-find2 .find2 .ensures .0) _ (at-is .is-exactly .ensures)
           _ _ (at-if2 .if2 .taken) refl (at-read .read .ensures) _ _ _ _ (at-number .number .given .1) (at-cards .put-cards .ensures) (c .enum-told2 .given .1),
       search needs,
     )
@@ -47,7 +47,7 @@ returns-4 c =
     let at-if1 = at-is .before .before .before in
     let at-find = at-if1 .before in
     let start = at-find .before .before .before in
-    round-said _ _ (at-find .find .ensures .0) (at-if1 .if1 .left) _ (at-find2 .find2 .ensures .0) _ (at-is .is .ensures)
+    round-said _ _ (at-find .find .ensures .0) (at-if1 .if1 .left) _ (at-find2 .find2 .ensures .0) _ (at-is .is-exactly .ensures)
     _ _ (at-if2 .if2 .taken) refl (at-read .read .ensures) _ _ _ _ (at-number .number .given .1) (at-cards .put-cards .ensures) _ (at-len .len .given .1) (start .pre .0) (start .pre .1)
 
 pub read-line-spec : {M : Type 1} → statement M
@@ -76,4 +76,4 @@ read-line-spec =
     returns-3
     (λ c. search needs)
     returns-4
-    (λ c. (another-word _ _ (c .before .before .before .before .before .find .ensures .0) (c .before .before .before .before .if1 .left) _ refl _ (c .before .is .ensures) (c .if2 .left), search needs)))
+    (λ c. (another-word _ _ (c .before .before .before .before .before .find .ensures .0) (c .before .before .before .before .if1 .left) _ refl _ (c .before .is-exactly .ensures) (c .if2 .left), search needs)))

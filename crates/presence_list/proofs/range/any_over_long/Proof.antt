@@ -1,4 +1,5 @@
 -- `range::any_over_long` meets its contract.
+use Rattle.presence_list.specs.Names.{recordSize}
 use Rattle.presence_list.specs.Checks.{long-found, long-turn, long-end}
 use mathlib.Core.Path.{_≡_, refl}
 use Prim.Native.Nat.{_-_, _≤_, _/_}
@@ -10,7 +11,7 @@ use Rattle.presence_list.proofs.range.any_over_long.Statement.{statemen
 use Rattle.presence_list.proofs.range.any_over_long.Tie as tie
 
 abbrev Inv-loop : tie.InvT-loop
-Inv-loop records size i₀ i = (size ≡ length records / 20) × (i ≤ size) × (any longIn (pieces size records) ≡ any longIn (drop i (pieces size records)))
+Inv-loop records size i₀ i = (size ≡ length records / recordSize) × (i ≤ size) × (any longIn (pieces size records) ≡ any longIn (drop i (pieces size records)))
 
 abbrev μ-loop : tie.MeasureT-loop
 μ-loop records size i₀ i = size - i

@@ -1,4 +1,5 @@
 -- `range::are_ascending` meets its contract.
+use Rattle.presence_list.specs.Names.{recordSize}
 use Rattle.presence_list.specs.Memory.{pieces, ascending as ascendingOf}
 use lib.ListN.{drop}
 use Prim.Native.Nat.{_≤_, _-_, _<_, _*_}
@@ -24,7 +25,7 @@ card-at-requires c κs =
     let i = c .before .loop .i in
     let p = c .before .before .before .pre in
     let h : i - 1 < a .count = omega arith in
-    let back : 20 * (i - 1) ≡ 20 * i - 20 = omega arith in
+    let back : recordSize * (i - 1) ≡ recordSize * i - recordSize = omega arith in
     (omega arith, rw back at (range-fits (a .cards .now) (a .count) (i - 1) (p .1) h))
 
 card-at-requires-2 : tie.Need-card-at-requires-2 Inv-loop μ-loop

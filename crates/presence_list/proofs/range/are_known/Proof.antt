@@ -1,4 +1,5 @@
 -- `range::are_known` meets its contract.
+use Rattle.presence_list.specs.Names.{recordSize}
 use Rattle.presence_list.specs.Checks.{piece-not, piece-turn, piece-end}
 use mathlib.Core.Path.{_≡_, refl}
 use Prim.Native.Nat.{_-_, _≤_, _/_}
@@ -10,7 +11,7 @@ use Rattle.presence_list.proofs.range.are_known.Statement.{statement}
 use Rattle.presence_list.proofs.range.are_known.Tie as tie
 
 abbrev Inv-loop : tie.InvT-loop
-Inv-loop records size i₀ i = (size ≡ length records / 20) × (i ≤ size) × (every knownIn (pieces size records) ≡ every knownIn (drop i (pieces size records)))
+Inv-loop records size i₀ i = (size ≡ length records / recordSize) × (i ≤ size) × (every knownIn (pieces size records) ≡ every knownIn (drop i (pieces size records)))
 
 abbrev μ-loop : tie.MeasureT-loop
 μ-loop records size i₀ i = size - i

@@ -1,4 +1,5 @@
 -- `records::card_at` meets its contract.
+use Rattle.presence_list.specs.Names.{lengthOffset}
 use Rattle.presence_list.specs.Checks.{card-length, card-part}
 use Prim.Native.Nat.{_+_}
 use native.Mathlib.Omega.{arith}
@@ -7,7 +8,7 @@ use Rattle.presence_list.proofs.records.card_at.Statement.{statement}
 use Rattle.presence_list.proofs.records.card_at.Tie as tie
 
 cast-n : tie.Need-cast-n
-cast-n c = omega (arith, c .shared-slice-known .given (c .before .args .at + 17))
+cast-n c = omega (arith, c .shared-slice-known .given (c .before .args .at + lengthOffset))
 
 add-end-2 : tie.Need-add-end-2
 add-end-2 c = let n = card-length (c .before .args .cards .now) (c .before .args .at) (c .before .pre .1) in omega arith

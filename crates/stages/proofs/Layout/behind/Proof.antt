@@ -1,5 +1,4 @@
 use Rattle.stages.specs.Laws.{lays-behind}
-use borrow.Author.Needs.{needs}
 use Rattle.stages.proofs.Layout.behind.Statement.{statement}
 use Rattle.stages.proofs.Layout.behind.Tie as tie
 

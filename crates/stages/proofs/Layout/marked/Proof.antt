@@ -1,5 +1,4 @@
 use Rattle.stages.specs.Laws.{lays-marked}
-use borrow.Author.Needs.{needs}
 use Rattle.stages.proofs.Layout.marked.Statement.{statement}
 use Rattle.stages.proofs.Layout.marked.Tie as tie
 

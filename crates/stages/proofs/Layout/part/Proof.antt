@@ -1,5 +1,4 @@
 use Rattle.stages.specs.Laws.{lays-part}
-use borrow.Author.Needs.{needs}
 use Rattle.stages.proofs.Layout.part.Statement.{statement}
 use Rattle.stages.proofs.Layout.part.Tie as tie
 

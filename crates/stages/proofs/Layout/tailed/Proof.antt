@@ -1,5 +1,4 @@
 use Rattle.stages.specs.Laws.{lays-tailed}
-use borrow.Author.Needs.{needs}
 use Rattle.stages.proofs.Layout.tailed.Statement.{statement}
 use Rattle.stages.proofs.Layout.tailed.Tie as tie
 

@@ -1,6 +1,5 @@
 use native.Mathlib.Omega.{arith}
 use Rattle.stages.specs.Starts.{limited, over-limit, within-limit, starts-command}
-use borrow.Author.Needs.{needs}
 use Rattle.stages.proofs.start.command.Statement.{statement}
 use Rattle.stages.proofs.start.command.Tie as tie
 

@@ -1,5 +1,4 @@
 use Rattle.stages.specs.Starts.{starts-refused}
-use borrow.Author.Needs.{needs}
 use Rattle.stages.proofs.start.refused.Statement.{statement}
 use Rattle.stages.proofs.start.refused.Tie as tie
 

@@ -1,6 +1,5 @@
 use native.Mathlib.Omega.{arith}
 use Rattle.stages.specs.Starts.{stagedLimited, over-limit, within-limit, starts-staged}
-use borrow.Author.Needs.{needs}
 use Rattle.stages.proofs.start.staged.Statement.{statement}
 use Rattle.stages.proofs.start.staged.Tie as tie
 

@@ -3,7 +3,7 @@ use mathlib.Core.Path.{ap, _∙_, subst}
 use lib.ListN.{take}
 use Rattle.exchange.specs.Exchange.{pause}
 use Rattle.stages.specs.Decided.{layoutBytes, DecisionFits}
-use Rattle.engine.specs.Core.{arrays, stageOf, ordersOf, keepsOf, followsOf}
+use Rattle.engine.specs.Core.{arrays, stageOf, ordersOf, keepsOf, performsOf}
 use Rattle.engine.specs.Transitions.{at}
 use Rattle.engine.proofs.Ends.{does-not-go-on}
 use borrow.Author.Needs.{needs}
@@ -23,21 +23,21 @@ kept-requires-2 c κs =
     (p .0, subst (DecisionFits (take (a .self .found) (a .found .now)) (a .response .now)) (c .before .before .before .before .before .decision3 .given .1) (p .1), p .2)
 
 returns : tie.Need-returns
-unfolding followsOf
+unfolding performsOf
 returns c = λ _.
     let a = c .before .before .before .before .before .before .before .before .before .before .before .before .before .before .before .args in
     rw (c .before .before .before .before .before .before .before .decision .given .1)
     (c .before .before .send .ensures _ ∙ ap (λ d. stageOf (a .self) (arrays (a .command .now) (a .found .now)) d (a .buffer .now)) (c .before .before .before .before .before .to-stage .ensures))
 
 returns-2 : tie.Need-returns-2
-unfolding followsOf
+unfolding performsOf
 returns-2 c = λ _.
     let a = c .before .before .before .before .before .before .before .before .before .before .before .before .before .before .before .before .before .before .args in
     rw (c .before .before .before .before .before .before .before .before .before .before .decision2 .given .1)
     (c .before .before .before .before .kept .ensures ∙ ap (λ x. keepsOf (a .self) (arrays (a .command .now) (a .found .now)) x (layoutBytes (take (a .self .found) (a .found .now)) (a .response .now) (c .before .before .before .before .before .before .before .before .before .before .decision2 .given .0 .1 .0)) (a .buffer .now)) (c .before .before .before .before .before .before .before .before .to-stage2 .ensures))
 
 returns-3 : tie.Need-returns-3
-unfolding followsOf
+unfolding performsOf
 returns-3 c = λ _.
     let a = c .before .before .before .before .before .before .before .before .before .before .before .before .before .before .before .before .before .before .args in
     rw (c .before .before .before .before .before .before .before .before .before .before .decision3 .given .1)
@@ -47,7 +47,7 @@ returns-4 : tie.Need-returns-4
 returns-4 c = λ _. rw (c .before .before .before .before .before .before .before .before .decision4 .given .1) (c .before .before .before .before .put-by .ensures _)
 
 returns-5 : tie.Need-returns-5
-unfolding followsOf
+unfolding performsOf
 returns-5 c = λ _.
     let a = c .before .before .before .before .before .before .before .before .before .before .before .before .before .before .before .args in
     rw (c .before .before .before .before .before .before .before .decision5 .given .1)

@@ -5,7 +5,9 @@ use lib.ListN.{length, take, length-take}
 use Rattle.engine.specs.declared.core.Core.{Core}
 use Rattle.engine.specs.Core.{arrays, stageOf, withFound}
 use Rattle.stages.specs.Put.{puts-found}
+use Rattle.stages.specs.Decided.{foundLimit}
 use borrow.Author.Needs.{needs}
+use Rattle.protocol.specs.Starts.{dataLimit}
 use Rattle.engine.proofs.core.Core.kept.Statement.{statement}
 use Rattle.engine.proofs.core.Core.kept.Tie as tie
 
@@ -13,11 +15,11 @@ lay-requires : tie.Need-lay-requires
 lay-requires c κs =
     let f = c .before .before .before .before .before .pre .1 in
     let a = c .before .before .before .before .before .args in
-    let n : length (take (a .self .found) (a .found .now)) ≤ 1024 = omega (arith, length-take (a .self .found) (a .found .now), c .before .before .before .before .before .pre .2 .3) in
+    let n : length (take (a .self .found) (a .found .now)) ≤ foundLimit = omega (arith, length-take (a .self .found) (a .found .now), c .before .before .before .before .before .pre .2 .3) in
     ((f .head, f .part, f .tail), omega (arith, f .room n (c .before .before .before .before .before .pre .0), c .before .before .before .before .before .pre .2 .3))
 
 send-requires : tie.Need-send-requires
-send-requires c κs = (subst (λ (s : Core). s .command ≤ 512) (sym (c .before .with-found .ensures)) (c .before .before .before .before .before .before .before .before .before .before .pre .2 .1), c .before .before .before .before .before .before .before .before .before .before .pre .2 .2, c .before .before .before .before .before .before .before .before .before .before .pre .2 .4)
+send-requires c κs = (subst (λ (s : Core). s .command ≤ dataLimit) (sym (c .before .with-found .ensures)) (c .before .before .before .before .before .before .before .before .before .before .pre .2 .1), c .before .before .before .before .before .before .before .before .before .before .pre .2 .2, c .before .before .before .before .before .before .before .before .before .before .pre .2 .4)
 
 returns : tie.Need-returns
 returns c =

@@ -3,17 +3,18 @@ use Prim.Native.Nat.{_≤_}
 use native.Mathlib.Omega.{arith}
 use Rattle.stages.specs.Decided.{headBytes}
 use Rattle.engine.specs.declared.core.Core.{Core}
-use Rattle.engine.specs.Core.{arrays, stageOf, followsOf}
+use Rattle.engine.specs.Core.{arrays, stageOf, performsOf}
 use Rattle.stages.specs.Put.{copied-start}
 use borrow.Author.Needs.{needs}
+use Rattle.protocol.specs.Starts.{dataLimit}
 use Rattle.engine.proofs.core.Core.put_by.Statement.{statement}
 use Rattle.engine.proofs.core.Core.put_by.Tie as tie
 
 send-requires : tie.Need-send-requires
-send-requires c κs = (subst (λ (s : Core). s .command ≤ 512) (sym (c .before .before .before .with-command .ensures)) (omega arith), search needs, c .before .before .before .before .before .before .before .before .before .before .before .before .pre .1)
+send-requires c κs = (subst (λ (s : Core). s .command ≤ dataLimit) (sym (c .before .before .before .with-command .ensures)) (omega arith), search needs, c .before .before .before .before .before .before .before .before .before .before .before .before .pre .1)
 
 returns : tie.Need-returns
-unfolding followsOf
+unfolding performsOf
 returns c = λ f. let a = c .before .before .before .before .before .before .before .before .before .before .before .before .before .before .before .args in let e = c .before .before .before .before .before .before .before .before .before .copy .ensures in c .before .before .send .ensures f ∙ (λ i. stageOf (c .before .before .before .before .before .before .with-command .ensures i) (arrays (copied-start (headBytes (a .bytes)) (a .command .now) _ (e .1) i) f) (c .before .before .before .before .before .to-stage .ensures i) (a .buffer .now))
 
 pub put-by-spec : {M : Type 1} → statement M

@@ -7,9 +7,9 @@ use lib.ListN.{take}
 use lib.Seq.{length-take-le}
 use Rattle.exchange.specs.Responses.{its-response}
 use Rattle.stages.specs.Decided.{DecisionRefines}
-use Rattle.engine.specs.Core.{arrays, followsOf, replyDecision}
-use Rattle.engine.specs.Ends.{endReply, Checked, without-response, with-response, end-follows}
-use Rattle.engine.proofs.Ends.{no-packet, decides-fault, decides-response}
+use Rattle.engine.specs.Core.{arrays, performsOf, replyDecision}
+use Rattle.engine.specs.Ends.{endReply, Checked, without-response, with-response, end-performs}
+use Rattle.engine.proofs.Ends.{no-packet, refines-fault, refines-response}
 use borrow.Author.Needs.{needs}
 use Rattle.engine.proofs.core.Core.replied.Statement.{statement}
 use Rattle.engine.proofs.core.Core.replied.Tie as tie
@@ -26,8 +26,8 @@ slice-aggregate-kept c =
     let p = c .before .before .before .before .before .before .before .before .before .before .pre in
     sym (length-take-le (a .self .found) (a .found .now) (omega (arith, p .1 .0, p .1 .3)))
 
-followed-requires : tie.Need-followed-requires
-followed-requires c κs =
+performed-requires : tie.Need-performed-requires
+performed-requires c κs =
     let a = c .before .before .before .before .before .before .before .before .before .before .before .before .before .before .args in
     let p = c .before .before .before .before .before .before .before .before .before .before .before .before .before .before .pre in
     let to = c .before .before .before .before .before .before .match .end in
@@ -42,8 +42,8 @@ followed-requires c κs =
     let h = arrays (a .command .now) (a .found .now) in
     let refines : DecisionRefines (take (a .self .found) (a .found .now)) response (c .before .before .before .match2 .decision) (replyDecision (a .self) h (endReply response to))
     = ⊎-elim
-    (λ w. decides-fault (a .self) h _ _ _ _ to (w .4) _ (w .1 .given .1) (w .3 .ensures _))
-    (λ w. decides-response (a .self) h _ _ _ _ to (w .2) (w .0 .keys2) (w .1 .ensures))
+    (λ w. refines-fault (a .self) h _ _ _ _ to (w .4) _ (w .1 .given .1) (w .3 .ensures _))
+    (λ w. refines-response (a .self) h _ _ _ _ to (w .2) (w .0 .keys2) (w .1 .ensures))
     (c .before .before .before .match2 .came) in
     (checked .few, refines .fits, p .1)
 
@@ -63,12 +63,12 @@ returns c =
     let h = arrays (a .command .now) (a .found .now) in
     let refines : DecisionRefines (take (a .self .found) (a .found .now)) response (c .before .before .before .before .before .before .before .before .before .before .match2 .decision) (replyDecision (a .self) h (endReply response to))
     = ⊎-elim
-    (λ w. decides-fault (a .self) h _ _ _ _ to (w .4) _ (w .1 .given .1) (w .3 .ensures _))
-    (λ w. decides-response (a .self) h _ _ _ _ to (w .2) (w .0 .keys2) (w .1 .ensures))
+    (λ w. refines-fault (a .self) h _ _ _ _ to (w .4) _ (w .1 .given .1) (w .3 .ensures _))
+    (λ w. refines-response (a .self) h _ _ _ _ to (w .2) (w .0 .keys2) (w .1 .ensures))
     (c .before .before .before .before .before .before .before .before .before .before .match2 .came) in
-    c .before .before .before .before .before .before .followed .ensures
-    ∙ ap (λ d. followsOf (a .self) h d (a .buffer .now)) (refines .is ∙ ap (replyDecision (a .self) h) (checked .reply))
-    ∙ end-follows (a .self) h (a .self .exchange .code) (a .packet .now) (a .end) (a .buffer .now)
+    c .before .before .before .before .before .before .performed .ensures
+    ∙ ap (λ d. performsOf (a .self) h d (a .buffer .now)) (refines .is ∙ ap (replyDecision (a .self) h) (checked .reply))
+    ∙ end-performs (a .self) h (a .self .exchange .code) (a .packet .now) (a .end) (a .buffer .now)
 
 pub replied-spec : {M : Type 1} → statement M
 replied-spec =
@@ -91,7 +91,7 @@ replied-spec =
     (λ c. search needs)
     (λ c κs. search needs)
     (λ c κs. search needs)
-    followed-requires
+    performed-requires
     (λ c. search needs)
     (λ c. search needs)
     (λ c. search needs)

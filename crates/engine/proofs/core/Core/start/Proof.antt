@@ -9,6 +9,7 @@ use Rattle.stages.specs.Starts.{Starts, StartFits, commanded, as-staged, at-onc
 use Rattle.engine.specs.declared.core.Core.{Core}
 use Rattle.engine.specs.Core.{arrays, withCommand, sendsOf, stageOf, unchanged, startOn}
 use borrow.Author.Needs.{needs}
+use Rattle.protocol.specs.Starts.{dataLimit}
 use Rattle.engine.proofs.core.Core.start.Statement.{statement}
 use Rattle.engine.proofs.core.Core.start.Tie as tie
 
@@ -19,7 +20,7 @@ sent-requires : tie.Need-sent-requires
 sent-requires c κs = let n = subst StartFits (c .before .before .before .before .before .start .given .1) (c .before .before .before .before .before .before .before .before .before .pre .0) in (omega (arith, n, length-take (c .before .before .before .before .before .start .given .0 .0 .len) (c .before .before .before .before .before .before .before .before .before .args .command .now)), c .before .before .before .before .before .before .before .before .before .pre .2)
 
 send-requires : tie.Need-send-requires
-send-requires c κs = let n = subst StartFits (c .before .before .before .before .start2 .given .1) (c .before .before .before .before .before .before .before .before .pre .0) in (subst (λ (s : Core). s .command ≤ 512) (sym (c .before .before .with-command2 .ensures)) n, c .before .before .before .before .before .before .before .before .pre .1, c .before .before .before .before .before .before .before .before .pre .2)
+send-requires c κs = let n = subst StartFits (c .before .before .before .before .start2 .given .1) (c .before .before .before .before .before .before .before .before .pre .0) in (subst (λ (s : Core). s .command ≤ dataLimit) (sym (c .before .before .with-command2 .ensures)) n, c .before .before .before .before .before .before .before .before .pre .1, c .before .before .before .before .before .before .before .before .pre .2)
 
 returns : tie.Need-returns
 unfolding startOn

@@ -1,4 +1,5 @@
 -- `list::State::accept` meets its contract.
+use Rattle.presence_list.specs.Names.{cardsSize}
 use Rattle.presence_list.specs.Admissions.{range-cards-at}
 use Rattle.presence_list.specs.Accepts.{aged-cards-at, accept-full, put-cards-at, accept-done}
 use lib.ListN.{length}
@@ -26,7 +27,7 @@ without-requires c κs =
     let a = c .before .before .before .before .before .before .before .before .before .before .before .before .before .before .before .args in
     let p = c .before .before .before .before .before .before .before .before .before .before .before .before .before .before .before .pre in
     let k = range-cards-at (a .self) (a .cards .now) (search needs) (p .0) in
-    let l : length (a .arrived .now) ≡ 1280 = search needs in
+    let l : length (a .arrived .now) ≡ cardsSize = search needs in
     let h = c .before .before .before .before .if1 .left in
     (k .0, put-cards-at (a .self) (a .cards .now) (a .records .now) (k .0) (k .1) (p .1) _ _ (c .before .before .before .before .before .before .before .before .before .age .ensures) _ _ (c .before .before .before .before .before .before .put-all .ensures) h, omega arith)
 
@@ -35,7 +36,7 @@ without-requires-2 c κs =
     let a = c .before .before .before .before .before .before .before .before .before .before .before .before .before .before .before .before .before .before .before .before .args in
     let p = c .before .before .before .before .before .before .before .before .before .before .before .before .before .before .before .before .before .before .before .before .pre in
     let k = range-cards-at (a .self) (a .cards .now) (search needs) (p .0) in
-    let l : length (a .departed .now) ≡ 1280 = search needs in
+    let l : length (a .departed .now) ≡ cardsSize = search needs in
     let h = c .before .before .before .before .before .before .before .before .before .if1 .left in
     (put-cards-at (a .self) (a .cards .now) (a .records .now) (k .0) (k .1) (p .1) _ _ (c .before .before .before .before .before .before .before .before .before .before .before .before .before .before .age .ensures) _ _ (c .before .before .before .before .before .before .before .before .before .before .before .put-all .ensures) h, k .0, omega arith)
 
@@ -44,7 +45,7 @@ returns-2 c =
     let a = c .before .before .before .before .before .before .before .before .before .before .before .before .before .before .before .before .before .before .before .before .before .before .before .before .args in
     let p = c .before .before .before .before .before .before .before .before .before .before .before .before .before .before .before .before .before .before .before .before .before .before .before .before .pre in
     let k = range-cards-at (a .self) (a .cards .now) (search needs) (p .0) in
-    let l : length (a .cards .now) ≡ 1280 = search needs in
+    let l : length (a .cards .now) ≡ cardsSize = search needs in
     accept-done (a .self) (a .cards .now) (a .records .now) (k .0) (k .1) (p .1) _ _ (c .before .before .before .before .before .before .before .before .before .before .before .before .before .before .before .before .before .before .age .ensures) _ _ (c .before .before .before .before .before .before .before .before .before .before .before .before .before .before .before .put-all .ensures) (c .before .before .before .before .before .before .before .before .before .before .before .before .before .if1 .left) (a .arrived .now) (a .departed .now) _ _ _ (a .number) _ _ l
     (c .before .before .before .before .before .before .before .before .without .ensures) (c .before .before .before .without2 .ensures) (c .copy .ensures .1)
 

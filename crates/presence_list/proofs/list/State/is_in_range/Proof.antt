@@ -2,14 +2,14 @@
 use Rattle.presence_list.specs.Admissions.{range-ascends, range-broken}
 use mathlib.Core.Path.{sym, _∙_}
 use Rattle.presence_list.specs.Steps.{inRange}
-use Rattle.presence_list.specs.Rules.{steps}
+use Rattle.errors.specs.Rules.{picked}
 use borrow.Author.Needs.{needs}
 use Rattle.presence_list.proofs.list.State.is_in_range.Statement.{statement}
 use Rattle.presence_list.proofs.list.State.is_in_range.Tie as tie
 
 returns : tie.Need-returns
 unfolding inRange
-returns c = search (steps, needs) depth 14
+returns c = search (picked, needs) depth 14
 
 are-ascending-requires : tie.Need-are-ascending-requires
 are-ascending-requires c κs = (search needs, sym (c .before .before .are-in-range .ensures) ∙ c .before .if4 .taken)
@@ -24,11 +24,11 @@ returns-3 c = let a = c .before .before .before .before .before .before .before 
 
 returns-4 : tie.Need-returns-4
 unfolding inRange
-returns-4 c = search (steps, needs) depth 14
+returns-4 c = search (picked, needs) depth 14
 
 returns-5 : tie.Need-returns-5
 unfolding inRange
-returns-5 c = search (steps, needs) depth 14
+returns-5 c = search (picked, needs) depth 14
 
 pub is-in-range-spec : {M : Type 1} → statement M
 is-in-range-spec =
