@@ -30,11 +30,12 @@ use Rattle.bench.specs.Hex.{digitOf, digitsOf}
 use Rattle.bench.specs.HexLaws.{length-digits}
 use Rattle.bench.specs.Texts.{over, placed, placedAt}
 use Rattle.bench.specs.TextLaws.{over-over, length-over}
-use Rattle.acceptance.specs.Order.{bytesOf}
-use Rattle.acceptance.specs.Steps.{bySetting, builtOf, frameAt, linesOf, longestLine}
+use Rattle.acceptance.specs.Order.{payloadBytes}
+use Rattle.acceptance.specs.Steps.{bySetting, entryBuilt, frameAt, textLines, longestLine}
 use Rattle.acceptance.specs.declared.Entry.{Entry}
 use Rattle.acceptance.specs.declared.Payload.{Payload}
 use Rattle.acceptance.specs.declared.Payload.the-variants.{Empty, One, Two}
+use Rattle.bench.specs.Lines.{feed}
 
 by-test : (P : Setting → Type 0) (t : Bool) (x y : Setting) → P x → (t ≡ false → P y) → P (pick t x y)
 unfolding pick
@@ -64,8 +65,8 @@ by-number P some none n = by-numbers P some n (λ h. none)
 pub of-six : (P : Setting → Type 0) → ((e : LengthEncoding) (d : ErrorDetection) → P (Format (formatOf e d))) → (n : ℕ) → n < 6 → P (settingOf n)
 of-six P some n h = by-numbers P some n (λ k. absurd (omega arith))
 
-pub short-payload : (p : Payload) → length (bytesOf p) ≤ 2
-unfolding bytesOf
+pub short-payload : (p : Payload) → length (payloadBytes p) ≤ 2
+unfolding payloadBytes
 short-payload Empty = omega arith
 short-payload (One a) = omega arith
 short-payload (Two a b) = omega arith
@@ -98,13 +99,13 @@ module _ (e : LengthEncoding) (d : ErrorDetection) (p : List ℕ) (short : lengt
 
 -- the answers of `frame`, by the setting
 module _ (e : Entry) (b : List ℕ) where
-  pub built-format : (f : FrameFormat) (x : Left) → Format f ≡ settingOf (e .setting) → x ≡ buildOf f (bytesOf (e .payload)) b → x ≡ builtOf e b
-  unfolding builtOf
-  built-format f x s h = h ∙ ap (bySetting (λ g. buildOf g (bytesOf (e .payload)) b) (left (refused (plain 1)) b)) s
+  pub built-format : (f : FrameFormat) (x : Left) → Format f ≡ settingOf (e .setting) → x ≡ buildOf f (payloadBytes (e .payload)) b → x ≡ entryBuilt e b
+  unfolding entryBuilt
+  built-format f x s h = h ∙ ap (bySetting (λ g. buildOf g (payloadBytes (e .payload)) b) (left (refused (plain 1)) b)) s
 
-  pub built-none : Nothing ≡ settingOf (e .setting) → left (refused (plain 1)) b ≡ builtOf e b
-  unfolding builtOf
-  built-none s = ap (bySetting (λ g. buildOf g (bytesOf (e .payload)) b) (left (refused (plain 1)) b)) s
+  pub built-none : Nothing ≡ settingOf (e .setting) → left (refused (plain 1)) b ≡ entryBuilt e b
+  unfolding entryBuilt
+  built-none s = ap (bySetting (λ g. buildOf g (payloadBytes (e .payload)) b) (left (refused (plain 1)) b)) s
 
 -- what `frame` answered and left in a buffer of 12 bytes: the entry's frame at its start, or the entry has none
 pub record Framed (fs : List (List ℕ)) (n : ℕ) (fr : List ℕ) : Type 0 where
@@ -149,23 +150,23 @@ module _ (p : List ℕ) (short : length p ≤ 2) (b fr : List ℕ) (twelve : len
           let z : _≡_ {A = ℕ} 0 1 = cc (ap (λ l. l .result) put, ap returned q) in
           absurd (omega arith)
 
-module _ (e : Entry) (b fr : List ℕ) (r : Built) (twelve : length b ≡ 12) (known : left (returned r) fr ≡ builtOf e b) where
+module _ (e : Entry) (b fr : List ℕ) (r : Built) (twelve : length b ≡ 12) (known : left (returned r) fr ≡ entryBuilt e b) where
   pub framed : (n : ℕ) → r ≡ Frame n → Framed (frameAt e) n fr
-  unfolding frameAt builtOf
-  framed n q = known-frame (bytesOf (e .payload)) (short-payload (e .payload)) b fr twelve r n q (e .setting) known
+  unfolding frameAt entryBuilt
+  framed n q = known-frame (payloadBytes (e .payload)) (short-payload (e .payload)) b fr twelve r n q (e .setting) known
 
   pub unframed : (x : Refusal) → r ≡ Refused x → frameAt e ≡ []
-  unfolding frameAt builtOf
-  unframed x q = known-none (bytesOf (e .payload)) (short-payload (e .payload)) b fr twelve r x q (e .setting) known
+  unfolding frameAt entryBuilt
+  unframed x q = known-none (payloadBytes (e .payload)) (short-payload (e .payload)) b fr twelve r x q (e .setting) known
 
 pub placed-none : (at : ℕ) (out : List ℕ) → placed at out ≡ placedAt at [] out
 unfolding over
 placed-none at out = ap₂ placed (sym (add-zero at)) (sym (ap (λ k. take at out ++ drop k out) (add-zero at) ∙ take-append-drop at out))
 
 -- an entry of no setting has no line
-pub no-line : (e : Entry) (at : ℕ) (out : List ℕ) → frameAt e ≡ [] → placed at out ≡ placedAt at (linesOf (frameAt e)) out
-unfolding linesOf
-no-line e at out f = placed-none at out ∙ ap (λ l. placedAt at (linesOf l) out) (sym f)
+pub no-line : (e : Entry) (at : ℕ) (out : List ℕ) → frameAt e ≡ [] → placed at out ≡ placedAt at (textLines (frameAt e)) out
+unfolding textLines
+no-line e at out f = placed-none at out ∙ ap (λ l. placedAt at (textLines l) out) (sym f)
 
 set-over : (b : List ℕ) (j x : ℕ) → j < length b → set b j x ≡ over j (x ∷ []) b
 unfolding over
@@ -194,14 +195,14 @@ table-digit r v e h = digit-at r h ∙ ap digitOf e
 
 -- the line feed behind the digits of a frame
 pub line-put : (out o q : List ℕ) (at n : ℕ) (fs : List (List ℕ)) → at + longestLine ≤ length out → n ≤ 12 → length q ≡ n → fs ≡ q ∷ []
-    → o ≡ over at (digitsOf q) out → placed (at + 2 * n + 1) (set o (at + 2 * n) 10) ≡ placedAt at (linesOf fs) out
-unfolding linesOf
+    → o ≡ over at (digitsOf q) out → placed (at + 2 * n + 1) (set o (at + 2 * n) feed) ≡ placedAt at (textLines fs) out
+unfolding textLines
 line-put out o q at n fs room fits whole f e =
     let d : List ℕ = digitsOf q in
     let c : 2 * n ≡ length d = omega (arith, length-digits q) in
     let room′ : at + length d + 1 ≤ length out = omega arith in
     let inside : at + length d < length (over at d out) = rw (length-over out d at (omega arith)) (omega arith) in
-    let put : set o (at + 2 * n) 10 ≡ over at (d ++ (10 ∷ [])) out
-    = ap₂ (λ l j. set l (at + j) 10) e c ∙ set-over (over at d out) (at + length d) 10 inside ∙ over-over out d (10 ∷ []) at room′ in
-    let next : at + 2 * n + 1 ≡ at + length (d ++ (10 ∷ [])) = rw (length-append d (10 ∷ [])) (omega arith) in
-    ap₂ placed next put ∙ ap (λ l. placedAt at (linesOf l) out) (sym f)
+    let put : set o (at + 2 * n) feed ≡ over at (d ++ (feed ∷ [])) out
+    = ap₂ (λ l j. set l (at + j) feed) e c ∙ set-over (over at d out) (at + length d) feed inside ∙ over-over out d (feed ∷ []) at room′ in
+    let next : at + 2 * n + 1 ≡ at + length (d ++ (feed ∷ [])) = rw (length-append d (feed ∷ [])) (omega arith) in
+    ap₂ placed next put ∙ ap (λ l. placedAt at (textLines l) out) (sym f)

@@ -10,13 +10,13 @@ use lib.Seq.{take-at, drop-at}
 use borrow.Author.Tests.{ltb-true, ltb-false}
 use Rattle.errors.specs.Choice.{pick}
 use Rattle.framing.specs.Enclose.{length-head, length-frame}
-use Rattle.framing.specs.Frames.{ending, headOf, startOf, frameOf}
+use Rattle.framing.specs.Frames.{ending, headOf, dataStart, frameOf}
 use Rattle.framing.specs.declared.LengthEncoding.{LengthEncoding}
 use Rattle.framing.specs.declared.LengthEncoding.the-variants.{Normal, ExtendedLittleEndian, NormalOrExtendedBigEndian}
 
 -- a longer payload's frame is longer
-start-grows : (e : LengthEncoding) (m n : ℕ) → startOf e m + m ≡ startOf e n + n → m ≡ n
-unfolding startOf pick
+start-grows : (e : LengthEncoding) (m n : ℕ) → dataStart e m + m ≡ dataStart e n + n → m ≡ n
+unfolding dataStart pick
 start-grows Normal m n h = omega arith
 start-grows ExtendedLittleEndian m n h = omega arith
 start-grows NormalOrExtendedBigEndian m n h = go (ltb m 256) (ltb n 256) refl refl h
@@ -28,15 +28,15 @@ start-grows NormalOrExtendedBigEndian m n h = go (ltb m 256) (ltb n 256) refl re
     go false false a b k = omega arith
 
 -- the payload out of its frame, by its length
-payload-in : (e : LengthEncoding) (p : List ℕ) → take (length p) (drop (startOf e (length p)) (frameOf e p)) ≡ p
+payload-in : (e : LengthEncoding) (p : List ℕ) → take (length p) (drop (dataStart e (length p)) (frameOf e p)) ≡ p
 unfolding frameOf
 payload-in e p =
     ap (take (length p))
-    (ap (drop (startOf e (length p))) (append-assoc (headOf e (length p)) p (ending p))
-    ∙ drop-at (headOf e (length p)) (p ++ ending p) (startOf e (length p)) (length-head e (length p)))
+    (ap (drop (dataStart e (length p))) (append-assoc (headOf e (length p)) p (ending p))
+    ∙ drop-at (headOf e (length p)) (p ++ ending p) (dataStart e (length p)) (length-head e (length p)))
     ∙ take-at p (ending p) (length p) refl
 
 pub one-to-one : (e : LengthEncoding) (p q : List ℕ) → frameOf e p ≡ frameOf e q → p ≡ q
 one-to-one e p q h =
     let l : length p ≡ length q = start-grows e (length p) (length q) (omega (arith, ap length h, length-frame e p, length-frame e q)) in
-    sym (payload-in e p) ∙ ap₂ (λ n f. take n (drop (startOf e n) f)) l h ∙ payload-in e q
+    sym (payload-in e p) ∙ ap₂ (λ n f. take n (drop (dataStart e n) f)) l h ∙ payload-in e q

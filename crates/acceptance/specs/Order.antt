@@ -13,13 +13,13 @@ use Rattle.acceptance.specs.declared.Payload.the-variants.{Empty, One, T
 use Rattle.acceptance.specs.declared.Entry.{Entry}
 use Rattle.acceptance.specs.declared.Following.{Following}
 use Rattle.acceptance.specs.declared.Following.the-variants.{Next, Nothing}
-use Rattle.acceptance.specs.declared.Step.{Step}
-use Rattle.acceptance.specs.declared.Step.the-variants.{At, End, Refused}
+use Rattle.acceptance.specs.declared.Reached.{Reached}
+use Rattle.acceptance.specs.declared.Reached.the-variants.{At, End, Refused}
 
-unfoldable pub bytesOf : Payload → List ℕ
-bytesOf Empty = []
-bytesOf (One a) = a ∷ []
-bytesOf (Two a b) = a ∷ b ∷ []
+unfoldable pub payloadBytes : Payload → List ℕ
+payloadBytes Empty = []
+payloadBytes (One a) = a ∷ []
+payloadBytes (Two a b) = a ∷ b ∷ []
 
 -- of two lists of one length: the first byte that differs decides
 abbrev pub BytesBefore : List ℕ → List ℕ → Type 0
@@ -35,44 +35,44 @@ Before p q = (length p < length q) ⊎ ((length p ≡ length q) × BytesBefore p
 abbrev pub payloads : ℕ
 payloads = 65793
 
-abbrev pub entries : ℕ
-entries = 394758
+abbrev pub entryCount : ℕ
+entryCount = 394758
 
 -- how many short payloads are before one: its place in a setting's list
-unfoldable pub numberIn : List ℕ → ℕ
-numberIn [] = 0
-numberIn (a ∷ []) = 1 + a
-numberIn (a ∷ b ∷ l) = 257 + (256 * a + b)
+unfoldable pub payloadNumberIn : List ℕ → ℕ
+payloadNumberIn [] = 0
+payloadNumberIn (a ∷ []) = 1 + a
+payloadNumberIn (a ∷ b ∷ l) = 257 + (256 * a + b)
 
-unfoldable pub numberOf : Payload → ℕ
-numberOf p = numberIn (bytesOf p)
+unfoldable pub payloadNumber : Payload → ℕ
+payloadNumber p = payloadNumberIn (payloadBytes p)
 
 -- the payload whose number is n
 unfoldable pub payloadAt : ℕ → Payload
 payloadAt n = pick (ltb n 1) Empty (pick (ltb n 257) (One (n - 1)) (Two ((n - 257) / 256) ((n - 257) % 256)))
 
-abbrev pub entryOf : ℕ → Payload → Entry
-entryOf s p = record { setting = s; payload = p }
+abbrev pub entryWith : ℕ → Payload → Entry
+entryWith s p = record { setting = s; payload = p }
 
 -- an entry's place in the whole list
-unfoldable pub placeOf : Entry → ℕ
-placeOf e = payloads * (e .setting) + numberOf (e .payload)
+unfoldable pub placeInList : Entry → ℕ
+placeInList e = payloads * (e .setting) + payloadNumber (e .payload)
 
 unfoldable pub entryAt : ℕ → Entry
-entryAt n = entryOf (n / payloads) (payloadAt (n % payloads))
+entryAt n = entryWith (n / payloads) (payloadAt (n % payloads))
 
 -- the first entry of a setting
-abbrev pub firstOf : ℕ → Entry
-firstOf s = entryOf s Empty
+abbrev pub firstEntry : ℕ → Entry
+firstEntry s = entryWith s Empty
 
 -- the payload whose number is n, where there is one
 unfoldable pub followingAt : ℕ → Following
 followingAt n = pick (ltb n payloads) (Next (payloadAt n)) Nothing
 
 -- the entry at the place n; behind the last one the end
-unfoldable pub stepAt : ℕ → Step
-stepAt n = pick (ltb n entries) (At (entryAt n)) End
+unfoldable pub stepAt : ℕ → Reached
+stepAt n = pick (ltb n entryCount) (At (entryAt n)) End
 
 -- the step from an entry: to the next place; an entry of no setting is refused, with 1
-unfoldable pub stepOf : Entry → Step
-stepOf e = pick (ltb (e .setting) 6) (stepAt (suc (placeOf e))) (Refused OutOfTurn)
+unfoldable pub stepFrom : Entry → Reached
+stepFrom e = pick (ltb (e .setting) 6) (stepAt (suc (placeInList e))) (Refused OutOfTurn)

@@ -24,15 +24,15 @@ use Rattle.acceptance.specs.Claim.{Short, InOrder, start, settingFrames,
 use Rattle.acceptance.specs.FillLaws.{lines-append}
 use Rattle.acceptance.specs.LineLaws.{by-number, of-six, short-payload, short-built}
 use Rattle.acceptance.specs.OneToOne.{one-to-one}
-use Rattle.acceptance.specs.Order.{bytesOf, BytesBefore, Before, payloads, entries, numberIn, numberOf, payloadAt, firstOf}
+use Rattle.acceptance.specs.Order.{payloadBytes, BytesBefore, Before, payloads, entryCount, payloadNumberIn, payloadNumber, payloadAt, firstEntry}
 use Rattle.acceptance.specs.OrderLaws.{OfBytes, payload-of-number, number-below, number-at, bytes-at}
 use Rattle.acceptance.specs.Runs.{reached, ended, run-add, frames-add, frames-count, frame-nth, first-reached, setting-run, beyond}
-use Rattle.acceptance.specs.Steps.{runFrom, bySetting, frameAt, frameIn, framesFrom, linesOf, onEntry, longestLine, Filled}
+use Rattle.acceptance.specs.Steps.{runFrom, bySetting, frameAt, frameIn, framesFrom, textLines, onEntry, longestLine, Filled}
 use Rattle.acceptance.specs.declared.lines.Block.{Block}
 use Rattle.acceptance.specs.declared.Payload.{Payload}
 use Rattle.acceptance.specs.declared.Payload.the-variants.{Empty, One, Two}
-use Rattle.acceptance.specs.declared.Step.{Step}
-use Rattle.acceptance.specs.declared.Step.the-variants.{At}
+use Rattle.acceptance.specs.declared.Reached.{Reached}
+use Rattle.acceptance.specs.declared.Reached.the-variants.{At}
 
 -- ---- short payloads as lists of bytes
 
@@ -41,18 +41,18 @@ payloadIn [] = Empty
 payloadIn (a ∷ []) = One a
 payloadIn (a ∷ b ∷ l) = Two a b
 
-number-in : (p : List ℕ) → numberOf (payloadIn p) ≡ numberIn p
-unfolding numberIn numberOf bytesOf payloadIn
+number-in : (p : List ℕ) → payloadNumber (payloadIn p) ≡ payloadNumberIn p
+unfolding payloadNumberIn payloadNumber payloadBytes payloadIn
 number-in [] = refl
 number-in (a ∷ []) = refl
 number-in (a ∷ b ∷ l) = refl
 
-number-bytes : (p : Payload) → numberIn (bytesOf p) ≡ numberOf p
-unfolding numberOf
+number-bytes : (p : Payload) → payloadNumberIn (payloadBytes p) ≡ payloadNumber p
+unfolding payloadNumber
 number-bytes p = refl
 
-bytes-in : (p : List ℕ) → length p ≤ 2 → bytesOf (payloadIn p) ≡ p
-unfolding bytesOf payloadIn
+bytes-in : (p : List ℕ) → length p ≤ 2 → payloadBytes (payloadIn p) ≡ p
+unfolding payloadBytes payloadIn
 bytes-in [] h = refl
 bytes-in (a ∷ []) h = refl
 bytes-in (a ∷ b ∷ []) h = refl
@@ -64,8 +64,8 @@ of-bytes-in [] h = tt
 of-bytes-in (a ∷ []) h = h 0
 of-bytes-in (a ∷ b ∷ l) h = (h 0, h 1)
 
-are-bytes : (p : Payload) → OfBytes p → Bytes (bytesOf p)
-unfolding bytesOf
+are-bytes : (p : Payload) → OfBytes p → Bytes (payloadBytes p)
+unfolding payloadBytes
 are-bytes Empty h k = omega arith
 are-bytes (One a) h zero = h
 are-bytes (One a) h (suc k) = omega arith
@@ -76,8 +76,8 @@ are-bytes (Two a b) h (suc (suc k)) = omega arith
 -- ---- the order
 
 -- the numbers go by the order: shortest first, then by bytes, first byte foremost
-in-order : (p q : List ℕ) → Short p → Short q → numberIn p < numberIn q → Before p q
-unfolding numberIn
+in-order : (p q : List ℕ) → Short p → Short q → payloadNumberIn p < payloadNumberIn q → Before p q
+unfolding payloadNumberIn
 in-order [] [] h k l = absurd (omega arith)
 in-order [] (a ∷ q) h k l = inl (omega arith)
 in-order (a ∷ []) [] h k l = absurd (omega arith)
@@ -93,8 +93,8 @@ in-order (a ∷ b ∷ []) (c ∷ d ∷ []) h k l = inr (refl, go (ltb a c) refl)
 in-order (a ∷ b ∷ c ∷ p) q h k l = absurd (omega (arith, h .0))
 in-order (a ∷ b ∷ []) (c ∷ d ∷ e ∷ q) h k l = absurd (omega (arith, k .0))
 
-by-order : (p q : List ℕ) → Short p → Short q → Before p q → numberIn p < numberIn q
-unfolding numberIn
+by-order : (p q : List ℕ) → Short p → Short q → Before p q → payloadNumberIn p < payloadNumberIn q
+unfolding payloadNumberIn
 by-order [] [] h k (inl l) = absurd (omega arith)
 by-order [] [] h k (inr l) = absurd (l .1)
 by-order [] (a ∷ []) h k l = omega arith
@@ -150,33 +150,33 @@ built s f h p short b = by-number (λ x. x ≡ Format f → buildOf f p b ≡ pu
 module _ (s : ℕ) (f : FrameFormat) (h : settingOf s ≡ Format f) where
   -- the frame of the payload whose number is n
   abbrev frameOfNumber : ℕ → List ℕ
-  frameOfNumber n = frameOf (f .length) (bytesOf (payloadAt n))
+  frameOfNumber n = frameOf (f .length) (payloadBytes (payloadAt n))
 
-  each : (n : ℕ) → n < payloads → frameIn (runFrom n (At (firstOf s))) ≡ frameOfNumber n ∷ []
+  each : (n : ℕ) → n < payloads → frameIn (runFrom n (At (firstEntry s))) ≡ frameOfNumber n ∷ []
   unfolding frameIn frameAt
   each n k =
       ap frameIn (setting-run s n (below-six s f h) k)
-      ∙ ap (bySetting (λ g. frameOf (g .length) (bytesOf (payloadAt n)) ∷ []) []) h
+      ∙ ap (bySetting (λ g. frameOf (g .length) (payloadBytes (payloadAt n)) ∷ []) []) h
 
   nth : (n : ℕ) → n < payloads → getD (settingFrames s) n [] ≡ frameOfNumber n
   unfolding settingFrames
-  nth n k = frame-nth (At (firstOf s)) frameOfNumber payloads each payloads n (omega arith) k
+  nth n k = frame-nth (At (firstEntry s)) frameOfNumber payloads each payloads n (omega arith) k
 
   counted : length (settingFrames s) ≡ payloads
   unfolding settingFrames
-  counted = frames-count (At (firstOf s)) frameOfNumber payloads each payloads (omega arith)
+  counted = frames-count (At (firstEntry s)) frameOfNumber payloads each payloads (omega arith)
 
-  nth-of : (p : List ℕ) → Short p → (numberIn p < payloads) × (getD (settingFrames s) (numberIn p) [] ≡ frameOf (f .length) p)
+  nth-of : (p : List ℕ) → Short p → (payloadNumberIn p < payloads) × (getD (settingFrames s) (payloadNumberIn p) [] ≡ frameOf (f .length) p)
   nth-of p short =
       let few = of-bytes-in p (short .1) in
-      let n : numberOf (payloadIn p) < payloads = number-below (payloadIn p) few in
-      let at : payloadAt (numberIn p) ≡ payloadIn p = ap payloadAt (sym (number-in p)) ∙ payload-of-number (payloadIn p) few in
-      let below : numberIn p < payloads = rw (← number-in p) n in
-      (below, nth (numberIn p) below ∙ ap (λ x. frameOf (f .length) (bytesOf x)) at ∙ ap (frameOf (f .length)) (bytes-in p (short .0)))
+      let n : payloadNumber (payloadIn p) < payloads = number-below (payloadIn p) few in
+      let at : payloadAt (payloadNumberIn p) ≡ payloadIn p = ap payloadAt (sym (number-in p)) ∙ payload-of-number (payloadIn p) few in
+      let below : payloadNumberIn p < payloads = rw (← number-in p) n in
+      (below, nth (payloadNumberIn p) below ∙ ap (λ x. frameOf (f .length) (payloadBytes x)) at ∙ ap (frameOf (f .length)) (bytes-in p (short .0)))
 
   listed : (n : ℕ) → n < payloads → Listed s f n
   listed n k = record {
-    payload = bytesOf (payloadAt n);
+    payload = payloadBytes (payloadAt n);
     short = (short-payload (payloadAt n), are-bytes (payloadAt n) (bytes-at n k));
     number = number-bytes (payloadAt n) ∙ number-at n k;
     frame = nth n k;
@@ -184,8 +184,8 @@ module _ (s : ℕ) (f : FrameFormat) (h : settingOf s ≡ Format f) where
 
   once : (m n : ℕ) → m < payloads → n < payloads → getD (settingFrames s) m [] ≡ getD (settingFrames s) n [] → m ≡ n
   once m n j k e =
-      let same : bytesOf (payloadAt m) ≡ bytesOf (payloadAt n) = one-to-one (f .length) _ _ (sym (nth m j) ∙ e ∙ nth n k) in
-      sym (number-bytes (payloadAt m) ∙ number-at m j) ∙ ap numberIn same ∙ number-bytes (payloadAt n) ∙ number-at n k
+      let same : payloadBytes (payloadAt m) ≡ payloadBytes (payloadAt n) = one-to-one (f .length) _ _ (sym (nth m j) ∙ e ∙ nth n k) in
+      sym (number-bytes (payloadAt m) ∙ number-at m j) ∙ ap payloadNumberIn same ∙ number-bytes (payloadAt n) ∙ number-at n k
 
   -- all short frames of the setting, in order, and each once
   pub all-short-frames : AllShortFrames s f
@@ -226,30 +226,30 @@ whole-list = record {
 
 -- ---- what is printed
 
-no-frames : (s : Step) → length (linesOf (framesFrom 0 s)) ≡ 0
-unfolding framesFrom linesOf
+no-frames : (s : Reached) → length (textLines (framesFrom 0 s)) ≡ 0
+unfolding framesFrom textLines
 no-frames s = refl
 
 -- a block that was filled from the n-th step on
-module _ (n : ℕ) (h : n ≤ entries) (s : Step) (on : s ≡ runFrom n start) (b after : List ℕ) (r : Block) (filled : Filled s b r after) where
+module _ (n : ℕ) (h : n ≤ entryCount) (s : Reached) (on : s ≡ runFrom n start) (b after : List ℕ) (r : Block) (filled : Filled s b r after) where
   block-step : r .step ≡ runFrom (n + r .count) start
   block-step = filled .step ∙ ap (runFrom (r .count)) on ∙ sym (run-add n (r .count) start)
 
-  block-within : n + r .count ≤ entries
-  block-within = go (ltb entries (n + r .count)) refl
+  block-within : n + r .count ≤ entryCount
+  block-within = go (ltb entryCount (n + r .count)) refl
     where
-      go : (t : Bool) → ltb entries (n + r .count) ≡ t → n + r .count ≤ entries
-      go false x = ltb-false entries (n + r .count) x
+      go : (t : Bool) → ltb entryCount (n + r .count) ≡ t → n + r .count ≤ entryCount
+      go false x = ltb-false entryCount (n + r .count) x
       go true x =
-          let m = ltb-true entries (n + r .count) x in
-          let k : entries - n < r .count = omega arith in
-          let e : n + (entries - n) ≡ entries = omega arith in
-          let one = filled .counted (entries - n) k in
-          let none : onEntry (runFrom (entries - n) s) ≡ 0 = ap (λ x. onEntry (runFrom (entries - n) x)) on ∙ ap onEntry (sym (run-add n (entries - n) start)) ∙ ap (λ j. onEntry (runFrom j start)) e ∙ beyond entries (omega arith) in
+          let m = ltb-true entryCount (n + r .count) x in
+          let k : entryCount - n < r .count = omega arith in
+          let e : n + (entryCount - n) ≡ entryCount = omega arith in
+          let one = filled .counted (entryCount - n) k in
+          let none : onEntry (runFrom (entryCount - n) s) ≡ 0 = ap (λ x. onEntry (runFrom (entryCount - n) x)) on ∙ ap onEntry (sym (run-add n (entryCount - n) start)) ∙ ap (λ j. onEntry (runFrom j start)) e ∙ beyond entryCount (omega arith) in
           absurd (omega arith)
 
   -- with room for a line it is not empty before the end
-  block-some : n < entries → longestLine ≤ length b → 0 < r .count
+  block-some : n < entryCount → longestLine ≤ length b → 0 < r .count
   block-some k room = go (ltb 0 (r .count)) refl
     where
       go : (t : Bool) → ltb 0 (r .count) ≡ t → 0 < r .count
@@ -257,59 +257,59 @@ module _ (n : ℕ) (h : n ≤ entries) (s : Step) (on : s ≡ runFrom n start) (
       go false x =
           let zero-count : r .count ≡ 0 = omega (arith, ltb-false 0 (r .count) x) in
           let one : onEntry (r .step) ≡ 1 = ap onEntry (block-step ∙ ap (λ j. runFrom (n + j) start) zero-count ∙ ap (λ j. runFrom j start) (add-zero n) ∙ reached n k) in
-          let none : r .len ≡ 0 = filled .len ∙ ap (λ j. length (linesOf (framesFrom j s))) zero-count ∙ no-frames s in
+          let none : r .len ≡ 0 = filled .len ∙ ap (λ j. length (textLines (framesFrom j s))) zero-count ∙ no-frames s in
           absurd (omega (arith, filled .full one))
 
-  block-text : take (r .len) after ≡ linesOf (framesFrom (r .count) (runFrom n start))
+  block-text : take (r .len) after ≡ textLines (framesFrom (r .count) (runFrom n start))
   unfolding over
   block-text =
       ap₂ take (filled .len) (filled .text)
-      ∙ take-at (linesOf (framesFrom (r .count) s)) _ (length (linesOf (framesFrom (r .count) s))) refl
-      ∙ ap (λ x. linesOf (framesFrom (r .count) x)) on
+      ∙ take-at (textLines (framesFrom (r .count) s)) _ (length (textLines (framesFrom (r .count) s))) refl
+      ∙ ap (λ x. textLines (framesFrom (r .count) x)) on
 
-  block-lines : linesOf (framesFrom (n + r .count) start) ≡ linesOf (framesFrom n start) ++ take (r .len) after
-  block-lines = ap linesOf (frames-add n (r .count) start) ∙ lines-append (framesFrom n start) (framesFrom (r .count) (runFrom n start)) ∙ ap (λ x. linesOf (framesFrom n start) ++ x) (sym block-text)
+  block-lines : textLines (framesFrom (n + r .count) start) ≡ textLines (framesFrom n start) ++ take (r .len) after
+  block-lines = ap textLines (frames-add n (r .count) start) ∙ lines-append (framesFrom n start) (framesFrom (r .count) (runFrom n start)) ∙ ap (λ x. textLines (framesFrom n start) ++ x) (sym block-text)
 
-printed-from : (s : Step) (t : List ℕ) → Prints s t → (n : ℕ) → n ≤ entries → s ≡ runFrom n start
-    → linesOf (framesFrom n start) ++ t ≡ linesOf (framesFrom entries start)
-printed-from s t (nothing none) n h on = append-nil (linesOf (framesFrom n start)) ∙ ap (λ k. linesOf (framesFrom k start)) (last (ltb n entries) refl)
+printed-from : (s : Reached) (t : List ℕ) → Prints s t → (n : ℕ) → n ≤ entryCount → s ≡ runFrom n start
+    → textLines (framesFrom n start) ++ t ≡ textLines (framesFrom entryCount start)
+printed-from s t (nothing none) n h on = append-nil (textLines (framesFrom n start)) ∙ ap (λ k. textLines (framesFrom k start)) (last (ltb n entryCount) refl)
   where
-    last : (t : Bool) → ltb n entries ≡ t → n ≡ entries
+    last : (t : Bool) → ltb n entryCount ≡ t → n ≡ entryCount
     last true x =
-        let one : onEntry s ≡ 1 = ap onEntry (on ∙ reached n (ltb-true n entries x)) in
+        let one : onEntry s ≡ 1 = ap onEntry (on ∙ reached n (ltb-true n entryCount x)) in
         absurd (omega arith)
-    last false x = omega (arith, ltb-false n entries x)
+    last false x = omega (arith, ltb-false n entryCount x)
 printed-from s t (block {t = u} {b = b} {after = after} {r = r} filled rest) n h on =
-    sym (append-assoc (linesOf (framesFrom n start)) (take (r .len) after) u)
+    sym (append-assoc (textLines (framesFrom n start)) (take (r .len) after) u)
     ∙ ap (λ x. x ++ u) (sym (block-lines n h s on b after r filled))
     ∙ printed-from (r .step) u rest (n + r .count) (block-within n h s on b after r filled) (block-step n h s on b after r filled)
 
 -- what is printed from the start on is the whole list
-pub printed : (t : List ℕ) → Prints start t → t ≡ linesOf (framesFrom entries start)
-unfolding framesFrom linesOf runFrom
+pub printed : (t : List ℕ) → Prints start t → t ≡ textLines (framesFrom entryCount start)
+unfolding framesFrom textLines runFrom
 printed t p = printed-from start t p 0 (omega arith) refl
 
 -- a program that has some entries left to print, and the next block
-pub record OnWay (left : ℕ) (s : Step) : Type 0 where
-  pub few : left ≤ entries
-  pub at : s ≡ runFrom (entries - left) start
+pub record OnWay (left : ℕ) (s : Reached) : Type 0 where
+  pub few : left ≤ entryCount
+  pub at : s ≡ runFrom (entryCount - left) start
 
-pub on-way-start : OnWay entries start
+pub on-way-start : OnWay entryCount start
 unfolding runFrom
 on-way-start = record { few = omega arith; at = refl }
 
-module _ (left : ℕ) (s : Step) (on : OnWay left s) (b after : List ℕ) (r : Block) (filled : Filled s b r after) where
+module _ (left : ℕ) (s : Reached) (on : OnWay left s) (b after : List ℕ) (r : Block) (filled : Filled s b r after) where
   pub few-counted : r .count ≤ left
-  few-counted = omega (arith, on .few, block-within (entries - left) (omega arith) s (on .at) b after r filled)
+  few-counted = omega (arith, on .few, block-within (entryCount - left) (omega arith) s (on .at) b after r filled)
 
   pub on-way-more : OnWay (left - r .count) (r .step)
   on-way-more =
-      let e : entries - left + r .count ≡ entries - (left - r .count) = omega (arith, on .few, few-counted) in
+      let e : entryCount - left + r .count ≡ entryCount - (left - r .count) = omega (arith, on .few, few-counted) in
       record {
         few = omega (arith, on .few);
-        at = block-step (entries - left) (omega arith) s (on .at) b after r filled ∙ ap (λ k. runFrom k start) e;
+        at = block-step (entryCount - left) (omega arith) s (on .at) b after r filled ∙ ap (λ k. runFrom k start) e;
       }
 
   pub less-left : 0 < left → longestLine ≤ length b → left - r .count < left
   less-left some room =
-      omega (arith, few-counted, block-some (entries - left) (omega arith) s (on .at) b after r filled (omega (arith, on .few)) room)
+      omega (arith, few-counted, block-some (entryCount - left) (omega arith) s (on .at) b after r filled (omega (arith, on .few)) room)

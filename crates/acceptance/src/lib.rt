@@ -10,8 +10,8 @@ use framing::settings::Setting;
 ghost use mathlib.Core.Path.{_≡_};
 ghost use Prim.Native.Nat.{suc, _<_};
 ghost use Rattle.framing.specs.Build.{returned, left, buildOf};
-ghost use Rattle.acceptance.specs.Order.{bytesOf, payloads, numberOf, firstOf, followingAt, stepOf};
-ghost use Rattle.acceptance.specs.Steps.{builtOf};
+ghost use Rattle.acceptance.specs.Order.{payloadBytes, payloads, payloadNumber, firstEntry, followingAt, stepFrom};
+ghost use Rattle.acceptance.specs.Steps.{entryBuilt};
 
 // A payload of at most 2 bytes.
 pub enum Payload {
@@ -27,7 +27,7 @@ pub struct Entry {
 }
 
 // Where a step leads.
-pub enum Step {
+pub enum Reached {
     At(Entry),
     End,
     Refused(Refusal),
@@ -42,7 +42,7 @@ enum Following {
 }
 
 fn payload_behind(payload: Payload) -> Following
-    ensures { λ r. ⌜ (r ≡ followingAt (suc (numberOf payload))) × (numberOf payload < payloads) ⌝ }
+    ensures { λ r. ⌜ (r ≡ followingAt (suc (payloadNumber payload))) × (payloadNumber payload < payloads) ⌝ }
 {
     match payload {
         Payload::Empty => Following::Next(Payload::One(0)),
@@ -66,7 +66,7 @@ fn payload_behind(payload: Payload) -> Following
 
 // Writes the payload's frame at the buffer's start.
 fn build(format: FrameFormat, payload: Payload, buffer: &mut [u8]) -> Built
-    ensures { λ r. ⌜ left (returned r) (now (buffer .exit)) ≡ buildOf format (bytesOf payload) (now (buffer .entry)) ⌝ }
+    ensures { λ r. ⌜ left (returned r) (now (buffer .exit)) ≡ buildOf format (payloadBytes payload) (now (buffer .entry)) ⌝ }
 {
     match payload {
         Payload::Empty => framing::build(format, &[], buffer),
@@ -78,7 +78,7 @@ fn build(format: FrameFormat, payload: Payload, buffer: &mut [u8]) -> Built
 impl Entry {
     // The list's first entry.
     pub fn start() -> Entry
-        ensures { λ r. ⌜ r ≡ firstOf 0 ⌝ }
+        ensures { λ r. ⌜ r ≡ firstEntry 0 ⌝ }
     {
         Entry {
             setting: 0,
@@ -87,21 +87,21 @@ impl Entry {
     }
 
     // The entry behind this one. Behind a setting's last one stands the next setting's first.
-    pub fn next(self) -> Step
-        ensures { λ r. ⌜ r ≡ stepOf self ⌝ }
+    pub fn next(self) -> Reached
+        ensures { λ r. ⌜ r ≡ stepFrom self ⌝ }
     {
         let setting = self.setting;
         let payload = self.payload;
         if SETTINGS <= setting {
-            return Step::Refused(Refusal::OutOfTurn);
+            return Reached::Refused(Refusal::OutOfTurn);
         }
         match payload_behind(payload) {
-            Following::Next(payload) => Step::At(Entry { setting, payload }),
+            Following::Next(payload) => Reached::At(Entry { setting, payload }),
             Following::Nothing => {
                 if SETTINGS - 1 <= setting {
-                    return Step::End;
+                    return Reached::End;
                 }
-                Step::At(Entry {
+                Reached::At(Entry {
                     setting: setting + 1,
                     payload: Payload::Empty,
                 })
@@ -111,7 +111,7 @@ impl Entry {
 
     // Writes the entry's frame at the buffer's start; the rest of the buffer keeps its bytes.
     pub fn frame(self, buffer: &mut [u8]) -> Built
-        ensures { λ r. ⌜ left (returned r) (now (buffer .exit)) ≡ builtOf self (now (buffer .entry)) ⌝ }
+        ensures { λ r. ⌜ left (returned r) (now (buffer .exit)) ≡ entryBuilt self (now (buffer .entry)) ⌝ }
     {
         let payload = self.payload;
         match settings::by_number(self.setting) {

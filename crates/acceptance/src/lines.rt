@@ -1,13 +1,13 @@
 // The list as text: each entry's frame in upper-case hex, with a line feed behind it.
 use super::Entry;
-use super::Step;
+use super::Reached;
 use framing::Built;
 ghost use mathlib.Core.Path.{_≡_};
 ghost use Prim.Native.Nat.{_+_, _*_, _/_, _%_, _≤_, _<_};
 ghost use lib.ListN.{length};
 ghost use Rattle.bench.specs.Hex.{digitsOf};
 ghost use Rattle.bench.specs.Texts.{over, placed, placedAt};
-ghost use Rattle.acceptance.specs.Steps.{frameAt, linesOf, longestLine, Filled};
+ghost use Rattle.acceptance.specs.Steps.{frameAt, textLines, longestLine, Filled};
 
 // The longest frame of a short payload has 12 bytes, two digits each.
 const FRAME: usize = 12;
@@ -20,7 +20,7 @@ const DIGITS: [u8; 16] = *b"0123456789ABCDEF";
 pub struct Block {
     pub len: usize,
     pub count: usize,
-    pub step: Step,
+    pub step: Reached,
 }
 
 fn high(byte: u8) -> usize
@@ -54,7 +54,7 @@ fn put_digits(bytes: &[u8], out: &mut [u8], at: usize)
 // Puts the entry's line into the buffer from a place on, and gives the place behind it. An entry of no setting has none.
 fn put_line(entry: Entry, out: &mut [u8], at: usize) -> usize
     requires { ⌜ at + longestLine ≤ length (now out) ⌝ }
-    ensures { λ r. ⌜ placed r (now (out .exit)) ≡ placedAt at (linesOf (frameAt entry)) (now (out .entry)) ⌝ }
+    ensures { λ r. ⌜ placed r (now (out .exit)) ≡ placedAt at (textLines (frameAt entry)) (now (out .entry)) ⌝ }
 {
     let mut frame = [0u8; FRAME];
     let Built::Frame(n) = entry.frame(&mut frame) else {
@@ -67,14 +67,14 @@ fn put_line(entry: Entry, out: &mut [u8], at: usize) -> usize
 }
 
 // Puts the lines from a step on into the buffer, as many as have room.
-pub fn fill(step: Step, out: &mut [u8]) -> Block
+pub fn fill(step: Reached, out: &mut [u8]) -> Block
     ensures { λ r. ⌜ Filled step (now (out .entry)) r (now (out .exit)) ⌝ }
 {
     let mut len = 0;
     let mut count = 0;
     let mut step = step;
     while LINE <= out.len() - len {
-        let Step::At(entry) = step else {
+        let Reached::At(entry) = step else {
             return Block { len, count, step };
         };
         len = put_line(entry, out, len);

@@ -2,15 +2,13 @@
 use mathlib.Core.Bool.{Bool, true}
 use mathlib.Core.List.{List, [], _∷_}
 use Prim.Native.Nat.{ℕ, _+_, _-_, _*_, _%_, _/_}
-use lib.Dec.{leb, ltb, eqb}
+use lib.Dec.{ltb, eqb}
 use lib.ListN.{length}
 use Rattle.errors.specs.Refusals.{refused, plain}
-use Rattle.errors.specs.Choice.{pick, same}
+use Rattle.errors.specs.Choice.{pick, same, inRange}
 use Rattle.framing.specs.Lists.{both}
-use Rattle.bench.specs.Texts.{Left, left, putOf}
-
-abbrev pub inRange : ℕ → ℕ → ℕ → Bool
-inRange low high b = both (leb low b) (leb b high)
+use Rattle.bench.specs.Texts.{putOf}
+use Rattle.framing.specs.Build.{Left, left}
 
 -- the value of a digit: `0` to `9`, `A` to `F`, `a` to `f`; 16 for any other byte
 unfoldable pub valueOf : ℕ → ℕ
@@ -19,16 +17,16 @@ valueOf d =
     (pick (inRange 65 70 d) (d - 65 + 10)
     (pick (inRange 97 102 d) (d - 97 + 10) 16))
 
-unfoldable pub allDigits : List ℕ → Bool
-allDigits [] = true
-allDigits (d ∷ w) = both (ltb (valueOf d) 16) (allDigits w)
+unfoldable pub allHexDigits : List ℕ → Bool
+allHexDigits [] = true
+allHexDigits (d ∷ w) = both (ltb (valueOf d) 16) (allHexDigits w)
 
 abbrev pub dash : List ℕ
 dash = 45 ∷ []
 
 -- a word that can be read: `-`, or one or more pairs of digits
 unfoldable pub isHex : List ℕ → Bool
-isHex w = pick (same dash w) true (both (ltb 0 (length w)) (both (eqb (length w % 2) 0) (allDigits w)))
+isHex w = pick (same dash w) true (both (ltb 0 (length w)) (both (eqb (length w % 2) 0) (allHexDigits w)))
 
 -- the bytes of the pairs, each with its high digit first; a word that is no pair, as `-`, has none
 unfoldable pub pairsOf : List ℕ → List ℕ

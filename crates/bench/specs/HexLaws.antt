@@ -11,14 +11,15 @@ use lib.Dec.{ltb, eqb}
 use lib.ListN.{length, getD, set, drop, drop-of-length-le}
 use lib.Seq.{drop-cons, paste}
 use Rattle.errors.specs.Refusals.{answered, refused, plain}
-use Rattle.errors.specs.Choice.{pick, same-not}
+use Rattle.errors.specs.Choice.{pick, same-not, inRange}
 use Rattle.errors.specs.declared.Refusal.{Refusal}
 use Rattle.framing.specs.Lists.{both}
-use Rattle.bench.specs.Texts.{returned, over, left, putOf, Placed, placed, putAt}
+use Rattle.bench.specs.Texts.{returned, over, putOf, Placed, placed, putAt}
 use Rattle.bench.specs.TextLaws.{paste-step, paste-all, put-short, put-done, put-none, put-there}
 use Rattle.bench.specs.declared.Put.{Put}
 use Rattle.bench.specs.declared.Put.the-variants.{Bytes, Refused}
-use Rattle.bench.specs.Hex.{valueOf, dash, allDigits, isHex, pairsOf, readOf, digitOf, digitsOf, hexOf}
+use Rattle.bench.specs.Hex.{valueOf, dash, allHexDigits, isHex, pairsOf, readOf, digitOf, digitsOf, hexOf}
+use Rattle.framing.specs.Build.{left}
 
 both-left : (a b : Bool) → both a b ≡ true → a ≡ true
 both-left true b h = refl
@@ -30,11 +31,11 @@ both-right false b h = absurd (false≢true h)
 
 -- below the digits, and between the digits and the capitals
 pub value-below : (d : ℕ) → d < 48 → 16 ≡ valueOf d
-unfolding valueOf pick
+unfolding valueOf inRange pick
 value-below d h = rw (lt-leb 48 d h, lt-leb 65 d (omega arith), lt-leb 97 d (omega arith))
 
 pub value-between : (d : ℕ) → 57 < d → d < 65 → 16 ≡ valueOf d
-unfolding valueOf pick
+unfolding valueOf inRange pick
 value-between d h k = rw (le-leb 48 d (omega arith), lt-leb d 57 h, lt-leb 65 d k, lt-leb 97 d (omega arith))
 
 pub length-pairs : (w : List ℕ) → length (pairsOf w) ≡ length w / 2
@@ -88,20 +89,20 @@ hex-some [] e = absurd (e refl)
 hex-some (x ∷ b) e = refl
 
 -- the test of the digits from place i on
-module _ (w : List ℕ) (i r : ℕ) (left : allDigits w ≡ allDigits (drop i w)) (value : r ≡ valueOf (getD w i 0)) (inside : i < length w) where
-  digits-split : allDigits w ≡ both (ltb r 16) (allDigits (drop (suc i) w))
-  unfolding allDigits
+module _ (w : List ℕ) (i r : ℕ) (left : allHexDigits w ≡ allHexDigits (drop i w)) (value : r ≡ valueOf (getD w i 0)) (inside : i < length w) where
+  digits-split : allHexDigits w ≡ both (ltb r 16) (allHexDigits (drop (suc i) w))
+  unfolding allHexDigits
   digits-split = left ∙ rw (drop-cons w i 0 inside, ← value)
 
-  pub digits-more : r < 16 → allDigits w ≡ allDigits (drop (i + 1) w)
+  pub digits-more : r < 16 → allHexDigits w ≡ allHexDigits (drop (i + 1) w)
   digits-more h = digits-split ∙ rw (lt-ltb r 16 h, add-one)
 
-  pub digits-stop : 16 ≤ r → false ≡ allDigits w
+  pub digits-stop : 16 ≤ r → false ≡ allHexDigits w
   digits-stop h = sym (digits-split ∙ rw (le-ltb r 16 h))
 
-pub digits-end : (w : List ℕ) (i : ℕ) → allDigits w ≡ allDigits (drop i w) → length w ≤ i → true ≡ allDigits w
-unfolding allDigits
-digits-end w i left h = sym (left ∙ ap allDigits (drop-of-length-le w {i = i} h))
+pub digits-end : (w : List ℕ) (i : ℕ) → allHexDigits w ≡ allHexDigits (drop i w) → length w ≤ i → true ≡ allHexDigits w
+unfolding allHexDigits
+digits-end w i left h = sym (left ∙ ap allHexDigits (drop-of-length-le w {i = i} h))
 
 -- two turns' worth of digits: the i-th byte's
 pub digits-turn : (d b o : List ℕ) (at i x y : ℕ) → o ≡ paste d at (digitsOf b) (2 * i) → i < length b → at + 2 * length b ≤ length d
@@ -127,18 +128,18 @@ pub pairs-done : (d w o : List ℕ) (i : ℕ) → o ≡ paste d 0 (pairsOf w) i 
 pairs-done d w o i e h k = let n = length-pairs w in e ∙ paste-all d (pairsOf w) 0 i (omega arith)
 
 -- a digit's value is below 16
-digit-value : (w : List ℕ) (i : ℕ) → allDigits w ≡ true → i < length w → valueOf (getD w i 0) < 16
-unfolding allDigits
+digit-value : (w : List ℕ) (i : ℕ) → allHexDigits w ≡ true → i < length w → valueOf (getD w i 0) < 16
+unfolding allHexDigits
 digit-value [] i t h = absurd (omega arith)
-digit-value (x ∷ w) zero t h = ltb-true (valueOf x) 16 (both-left (ltb (valueOf x) 16) (allDigits w) t)
-digit-value (x ∷ w) (suc i) t h = digit-value w i (both-right (ltb (valueOf x) 16) (allDigits w) t) (omega arith)
+digit-value (x ∷ w) zero t h = ltb-true (valueOf x) 16 (both-left (ltb (valueOf x) 16) (allHexDigits w) t)
+digit-value (x ∷ w) (suc i) t h = digit-value w i (both-right (ltb (valueOf x) 16) (allHexDigits w) t) (omega arith)
 
 -- a word that can be read and has a pair is all digits
-hex-digits : (w : List ℕ) → isHex w ≡ true → 2 ≤ length w → allDigits w ≡ true
+hex-digits : (w : List ℕ) → isHex w ≡ true → 2 ≤ length w → allHexDigits w ≡ true
 unfolding isHex pick
 hex-digits w t h =
     let n : dash ≡ w → ⊥ = λ e. omega (arith, ap length e) in
-    both-right (eqb (length w % 2) 0) (allDigits w) (both-right (ltb 0 (length w)) (both (eqb (length w % 2) 0) (allDigits w)) (rw (same-not dash w n) at t))
+    both-right (eqb (length w % 2) 0) (allHexDigits w) (both-right (ltb 0 (length w)) (both (eqb (length w % 2) 0) (allHexDigits w)) (rw (same-not dash w n) at t))
 
 pub high-value : (w : List ℕ) (i : ℕ) → isHex w ≡ true → i < length w / 2 → valueOf (getD w (2 * i) 0) < 16
 high-value w i t h = digit-value w (2 * i) (hex-digits w t (omega arith)) (omega arith)

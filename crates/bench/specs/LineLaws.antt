@@ -13,7 +13,7 @@ use lib.Seq.{slice, take-nil, take-all, take-length, length-take-le, take-append
 use Rattle.errors.specs.Choice.{pick}
 use Rattle.bytes.specs.Bytes.{indexOf, indexAfter}
 use Rattle.bytes.specs.Bytes as bytes
-use Rattle.bench.specs.Lines.{feed, beforeFeed, NoFeed, begin, Counted, Begun, lineOf, endOf, unreadOf, unreadIn, nothing, NextLine, lastOf}
+use Rattle.bench.specs.Lines.{feed, beforeFeed, NoFeed, withText, Counted, Begun, lineOf, endOf, unreadOf, unreadIn, nothing, NextLine, lastOf}
 use Rattle.bench.specs.declared.lines.Given.{Given}
 use Rattle.bench.specs.declared.lines.Unread.{Unread}
 use Rattle.bench.specs.declared.lines.Line.{Line}
@@ -59,16 +59,16 @@ split-feed (x ∷ b) h = go (eqb x feed) refl (split-feed b) h
     go false e r k = ap (λ y. x ∷ y) (r (omega arith))
 
 -- a line's buffer
-pub length-begin : (t l : List ℕ) → length (begin t l) ≡ length l
-unfolding begin
+pub length-begin : (t l : List ℕ) → length (withText t l) ≡ length l
+unfolding withText
 length-begin t l = simp (length-append, length-take, length-drop) (omega arith)
 
-begin-fits : (t l : List ℕ) → length t ≤ length l → begin t l ≡ over 0 t l
-unfolding begin over
+begin-fits : (t l : List ℕ) → length t ≤ length l → withText t l ≡ over 0 t l
+unfolding withText over
 begin-fits t l h = rw (take-all (length l) t h, zero-add (length t))
 
-begin-cut : (t p l : List ℕ) → length t ≤ length l → length l - length t ≤ length p → begin (t ++ take (length l - length t) p) l ≡ begin (t ++ p) l
-unfolding begin
+begin-cut : (t p l : List ℕ) → length t ≤ length l → length l - length t ≤ length p → withText (t ++ take (length l - length t) p) l ≡ withText (t ++ p) l
+unfolding withText
 begin-cut t p l h k =
     let n : ℕ = length l - length t in
     let same : length l ≡ length t + n = omega arith in
@@ -80,7 +80,7 @@ begin-cut t p l h k =
     (drop-of-length-le l i ∙ sym (drop-of-length-le l f))
 
 pub begun-none : (l : List ℕ) → Begun [] l 0 l
-unfolding begin
+unfolding withText
 begun-none l = record { count = inl (refl, omega arith); put = rw (take-nil {A = ℕ} (length l)) }
 
 pub room-counts : (p : List ℕ) (k : ℕ) → k ≤ length p → k ≡ length (take k p)
@@ -92,7 +92,7 @@ module _ (t l p m : List ℕ) (n : ℕ) (b : Begun t l n m) where
   same-room = ap length (b .put) ∙ length-begin t l
 
   pub add-none : length m < n → Begun (t ++ p) l n m
-  unfolding begin
+  unfolding withText
   add-none h = go (b .count)
     where
       go : Counted n (length t) (length l) → Begun (t ++ p) l n m
@@ -110,7 +110,7 @@ module _ (t l p m : List ℕ) (n : ℕ) (b : Begun t l n m) where
       go (inl e) = e
       go (inr e) = absurd (omega (arith, same-room))
 
-  put-part : (q : List ℕ) → n ≤ length m → n + length q ≤ length m → over n q m ≡ begin (t ++ q) l
+  put-part : (q : List ℕ) → n ≤ length m → n + length q ≤ length m → over n q m ≡ withText (t ++ q) l
   put-part q h k =
       let e : (n ≡ length t) × (length t ≤ length l) = fitting h in
       let room : 0 + length t + length q ≤ length l = omega (arith, same-room) in
@@ -124,9 +124,9 @@ module _ (t l p m : List ℕ) (n : ℕ) (b : Begun t l n m) where
       let room : length m - n ≡ length l - length t = omega (arith, same-room) in
       let q : List ℕ = take (length m - n) p in
       let all : length q ≡ length m - n = length-take-le (length m - n) p (omega arith) in
-      let cut : begin (t ++ q) l ≡ begin (t ++ p) l = ap (λ k. begin (t ++ take k p) l) room ∙ begin-cut t p l (f .1) (omega arith) in
+      let cut : withText (t ++ q) l ≡ withText (t ++ p) l = ap (λ k. withText (t ++ take k p) l) room ∙ begin-cut t p l (f .1) (omega arith) in
       let there : placed r o ≡ placedAt n q m = e ∙ sym (put-there q m n (omega arith)) in
-      let done : o ≡ begin (t ++ p) l = ap (λ x. x .buffer) there ∙ put-part q h (omega arith) ∙ cut in
+      let done : o ≡ withText (t ++ p) l = ap (λ x. x .buffer) there ∙ put-part q h (omega arith) ∙ cut in
       let long : length o ≡ length l = ap length done ∙ length-begin (t ++ p) l in
       record { count = inr (ap (λ k. k + 1) long, rw (length-append t p) (omega (arith, same-room))); put = done }
 

@@ -25,8 +25,8 @@ abbrev pub NoFeed : List ℕ → Type 0
 NoFeed b = beforeFeed b ≡ length b
 
 -- a line's buffer l with the text at its start, as much of it as the buffer takes
-unfoldable pub begin : List ℕ → List ℕ → List ℕ
-begin text l = take (length l) text ++ drop (length text) l
+unfoldable pub withText : List ℕ → List ℕ → List ℕ
+withText text l = take (length l) text ++ drop (length text) l
 
 -- n counts k bytes for a buffer of r: it is k, or r + 1 where the buffer does not take them
 abbrev pub Counted : ℕ → ℕ → ℕ → Type 0
@@ -35,7 +35,7 @@ Counted n k r = ((n ≡ k) × (k ≤ r)) ⊎ ((n ≡ r + 1) × (r < k))
 -- the text was put into a line's buffer l, which became m, and n counts it
 pub record Begun (text l : List ℕ) (n : ℕ) (m : List ℕ) : Type 0 where
   pub count : Counted n (length text) (length l)
-  pub put : m ≡ begin text l
+  pub put : m ≡ withText text l
 
 -- a line of n bytes, of which the buffer l has the first ones
 unfoldable pub lineOf : ℕ → List ℕ → Line
@@ -73,7 +73,7 @@ unfoldable pub unreadLine : Unread → List ℕ → List ℕ → Next
 unreadLine h b l =
     let n : ℕ = beforeFeed (unreadIn h b) in
     let behind : Unread = record { from = unreadOf h (length b) .from + n + 1; to = unreadOf h (length b) .to } in
-    nextOf (record { line = lineOf n l; unread = behind }) b (begin (take n (unreadIn h b)) l)
+    nextOf (record { line = lineOf n l; unread = behind }) b (withText (take n (unreadIn h b)) l)
 
 -- Of the unread bytes and those that came from the input none is lost, and none made up: they are the text of the line, the line
 -- feed where one ended it, and what is unread afterwards. t is the line that is given, and its buffer l became m.
@@ -86,4 +86,4 @@ pub record NextLine (unread l : List ℕ) (t : Line) (m after : List ℕ) : Type
   pub first : NoFeed text
   pub last : fed ≡ false → after ≡ []
   pub line : t ≡ pick fed (lineOf (length text) l) (endOf (length text) l)
-  pub put : m ≡ begin text l
+  pub put : m ≡ withText text l

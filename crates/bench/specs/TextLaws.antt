@@ -13,7 +13,8 @@ use borrow.Rule.Slice.PartMut.{putMid}
 use Rattle.errors.specs.Refusals.{answered, refused, plain}
 use Rattle.errors.specs.Choice.{pick}
 use Rattle.framing.specs.Copied.{copied}
-use Rattle.bench.specs.Texts.{over, left, putOf, Placed, placed, placedAt, putAt, Appends}
+use Rattle.bench.specs.Texts.{over, putOf, Placed, placed, placedAt, putAt, Appends}
+use Rattle.framing.specs.Build.{left}
 
 -- a turn of a loop that puts the bytes of s one by one
 pub paste-step : (d s : List ℕ) (at j k v : ℕ) (o : List ℕ) → o ≡ paste d at s j → k ≡ at + j → v ≡ getD s j 0 → k < length d → j < length s

@@ -8,6 +8,7 @@ use Rattle.errors.specs.Refusals.{Returned, answered, refused, plain, numbered}
 use Rattle.errors.specs.Choice.{pick}
 use Rattle.bench.specs.declared.Put.{Put}
 use Rattle.bench.specs.declared.Put.the-variants.{Bytes, Refused}
+use Rattle.framing.specs.Build.{Left, left}
 
 -- document 01's number, or how many bytes were put
 unfoldable pub returned : Put → Returned
@@ -17,14 +18,6 @@ returned (Refused e) = refused (numbered e)
 -- the buffer b with the text t from place `at` on
 unfoldable pub over : ℕ → List ℕ → List ℕ → List ℕ
 over at t b = take at b ++ (t ++ drop (at + length t) b)
-
--- an outcome and the buffer after it
-pub record Left : Type 0 where
-  pub result : Returned
-  pub buffer : List ℕ
-
-abbrev pub left : Returned → List ℕ → Left
-left o b = record { result = o; buffer = b }
 
 -- the text at the buffer's start, or refusal 2 and nothing written
 unfoldable pub putOf : List ℕ → List ℕ → Left

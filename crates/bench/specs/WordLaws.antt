@@ -123,23 +123,23 @@ word-short (b ∷ l) k = go (word-short l) (eqb b 32) k
     go h false (suc j) = omega (arith, h (suc j), ap length (later-ahead b j (wordsOf l)))
 
 -- the words behind the first, where a space and they are left
-unfoldable pub behind : List ℕ → List (List ℕ)
-behind [] = []
-behind (b ∷ l) = wordsOf l
+unfoldable pub wordsBehind : List ℕ → List (List ℕ)
+wordsBehind [] = []
+wordsBehind (b ∷ l) = wordsOf l
 
-pub words-behind : (l : List ℕ) → wordsOf l ≡ take (indexOf 32 l) l ∷ behind (drop (indexOf 32 l) l)
-unfolding wordsOf pick behind indexOf indexAfter ahead
+pub words-behind : (l : List ℕ) → wordsOf l ≡ take (indexOf 32 l) l ∷ wordsBehind (drop (indexOf 32 l) l)
+unfolding wordsOf pick wordsBehind indexOf indexAfter ahead
 words-behind [] = refl
 words-behind (b ∷ l) = go (words-behind l) (eqb b 32)
   where
-    go : wordsOf l ≡ take (indexOf 32 l) l ∷ behind (drop (indexOf 32 l) l) → (t : Bool)
-        → pick t ([] ∷ wordsOf l) (ahead b (wordsOf l)) ≡ take (indexAfter t (indexOf 32 l)) (b ∷ l) ∷ behind (drop (indexAfter t (indexOf 32 l)) (b ∷ l))
+    go : wordsOf l ≡ take (indexOf 32 l) l ∷ wordsBehind (drop (indexOf 32 l) l) → (t : Bool)
+        → pick t ([] ∷ wordsOf l) (ahead b (wordsOf l)) ≡ take (indexAfter t (indexOf 32 l)) (b ∷ l) ∷ wordsBehind (drop (indexAfter t (indexOf 32 l)) (b ∷ l))
     go h true = refl
     go h false = ap (ahead b) h
 
 -- the word from a place to the next space, and the words behind it
 pub next-word : (l : List ℕ) (from end : ℕ) → from ≤ length l → end ≡ from + indexOf 32 (slice from (length l) l)
-    → wordsOf (drop from l) ≡ take (end - from) (drop from l) ∷ behind (drop end l)
+    → wordsOf (drop from l) ≡ take (end - from) (drop from l) ∷ wordsBehind (drop end l)
 unfolding slice
 next-word l from end h e =
     let all : take (length l) l ≡ l = take-length l in

@@ -6,8 +6,9 @@ ghost use mathlib.Core.Path.{_≡_};
 ghost use mathlib.Core.Bool.{Bool};
 ghost use Prim.Native.Nat.{_+_, _*_, _/_, _≤_, _<_};
 ghost use lib.ListN.{length};
-ghost use Rattle.bench.specs.Texts.{returned, left, over, placed, putAt};
-ghost use Rattle.bench.specs.Hex.{valueOf, allDigits as allDigitsOf, isHex, pairsOf, readOf, digitOf, digitsOf, hexOf};
+ghost use Rattle.bench.specs.Texts.{returned, over, placed, putAt};
+ghost use Rattle.bench.specs.Hex.{valueOf, allHexDigits as allDigitsOf, isHex, pairsOf, readOf, digitOf, digitsOf, hexOf};
+ghost use Rattle.framing.specs.Build.{left};
 
 // The value of a hex digit; 16 where the byte is none.
 fn value(digit: u8) -> u8

@@ -19,16 +19,16 @@ use Rattle.framing.specs.declared.FrameType.the-variants.{Ack, Error, Data, Not
 use Rattle.framing.specs.declared.padded.Padded.{Padded}
 use Rattle.framing.specs.declared.settings.Setting.{Setting}
 use Rattle.framing.specs.declared.settings.Setting.the-variants.{Format, Nothing as NoSetting}
-use Rattle.crc.specs.Crc.{Kind, typeA, typeB, checks, crcBytes}
+use Rattle.crc.specs.Crc.{CrcKind, typeA, typeB, checks, crcBytes}
 use Rattle.crc.specs.Laws.{crc-length}
-use Rattle.targets.specs.Bitrates.{ascii, parseOf as bitrateOf}
-use Rattle.bench_codec.specs.Codec.{lineLimit, bytesRoom, answerRoom, unreadable, settingNamed, buildText, dataText, foundText, parseText, isFrame, withZeros, paddedText, checksumText, yesOrNo, appendText, sendText, bitrateText, bitrateWord, onBytes, onFormat, twoWords, onSetting, onWords, wordText, askedText, fieldsText, requestText, blockFits, blockPacket, blockText, withService, blockLine, answerOf, replyOf}
+use Rattle.targets.specs.Bitrates.{ascii, sendPartOf}
+use Rattle.bench_codec.specs.Codec.{lineLimit, bytesRoom, answerRoom, unreadable, settingNamed, buildText, dataText, foundText, parseText, isFrame, withZeros, paddedText, checksumText, yesOrNo, appendText, sendText, bitrateText, bitrateWord, onBytes, onFormat, twoWords, onSetting, onWords, wordText, askedText, fieldsText, requestText, blockFits, blockPacket, blockText, withService, blockLine, answerOf, lineReply}
 use Rattle.bench.specs.Hex.{dash, isHex, pairsOf, hexOf}
 use Rattle.bench.specs.Texts.{over, Placed, placed, placedAt, putAt, decimalOf, Appends}
 use Rattle.bench.specs.Words.{wordsOf}
 use Rattle.bench.specs.declared.lines.Line.{Line}
 use Rattle.bench.specs.declared.lines.Line.the-variants.{Text, OverLong, End}
-use Rattle.felica.specs.Fields.{idmIn, serviceIn, countIn, listIn, bytesIn, numbersIn, isRequest, reads, writes, noRequest, requestOf}
+use Rattle.felica.specs.Fields.{idmIn, serviceIn, countIn, listIn, blockDataIn, numbersIn, isRequest, reads, writes, noRequest, requestOf}
 use Rattle.felica.specs.Packets.{readCode, writeCode}
 use Rattle.felica.specs.Taken.{request-few}
 use Rattle.bench_codec.proofs.BlockLaws.{packet-short, word-short as block-word-short}
@@ -37,6 +37,7 @@ use Rattle.bench.specs.DecimalLaws.{decimal-short}
 use Rattle.bench.specs.HexLaws.{hex-short, length-pairs}
 use Rattle.bench.specs.TextLaws.{appended, then-put, at-start}
 use Rattle.bench.specs.WordLaws.{word-short}
+use Rattle.bench.specs.Lines.{feed}
 
 -- the longest answer: `data`, 20 digits, the payload of a line's bytes, and 20 digits
 abbrev Fits : List ℕ → Type 0
@@ -52,7 +53,7 @@ unreadable-fits = omega arith
 
 bitrate-fits : (t : List ℕ) → length t ≤ lineLimit → Fits (bitrateText t)
 unfolding bitrateText sendText
-bitrate-fits t h = go (bitrateOf t)
+bitrate-fits t h = go (sendPartOf t)
   where
     go : (o : Returned) → Fits (sendText o t)
     go (answered n) = rw (length-append (ascii "ok ") (take n t)) (omega (arith, length-take n t))
@@ -67,7 +68,7 @@ yes-fits : (t : Bool) → Fits (yesOrNo t)
 yes-fits true = omega arith
 yes-fits false = omega arith
 
-append-fits : (k : Kind) (p : List ℕ) → length p ≤ bytesRoom → Fits (appendText k p)
+append-fits : (k : CrcKind) (p : List ℕ) → length p ≤ bytesRoom → Fits (appendText k p)
 unfolding appendText
 append-fits k p h = omega (arith, hex-short (p ++ crcBytes k p), length-append p (crcBytes k p), crc-length k p)
 
@@ -92,11 +93,11 @@ request-fits p h = go (isRequest readCode 0 p) (isRequest writeCode 16 p) refl r
         omega (arith, length-append (name ++ wordText (idmIn p) ++ wordText s) (wordText (numbersIn (listIn p))), length-append (name ++ wordText (idmIn p)) (wordText s), length-append name (wordText (idmIn p)), block-word-short (idmIn p), block-word-short s, block-word-short (numbersIn (listIn p)), length-take 8 (drop 2 p))
 
     go : (t u : Bool) → isRequest readCode 0 p ≡ t → isRequest writeCode 16 p ≡ u → Fits (fieldsText (pick t (reads (idmIn p) (serviceIn p) (numbersIn (listIn p)))
-        (pick u (writes (idmIn p) (serviceIn p) (numbersIn (listIn p)) (bytesIn (countIn p) p)) noRequest)))
+        (pick u (writes (idmIn p) (serviceIn p) (numbersIn (listIn p)) (blockDataIn (countIn p) p)) noRequest)))
     go true u e f = omega (arith, asked (ascii "read") (omega arith) (few-numbered readCode 0 p e))
     go false true e f =
         let w : List ℕ = ascii "write" ++ wordText (idmIn p) ++ wordText s ++ wordText (numbersIn (listIn p)) in
-        omega (arith, length-append w (wordText (bytesIn (countIn p) p)), asked (ascii "write") (omega arith) (few-numbered writeCode 16 p f), block-word-short (bytesIn (countIn p) p), length-drop (14 + 2 * countIn p) p)
+        omega (arith, length-append w (wordText (blockDataIn (countIn p) p)), asked (ascii "write") (omega arith) (few-numbered writeCode 16 p f), block-word-short (blockDataIn (countIn p) p), length-drop (14 + 2 * countIn p) p)
     go false false e f = omega arith
 
 block-fits : (kind x y : ℕ) (idm blocks bytes : List ℕ) → Fits (blockText kind idm x y blocks bytes)
@@ -215,29 +216,29 @@ unfolding over
 long-over t b = simp (length-append, length-drop) (omega arith)
 
 module _ (t : Line) (l b : List ℕ) where
-  pub reply-text : (n r r′ : ℕ) (p o o′ : List ℕ) → t ≡ Text n → placed r′ o′ ≡ putAt r (10 ∷ []) o → placed r o ≡ placedAt 0 (answerOf p) b → length o ≡ answerRoom → p ≡ take n l
-      → placed r′ o′ ≡ placedAt 0 (replyOf t l) b
-  unfolding replyOf
+  pub reply-text : (n r r′ : ℕ) (p o o′ : List ℕ) → t ≡ Text n → placed r′ o′ ≡ putAt r (feed ∷ []) o → placed r o ≡ placedAt 0 (answerOf p) b → length o ≡ answerRoom → p ≡ take n l
+      → placed r′ o′ ≡ placedAt 0 (lineReply t l) b
+  unfolding lineReply
   reply-text n r r′ p o o′ h f e room q =
       let size : length o ≡ length (over 0 (answerOf p) b) = ap (λ (x : Placed). length (x .buffer)) e in
-      rw (h, ← q) (appended (10 ∷ []) o o′ r r′ f .behind (answerOf p) b e (omega (arith, size, long-over (answerOf p) b, answer-fits p)))
+      rw (h, ← q) (appended (feed ∷ []) o o′ r r′ f .behind (answerOf p) b e (omega (arith, size, long-over (answerOf p) b, answer-fits p)))
 
-  pub reply-long : (r r′ : ℕ) (o o′ : List ℕ) → t ≡ OverLong → length b ≡ answerRoom → Appends 0 unreadable b r o → placed r′ o′ ≡ putAt r (10 ∷ []) o → placed r′ o′ ≡ placedAt 0 (replyOf t l) b
-  unfolding replyOf
-  reply-long r r′ o o′ h room e f = rw h (at-start (unreadable ++ (10 ∷ [])) b o′ r′ (then-put unreadable (10 ∷ []) b o o′ 0 r r′ e f) (omega arith))
+  pub reply-long : (r r′ : ℕ) (o o′ : List ℕ) → t ≡ OverLong → length b ≡ answerRoom → Appends 0 unreadable b r o → placed r′ o′ ≡ putAt r (feed ∷ []) o → placed r′ o′ ≡ placedAt 0 (lineReply t l) b
+  unfolding lineReply
+  reply-long r r′ o o′ h room e f = rw h (at-start (unreadable ++ (feed ∷ [])) b o′ r′ (then-put unreadable (feed ∷ []) b o o′ 0 r r′ e f) (omega arith))
 
-  pub reply-end : t ≡ End → placed 0 b ≡ placedAt 0 (replyOf t l) b
-  unfolding replyOf over
+  pub reply-end : t ≡ End → placed 0 b ≡ placedAt 0 (lineReply t l) b
+  unfolding lineReply over
   reply-end h = rw h
 
 -- the buffer keeps its length
-pub reply-room : (t : Line) (l b o : List ℕ) (r : ℕ) → placed r o ≡ placedAt 0 (replyOf t l) b → length b ≡ answerRoom → length o ≡ answerRoom
-unfolding replyOf
+pub reply-room : (t : Line) (l b o : List ℕ) (r : ℕ) → placed r o ≡ placedAt 0 (lineReply t l) b → length b ≡ answerRoom → length o ≡ answerRoom
+unfolding lineReply
 reply-room t l b o r e room =
-    let size : length o ≡ length (over 0 (replyOf t l) b) = ap (λ (x : Placed). length (x .buffer)) e in
-    omega (arith, size, long-over (replyOf t l) b, short t)
+    let size : length o ≡ length (over 0 (lineReply t l) b) = ap (λ (x : Placed). length (x .buffer)) e in
+    omega (arith, size, long-over (lineReply t l) b, short t)
   where
-    short : (t : Line) → length (replyOf t l) ≤ 262193
-    short (Text n) = omega (arith, length-append (answerOf (take n l)) (10 ∷ []), answer-fits (take n l))
+    short : (t : Line) → length (lineReply t l) ≤ 262193
+    short (Text n) = omega (arith, length-append (answerOf (take n l)) (feed ∷ []), answer-fits (take n l))
     short OverLong = omega arith
     short End = omega arith

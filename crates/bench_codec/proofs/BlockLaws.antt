@@ -14,9 +14,9 @@ use Rattle.errors.specs.declared.Refusal.{Refusal}
 use Rattle.framing.specs.Build.{Left, left, returned, putFrame}
 use Rattle.framing.specs.declared.Built.{Built}
 use Rattle.framing.specs.declared.Built.the-variants.{Frame, Refused}
-use Rattle.felica.specs.Fields.{idmIn, bytesIn, requestOf, requestIn, numbersOf}
+use Rattle.felica.specs.Fields.{idmIn, blockDataIn, requestOf, requestIn, numbersOf}
 use Rattle.felica.specs.Laid.{request-length, reply-length, fits-idm, fits-few, write-idm, write-few, write-few-bytes, reply-idm, reply-bytes}
-use Rattle.felica.specs.Packets.{reply, readCode, writeCode, readReplyCode, writeReplyCode, readRequest, writeRequest, readReply, writeReply, requestFits, writeFits, readReplyFits, idmFits, builtOf}
+use Rattle.felica.specs.Packets.{replyPacket, readCode, writeCode, readReplyCode, writeReplyCode, readRequest, writeRequest, readReply, writeReply, requestFits, writeFits, readReplyFits, idmFits, builtOf}
 use Rattle.felica.specs.declared.request.Asked.{Asked}
 use Rattle.felica.specs.declared.request.Request.{Request}
 use Rattle.felica.specs.declared.request.Request.the-variants as request
@@ -69,7 +69,7 @@ module _ (r : Request) (p out : List ℕ) (known : requestIn r p ≡ requestOf p
   unfolding requestText fieldsText
   text-none o n q d = rw (← known, q) (appended (ascii "none") out o 0 n d)
 
-  pub text-write : (i bytes o o′ : List ℕ) (a : Asked) (n n′ : ℕ) → r ≡ request.Write a → i ≡ idmIn p → bytes ≡ bytesIn (a .count) p
+  pub text-write : (i bytes o o′ : List ℕ) (a : Asked) (n n′ : ℕ) → r ≡ request.Write a → i ≡ idmIn p → bytes ≡ blockDataIn (a .count) p
       → Appends 0 (askedText (ascii "write") i (a .service) (numbersOf a)) out n o → Appends n (wordText bytes) o n′ o′ → Appends 0 (requestText p) out n′ o′
   unfolding requestText fieldsText
   text-write i bytes o o′ a n n′ q e f before word =
@@ -100,14 +100,14 @@ module _ (z : Left) (kind x y s : ℕ) (idm blocks bytes b : List ℕ) where
   built-3 i j k h = rw (ne-eqb kind 0 i, ne-eqb kind 1 j, ne-eqb kind 2 k) h
 
 -- a packet has at most 86 bytes
-reply-short : (code f g : ℕ) (idm bytes : List ℕ) → length idm ≡ 8 → length bytes ≤ 65 → length (reply code idm f g bytes) ≤ 86
+reply-short : (code f g : ℕ) (idm bytes : List ℕ) → length idm ≡ 8 → length bytes ≤ 65 → length (replyPacket code idm f g bytes) ≤ 86
 reply-short code f g idm bytes h k = omega (arith, reply-length code f g idm bytes h)
 
 pub packet-short : (kind x y : ℕ) (idm blocks bytes : List ℕ) → blockFits kind idm x blocks bytes ≡ true → length (blockPacket kind idm x y blocks bytes) ≤ 86
 unfolding blockFits blockPacket pick
 packet-short kind x y idm blocks bytes h = go (eqb kind 0) (eqb kind 1) (eqb kind 2) h
   where
-    by-flag : (t : Bool) → eqb x 0 ≡ t → readReplyFits idm x blocks ≡ true → length (reply readReplyCode idm x y (pick t (length blocks / 16 ∷ blocks) [])) ≤ 86
+    by-flag : (t : Bool) → eqb x 0 ≡ t → readReplyFits idm x blocks ≡ true → length (replyPacket readReplyCode idm x y (pick t (length blocks / 16 ∷ blocks) [])) ≤ 86
     by-flag true e f = reply-short readReplyCode x y idm (length blocks / 16 ∷ blocks) (reply-idm idm blocks x true (sym f) refl) (omega (arith, reply-bytes idm blocks x true (sym f) refl (eqb-true x 0 e)))
     by-flag false e f = reply-short readReplyCode x y idm [] (reply-idm idm blocks x true (sym f) refl) (omega arith)
 
@@ -189,7 +189,7 @@ module _ (kind : ℕ) (idm s b d out z : List ℕ) (m : ℕ) where
   unfolding withService pick
   not-four h e = rw (ne-eqb (length s) 4 h) e
 
-  module _ (o : List ℕ) (r : Put) (known : texts.left (texts.returned r) o ≡ readOf s (zeros 2)) (four : length s ≡ 4) where
+  module _ (o : List ℕ) (r : Put) (known : left (texts.returned r) o ≡ readOf s (zeros 2)) (four : length s ≡ 4) where
     room-two : length s / 2 ≤ length (zeros 2)
     room-two = omega arith
 

@@ -14,13 +14,14 @@ use Rattle.framing.specs.declared.settings.Setting.{Setting}
 use Rattle.framing.specs.declared.settings.Setting.the-variants.{Format, Nothing as NoSetting}
 use Rattle.bench.specs.Hex.{isHex, pairsOf, readOf}
 use Rattle.bench.specs.HexLaws.{length-pairs, was-read, read-count, read-into, not-read}
-use Rattle.bench.specs.Texts.{returned, over, left, Appends}
+use Rattle.bench.specs.Texts.{returned, over, Appends}
 use Rattle.bench.specs.WordLaws.{word-short}
 use Rattle.bench.specs.Words.{wordsOf}
 use Rattle.bench.specs.declared.Put.{Put}
 use Rattle.bench.specs.declared.Put.the-variants.{Bytes, Refused}
 use Rattle.bench_codec.specs.Codec.{lineLimit, bytesRoom, frameRoom, unreadable, settingNamed, onBytes, onFormat, onSetting, twoWords, threeWords, fourWords, fiveWords, onWords, blockText, withBytes, withBlocks, withService, blockLine}
 use Rattle.bench_codec.proofs.FrameLaws.{whole-text, whole-fits, whole-part}
+use Rattle.framing.specs.Build.{left}
 
 -- the bytes of a word
 module _ (w b o : List ℕ) (r : Put) (known : left (returned r) o ≡ readOf w b) (short : length w ≤ lineLimit) (room : length b ≡ frameRoom) where

@@ -13,7 +13,7 @@ use Rattle.errors.specs.Refusals.{Returned, answered, refused, plain}
 use Rattle.errors.specs.declared.Refusal.{Refusal}
 use Rattle.framing.specs.Build.{returned as built, left, limitOf, putFrame, buildOf}
 use Rattle.framing.specs.Enclose.{length-head}
-use Rattle.framing.specs.Frames.{frameOf, checksumOf, startOf, headOf, ending, longest}
+use Rattle.framing.specs.Frames.{frameOf, checksumOf, dataStart, headOf, ending, longest}
 use Rattle.framing.specs.Padded.{parsePadded}
 use Rattle.framing.specs.Parse.{parseOf, payloadOf}
 use Rattle.framing.specs.declared.Built.{Built}
@@ -25,11 +25,11 @@ use Rattle.framing.specs.declared.LengthEncoding.{LengthEncoding}
 use Rattle.framing.specs.declared.LengthEncoding.the-variants.{Normal, ExtendedLittleEndian, NormalOrExtendedBigEndian}
 use Rattle.framing.specs.declared.padded.Padded.{Padded}
 use Rattle.crc.specs.Answers.{returned as appended, added}
-use Rattle.crc.specs.Crc.{Kind, crcBytes}
+use Rattle.crc.specs.Crc.{CrcKind, crcBytes}
 use Rattle.crc.specs.Laws.{crc-length}
 use Rattle.crc.specs.declared.Added.{Added}
 use Rattle.crc.specs.declared.Added.the-variants.{Bytes as AddedBytes, Refused as NotAdded}
-use Rattle.targets.specs.Bitrates.{ascii, parsed, parseOf as bitrateOf, sendLength, isBitrate}
+use Rattle.targets.specs.Bitrates.{ascii, parsed, sendPartOf, sendLength, isBitrate}
 use Rattle.targets.specs.declared.Parsed.{Parsed}
 use Rattle.targets.specs.declared.Parsed.the-variants.{Send, Refused as NotSent}
 use Rattle.bench.specs.Hex.{hexOf}
@@ -93,7 +93,7 @@ module _ (t b o : List ℕ) (n : ℕ) (counted : n ≡ length t) (is : o ≡ t +
   whole-part = sym (length-take-le n o whole-fits)
 
 -- a CRC behind s, in a buffer that has the room
-module _ (k : Kind) (s b o : List ℕ) (r : Added) (known : _≡_ {A = Returned × List ℕ} (appended r, o) (added k s b)) (short : length s ≤ bytesRoom) (room : length b ≡ frameRoom) where
+module _ (k : CrcKind) (s b o : List ℕ) (r : Added) (known : _≡_ {A = Returned × List ℕ} (appended r, o) (added k s b)) (short : length s ≤ bytesRoom) (room : length b ≡ frameRoom) where
   long : length (s ++ crcBytes k s) ≡ length s + 2
   long = length-append s (crcBytes k s) ∙ ap (λ j. length s + j) (crc-length k s)
 
@@ -126,8 +126,8 @@ longest-65535 Normal = omega arith
 longest-65535 ExtendedLittleEndian = omega arith
 longest-65535 NormalOrExtendedBigEndian = omega arith
 
-start-8 : (e : LengthEncoding) (n : ℕ) → startOf e n ≤ 8
-unfolding startOf pick
+start-8 : (e : LengthEncoding) (n : ℕ) → dataStart e n ≤ 8
+unfolding dataStart pick
 start-8 Normal n = omega arith
 start-8 ExtendedLittleEndian n = omega arith
 start-8 NormalOrExtendedBigEndian n = go (ltb n 256)
@@ -204,14 +204,14 @@ send-within (x ∷ t) = go (send-within t) (eqb x 47)
     go h true = omega arith
     go h false = omega arith
 
-module _ (t b : List ℕ) (r : Parsed) (known : parsed r ≡ bitrateOf t) where
+module _ (t b : List ℕ) (r : Parsed) (known : parsed r ≡ sendPartOf t) where
   pub not-sent : (e : Refusal) (o : List ℕ) (m : ℕ) → r ≡ NotSent e → placed m o ≡ putAt 0 (ascii "refused 5") b → Appends 0 (bitrateText t) b m o
   unfolding bitrateText sendText
   not-sent e o m q d = rw (sym known ∙ ap parsed q) (put (ascii "refused 5") b o 0 m d)
 
   module _ (n : ℕ) (q : r ≡ Send n) where
     sent-fits : n ≤ length t
-    unfolding bitrateOf
+    unfolding sendPartOf
     sent-fits = go (isBitrate t) (sym (ap parsed q) ∙ known)
       where
         go : (e : Bool) → _≡_ {A = Returned} (answered n) (mathlib.Core.Bool.cond e (answered (sendLength t)) (refused (plain 5))) → n ≤ length t

@@ -19,13 +19,14 @@ use Rattle.framing.specs.declared.settings.Setting.{Setting}
 use Rattle.framing.specs.declared.settings.Setting.the-variants.{Format, Nothing as NoSetting}
 use Rattle.felica.specs.Fields.{RequestFields, reads, writes, noRequest, requestOf}
 use Rattle.felica.specs.Packets.{readRequest, writeRequest, readReply, writeReply, requestFits, writeFits, readReplyFits, idmFits}
-use Rattle.crc.specs.Crc.{Kind, typeA, typeB, checks, crcBytes}
-use Rattle.targets.specs.Bitrates.{ascii, parseOf as bitrateOf}
+use Rattle.crc.specs.Crc.{CrcKind, typeA, typeB, checks, crcBytes}
+use Rattle.targets.specs.Bitrates.{ascii, sendPartOf}
 use Rattle.bench.specs.Texts.{decimalOf}
 use Rattle.bench.specs.Hex.{dash, isHex, pairsOf, hexOf}
 use Rattle.bench.specs.Words.{wordsOf}
 use Rattle.bench.specs.declared.lines.Line.{Line}
 use Rattle.bench.specs.declared.lines.Line.the-variants.{Text, OverLong, End}
+use Rattle.bench.specs.Lines.{feed}
 
 -- the longest line, without its line feed; room for its bytes, for a frame or those bytes with their CRC, and for any answer
 abbrev pub lineLimit : ℕ
@@ -43,9 +44,12 @@ answerRoom = 262208
 abbrev pub unreadable : List ℕ
 unreadable = ascii "refused 4"
 
--- the setting of a word: one digit, 0 to 5
+-- the setting of a word: one digit, 0 to 5; `0` is 48
+abbrev pub zeroDigit : ℕ
+zeroDigit = 48
+
 unfoldable pub settingNamed : List ℕ → Setting
-settingNamed w = pick (eqb (length w) 1) (pick (ltb (getD w 0 0) 48) NoSetting (settingOf (getD w 0 0 - 48))) NoSetting
+settingNamed w = pick (eqb (length w) 1) (pick (ltb (getD w 0 0) zeroDigit) NoSetting (settingOf (getD w 0 0 - zeroDigit))) NoSetting
 
 -- `build`: the frame, or refusal 3 above the format's limit
 unfoldable pub buildText : FrameFormat → List ℕ → List ℕ
@@ -87,7 +91,7 @@ yesOrNo true = ascii "yes"
 yesOrNo false = ascii "no"
 
 -- `crc_a_append`, `crc_b_append`: the bytes with the CRC behind them
-unfoldable pub appendText : Kind → List ℕ → List ℕ
+unfoldable pub appendText : CrcKind → List ℕ → List ℕ
 appendText k p = hexOf (p ++ crcBytes k p)
 
 -- `bitrate`: the send part, or refusal 5; `-` is the empty text
@@ -96,26 +100,39 @@ sendText (answered n) t = ascii "ok " ++ take n t
 sendText (refused e) t = ascii "refused 5"
 
 unfoldable pub bitrateText : List ℕ → List ℕ
-bitrateText t = sendText (bitrateOf t) t
+bitrateText t = sendText (sendPartOf t) t
 
 abbrev pub bitrateWord : List ℕ → List ℕ
 bitrateWord w = pick (eqb (length w) 0) unreadable (pick (same dash w) (bitrateText []) (bitrateText w))
 
 -- ---- FeliCa blocks
 
--- the packet of a kind (0 `read_request`, 1 `write_request`, 2 `read_reply`, 3 `write_reply`), and whether there is one: IDm, two bytes that
--- are the service code, high byte first, or both flags, block numbers or a reply's block data, block data
+-- the kinds of packets that are built
+abbrev pub readRequestPacket : ℕ
+readRequestPacket = 0
+
+abbrev pub writeRequestPacket : ℕ
+writeRequestPacket = 1
+
+abbrev pub readReplyPacket : ℕ
+readReplyPacket = 2
+
+abbrev pub writeReplyPacket : ℕ
+writeReplyPacket = 3
+
+-- the packet of a kind, and whether there is one: IDm, two bytes that are the service code, high byte first, or both flags, block numbers or
+-- a reply's block data, block data
 unfoldable pub blockFits : ℕ → List ℕ → ℕ → List ℕ → List ℕ → Bool
 blockFits kind idm x blocks bytes =
-    pick (eqb kind 0) (requestFits idm blocks)
-    (pick (eqb kind 1) (writeFits idm blocks bytes)
-    (pick (eqb kind 2) (readReplyFits idm x blocks) (idmFits idm)))
+    pick (eqb kind readRequestPacket) (requestFits idm blocks)
+    (pick (eqb kind writeRequestPacket) (writeFits idm blocks bytes)
+    (pick (eqb kind readReplyPacket) (readReplyFits idm x blocks) (idmFits idm)))
 
 unfoldable pub blockPacket : ℕ → List ℕ → ℕ → ℕ → List ℕ → List ℕ → List ℕ
 blockPacket kind idm x y blocks bytes =
-    pick (eqb kind 0) (readRequest idm (256 * x + y) blocks)
-    (pick (eqb kind 1) (writeRequest idm (256 * x + y) blocks bytes)
-    (pick (eqb kind 2) (readReply idm x y blocks) (writeReply idm x y)))
+    pick (eqb kind readRequestPacket) (readRequest idm (256 * x + y) blocks)
+    (pick (eqb kind writeRequestPacket) (writeRequest idm (256 * x + y) blocks bytes)
+    (pick (eqb kind readReplyPacket) (readReply idm x y blocks) (writeReply idm x y)))
 
 -- its text, or refusal 4
 unfoldable pub blockText : ℕ → List ℕ → ℕ → ℕ → List ℕ → List ℕ → List ℕ
@@ -177,15 +194,15 @@ onSetting (Format f) name w = pick (isHex w) (onFormat name f (pairsOf w)) unrea
 onSetting NoSetting name w = unreadable
 
 abbrev pub threeWords : List ℕ → List ℕ → List ℕ → List ℕ
-threeWords name number w = pick (same (ascii "write_reply") name) (blockLine 3 number w dash dash) (onSetting (settingNamed number) name w)
+threeWords name number w = pick (same (ascii "write_reply") name) (blockLine writeReplyPacket number w dash dash) (onSetting (settingNamed number) name w)
 
 abbrev pub fourWords : List ℕ → List ℕ → List ℕ → List ℕ → List ℕ
 fourWords name i s b =
-    pick (same (ascii "read_request") name) (blockLine 0 i s b dash)
-    (pick (same (ascii "read_reply") name) (blockLine 2 i s b dash) unreadable)
+    pick (same (ascii "read_request") name) (blockLine readRequestPacket i s b dash)
+    (pick (same (ascii "read_reply") name) (blockLine readReplyPacket i s b dash) unreadable)
 
 abbrev pub fiveWords : List ℕ → List ℕ → List ℕ → List ℕ → List ℕ → List ℕ
-fiveWords name i s b d = pick (same (ascii "write_request") name) (blockLine 1 i s b d) unreadable
+fiveWords name i s b d = pick (same (ascii "write_request") name) (blockLine writeRequestPacket i s b d) unreadable
 
 unfoldable pub onWords : List (List ℕ) → List ℕ
 onWords [] = unreadable
@@ -200,7 +217,7 @@ unfoldable pub answerOf : List ℕ → List ℕ
 answerOf l = pick (ltb lineLimit (length l)) unreadable (onWords (wordsOf l))
 
 -- what is written for a line that stands at the start of b: the text and a line feed (10), and nothing at the end of the input
-unfoldable pub replyOf : Line → List ℕ → List ℕ
-replyOf (Text n) b = answerOf (take n b) ++ (10 ∷ [])
-replyOf OverLong b = unreadable ++ (10 ∷ [])
-replyOf End b = []
+unfoldable pub lineReply : Line → List ℕ → List ℕ
+lineReply (Text n) b = answerOf (take n b) ++ (feed ∷ [])
+lineReply OverLong b = unreadable ++ (feed ∷ [])
+lineReply End b = []

@@ -14,7 +14,7 @@ ghost use Prim.Native.Nat.{ℕ, _≤_};
 ghost use lib.ListN.{length};
 ghost use Rattle.errors.specs.Refusals.{Returned};
 ghost use Rattle.crc.specs.Answers.{returned, added as addedTo};
-ghost use Rattle.crc.specs.Crc.{Kind, typeA, typeB};
+ghost use Rattle.crc.specs.Crc.{CrcKind, typeA, typeB};
 ghost use Rattle.bench.specs.Texts.{decimalOf, Appends};
 ghost use Rattle.bench_codec.specs.Codec.{bytesRoom, frameRoom, buildText, dataText, foundText, parseText, isFrame, paddedText, checksumText, yesOrNo, appendText, bitrateText, bitrateWord};
 
@@ -115,7 +115,7 @@ pub(crate) fn yes_or_no(yes: bool, out: &mut [u8]) -> usize
 
 // Bytes to which their CRC was added, in a buffer that has the room.
 fn put_added(added: Added, frame: &[u8], out: &mut [u8]) -> usize
-    ensures { λ r. ⌜ ((k : Kind) (s b : List ℕ) → _≡_ {A = Returned × List ℕ} (returned added, now (frame .entry)) (addedTo k s b) → length s ≤ bytesRoom → length b ≡ frameRoom → Appends 0 (appendText k s) (now (out .entry)) r (now (out .exit))) ⌝ }
+    ensures { λ r. ⌜ ((k : CrcKind) (s b : List ℕ) → _≡_ {A = Returned × List ℕ} (returned added, now (frame .entry)) (addedTo k s b) → length s ≤ bytesRoom → length b ≡ frameRoom → Appends 0 (appendText k s) (now (out .entry)) r (now (out .exit))) ⌝ }
 {
     let Added::Bytes(n) = added else {
         return unreadable(out);

@@ -22,7 +22,7 @@ ghost use Prim.Native.Nat.{_≤_};
 ghost use lib.ListN.{length};
 ghost use Rattle.bench.specs.Texts.{placed, placedAt, Appends};
 ghost use Rattle.bench.specs.Words.{wordsOf};
-ghost use Rattle.bench_codec.specs.Codec.{lineLimit, bytesRoom, frameRoom, answerRoom, settingNamed, onBytes as onBytesOf, onFormat as onFormatOf, twoWords, threeWords, fourWords, fiveWords, onWords, answerOf, replyOf};
+ghost use Rattle.bench_codec.specs.Codec.{lineLimit, bytesRoom, frameRoom, answerRoom, settingNamed, onBytes as onBytesOf, onFormat as onFormatOf, twoWords, threeWords, fourWords, fiveWords, onWords, answerOf, lineReply};
 ghost use Rattle.bench_codec.specs.Codec.{unreadable as unreadableText};
 
 // The longest line, without its line feed, and room for the longest answer and a line feed.
@@ -198,7 +198,7 @@ pub fn answer(line: &[u8], out: &mut [u8; OUT]) -> usize
 
 // The answer to a line that stands at the start of `line`, with its line feed; nothing at the end of the input.
 pub fn reply(next: Line, line: &[u8], out: &mut [u8; OUT]) -> usize
-    ensures { λ r. ⌜ placed r (now (out .exit)) ≡ placedAt 0 (replyOf next (now (line .entry))) (now (out .entry)) ⌝ }
+    ensures { λ r. ⌜ placed r (now (out .exit)) ≡ placedAt 0 (lineReply next (now (line .entry))) (now (out .entry)) ⌝ }
 {
     match next {
         Line::Text(n) => {

@@ -11,7 +11,7 @@ use lib.Seq.{slice, take-take, drop-drop}
 use Rattle.errors.specs.Choice.{pick}
 use Rattle.bench_input.specs.Arguments.{arguments, Read}
 use Rattle.bench_input.specs.Table.{eventsFrom, calls, happens, unreadable, said}
-use Rattle.bench_input.specs.Readings.{Between, Ended, endedAt, stringsIn, takenIn, nextIn, Grown}
+use Rattle.bench_input.specs.Readings.{PutBetween, EndsFor, endedAt, stringsIn, takenIn, nextIn, TakenWithin}
 use Rattle.calls.specs.declared.start.Numbers.{Numbers}
 use Rattle.bench_input.specs.declared.Ends.{Ends}
 use Rattle.bench_input.specs.declared.letters.Taken.{Taken}
@@ -19,7 +19,7 @@ use Rattle.bench_input.specs.declared.letters.Next.{Next}
 use Rattle.bench_input.specs.declared.letters.Next.the-variants.{Value as NextValue, Unreadable as NoNext}
 use Rattle.bench_input.proofs.ReadLaws.{slice-none}
 
-pub ended-order : (c : ℕ) (e : Ends) → Ended c e → (e .first ≤ e .second) × (e .second ≤ e .third) × (e .third ≤ e .fourth)
+pub ended-order : (c : ℕ) (e : Ends) → EndsFor c e → (e .first ≤ e .second) × (e .second ≤ e .third) × (e .third ≤ e .fourth)
 ended-order zero e h = (omega arith, omega arith, omega arith)
 ended-order (suc zero) e h = (omega arith, omega arith, omega arith)
 ended-order (suc (suc zero)) e h = (omega arith, omega arith, omega arith)
@@ -28,7 +28,7 @@ ended-order (suc (suc (suc (suc zero)))) e h = (omega arith, omega arith, omega 
 ended-order (suc (suc (suc (suc (suc c))))) e h = absurd h
 
 -- so many strings were taken
-pub ended-count : (c : ℕ) (e : Ends) (b : List ℕ) → Ended c e → length (take c (stringsIn b e)) ≡ c
+pub ended-count : (c : ℕ) (e : Ends) (b : List ℕ) → EndsFor c e → length (take c (stringsIn b e)) ≡ c
 ended-count zero e b h = refl
 ended-count (suc zero) e b h = refl
 ended-count (suc (suc zero)) e b h = refl
@@ -36,13 +36,13 @@ ended-count (suc (suc (suc zero))) e b h = refl
 ended-count (suc (suc (suc (suc zero)))) e b h = refl
 ended-count (suc (suc (suc (suc (suc c))))) e b h = absurd h
 
-pub ended-one : (c : ℕ) (e : Ends) → Ended c e → c ≤ 1 → e .fourth ≡ e .first
+pub ended-one : (c : ℕ) (e : Ends) → EndsFor c e → c ≤ 1 → e .fourth ≡ e .first
 ended-one zero e h k = omega arith
 ended-one (suc zero) e h k = h .2
 ended-one (suc (suc c)) e h k = absurd (omega arith)
 
 -- one more string
-pub next-ended : (c end : ℕ) (e : Ends) → Ended c e → c < 4 → e .fourth ≤ end → Ended (suc c) (endedAt e c end)
+pub next-ended : (c end : ℕ) (e : Ends) → EndsFor c e → c < 4 → e .fourth ≤ end → EndsFor (suc c) (endedAt e c end)
 unfolding endedAt pick
 next-ended zero end e h k g = (refl, refl, refl)
 next-ended (suc zero) end e h k g = (omega arith, refl, refl)
@@ -66,7 +66,7 @@ module _ (e : Ends) (end : ℕ) (b o : List ℕ) (kept : take (e .fourth) o ≡ 
   slice-kept : (i j : ℕ) → j ≤ e .fourth → slice i j o ≡ slice i j b
   slice-kept i j h = ap (drop i) (take-less j (e .fourth) o b h kept)
 
-  pub next-strings : (c : ℕ) → Ended c e → c < 4 → take (suc c) (stringsIn o (endedAt e c end)) ≡ take c (stringsIn b e) ++ (slice (e .fourth) end o ∷ [])
+  pub next-strings : (c : ℕ) → EndsFor c e → c < 4 → take (suc c) (stringsIn o (endedAt e c end)) ≡ take c (stringsIn b e) ++ (slice (e .fourth) end o ∷ [])
   unfolding endedAt pick
   next-strings zero h k = rw (h .3)
   next-strings (suc zero) h k = rw (slice-kept 0 (e .first) (omega arith), h .2)
@@ -75,18 +75,18 @@ module _ (e : Ends) (end : ℕ) (b o : List ℕ) (kept : take (e .fourth) o ≡ 
   next-strings (suc (suc (suc (suc c)))) h k = absurd (omega arith)
 
 -- the ends with one more string, that was read behind those that were taken
-module _ (c end size : ℕ) (e e′ : Ends) (b o : List ℕ) (is : e′ ≡ endedAt e c end) (few : c < 4) (held : Ended c e) (read : Between (e .fourth) end size b o) where
+module _ (c end size : ℕ) (e e′ : Ends) (b o : List ℕ) (is : e′ ≡ endedAt e c end) (few : c < 4) (held : EndsFor c e) (read : PutBetween (e .fourth) end size b o) where
   pub more-strings : take (c + 1) (stringsIn o e′) ≡ take c (stringsIn b e) ++ (slice (e .fourth) end o ∷ [])
   more-strings = rw (is, add-one) (next-strings e end b o (read .kept) c held few)
 
-  pub more-ended : Ended (c + 1) e′ × (e .fourth ≤ e′ .fourth) × (e′ .fourth ≤ e .fourth + size) × (drop (e′ .fourth) o ≡ drop (e′ .fourth) b)
+  pub more-ended : EndsFor (c + 1) e′ × (e .fourth ≤ e′ .fourth) × (e′ .fourth ≤ e .fourth + size) × (drop (e′ .fourth) o ≡ drop (e′ .fourth) b)
   more-ended =
       let last : e′ .fourth ≡ end = ap (λ (z : Ends). z .fourth) is ∙ next-fourth c end e few in
       (rw (is, add-one) (next-ended c end e held few (read .from)), omega (arith, read .from), omega (arith, read .short), rw last (read .behind))
 
 -- a line's strings, as its four
 module _ (number : ℕ) (n : Numbers) (b : List ℕ) where
-  pub said-taken : (c : ℕ) (e : Ends) → Ended c e
+  pub said-taken : (c : ℕ) (e : Ends) → EndsFor c e
       → pick (ltb number eventsFrom) (calls number n (slice 0 (e .first) b) (slice (e .first) (e .second) b) (slice (e .second) (e .third) b) (slice (e .third) (e .fourth) b))
       (pick (ltb 1 c) unreadable (happens (number - eventsFrom) (slice 0 (e .first) b)))
       ≡ said number (arguments n (take c (stringsIn b e)))
@@ -98,8 +98,8 @@ module _ (number : ℕ) (n : Numbers) (b : List ℕ) where
   said-taken (suc (suc (suc (suc zero)))) e h = refl
   said-taken (suc (suc (suc (suc (suc c))))) e h = absurd h
 
-pub grown-at : (at size : ℕ) (b o : List ℕ) (r : Next) (t : Taken) → Grown at size b o r → r ≡ NextValue t → Grown at size b o (NextValue t)
-grown-at at size b o r t h e = subst (λ (q : Next). Grown at size b o q) e h
+pub grown-at : (at size : ℕ) (b o : List ℕ) (r : Next) (t : Taken) → TakenWithin at size b o r → r ≡ NextValue t → TakenWithin at size b o (NextValue t)
+grown-at at size b o r t h e = subst (λ (q : Next). TakenWithin at size b o q) e h
 
 -- what was read of all words
 module _ (o : List ℕ) (r : Next) (a : Read) (known : nextIn o r some ≡ a) where

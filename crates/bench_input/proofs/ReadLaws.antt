@@ -19,11 +19,12 @@ use Rattle.bench.specs.Numbers.{numberFrom, isNumber, numberOf, numberIn}
 use Rattle.bench.specs.declared.number.Number.{Number}
 use Rattle.bench.specs.declared.number.Number.the-variants.{Value as MsValue, Unreadable as NoMs}
 use Rattle.bench.specs.HexLaws.{length-pairs, was-read, read-count, read-into, not-read}
-use Rattle.bench.specs.Texts.{returned, over, left}
+use Rattle.bench.specs.Texts.{returned, over}
 use Rattle.bench.specs.declared.Put.{Put}
 use Rattle.bench.specs.declared.Put.the-variants.{Bytes, Refused}
 use Rattle.bench_input.specs.Arguments.{Read, hexArg, pairsArg, textArg, msArg}
-use Rattle.bench_input.specs.Readings.{msIn, Between}
+use Rattle.bench_input.specs.Readings.{msIn, PutBetween}
+use Rattle.framing.specs.Build.{left}
 
 -- a word of another length than m pairs
 pub pairs-other : (w u : List ℕ) (m : ℕ) → w ≡ u → (length w ≡ 2 * m → ⊥) → (f : List ℕ → Read) → none ≡ pairsArg m u f
@@ -103,7 +104,7 @@ module _ (w u b part : List ℕ) (at : ℕ) (q : Put) (is : w ≡ u) (room : at 
         let size : n ≡ length t = count-is ∙ sym (length-pairs u) in
         rw size (copied-kept b t at (omega (arith, length-pairs u)) part e)
 
-    pub hex-behind : Between at (at + n) (length u) b (putMid at (length b - at) b part)
+    pub hex-behind : PutBetween at (at + n) (length u) b (putMid at (length b - at) b part)
     hex-behind = record { from = omega arith; short = omega (arith, count-is); kept = before-kept; behind = behind-kept }
 
     pub hex-within : at + n ≤ length b
@@ -160,7 +161,7 @@ module _ (w u : List ℕ) (is : w ≡ u) where
         = ap (slice at (at + length w)) (copied b w at text-inside part e) ∙ placed-here (take at b) w (drop (at + length w) b) at (length w) l refl in
         rw (← is, ne-eqb (length w) 0 more, h) (ap f here)
 
-    pub text-between : Between at (at + length w) (length u) b (putMid at (length b - at) b part)
+    pub text-between : PutBetween at (at + length w) (length u) b (putMid at (length b - at) b part)
     text-between = record { from = omega arith; short = omega (arith, ap length is); kept = take-put at (length b - at) b part (omega arith); behind = copied-kept b w at text-inside part e }
 
 -- an absent argument has no bytes
@@ -169,7 +170,7 @@ slice-none i j b h =
     let short : length (take j b) ≤ i = simp (length-take) (omega arith) in
     drop-of-length-le (take j b) {i = i} short
 
-pub none-stays : (at size : ℕ) (b : List ℕ) → Between at at size b b
+pub none-stays : (at size : ℕ) (b : List ℕ) → PutBetween at at size b b
 none-stays at size b = record { from = omega arith; short = omega arith; kept = refl; behind = refl }
 
 -- bytes that are no whole groups

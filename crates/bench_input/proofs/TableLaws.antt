@@ -10,30 +10,30 @@ use borrow.Author.Tests.{lt-ltb, lt-leb, le-leb, ltb-true, ltb-false, eqb-true}
 use lib.Dec.{ltb, leb}
 use lib.ListN.{length, getD, drop, drop-of-length-le}
 use lib.Seq.{drop-cons}
-use Rattle.errors.specs.Choice.{pick, same, same-not}
+use Rattle.errors.specs.Choice.{pick, same, same-not, inRange}
 use Rattle.framing.specs.Lists.{both, both-false-r}
-use Rattle.bench.specs.Hex.{valueOf, dash, allDigits, isHex, pairsOf, digitOf, digitsOf}
+use Rattle.bench.specs.Hex.{valueOf, dash, allHexDigits, isHex, pairsOf, digitOf, digitsOf}
 use Rattle.bench.specs.Words.{wordsOf}
-use Rattle.bench_input.specs.Arguments.{arguments, Read, word, hexArg, pairsArg, byteArg}
+use Rattle.bench_input.specs.Arguments.{arguments, Read, wordAt, hexArg, pairsArg, byteArg}
 use Rattle.bench_input.specs.Letters.{withX, argumentsOf, noNumbers, noArguments}
-use Rattle.bench_input.specs.Table.{Row, table, noRow, rowAt, isFor, rowFor, Said, unreadable, saidOf, byRow}
-use Rattle.bench_input.specs.Readings.{byteIn, texts, foundIn, Within}
+use Rattle.bench_input.specs.Table.{LineRow, table, noRow, rowAt, isFor, rowFor, Said, unreadable, saidOf, byRow}
+use Rattle.bench_input.specs.Readings.{byteIn, texts, rowFoundIn, RowWithin}
 use Rattle.bench_input.specs.Lines.{both-parts}
 use Rattle.bench_input.specs.declared.arguments.Byte.{Byte}
 use Rattle.bench_input.specs.declared.arguments.Byte.the-variants.{Value as ByteValue, Unreadable as NoByte}
-use Rattle.bench_input.specs.declared.table.Found.{Found}
-use Rattle.bench_input.specs.declared.table.Found.the-variants.{At, Nothing}
+use Rattle.bench_input.specs.declared.table.RowFound.{RowFound}
+use Rattle.bench_input.specs.declared.table.RowFound.the-variants.{At, Nothing}
 
-pub length-texts : (rows : List Row) → length (texts rows) ≡ 3 * length rows
+pub length-texts : (rows : List LineRow) → length (texts rows) ≡ 3 * length rows
 unfolding texts
 length-texts [] = refl
 length-texts (r ∷ rows) = omega (arith, length-texts rows)
 
 -- the words of a row
-abbrev pub textOf : Row → List (List ℕ)
-textOf r = r .name ∷ r .letters ∷ digitsOf (r .number ∷ []) ∷ []
+abbrev pub rowWords : LineRow → List (List ℕ)
+rowWords r = r .name ∷ r .letters ∷ digitsOf (r .number ∷ []) ∷ []
 
-pub text-at : (rows : List Row) (i j : ℕ) → i < length rows → j < 3 → getD (texts rows) (3 * i + j) [] ≡ getD (textOf (getD rows i noRow)) j []
+pub text-at : (rows : List LineRow) (i j : ℕ) → i < length rows → j < 3 → getD (texts rows) (3 * i + j) [] ≡ getD (rowWords (getD rows i noRow)) j []
 unfolding texts
 text-at [] i j h k = absurd (omega arith)
 text-at (r ∷ rows) zero zero h k = refl
@@ -46,7 +46,7 @@ text-at (r ∷ rows) (suc i) j h k =
 
 -- a digit of a value has that value
 digit-value : (v : ℕ) → v < 16 → valueOf (digitOf v) ≡ v
-unfolding valueOf digitOf pick
+unfolding valueOf inRange digitOf pick
 digit-value v h = go (ltb v 10) refl
   where
     go : (t : Bool) → ltb v 10 ≡ t → valueOf (pick t (48 + v) (65 + (v - 10))) ≡ v
@@ -59,11 +59,11 @@ digit-value v h = go (ltb v 10) refl
         rw (both-false-r (leb 48 d) (leb d 57) (lt-leb d 57 (omega arith)), le-leb 65 d (omega arith), le-leb d 70 (omega arith)) (omega arith)
 
 -- the number of each row is a byte
-unfoldable fit : List Row → Bool
+unfoldable fit : List LineRow → Bool
 fit [] = true
 fit (r ∷ rows) = both (ltb (r .number) 256) (fit rows)
 
-fits-at : (rows : List Row) → fit rows ≡ true → (i : ℕ) → i < length rows → (getD rows i noRow) .number < 256
+fits-at : (rows : List LineRow) → fit rows ≡ true → (i : ℕ) → i < length rows → (getD rows i noRow) .number < 256
 unfolding fit
 fits-at [] h i k = absurd (omega arith)
 fits-at (r ∷ rows) h zero k = ltb-true (r .number) 256 (both-parts _ _ h .0)
@@ -75,7 +75,7 @@ number-fits i h = fits-at table refl i h
 
 -- the number of a row, read as BYTE
 pub number-read : (n : ℕ) (f : ℕ → Read) → n < 256 → byteArg (digitsOf (n ∷ [])) f ≡ f n
-unfolding byteArg pairsArg hexArg isHex pairsOf digitsOf allDigits pick
+unfolding byteArg pairsArg hexArg isHex pairsOf digitsOf allHexDigits pick
 number-read n f h =
     let a : valueOf (digitOf (n / 16)) ≡ n / 16 = digit-value (n / 16) (omega arith) in
     let b : valueOf (digitOf (n % 16)) ≡ n % 16 = digit-value (n % 16) (omega arith) in
@@ -106,7 +106,7 @@ unfolding table
 table-short = omega arith
 
 -- a row that is found has as many words
-pub row-length : (rows : List Row) (name : List ℕ) (n : ℕ) (r : Row) → rowFor rows name n ≡ some r → length (r .letters) + 1 ≡ n
+pub row-length : (rows : List LineRow) (name : List ℕ) (n : ℕ) (r : LineRow) → rowFor rows name n ≡ some r → length (r .letters) + 1 ≡ n
 unfolding rowFor isFor pick
 row-length [] name n r e = absurd (let z : _≡_ {A = ℕ} 0 1 = cc in omega arith)
 row-length (x ∷ rows) name n r e = go (row-length rows name n r) (isFor x name n) refl e
@@ -126,7 +126,7 @@ module _ (t : List ℕ) (is : wordsOf t ≡ texts table) where
   rows-count m e = omega (arith, e ∙ ap length is ∙ length-texts table)
 
   module _ (i : ℕ) (inside : i < length table) where
-    pub word-at : (j : ℕ) → j < 3 → getD (wordsOf t) (3 * i + j) [] ≡ getD (textOf (rowAt i)) j []
+    pub word-at : (j : ℕ) → j < 3 → getD (wordsOf t) (3 * i + j) [] ≡ getD (rowWords (rowAt i)) j []
     word-at j h = ap (λ ws. getD ws (3 * i + j) []) is ∙ text-at table i j inside h
 
     pub name-at : (w : List ℕ) → w ≡ getD (wordsOf t) (3 * i) [] → w ≡ (rowAt i) .name
@@ -150,21 +150,21 @@ module _ (t : List ℕ) (is : wordsOf t ≡ texts table) where
           omega arith
 
 -- the row of a line, as it was found
-module _ (l : List ℕ) (r : Found) (known : foundIn r ≡ rowFor table (word l 0) (length (wordsOf l))) where
-  pub no-row : r ≡ Nothing → unreadable ≡ byRow (rowFor table (word l 0) (length (wordsOf l))) (wordsOf l)
-  no-row e = ap (λ q. byRow (foundIn q) (wordsOf l)) (sym e) ∙ ap (λ o. byRow o (wordsOf l)) known
+module _ (l : List ℕ) (r : RowFound) (known : rowFoundIn r ≡ rowFor table (wordAt l 0) (length (wordsOf l))) where
+  pub no-row : r ≡ Nothing → unreadable ≡ byRow (rowFor table (wordAt l 0) (length (wordsOf l))) (wordsOf l)
+  no-row e = ap (λ q. byRow (rowFoundIn q) (wordsOf l)) (sym e) ∙ ap (λ o. byRow o (wordsOf l)) known
 
   module _ (i : ℕ) (e : r ≡ At i) where
-    pub row-inside : Within r → i < length table
-    row-inside h = subst (λ (q : Found). Within q) e h
+    pub row-inside : RowWithin r → i < length table
+    row-inside h = subst (λ (q : RowFound). RowWithin q) e h
 
-    here : some (rowAt i) ≡ rowFor table (word l 0) (length (wordsOf l))
-    here = ap foundIn (sym e) ∙ known
+    here : some (rowAt i) ≡ rowFor table (wordAt l 0) (length (wordsOf l))
+    here = ap rowFoundIn (sym e) ∙ known
 
     pub row-words : length ((rowAt i) .letters) + 1 ≡ length (wordsOf l)
-    row-words = row-length table (word l 0) (length (wordsOf l)) (rowAt i) (sym here)
+    row-words = row-length table (wordAt l 0) (length (wordsOf l)) (rowAt i) (sym here)
 
     pub row-said : (x : Said) (n : ℕ) (a : Read) (letters : List ℕ) → letters ≡ (rowAt i) .letters → n ≡ (rowAt i) .number
-        → a ≡ argumentsOf letters (drop 1 (wordsOf l)) noArguments → x ≡ saidOf n a → x ≡ byRow (rowFor table (word l 0) (length (wordsOf l))) (wordsOf l)
+        → a ≡ argumentsOf letters (drop 1 (wordsOf l)) noArguments → x ≡ saidOf n a → x ≡ byRow (rowFor table (wordAt l 0) (length (wordsOf l))) (wordsOf l)
     row-said x n a letters is number read h =
         h ∙ ap₂ saidOf number (read ∙ ap (λ z. argumentsOf z (drop 1 (wordsOf l)) noArguments) is) ∙ ap (λ o. byRow o (wordsOf l)) here

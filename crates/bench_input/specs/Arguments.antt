@@ -32,8 +32,8 @@ abbrev pub bytesRoom : ℕ
 bytesRoom = 8192
 
 -- the k-th word of a line: its name is word 0
-abbrev pub word : List ℕ → ℕ → List ℕ
-word l k = getD (wordsOf l) k []
+abbrev pub wordAt : List ℕ → ℕ → List ℕ
+wordAt l k = getD (wordsOf l) k []
 
 -- HEX: pairs of digits, or `-` for no bytes
 unfoldable pub hexArg : List ℕ → (List ℕ → Read) → Read

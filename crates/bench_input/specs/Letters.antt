@@ -57,10 +57,13 @@ stringArg letter w f =
     (pick (eqb letter 50) (wholeArg 2 w f)
     (pick (eqb letter 51) (wholeArg 3 w f) none))))
 
--- the first small letter is 97
+-- numbers have small letters, of which `a` (97) is the first
+abbrev pub firstNumberLetter : ℕ
+firstNumberLetter = 97
+
 unfoldable pub argument : ℕ → List ℕ → Arguments → (Arguments → Read) → Read
 argument letter w a f =
-    pick (ltb letter 97)
+    pick (ltb letter firstNumberLetter)
     (pick (ltb (length (a .strings)) 4) (stringArg letter w (λ p. f (arguments (a .numbers) (a .strings ++ (p ∷ []))))) none)
     (numberArg letter w (a .numbers) (λ n. f (arguments n (a .strings))))
 

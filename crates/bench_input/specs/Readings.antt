@@ -14,7 +14,7 @@ use Rattle.bench.specs.declared.Put.{Put}
 use Rattle.bench.specs.declared.Put.the-variants.{Bytes, Refused}
 use Rattle.bench_input.specs.Arguments.{Arguments, arguments, Read, bytesRoom}
 use Rattle.bench_input.specs.Letters.{argument}
-use Rattle.bench_input.specs.Table.{Row, table, rowAt, Said, calls, happens, unreadable}
+use Rattle.bench_input.specs.Table.{LineRow, table, rowAt, Said, calls, happens, unreadable}
 use Rattle.calls.specs.declared.start.Numbers.{Numbers}
 use Rattle.bench_input.specs.declared.Ends.{Ends}
 use Rattle.bench_input.specs.declared.Input.{Input}
@@ -25,13 +25,13 @@ use Rattle.bench_input.specs.declared.arguments.Word.{Word}
 use Rattle.bench_input.specs.declared.arguments.Word.the-variants.{Value as WordValue, Unreadable as NoWord}
 use Rattle.bench_input.specs.declared.arguments.Wait.{Wait}
 use Rattle.bench_input.specs.declared.arguments.Wait.the-variants.{Value as WaitValue, Unreadable as NoWait}
-use Rattle.bench_input.specs.declared.letters.Numbered.{Numbered}
-use Rattle.bench_input.specs.declared.letters.Numbered.the-variants.{Value as NumberValue, Unreadable as NoNumber}
+use Rattle.bench_input.specs.declared.letters.ReadNumbers.{ReadNumbers}
+use Rattle.bench_input.specs.declared.letters.ReadNumbers.the-variants.{Value as NumberValue, Unreadable as NoNumber}
 use Rattle.bench_input.specs.declared.letters.Taken.{Taken}
 use Rattle.bench_input.specs.declared.letters.Next.{Next}
 use Rattle.bench_input.specs.declared.letters.Next.the-variants.{Value as NextValue, Unreadable as NoNext}
-use Rattle.bench_input.specs.declared.table.Found.{Found}
-use Rattle.bench_input.specs.declared.table.Found.the-variants.{At, Nothing}
+use Rattle.bench_input.specs.declared.table.RowFound.{RowFound}
+use Rattle.bench_input.specs.declared.table.RowFound.the-variants.{At, Nothing}
 
 abbrev pub inputIn : List ℕ → Input → Said
 inputIn b (Call number n e) =
@@ -40,14 +40,14 @@ inputIn b (Event number n) = happens number (slice 0 n b)
 inputIn b Unreadable = unreadable
 
 -- the ends follow a place, each behind the one before and all in the buffer; b became o, and is as it was behind the last
-abbrev pub InOrder : ℕ → List ℕ → List ℕ → List ℕ → Type 0
-InOrder at [] b o = (at ≤ bytesRoom) × (drop at o ≡ drop at b)
-InOrder at (i ∷ ends) b o = (at ≤ i) × InOrder i ends b o
+abbrev pub StringsInOrder : ℕ → List ℕ → List ℕ → List ℕ → Type 0
+StringsInOrder at [] b o = (at ≤ bytesRoom) × (drop at o ≡ drop at b)
+StringsInOrder at (i ∷ ends) b o = (at ≤ i) × StringsInOrder i ends b o
 
 -- what holds of the ends and of the buffer: nothing where the line cannot be read
 abbrev pub EndsInOrder : Input → List ℕ → List ℕ → Type 0
-EndsInOrder (Call number n e) b o = InOrder 0 (e .first ∷ e .second ∷ e .third ∷ e .fourth ∷ []) b o
-EndsInOrder (Event number n) b o = InOrder 0 (n ∷ []) b o
+EndsInOrder (Call number n e) b o = StringsInOrder 0 (e .first ∷ e .second ∷ e .third ∷ e .fourth ∷ []) b o
+EndsInOrder (Event number n) b o = StringsInOrder 0 (n ∷ []) b o
 EndsInOrder Unreadable b o = Unit {0}
 
 -- what a line says was read, with the bytes of its arguments in the buffer b, which became o
@@ -72,33 +72,33 @@ abbrev pub waitIn : Wait → (ℕ → ℕ → Read) → Read
 waitIn (WaitValue given ms) f = f given ms
 waitIn NoWait f = none
 
-abbrev pub numberIn : Numbered → (Numbers → Read) → Read
-numberIn (NumberValue n) f = f n
-numberIn NoNumber f = none
+abbrev pub readNumbersIn : ReadNumbers → (Numbers → Read) → Read
+readNumbersIn (NumberValue n) f = f n
+readNumbersIn NoNumber f = none
 
 abbrev pub hexIn : ℕ → Put → List ℕ → (List ℕ → Read) → Read
 hexIn at (Bytes n) b f = f (slice at n b)
 hexIn at (Refused e) b f = none
 
 -- a word of some size was read from a place to an end: what stands before it and behind it in the buffer b is in o too
-pub record Between (at end size : ℕ) (b o : List ℕ) : Type 0 where
+pub record PutBetween (at end size : ℕ) (b o : List ℕ) : Type 0 where
   pub from : at ≤ end
   pub short : end ≤ at + size
   pub kept : take at o ≡ take at b
   pub behind : drop end o ≡ drop end b
 
 abbrev pub Behind : ℕ → Put → ℕ → List ℕ → List ℕ → Type 0
-Behind at (Bytes n) size b o = Between at n size b o
+Behind at (Bytes n) size b o = PutBetween at n size b o
 Behind at (Refused e) size b o = Unit {0}
 
 -- so many byte strings end at these places; the ends behind the last equal it
-abbrev pub Ended : ℕ → Ends → Type 0
-Ended zero e = (e .first ≡ 0) × (e .second ≡ 0) × (e .third ≡ 0) × (e .fourth ≡ 0)
-Ended (suc zero) e = (e .second ≡ e .first) × (e .third ≡ e .first) × (e .fourth ≡ e .first)
-Ended (suc (suc zero)) e = (e .first ≤ e .second) × (e .third ≡ e .second) × (e .fourth ≡ e .second)
-Ended (suc (suc (suc zero))) e = (e .first ≤ e .second) × (e .second ≤ e .third) × (e .fourth ≡ e .third)
-Ended (suc (suc (suc (suc zero)))) e = (e .first ≤ e .second) × (e .second ≤ e .third) × (e .third ≤ e .fourth)
-Ended (suc (suc (suc (suc (suc n))))) e = ⊥
+abbrev pub EndsFor : ℕ → Ends → Type 0
+EndsFor zero e = (e .first ≡ 0) × (e .second ≡ 0) × (e .third ≡ 0) × (e .fourth ≡ 0)
+EndsFor (suc zero) e = (e .second ≡ e .first) × (e .third ≡ e .first) × (e .fourth ≡ e .first)
+EndsFor (suc (suc zero)) e = (e .first ≤ e .second) × (e .third ≡ e .second) × (e .fourth ≡ e .second)
+EndsFor (suc (suc (suc zero))) e = (e .first ≤ e .second) × (e .second ≤ e .third) × (e .fourth ≡ e .third)
+EndsFor (suc (suc (suc (suc zero)))) e = (e .first ≤ e .second) × (e .second ≤ e .third) × (e .third ≤ e .fourth)
+EndsFor (suc (suc (suc (suc (suc n))))) e = ⊥
 
 -- one more, behind so many, ends at a place
 unfoldable pub endedAt : Ends → ℕ → ℕ → Ends
@@ -119,24 +119,24 @@ nextIn b (NextValue t) f = f (takenIn b t)
 nextIn b NoNext f = none
 
 -- what was taken with one more word of some size, from the place `at` on
-abbrev pub Grown : ℕ → ℕ → List ℕ → List ℕ → Next → Type 0
-Grown at size b o (NextValue t) = Ended (t .count) (t .ends) × (at ≤ t .ends .fourth) × (t .ends .fourth ≤ at + size) × (drop (t .ends .fourth) o ≡ drop (t .ends .fourth) b)
-Grown at size b o NoNext = Unit {0}
+abbrev pub TakenWithin : ℕ → ℕ → List ℕ → List ℕ → Next → Type 0
+TakenWithin at size b o (NextValue t) = EndsFor (t .count) (t .ends) × (at ≤ t .ends .fourth) × (t .ends .fourth ≤ at + size) × (drop (t .ends .fourth) o ≡ drop (t .ends .fourth) b)
+TakenWithin at size b o NoNext = Unit {0}
 
 -- a word w was read by its letter, behind what was taken before
 pub record Takes (letter : ℕ) (w : List ℕ) (t : Taken) (b o : List ℕ) (r : Next) : Type 0 where
   pub says : (f : Arguments → Read) → nextIn o r f ≡ argument letter w (takenIn b t) f
-  pub inOrder : Grown (t .ends .fourth) (length w) b o r
+  pub inOrder : TakenWithin (t .ends .fourth) (length w) b o r
 
 -- the rows as words of a text: each is its name, its letters and its number as BYTE
-unfoldable pub texts : List Row → List (List ℕ)
+unfoldable pub texts : List LineRow → List (List ℕ)
 texts [] = []
 texts (r ∷ rows) = r .name ∷ r .letters ∷ digitsOf (r .number ∷ []) ∷ texts rows
 
-abbrev pub foundIn : Found → Option Row
-foundIn (At i) = some (rowAt i)
-foundIn Nothing = none
+abbrev pub rowFoundIn : RowFound → Option LineRow
+rowFoundIn (At i) = some (rowAt i)
+rowFoundIn Nothing = none
 
-abbrev pub Within : Found → Type 0
-Within (At i) = i < length table
-Within Nothing = Unit {0}
+abbrev pub RowWithin : RowFound → Type 0
+RowWithin (At i) = i < length table
+RowWithin Nothing = Unit {0}

@@ -10,23 +10,23 @@ use Rattle.errors.specs.Choice.{pick, same}
 use Rattle.framing.specs.Lists.{both}
 use Rattle.targets.specs.Bitrates.{ascii}
 use Rattle.bench.specs.Words.{wordsOf}
-use Rattle.bench_input.specs.Arguments.{Arguments, Read, lineLimit, word}
+use Rattle.bench_input.specs.Arguments.{Arguments, Read, lineLimit, wordAt}
 use Rattle.bench_input.specs.Letters.{argumentsOf, noArguments}
 use Rattle.calls.specs.declared.start.Numbers.{Numbers}
 
-pub record Row : Type 0 where
+pub record LineRow : Type 0 where
   pub name : List ℕ
   pub letters : List ℕ
   pub number : ℕ
 
-abbrev pub row : List ℕ → List ℕ → ℕ → Row
+abbrev pub row : List ℕ → List ℕ → ℕ → LineRow
 row name letters number = record { name = name; letters = letters; number = number }
 
 -- a call has its number, and an event its number behind 128
 abbrev pub eventsFrom : ℕ
 eventsFrom = 128
 
-unfoldable pub table : List Row
+unfoldable pub table : List LineRow
 table =
     row (ascii "open") (ascii "") 0
     ∷ row (ascii "open") (ascii "z") 0
@@ -67,17 +67,17 @@ table =
     ∷ row (ascii "slept") (ascii "") 134
     ∷ []
 
-abbrev pub noRow : Row
+abbrev pub noRow : LineRow
 noRow = row [] [] 0
 
-abbrev pub rowAt : ℕ → Row
+abbrev pub rowAt : ℕ → LineRow
 rowAt k = getD table k noRow
 
 -- the row of a name and a number of words
-unfoldable pub isFor : Row → List ℕ → ℕ → Bool
+unfoldable pub isFor : LineRow → List ℕ → ℕ → Bool
 isFor r name n = both (same (r .name) name) (eqb (length (r .letters) + 1) n)
 
-unfoldable pub rowFor : List Row → List ℕ → ℕ → Option Row
+unfoldable pub rowFor : List LineRow → List ℕ → ℕ → Option LineRow
 rowFor [] name n = none
 rowFor (r ∷ rows) name n = pick (isFor r name n) (some r) (rowFor rows name n)
 
@@ -101,9 +101,9 @@ saidOf number none = unreadable
 saidOf number (some a) = said number a
 
 -- the words of a line, by their row
-abbrev pub byRow : Option Row → List (List ℕ) → Said
+abbrev pub byRow : Option LineRow → List (List ℕ) → Said
 byRow none ws = unreadable
 byRow (some r) ws = saidOf (r .number) (argumentsOf (r .letters) (drop 1 ws) noArguments)
 
 unfoldable pub inputOf : List ℕ → Said
-inputOf l = pick (ltb lineLimit (length l)) unreadable (byRow (rowFor table (word l 0) (length (wordsOf l))) (wordsOf l))
+inputOf l = pick (ltb lineLimit (length l)) unreadable (byRow (rowFor table (wordAt l 0) (length (wordsOf l))) (wordsOf l))

@@ -9,7 +9,7 @@ ghost use mathlib.Core.Path.{_≡_};
 ghost use mathlib.Core.List.{List};
 ghost use Prim.Native.Nat.{ℕ, _+_, _*_, _≤_, _<_};
 ghost use lib.ListN.{length};
-ghost use Rattle.bench_input.specs.Arguments.{Read, word, byteArg, flagArg, wordArg, msArg, hexArg, wholeArg, textArg, isNone, hexOrNone, presentArg, nameArg, waitArg};
+ghost use Rattle.bench_input.specs.Arguments.{Read, wordAt, byteArg, flagArg, wordArg, msArg, hexArg, wholeArg, textArg, isNone, hexOrNone, presentArg, nameArg, waitArg};
 ghost use Rattle.bench_input.specs.Readings.{byteIn, wordIn, msIn, waitIn, hexIn, Behind};
 
 // What a word says as BYTE and as WORD; as MS it is a `Number`.
@@ -33,7 +33,7 @@ const WAIT_LIMIT: u32 = 65535;
 
 // BYTE: one pair.
 pub(crate) fn read_byte(line: &[u8], k: usize) -> Byte
-    ensures { λ r. ⌜ ((f : ℕ → Read) → byteIn r f ≡ byteArg (word (now (line .entry)) k) f) ⌝ }
+    ensures { λ r. ⌜ ((f : ℕ → Read) → byteIn r f ≡ byteArg (wordAt (now (line .entry)) k) f) ⌝ }
 {
     let word = words::word(line, k);
     if word.len() == 2 {
@@ -54,7 +54,7 @@ fn joined(high: u8, low: u8) -> u16
 
 // WORD: two pairs, high byte first.
 pub(crate) fn read_word(line: &[u8], k: usize) -> Word
-    ensures { λ r. ⌜ ((f : ℕ → Read) → wordIn r f ≡ wordArg (word (now (line .entry)) k) f) ⌝ }
+    ensures { λ r. ⌜ ((f : ℕ → Read) → wordIn r f ≡ wordArg (wordAt (now (line .entry)) k) f) ⌝ }
 {
     let word = words::word(line, k);
     if word.len() == 4 {
@@ -69,16 +69,16 @@ pub(crate) fn read_word(line: &[u8], k: usize) -> Word
 
 // MS: a number.
 pub(crate) fn read_ms(line: &[u8], k: usize) -> Number
-    ensures { λ r. ⌜ ((f : ℕ → Read) → msIn r f ≡ msArg (word (now (line .entry)) k) f) ⌝ }
+    ensures { λ r. ⌜ ((f : ℕ → Read) → msIn r f ≡ msArg (wordAt (now (line .entry)) k) f) ⌝ }
 {
     number::read(words::word(line, k))
 }
 
 // HEX: puts its bytes into the buffer from a place on, and gives the place behind them.
 pub(crate) fn read_hex(line: &[u8], k: usize, bytes: &mut [u8], at: usize) -> Put
-    requires { ⌜ at + length (word (now line) k) ≤ length (now bytes) ⌝ }
-    ensures { λ r. ⌜ ((f : List ℕ → Read) → hexIn at r (now (bytes .exit)) f ≡ hexArg (word (now (line .entry)) k) f) ⌝ }
-    ensures { λ r. ⌜ Behind at r (length (word (now (line .entry)) k)) (now (bytes .entry)) (now (bytes .exit)) ⌝ }
+    requires { ⌜ at + length (wordAt (now line) k) ≤ length (now bytes) ⌝ }
+    ensures { λ r. ⌜ ((f : List ℕ → Read) → hexIn at r (now (bytes .exit)) f ≡ hexArg (wordAt (now (line .entry)) k) f) ⌝ }
+    ensures { λ r. ⌜ Behind at r (length (wordAt (now (line .entry)) k)) (now (bytes .entry)) (now (bytes .exit)) ⌝ }
 {
     let Put::Bytes(n) = hex::read(words::word(line, k), &mut bytes[at..]) else {
         return Put::Refused(Refusal::BadArgument);
@@ -88,9 +88,9 @@ pub(crate) fn read_hex(line: &[u8], k: usize, bytes: &mut [u8], at: usize) -> Pu
 
 // HEX of whole groups of so many bytes, from a place on.
 pub(crate) fn read_whole(line: &[u8], k: usize, bytes: &mut [u8], at: usize, size: usize) -> Put
-    requires { ⌜ (0 < size) × (at + length (word (now line) k) ≤ length (now bytes)) ⌝ }
-    ensures { λ r. ⌜ ((f : List ℕ → Read) → hexIn at r (now (bytes .exit)) f ≡ wholeArg size (word (now (line .entry)) k) f) ⌝ }
-    ensures { λ r. ⌜ Behind at r (length (word (now (line .entry)) k)) (now (bytes .entry)) (now (bytes .exit)) ⌝ }
+    requires { ⌜ (0 < size) × (at + length (wordAt (now line) k) ≤ length (now bytes)) ⌝ }
+    ensures { λ r. ⌜ ((f : List ℕ → Read) → hexIn at r (now (bytes .exit)) f ≡ wholeArg size (wordAt (now (line .entry)) k) f) ⌝ }
+    ensures { λ r. ⌜ Behind at r (length (wordAt (now (line .entry)) k)) (now (bytes .entry)) (now (bytes .exit)) ⌝ }
 {
     let Put::Bytes(end) = read_hex(line, k, bytes, at) else {
         return Put::Refused(Refusal::BadArgument);
@@ -103,9 +103,9 @@ pub(crate) fn read_whole(line: &[u8], k: usize, bytes: &mut [u8], at: usize, siz
 
 // BITRATE, from a place on.
 pub(crate) fn read_text(line: &[u8], k: usize, bytes: &mut [u8], at: usize) -> Put
-    requires { ⌜ at + length (word (now line) k) ≤ length (now bytes) ⌝ }
-    ensures { λ r. ⌜ ((f : List ℕ → Read) → hexIn at r (now (bytes .exit)) f ≡ textArg (word (now (line .entry)) k) f) ⌝ }
-    ensures { λ r. ⌜ Behind at r (length (word (now (line .entry)) k)) (now (bytes .entry)) (now (bytes .exit)) ⌝ }
+    requires { ⌜ at + length (wordAt (now line) k) ≤ length (now bytes) ⌝ }
+    ensures { λ r. ⌜ ((f : List ℕ → Read) → hexIn at r (now (bytes .exit)) f ≡ textArg (wordAt (now (line .entry)) k) f) ⌝ }
+    ensures { λ r. ⌜ Behind at r (length (wordAt (now (line .entry)) k)) (now (bytes .entry)) (now (bytes .exit)) ⌝ }
 {
     let word = words::word(line, k);
     if word.len() == 0 {
@@ -120,16 +120,16 @@ pub(crate) fn read_text(line: &[u8], k: usize, bytes: &mut [u8], at: usize) -> P
 
 // Whether the argument is absent.
 fn is_none(line: &[u8], k: usize) -> bool
-    ensures { λ r. ⌜ r ≡ isNone (word (now (line .entry)) k) ⌝ }
+    ensures { λ r. ⌜ r ≡ isNone (wordAt (now (line .entry)) k) ⌝ }
 {
     framing::is_exactly(words::word(line, k), b"none")
 }
 
 // HEX, or `none` for no bytes, from a place on.
 pub(crate) fn read_hex_or_none(line: &[u8], k: usize, bytes: &mut [u8], at: usize) -> Put
-    requires { ⌜ at + length (word (now line) k) ≤ length (now bytes) ⌝ }
-    ensures { λ r. ⌜ ((f : List ℕ → Read) → hexIn at r (now (bytes .exit)) f ≡ hexOrNone (word (now (line .entry)) k) f) ⌝ }
-    ensures { λ r. ⌜ Behind at r (length (word (now (line .entry)) k)) (now (bytes .entry)) (now (bytes .exit)) ⌝ }
+    requires { ⌜ at + length (wordAt (now line) k) ≤ length (now bytes) ⌝ }
+    ensures { λ r. ⌜ ((f : List ℕ → Read) → hexIn at r (now (bytes .exit)) f ≡ hexOrNone (wordAt (now (line .entry)) k) f) ⌝ }
+    ensures { λ r. ⌜ Behind at r (length (wordAt (now (line .entry)) k)) (now (bytes .entry)) (now (bytes .exit)) ⌝ }
 {
     if is_none(line, k) {
         return Put::Bytes(at);
@@ -139,7 +139,7 @@ pub(crate) fn read_hex_or_none(line: &[u8], k: usize, bytes: &mut [u8], at: usiz
 
 // 00 or 01.
 pub(crate) fn read_flag(line: &[u8], k: usize) -> Byte
-    ensures { λ r. ⌜ ((f : ℕ → Read) → byteIn r f ≡ flagArg (word (now (line .entry)) k) f) ⌝ }
+    ensures { λ r. ⌜ ((f : ℕ → Read) → byteIn r f ≡ flagArg (wordAt (now (line .entry)) k) f) ⌝ }
 {
     let Byte::Value(flag) = read_byte(line, k) else {
         return Byte::Unreadable;
@@ -152,7 +152,7 @@ pub(crate) fn read_flag(line: &[u8], k: usize) -> Byte
 
 // This word: 1.
 pub(crate) fn read_name(line: &[u8], k: usize, name: &[u8]) -> Byte
-    ensures { λ r. ⌜ ((f : ℕ → Read) → byteIn r f ≡ nameArg (now (name .entry)) (word (now (line .entry)) k) f) ⌝ }
+    ensures { λ r. ⌜ ((f : ℕ → Read) → byteIn r f ≡ nameArg (now (name .entry)) (wordAt (now (line .entry)) k) f) ⌝ }
 {
     if framing::is_exactly(words::word(line, k), name) {
         return Byte::Value(1);
@@ -162,7 +162,7 @@ pub(crate) fn read_name(line: &[u8], k: usize, name: &[u8]) -> Byte
 
 // Whether a HEX is present: 1 or 0.
 pub(crate) fn read_presence(line: &[u8], k: usize) -> Byte
-    ensures { λ r. ⌜ ((f : ℕ → Read) → byteIn r f ≡ presentArg (word (now (line .entry)) k) f) ⌝ }
+    ensures { λ r. ⌜ ((f : ℕ → Read) → byteIn r f ≡ presentArg (wordAt (now (line .entry)) k) f) ⌝ }
 {
     if is_none(line, k) {
         return Byte::Value(0);
@@ -175,7 +175,7 @@ pub(crate) fn read_presence(line: &[u8], k: usize) -> Byte
 
 // MS of at most 65535, or `none`.
 pub(crate) fn read_wait(line: &[u8], k: usize) -> Wait
-    ensures { λ r. ⌜ ((f : ℕ → ℕ → Read) → waitIn r f ≡ waitArg (word (now (line .entry)) k) f) ⌝ }
+    ensures { λ r. ⌜ ((f : ℕ → ℕ → Read) → waitIn r f ≡ waitArg (wordAt (now (line .entry)) k) f) ⌝ }
 {
     if is_none(line, k) {
         return Wait::Value(0, 0);

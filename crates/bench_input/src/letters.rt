@@ -14,12 +14,12 @@ ghost use mathlib.Core.Option.{some};
 ghost use Prim.Native.Nat.{ℕ, _+_, _≤_, _<_};
 ghost use lib.ListN.{length, drop};
 ghost use Rattle.bench.specs.Words.{wordsOf};
-ghost use Rattle.bench_input.specs.Arguments.{Read, word, lineLimit, bytesRoom};
-ghost use Rattle.bench_input.specs.Letters.{withMs, withWord, withX, withY, numberArg, stringArg, argumentsOf, noArguments};
-ghost use Rattle.bench_input.specs.Readings.{byteIn, wordIn, msIn, waitIn, numberIn, hexIn, Behind, Ended, endedAt, nextIn, Grown, Takes};
+ghost use Rattle.bench_input.specs.Arguments.{Read, wordAt, lineLimit, bytesRoom};
+ghost use Rattle.bench_input.specs.Letters.{withMs, withWord, withX, withY, numberArg, stringArg, argumentsOf, noArguments, firstNumberLetter};
+ghost use Rattle.bench_input.specs.Readings.{byteIn, wordIn, msIn, waitIn, readNumbersIn, hexIn, Behind, EndsFor, endedAt, nextIn, TakenWithin, Takes};
 
 // The numbers with one more argument.
-pub enum Numbered {
+pub enum ReadNumbers {
     Value(Numbers),
     Unreadable,
 }
@@ -39,77 +39,77 @@ pub enum Next {
 // How many byte strings a line can have.
 const STRINGS: usize = 4;
 
-fn with_x(numbers: Numbers, value: Byte) -> Numbered
-    ensures { λ r. ⌜ ((f : Numbers → Read) → numberIn r f ≡ byteIn value (λ v. f (withX v numbers))) ⌝ }
+fn with_x(numbers: Numbers, value: Byte) -> ReadNumbers
+    ensures { λ r. ⌜ ((f : Numbers → Read) → readNumbersIn r f ≡ byteIn value (λ v. f (withX v numbers))) ⌝ }
 {
     let Byte::Value(x) = value else {
-        return Numbered::Unreadable;
+        return ReadNumbers::Unreadable;
     };
     let mut with = numbers;
     with.x = x;
-    Numbered::Value(with)
+    ReadNumbers::Value(with)
 }
 
-fn with_y(numbers: Numbers, value: Byte) -> Numbered
-    ensures { λ r. ⌜ ((f : Numbers → Read) → numberIn r f ≡ byteIn value (λ v. f (withY v numbers))) ⌝ }
+fn with_y(numbers: Numbers, value: Byte) -> ReadNumbers
+    ensures { λ r. ⌜ ((f : Numbers → Read) → readNumbersIn r f ≡ byteIn value (λ v. f (withY v numbers))) ⌝ }
 {
     let Byte::Value(y) = value else {
-        return Numbered::Unreadable;
+        return ReadNumbers::Unreadable;
     };
     let mut with = numbers;
     with.y = y;
-    Numbered::Value(with)
+    ReadNumbers::Value(with)
 }
 
-fn with_word(numbers: Numbers, value: Word) -> Numbered
-    ensures { λ r. ⌜ ((f : Numbers → Read) → numberIn r f ≡ wordIn value (λ v. f (withWord v numbers))) ⌝ }
+fn with_word(numbers: Numbers, value: Word) -> ReadNumbers
+    ensures { λ r. ⌜ ((f : Numbers → Read) → readNumbersIn r f ≡ wordIn value (λ v. f (withWord v numbers))) ⌝ }
 {
     let Word::Value(word) = value else {
-        return Numbered::Unreadable;
+        return ReadNumbers::Unreadable;
     };
     let mut with = numbers;
     with.word = word;
-    Numbered::Value(with)
+    ReadNumbers::Value(with)
 }
 
-fn with_wait(numbers: Numbers, value: Wait) -> Numbered
-    ensures { λ r. ⌜ ((f : Numbers → Read) → numberIn r f ≡ waitIn value (λ given v. f (withY given (withWord v numbers)))) ⌝ }
+fn with_wait(numbers: Numbers, value: Wait) -> ReadNumbers
+    ensures { λ r. ⌜ ((f : Numbers → Read) → readNumbersIn r f ≡ waitIn value (λ given v. f (withY given (withWord v numbers)))) ⌝ }
 {
     let Wait::Value(given, ms) = value else {
-        return Numbered::Unreadable;
+        return ReadNumbers::Unreadable;
     };
     let mut with = numbers;
     with.word = ms;
     with.y = given;
-    Numbered::Value(with)
+    ReadNumbers::Value(with)
 }
 
-fn with_limit(numbers: Numbers, value: Wait) -> Numbered
-    ensures { λ r. ⌜ ((f : Numbers → Read) → numberIn r f ≡ waitIn value (λ given v. f (withY given (withMs v numbers)))) ⌝ }
+fn with_limit(numbers: Numbers, value: Wait) -> ReadNumbers
+    ensures { λ r. ⌜ ((f : Numbers → Read) → readNumbersIn r f ≡ waitIn value (λ given v. f (withY given (withMs v numbers)))) ⌝ }
 {
     let Wait::Value(given, ms) = value else {
-        return Numbered::Unreadable;
+        return ReadNumbers::Unreadable;
     };
     let mut with = numbers;
     with.ms = ms as u32;
     with.y = given;
-    Numbered::Value(with)
+    ReadNumbers::Value(with)
 }
 
-fn with_ms(numbers: Numbers, value: Number) -> Numbered
-    ensures { λ r. ⌜ ((f : Numbers → Read) → numberIn r f ≡ msIn value (λ v. f (withMs v numbers))) ⌝ }
+fn with_ms(numbers: Numbers, value: Number) -> ReadNumbers
+    ensures { λ r. ⌜ ((f : Numbers → Read) → readNumbersIn r f ≡ msIn value (λ v. f (withMs v numbers))) ⌝ }
 {
     let Number::Value(ms) = value else {
-        return Numbered::Unreadable;
+        return ReadNumbers::Unreadable;
     };
     let mut with = numbers;
     with.ms = ms;
-    Numbered::Value(with)
+    ReadNumbers::Value(with)
 }
 
 // A number, by its letter.
-fn number(letter: u8, line: &[u8], k: usize, numbers: Numbers) -> Numbered
-    ensures { λ r. ⌜ ((f : Numbers → Read) → numberIn r f ≡ numberArg letter (word (now (line .entry)) k) numbers f) ⌝ }
+fn number(letter: u8, line: &[u8], k: usize, numbers: Numbers) -> ReadNumbers
+    ensures { λ r. ⌜ ((f : Numbers → Read) → readNumbersIn r f ≡ numberArg letter (wordAt (now (line .entry)) k) numbers f) ⌝ }
 {
     match letter {
         b'x' => with_x(numbers, arguments::read_byte(line, k)),
@@ -122,15 +122,15 @@ fn number(letter: u8, line: &[u8], k: usize, numbers: Numbers) -> Numbered
         b'z' => with_x(numbers, arguments::read_name(line, k, b"padded")),
         b's' => with_x(numbers, arguments::read_name(line, k, b"split")),
         b'u' => with_limit(numbers, arguments::read_wait(line, k)),
-        _ => Numbered::Unreadable,
+        _ => ReadNumbers::Unreadable,
     }
 }
 
 // The bytes of a byte string, by its letter, from a place on.
 fn string(letter: u8, line: &[u8], k: usize, bytes: &mut [u8], at: usize) -> Put
-    requires { ⌜ at + length (word (now line) k) ≤ length (now bytes) ⌝ }
-    ensures { λ r. ⌜ ((f : List ℕ → Read) → hexIn at r (now (bytes .exit)) f ≡ stringArg letter (word (now (line .entry)) k) f) ⌝ }
-    ensures { λ r. ⌜ Behind at r (length (word (now (line .entry)) k)) (now (bytes .entry)) (now (bytes .exit)) ⌝ }
+    requires { ⌜ at + length (wordAt (now line) k) ≤ length (now bytes) ⌝ }
+    ensures { λ r. ⌜ ((f : List ℕ → Read) → hexIn at r (now (bytes .exit)) f ≡ stringArg letter (wordAt (now (line .entry)) k) f) ⌝ }
+    ensures { λ r. ⌜ Behind at r (length (wordAt (now (line .entry)) k)) (now (bytes .entry)) (now (bytes .exit)) ⌝ }
 {
     match letter {
         b'H' => arguments::read_hex(line, k, bytes, at),
@@ -165,8 +165,8 @@ fn ended(ends: Ends, count: usize, end: usize) -> Ends
 
 // One more byte string behind those that were taken.
 fn with_string(letter: u8, line: &[u8], k: usize, taken: Taken, bytes: &mut [u8]) -> Next
-    requires { ⌜ (letter < 97) × Ended (taken .count) (taken .ends) × (taken .ends .fourth + length (word (now line) k) ≤ length (now bytes)) ⌝ }
-    ensures { λ r. ⌜ Takes letter (word (now (line .entry)) k) taken (now (bytes .entry)) (now (bytes .exit)) r ⌝ }
+    requires { ⌜ (letter < firstNumberLetter) × EndsFor (taken .count) (taken .ends) × (taken .ends .fourth + length (wordAt (now line) k) ≤ length (now bytes)) ⌝ }
+    ensures { λ r. ⌜ Takes letter (wordAt (now (line .entry)) k) taken (now (bytes .entry)) (now (bytes .exit)) r ⌝ }
 {
     let numbers = taken.numbers;
     let ends = taken.ends;
@@ -186,11 +186,11 @@ fn with_string(letter: u8, line: &[u8], k: usize, taken: Taken, bytes: &mut [u8]
 
 // One more number.
 fn with_number(letter: u8, line: &[u8], k: usize, taken: Taken) -> Next
-    requires { ⌜ (97 ≤ letter) × Ended (taken .count) (taken .ends) ⌝ }
-    ensures { λ r. ⌜ ((b : List ℕ) → Takes letter (word (now (line .entry)) k) taken b b r) ⌝ }
+    requires { ⌜ (firstNumberLetter ≤ letter) × EndsFor (taken .count) (taken .ends) ⌝ }
+    ensures { λ r. ⌜ ((b : List ℕ) → Takes letter (wordAt (now (line .entry)) k) taken b b r) ⌝ }
 {
     let ends = taken.ends;
-    let Numbered::Value(numbers) = number(letter, line, k, taken.numbers) else {
+    let ReadNumbers::Value(numbers) = number(letter, line, k, taken.numbers) else {
         return Next::Unreadable;
     };
     Next::Value(Taken {
@@ -202,8 +202,8 @@ fn with_number(letter: u8, line: &[u8], k: usize, taken: Taken) -> Next
 
 // One more word, by its letter.
 fn argument(letter: u8, line: &[u8], k: usize, taken: Taken, bytes: &mut [u8]) -> Next
-    requires { ⌜ Ended (taken .count) (taken .ends) × (taken .ends .fourth + length (word (now line) k) ≤ length (now bytes)) ⌝ }
-    ensures { λ r. ⌜ Takes letter (word (now (line .entry)) k) taken (now (bytes .entry)) (now (bytes .exit)) r ⌝ }
+    requires { ⌜ EndsFor (taken .count) (taken .ends) × (taken .ends .fourth + length (wordAt (now line) k) ≤ length (now bytes)) ⌝ }
+    ensures { λ r. ⌜ Takes letter (wordAt (now (line .entry)) k) taken (now (bytes .entry)) (now (bytes .exit)) r ⌝ }
 {
     if letter < b'a' {
         with_string(letter, line, k, taken, bytes)
@@ -216,7 +216,7 @@ fn argument(letter: u8, line: &[u8], k: usize, taken: Taken, bytes: &mut [u8]) -
 pub(crate) fn read(line: &[u8], letters: &[u8], bytes: &mut [u8]) -> Next
     requires { ⌜ (length (now line) ≤ lineLimit) × (length (now bytes) ≡ bytesRoom) × (length (now letters) + 1 ≡ length (wordsOf (now line))) ⌝ }
     ensures { λ r. ⌜ nextIn (now (bytes .exit)) r some ≡ argumentsOf (now (letters .entry)) (drop 1 (wordsOf (now (line .entry)))) noArguments ⌝ }
-    ensures { λ r. ⌜ Grown 0 bytesRoom (now (bytes .entry)) (now (bytes .exit)) r ⌝ }
+    ensures { λ r. ⌜ TakenWithin 0 bytesRoom (now (bytes .entry)) (now (bytes .exit)) r ⌝ }
 {
     let mut taken = Taken {
         numbers: Numbers {

@@ -9,7 +9,7 @@ use bench::words;
 use calls::start::Numbers;
 use letters::Next;
 use letters::Taken;
-use table::Found;
+use table::RowFound;
 use table::TABLE;
 ghost use mathlib.Core.Path.{_≡_};
 ghost use mathlib.Core.List.{List};
@@ -17,9 +17,9 @@ ghost use Prim.Native.Nat.{ℕ, _≤_};
 ghost use lib.ListN.{length, drop};
 ghost use lib.Seq.{slice};
 ghost use Rattle.bench.specs.Words.{wordsOf};
-ghost use Rattle.bench_input.specs.Arguments.{word, lineLimit, bytesRoom};
+ghost use Rattle.bench_input.specs.Arguments.{wordAt, lineLimit, bytesRoom};
 ghost use Rattle.bench_input.specs.Table.{table as tableOf, rowFor, said, byRow, inputOf};
-ghost use Rattle.bench_input.specs.Readings.{Ended, takenIn, texts, inputIn, EndsInOrder, Reads};
+ghost use Rattle.bench_input.specs.Readings.{EndsFor, takenIn, texts, inputIn, EndsInOrder, Reads};
 
 // The longest line, without its line feed, and room for its bytes: a BITRATE has as many as its word.
 pub const LINE: usize = 8192;
@@ -67,7 +67,7 @@ pub fn part(bytes: &[u8], from: usize, to: usize) -> &[u8]
 
 // What was taken, as the call or the event of a number.
 fn by_number(number: u8, taken: Taken) -> Input
-    requires { ⌜ Ended (taken .count) (taken .ends) ⌝ }
+    requires { ⌜ EndsFor (taken .count) (taken .ends) ⌝ }
     ensures { λ r. ⌜ ((b : List ℕ) → inputIn b r ≡ said number (takenIn b taken)) ⌝ }
     ensures { λ r. ⌜ ((b o : List ℕ) → (taken .ends .fourth ≤ bytesRoom) → drop (taken .ends .fourth) o ≡ drop (taken .ends .fourth) b → EndsInOrder r b o) ⌝ }
 {
@@ -85,9 +85,9 @@ fn by_number(number: u8, taken: Taken) -> Input
 // Reads a line by the table.
 fn by_table(table: &[u8], line: &[u8], bytes: &mut [u8]) -> Input
     requires { ⌜ (wordsOf (now table) ≡ texts tableOf) × (length (now line) ≤ lineLimit) × (length (now bytes) ≡ bytesRoom) ⌝ }
-    ensures { λ r. ⌜ Reads (now (bytes .entry)) (now (bytes .exit)) r (byRow (rowFor tableOf (word (now (line .entry)) 0) (length (wordsOf (now (line .entry))))) (wordsOf (now (line .entry)))) ⌝ }
+    ensures { λ r. ⌜ Reads (now (bytes .entry)) (now (bytes .exit)) r (byRow (rowFor tableOf (wordAt (now (line .entry)) 0) (length (wordsOf (now (line .entry))))) (wordsOf (now (line .entry)))) ⌝ }
 {
-    let Found::At(i) = table::row(table, line) else {
+    let RowFound::At(i) = table::row(table, line) else {
         return Input::Unreadable;
     };
     let Byte::Value(number) = arguments::read_byte(table, 3 * i + 2) else {

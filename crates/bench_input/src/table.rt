@@ -4,9 +4,9 @@ ghost use mathlib.Core.Path.{_≡_};
 ghost use Prim.Native.Nat.{_<_};
 ghost use lib.ListN.{length};
 ghost use Rattle.bench.specs.Words.{wordsOf};
-ghost use Rattle.bench_input.specs.Arguments.{word};
+ghost use Rattle.bench_input.specs.Arguments.{wordAt};
 ghost use Rattle.bench_input.specs.Table.{table as tableOf, rowAt, isFor, rowFor};
-ghost use Rattle.bench_input.specs.Readings.{texts, foundIn, Within};
+ghost use Rattle.bench_input.specs.Readings.{texts, rowFoundIn, RowWithin};
 
 pub(crate) const TABLE: [u8; 711] = *b"\
     open  00 \
@@ -48,7 +48,7 @@ pub(crate) const TABLE: [u8; 711] = *b"\
     slept  86";
 
 // The row of a line.
-pub enum Found {
+pub enum RowFound {
     At(usize),
     Nothing,
 }
@@ -65,9 +65,9 @@ fn is_for(table: &[u8], i: usize, name: &[u8], n: usize) -> bool
     }
 }
 
-pub(crate) fn row(table: &[u8], line: &[u8]) -> Found
+pub(crate) fn row(table: &[u8], line: &[u8]) -> RowFound
     requires { ⌜ wordsOf (now table) ≡ texts tableOf ⌝ }
-    ensures { λ r. ⌜ (foundIn r ≡ rowFor tableOf (word (now (line .entry)) 0) (length (wordsOf (now (line .entry))))) × Within r ⌝ }
+    ensures { λ r. ⌜ (rowFoundIn r ≡ rowFor tableOf (wordAt (now (line .entry)) 0) (length (wordsOf (now (line .entry))))) × RowWithin r ⌝ }
 {
     let name = words::word(line, 0);
     let n = words::count(line);
@@ -75,9 +75,9 @@ pub(crate) fn row(table: &[u8], line: &[u8]) -> Found
     let mut i = 0;
     while i < rows {
         if is_for(table, i, name, n) {
-            return Found::At(i);
+            return RowFound::At(i);
         }
         i += 1;
     }
-    Found::Nothing
+    RowFound::Nothing
 }

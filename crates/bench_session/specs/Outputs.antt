@@ -4,8 +4,9 @@ use Prim.Native.Nat.{ℕ}
 use lib.Dec.{eqb}
 use lib.ListN.{length, take}
 use Rattle.errors.specs.Choice.{pick}
-use Rattle.errors.specs.Refusals.{numbered, faultNumbered}
+use Rattle.errors.specs.Refusals.{numbered, faultNumbered, statusNumber, cardStatusNumber}
 use Rattle.errors.specs.declared.Numbered.{Numbered}
+use Rattle.framing.specs.Names.{ackSize}
 use Rattle.targets.specs.Bitrates.{ascii}
 use Rattle.engine.specs.declared.core.Output.{Output}
 use Rattle.engine.specs.declared.core.Output.the-variants.{Ack, Command, Read, Drain, Pause, Done, Type1, UidAndAts, Nothing, Failed, FailedAfter, Refused}
@@ -35,8 +36,8 @@ lengthsText p uid ats = ascii "done " ++ hexOf p ++ ascii " uid " ++ decimalOf u
 -- a refusal's number, of 15 the status, of 20 both status flags
 unfoldable pub refusedText : Numbered → List ℕ
 refusedText n =
-    pick (eqb (n .number) 15) (ascii "refused " ++ decimalOf (n .number) ++ ascii " " ++ hexOf (n .status ∷ []))
-    (pick (eqb (n .number) 20) (ascii "refused " ++ decimalOf (n .number) ++ ascii " " ++ hexOf (n .status ∷ n .status2 ∷ [])) (ascii "refused " ++ decimalOf (n .number)))
+    pick (eqb (n .number) statusNumber) (ascii "refused " ++ decimalOf (n .number) ++ ascii " " ++ hexOf (n .status ∷ []))
+    (pick (eqb (n .number) cardStatusNumber) (ascii "refused " ++ decimalOf (n .number) ++ ascii " " ++ hexOf (n .status ∷ n .status2 ∷ [])) (ascii "refused " ++ decimalOf (n .number)))
 
 -- the refusal that ends a list, and the number of its codes that were finished
 unfoldable pub listRefusedText : Numbered → ℕ → List ℕ
@@ -44,7 +45,7 @@ listRefusedText n finished = refusedText n ++ ascii " finished " ++ decimalOf fi
 
 -- an output whose bytes stand at the start of b
 unfoldable pub textOf : Output → List ℕ → List ℕ
-textOf Ack b = ascii "write " ++ hexOf (take 6 b)
+textOf Ack b = ascii "write " ++ hexOf (take ackSize b)
 textOf (Command n) b = ascii "write " ++ hexOf (take n b)
 textOf (Read ms) b = ascii "read " ++ decimalOf ms
 textOf Drain b = ascii "drain"

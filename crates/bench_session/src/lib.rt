@@ -20,10 +20,11 @@ use errors::Refusal;
 ghost use mathlib.Core.Path.{_≡_};
 ghost use Prim.Native.Nat.{_+_, _≤_};
 ghost use lib.ListN.{length, set};
-ghost use Rattle.engine.specs.Sessions.{stepped};
+ghost use Rattle.engine.specs.SessionSteps.{stepped};
 ghost use Rattle.bench_input.specs.Readings.{inputIn};
 ghost use Rattle.bench_session.specs.Outputs.{outRoom, textLimit};
-ghost use Rattle.bench_session.specs.Answers.{stepOf, after, answerOf, replyOf};
+ghost use Rattle.bench_session.specs.Answers.{saidStep, afterLine, answerOf, lineReply};
+ghost use Rattle.bench.specs.Lines.{feed};
 
 // Room for the engine's bytes, and for any answer and a line feed.
 pub const BUFFER: usize = 1024;
@@ -55,7 +56,7 @@ fn called(
     bytes: &[u8],
     buffer: &mut [u8],
 ) -> Step
-    ensures { λ r. ⌜ stepped r (now (buffer .exit)) ≡ stepOf session (inputIn (now (bytes .entry)) (Input.Call number numbers ends)) (now (buffer .entry)) ⌝ }
+    ensures { λ r. ⌜ stepped r (now (buffer .exit)) ≡ saidStep session (inputIn (now (bytes .entry)) (Input.Call number numbers ends)) (now (buffer .entry)) ⌝ }
 {
     let first = part(bytes, 0, ends.first);
     let second = part(bytes, ends.first, ends.second);
@@ -66,7 +67,7 @@ fn called(
 
 // What the engine does with an event, whose packet has n bytes.
 fn on_event(session: Session, number: u8, n: usize, bytes: &[u8], buffer: &mut [u8]) -> Step
-    ensures { λ r. ⌜ stepped r (now (buffer .exit)) ≡ stepOf session (inputIn (now (bytes .entry)) (Input.Event number n)) (now (buffer .entry)) ⌝ }
+    ensures { λ r. ⌜ stepped r (now (buffer .exit)) ≡ saidStep session (inputIn (now (bytes .entry)) (Input.Event number n)) (now (buffer .entry)) ⌝ }
 {
     let Known::Is(event) = by_number::event_by(number) else {
         return unreadable(session);
@@ -76,7 +77,7 @@ fn on_event(session: Session, number: u8, n: usize, bytes: &[u8], buffer: &mut [
 
 // What the engine does with what was read.
 fn step(session: Session, input: Input, bytes: &[u8; BYTES], buffer: &mut [u8]) -> Step
-    ensures { λ r. ⌜ stepped r (now (buffer .exit)) ≡ stepOf session (inputIn (now (bytes .entry)) input) (now (buffer .entry)) ⌝ }
+    ensures { λ r. ⌜ stepped r (now (buffer .exit)) ≡ saidStep session (inputIn (now (bytes .entry)) input) (now (buffer .entry)) ⌝ }
 {
     match input {
         Input::Call(number, numbers, ends) => {
@@ -94,7 +95,7 @@ pub fn answer(
     buffer: &mut [u8; BUFFER],
     out: &mut [u8; OUT],
 ) -> Answered
-    ensures { λ r. ⌜ (after (r .session) (r .len) (now (buffer .exit)) (now (out .exit)) ≡ answerOf session (now (line .entry)) (now (buffer .entry)) (now (out .entry))) × (r .len ≤ textLimit) × (length (now (out .exit)) ≡ outRoom) ⌝ }
+    ensures { λ r. ⌜ (afterLine (r .session) (r .len) (now (buffer .exit)) (now (out .exit)) ≡ answerOf session (now (line .entry)) (now (buffer .entry)) (now (out .entry))) × (r .len ≤ textLimit) × (length (now (out .exit)) ≡ outRoom) ⌝ }
 {
     let mut bytes = [0u8; BYTES];
     let input = bench_input::read(line, &mut bytes);
@@ -116,7 +117,7 @@ pub fn reply(
     buffer: &mut [u8; BUFFER],
     out: &mut [u8; OUT],
 ) -> Answered
-    ensures { λ r. ⌜ (after (r .session) (r .len) (now (buffer .exit)) (now (out .exit)) ≡ replyOf session next (now (line .entry)) (now (buffer .entry)) (now (out .entry))) × (length (now (out .entry)) ≡ outRoom → length (now (out .exit)) ≡ outRoom) ⌝ }
+    ensures { λ r. ⌜ (afterLine (r .session) (r .len) (now (buffer .exit)) (now (out .exit)) ≡ lineReply session next (now (line .entry)) (now (buffer .entry)) (now (out .entry))) × (length (now (out .entry)) ≡ outRoom → length (now (out .exit)) ≡ outRoom) ⌝ }
 {
     match next {
         Line::Text(n) => {
@@ -134,7 +135,7 @@ pub fn reply(
 // A line feed behind the text.
 fn fed(answer: Answered, out: &mut [u8; OUT]) -> Answered
     requires { ⌜ (answer .len ≤ textLimit) × (length (now out) ≡ outRoom) ⌝ }
-    ensures { λ r. ⌜ (r .session ≡ answer .session) × (r .len ≡ answer .len + 1) × (now (out .exit) ≡ set (now (out .entry)) (answer .len) 10) × (length (now (out .exit)) ≡ outRoom) ⌝ }
+    ensures { λ r. ⌜ (r .session ≡ answer .session) × (r .len ≡ answer .len + 1) × (now (out .exit) ≡ set (now (out .entry)) (answer .len) feed) × (length (now (out .exit)) ≡ outRoom) ⌝ }
 {
     let n = answer.len;
     let session = answer.session;

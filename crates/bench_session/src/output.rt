@@ -5,7 +5,10 @@ use bench::first;
 use bench::hex;
 use bench::text;
 use engine::core::Output;
+use errors::CARD_STATUS;
 use errors::Numbered;
+use errors::STATUS;
+use framing::ACK_SIZE;
 ghost use mathlib.Core.Path.{_≡_};
 ghost use mathlib.Core.List.{_++_};
 ghost use Prim.Native.Nat.{_≤_};
@@ -61,12 +64,12 @@ fn put_refused(numbered: Numbered, out: &mut [u8]) -> usize
     ensures { λ r. ⌜ Appends 0 (refusedText numbered) (now (out .entry)) r (now (out .exit)) ⌝ }
 {
     let at = put_number(b"refused ", numbered.number as u64, out, 0);
-    if numbered.number == 15 {
+    if numbered.number == STATUS {
         let status = [numbered.status];
         let next = text::put(b" ", out, at);
         return hex::put(&status, out, next);
     }
-    if numbered.number == 20 {
+    if numbered.number == CARD_STATUS {
         let flags = [numbered.status, numbered.status2];
         let next = text::put(b" ", out, at);
         return hex::put(&flags, out, next);
@@ -86,7 +89,7 @@ fn put_output(output: Output, bytes: &[u8], out: &mut [u8]) -> usize
     ensures { λ r. ⌜ Appends 0 (textOf output (now (bytes .entry))) (now (out .entry)) r (now (out .exit)) ⌝ }
 {
     match output {
-        Output::Ack => put_bytes(b"write ", first(6, bytes), out),
+        Output::Ack => put_bytes(b"write ", first(ACK_SIZE, bytes), out),
         Output::Command(n) => put_bytes(b"write ", first(n, bytes), out),
         Output::Read(ms) => put_number(b"read ", ms as u64, out, 0),
         Output::Drain => text::put(b"drain", out, 0),

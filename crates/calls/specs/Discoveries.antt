@@ -19,7 +19,7 @@ use Rattle.discovery.specs.Decisions.{typeBCommand, isoDep, listedB, wokenUp, t
 use Rattle.calls.specs.Tables.{commandOf, isResetOf, decidedOf, failedOf}
 use Rattle.calls.specs.Refines.{Refines, refines-keep, refines-put, refines-pause, Awaits, refines-if, refines-status, ending, none-found, refusal, by-length, go-on}
 use Rattle.protocol.specs.Values.{rest-values}
-use Rattle.protocol.specs.Names.{ciuMode, commandClock, inJumpForDepClock, inListPassiveTargetClock, registerWriteFailed, registersClock, rfNotActivated, timeoutStatus, typeBClock, listedIdmOffset, pmmEnd, protocolOffset, wupbCode, wupbParameter}
+use Rattle.protocol.specs.Names.{ciuMode, commandClock, inJumpForDepClock, inListPassiveTargetClock, registerWriteFailed, registersClock, rfNotActivated, timeoutStatus, typeBClock, listedIdmOffset, pmmEnd, protocolOffset, wupbCode, wupbParameter, noDetectSync, atrResCmd0, atrResCmd1}
 use Rattle.protocol.specs.Calls.{inCommunicateThruCode, inJumpForDepCode, inListPassiveTargetCode, readRegisterCode, rfConfigurationCode, writeRegisterCode}
 use Rattle.discovery.specs.Kinds.{typeBKind, typeFKind, depKind, listStage, deselectStage, wakeUpStage, fieldStage, rfOnStage, pollStage, timeoutsStage, jumpStage, writeModeStage}
 
@@ -93,18 +93,18 @@ module _ (code : ℕ) (req : List ℕ) where
 -- ---- DEP
 
 abbrev modeWritten : List ℕ → Reply → Script
-modeWritten list = either (λ bs. ifElse (anyNonzero bs) (refuse (Status registerWriteFailed)) (finish (done (own 0xD5 ∷ own 0x01 ∷ rest 1 list 2)))) refuse
+modeWritten list = either (λ bs. ifElse (anyNonzero bs) (refuse (Status registerWriteFailed)) (finish (done (own atrResCmd0 ∷ own atrResCmd1 ∷ rest 1 list 2)))) refuse
 
-dep-2 : (pending list : List ℕ) → Awaits depKind writeModeStage 0 pending (0xD5 ∷ 0x01 ∷ drop 2 list) (modeWritten list)
+dep-2 : (pending list : List ℕ) → Awaits depKind writeModeStage 0 pending (atrResCmd0 ∷ atrResCmd1 ∷ drop 2 list) (modeWritten list)
 unfolding decidedOf failedOf depDecision foundWritten depFailure pick
 dep-2 pending list = record {
   answered = λ cs few.
-      refines-if (anyNonzero cs) (λ _. refusal (Status registerWriteFailed)) (λ _. ending _ (ap (λ l. done (0xD5 ∷ 0x01 ∷ l)) (rest-values 1 list 2)));
+      refines-if (anyNonzero cs) (λ _. refusal (Status registerWriteFailed)) (λ _. ending _ (ap (λ l. done (atrResCmd0 ∷ atrResCmd1 ∷ l)) (rest-values 1 list 2)));
   failing = λ r. refusal r;
 }
 
 dep-1 : (pending found : List ℕ)
-    → Awaits depKind jumpStage 0 pending found (either (λ bs. ifElse (eqb (statusByte bs) 0) (ifElse (ltb (length bs) 2) (refuse ShortResponse) (command writeRegisterCode registersClock (word ciuMode ++ (0x3B ∷ [])) (modeWritten bs))) (noPartnerScript (Status (statusByte bs)))) noPartnerScript)
+    → Awaits depKind jumpStage 0 pending found (either (λ bs. ifElse (eqb (statusByte bs) 0) (ifElse (ltb (length bs) 2) (refuse ShortResponse) (command writeRegisterCode registersClock (word ciuMode ++ (noDetectSync ∷ [])) (modeWritten bs))) (noPartnerScript (Status (statusByte bs)))) noPartnerScript)
 unfolding decidedOf failedOf depDecision jumpedTo depFailure jumpFailure noPartner commandOf isResetOf depCommand pick
 dep-1 pending found = record {
   answered = λ cs few.
@@ -114,7 +114,7 @@ dep-1 pending found = record {
 }
 
 dep-0 : (code : ℕ) (nfcid3 gi found : List ℕ)
-    → Awaits depKind timeoutsStage 0 (jumpData 1 code [] nfcid3 gi) found (either (λ _. command inJumpForDepCode inJumpForDepClock (jumpData 1 code [] nfcid3 gi) (either (λ bs. ifElse (eqb (statusByte bs) 0) (ifElse (ltb (length bs) 2) (refuse ShortResponse) (command writeRegisterCode registersClock (word ciuMode ++ (0x3B ∷ [])) (modeWritten bs))) (noPartnerScript (Status (statusByte bs)))) noPartnerScript)) refuse)
+    → Awaits depKind timeoutsStage 0 (jumpData 1 code [] nfcid3 gi) found (either (λ _. command inJumpForDepCode inJumpForDepClock (jumpData 1 code [] nfcid3 gi) (either (λ bs. ifElse (eqb (statusByte bs) 0) (ifElse (ltb (length bs) 2) (refuse ShortResponse) (command writeRegisterCode registersClock (word ciuMode ++ (noDetectSync ∷ [])) (modeWritten bs))) (noPartnerScript (Status (statusByte bs)))) noPartnerScript)) refuse)
 unfolding decidedOf failedOf depDecision depFailure commandOf isResetOf depCommand pick
 dep-0 code nfcid3 gi found = record {
   answered = λ cs few. go-on jumpStage inJumpForDepCode inJumpForDepClock _ refl refl refl (dep-1 (jumpData 1 code [] nfcid3 gi) found);

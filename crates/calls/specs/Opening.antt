@@ -14,44 +14,27 @@ use Rattle.protocol.specs.Scripts.{own, value, Script, finish, reset, either, r
 use Rattle.protocol.specs.Rules.{versionBytes, anyNonzero}
 use Rattle.protocol.specs.Chipset.{getFirmwareVersion, rfFieldOff, rfConfiguration, setParameters, writeRegister}
 use Rattle.protocol.specs.Arguments.{word}
-use Rattle.protocol.specs.Device.{deviceNew, chipsetName, hexDigit as hexDigitOf, hex as hexOf}
+use Rattle.protocol.specs.Device.{deviceNew, chipsetName, hexDigit, hex, dotted, nameBytes}
 use Rattle.stages.specs.Stages.{send, ends}
 use Rattle.chipset.specs.Responses.{foundWritten}
-use Rattle.device.specs.Names.{hexDigit, hex, dotted, nameBytes, openedBytes}
+use Rattle.device.specs.Names.{openedBytes}
 use Rattle.device.specs.Opening.{openingCommand, settingsCommand, isResetStage, versionKept, openingDecision}
 use Rattle.stages.specs.Decided.{foundLimit}
 use Rattle.calls.specs.Tables.{commandOf, isResetOf, decidedOf, failedOf}
 use Rattle.calls.specs.Refines.{Refines, refines-reset, refines-keep, Awaits, refines-if, ending, refusal, by-length, go-on}
-use Rattle.protocol.specs.Names.{commandClock, registerWriteFailed, registersClock, rfCfgRam07}
+use Rattle.protocol.specs.Names.{commandClock, registerWriteFailed, registersClock, rfCfgRam07, timeoutsItem, timeouts, maxRtyComItem, maxRtyCom, maxRetriesItem, maxRetries, analog106AItem, analog106A, openingParameters, openingRfCfg}
 use Rattle.protocol.specs.Calls.{getFirmwareVersionCode, rfConfigurationCode, setParametersCode, writeRegisterCode}
 use Rattle.chipset.specs.Kinds.{resetModeKind}
 use Rattle.device.specs.Kinds.{openingKind, resetStage, versionStage, fieldOffStage, timeoutsStage, maxRtyComStage, maxRetriesStage, analogStage, parametersStage, resetAgainStage, rfCfgStage}
 
 -- ---- the answer
 
-digit-same : (n : ℕ) → hexDigit n ≡ hexDigitOf n
-unfolding hexDigit pick
-digit-same n = go (ltb n 10)
-  where
-    go : (t : Bool) → pick t (0x30 + n) (0x57 + n) ≡ cond t (0x30 + n) (0x57 + n)
-    go true = refl
-    go false = refl
-
-hex-same : (n : ℕ) → hex n ≡ map value (hexOf n)
-unfolding hex pick
-hex-same n = go (ltb n 16)
-  where
-    go : (t : Bool) → pick t (hexDigit n ∷ []) (hexDigit (n / 16) ∷ hexDigit (n % 16) ∷ [])
-        ≡ map value (cond t (own (hexDigitOf n) ∷ []) (own (hexDigitOf (n / 16)) ∷ own (hexDigitOf (n % 16)) ∷ []))
-    go true = rw (digit-same n)
-    go false = rw (digit-same (n / 16), digit-same (n % 16))
+own-values : (l : List ℕ) → map value (map own l) ≡ l
+own-values [] = refl
+own-values (b ∷ l) = ap (λ r. b ∷ r) (own-values l)
 
 opened-same : (a b c : ℕ) → map value (versionBytes 1 a b c ++ chipsetName b c) ≡ openedBytes a b c
-unfolding nameBytes dotted
-opened-same a b c =
-    sym
-    (ap (λ l. a ∷ b ∷ c ∷ 0x52 ∷ 0x43 ∷ 0x53 ∷ 0x39 ∷ 0x35 ∷ 0x36 ∷ 0x76 ∷ l)
-    (ap₂ (λ x y. x ++ (0x2E ∷ y)) (hex-same b) (hex-same c) ∙ sym (map-append value (hexOf b) (own 0x2E ∷ hexOf c))))
+opened-same a b c = ap (λ l. a ∷ b ∷ c ∷ l) (own-values (nameBytes b c))
 
 hex-few : (n : ℕ) → length (hex n) ≤ 2
 unfolding hex pick
@@ -62,29 +45,29 @@ hex-few n = go (ltb n 16)
     go false = omega arith
 
 opened-few : (a b c : ℕ) → length (openedBytes a b c) ≤ foundLimit
-unfolding nameBytes dotted
+unfolding dotted
 opened-few a b c = omega (arith, length-append (hex b) (0x2E ∷ hex c), hex-few b, hex-few c)
 
 -- ---- the scripts left, by the version bytes
 
 module _ (a b c : ℕ) where
   abbrev s9 : Script
-  s9 = writeRegister (word rfCfgRam07 ++ (0x59 ∷ [])) (finish (done (versionBytes 1 a b c ++ chipsetName b c)))
+  s9 = writeRegister (word rfCfgRam07 ++ (openingRfCfg ∷ [])) (finish (done (versionBytes 1 a b c ++ chipsetName b c)))
 
   abbrev s7 : Script
-  s7 = setParameters 0x08 (reset s9)
+  s7 = setParameters openingParameters (reset s9)
 
   abbrev s6 : Script
-  s6 = rfConfiguration 0x0A (0x5A ∷ 0xF4 ∷ 0x3F ∷ 0x11 ∷ 0x4D ∷ 0x85 ∷ 0x61 ∷ 0x6F ∷ 0x26 ∷ 0x62 ∷ 0x87 ∷ []) s7
+  s6 = rfConfiguration analog106AItem analog106A s7
 
   abbrev s5 : Script
-  s5 = rfConfiguration 0x05 (0x00 ∷ 0x00 ∷ 0x01 ∷ []) s6
+  s5 = rfConfiguration maxRetriesItem maxRetries s6
 
   abbrev s4 : Script
-  s4 = rfConfiguration 0x04 (0x00 ∷ []) s5
+  s4 = rfConfiguration maxRtyComItem maxRtyCom s5
 
   abbrev s3 : Script
-  s3 = rfConfiguration 0x02 (0x0B ∷ 0x0B ∷ 0x0A ∷ []) s4
+  s3 = rfConfiguration timeoutsItem timeouts s4
 
 -- ---- a line for each stage
 

@@ -12,9 +12,9 @@ use Rattle.errors.specs.Choice.{pick}
 use Rattle.errors.specs.declared.Fault.{Fault}
 use Rattle.errors.specs.declared.Fault.the-variants.{ShortResponse, NoCard}
 use Rattle.framing.specs.Valid.{both-left, both-right}
-use Rattle.protocol.specs.Scripts.{Byte, own, card, value, behind, Answer, done, refused, refusedAfter, Script, finish, command, fieldPause, either, refuse, ifElse, andThen, rest}
-use Rattle.protocol.specs.Discovery.{sensfReq, poll, byNoCard, cardMet, noCardMet, detectTypeF, codeEnd, pollCodes, pollTypeF}
-use Rattle.protocol.specs.Arguments.{systemCodesFit, wordsIn}
+use Rattle.protocol.specs.Scripts.{Byte, own, card, value, commandsLater, Answer, done, refused, refusedAfter, Script, finish, command, fieldPause, either, refuse, ifElse, andThen, rest}
+use Rattle.protocol.specs.Discovery.{poll, byNoCard, cardMet, noCardMet, detectTypeF, codeEnd, pollCodes, pollTypeF, systemCodeReq}
+use Rattle.protocol.specs.Arguments.{systemCodesFit, wordsIn, systemCodes}
 use Rattle.protocol.specs.Laws.{by-fault}
 use Rattle.stages.specs.Stages.{cmd, Decision, send, ends, withLength}
 use Rattle.discovery.specs.Decisions.{typeFCommand, txControlRead, polled, typeFDecision, pollOf, pollCommand, soFarLimit, soFar, lastCode, hasNext, codeFinished, pollFailure, onEnd, pollDecision}
@@ -90,12 +90,16 @@ module _ (cursor : ℕ) (pending found : List ℕ) (f : ℕ → Answer Byte → 
 
 -- ---- the codes one after the other
 
+-- what a code adds at most
+abbrev cardMetSize : ℕ
+cardMetSize = 17
+
 -- a fault, by whether it is 17
 module _ {kind cursor : ℕ} {pending found : List ℕ} {x d : Decision} {s u : Script} where
   by-no-card : Refines kind cursor pending found x s → Refines kind cursor pending found d u → (r : Fault) → Refines kind cursor pending found (byNoCard x d r) (byNoCard s u r)
   by-no-card h k = by-fault (λ r. Refines kind cursor pending found (byNoCard x d r) (byNoCard s u r)) h (λ r e. rw (e _ x d, e _ s u) k)
 
-values-behind : (n : ℕ) (bytes : List Byte) → map value (map (behind n) bytes) ≡ map value bytes
+values-behind : (n : ℕ) (bytes : List Byte) → map value (map (commandsLater n) bytes) ≡ map value bytes
 values-behind n [] = refl
 values-behind n (own b ∷ bytes) = ap (λ l. b ∷ l) (values-behind n bytes)
 values-behind n (card k p b ∷ bytes) = ap (λ l. b ∷ l) (values-behind n bytes)
@@ -107,11 +111,11 @@ values-taken (suc n) (b ∷ bytes) = ap (λ l. value b ∷ l) (values-taken n by
 
 -- the answer so far with what a code adds
 module _ (cursor first : ℕ) (found : List ℕ) (bytes add : List Byte) (is : map value bytes ≡ soFar cursor found) where
-  values-added : map value (bytes ++ map (behind first) add) ≡ soFar cursor found ++ map value add
-  values-added = map-append value bytes (map (behind first) add) ∙ ap₂ _++_ is (values-behind first add)
+  values-added : map value (bytes ++ map (commandsLater first) add) ≡ soFar cursor found ++ map value add
+  values-added = map-append value bytes (map (commandsLater first) add) ∙ ap₂ _++_ is (values-behind first add)
 
-  length-added : length (bytes ++ map (behind first) add) ≡ length bytes + length add
-  length-added = length-append bytes (map (behind first) add) ∙ ap (λ n. length bytes + n) (length-map add (behind first))
+  length-added : length (bytes ++ map (commandsLater first) add) ≡ length bytes + length add
+  length-added = length-append bytes (map (commandsLater first) add) ∙ ap (λ n. length bytes + n) (length-map add (commandsLater first))
 
 module _ (cursor : ℕ) (pending : List ℕ) where
   has-next : cursor < lastCode → 2 * cursor + 5 ≤ length pending → hasNext cursor pending ≡ true
@@ -128,20 +132,20 @@ module _ (cursor : ℕ) (pending : List ℕ) where
 
 -- the poll of a code with these two bytes
 polls-code : (code : ℕ) (words : List ℕ) (cursor high low : ℕ) (ws : List ℕ) → drop (2 * cursor) words ≡ high ∷ low ∷ ws
-    → pollOf cursor (code ∷ words) ≡ 1 ∷ code ∷ sensfReq (256 * high + low) 0x01 0x00
+    → pollOf cursor (code ∷ words) ≡ 1 ∷ code ∷ systemCodeReq (256 * high + low)
 polls-code code words cursor high low ws e =
     let one : 2 * cursor + 1 ≡ suc (2 * cursor + 0) = omega arith in
     let two : 2 * cursor + 2 ≡ suc (2 * cursor + 1) = omega arith in
     let h : getD (code ∷ words) (2 * cursor + 1) 0 ≡ high = ap (λ n. getD (code ∷ words) n 0) one ∙ sym (getD-drop (2 * cursor) words 0 0) ∙ ap (λ l. getD l 0 0) e in
     let l : getD (code ∷ words) (2 * cursor + 2) 0 ≡ low = ap (λ n. getD (code ∷ words) n 0) two ∙ sym (getD-drop (2 * cursor) words 1 0) ∙ ap (λ l. getD l 1 0) e in
-    ap₂ (λ x y. 1 ∷ code ∷ sensfReq (256 * x + y) 0x01 0x00) h l
+    ap₂ (λ x y. 1 ∷ code ∷ systemCodeReq (256 * x + y)) h l
 
-module _ (code : ℕ) (words : List ℕ) (few : length words ≤ 32) where
+module _ (code : ℕ) (words : List ℕ) (few : length words ≤ 2 * systemCodes) where
   -- at a code with these two bytes, behind which ws are left; what the finished codes added is `bytes`
   record At (cursor : ℕ) (high low : ℕ) (ws : List ℕ) (found : List ℕ) (bytes : List Byte) : Type 0 where
     left : drop (2 * cursor) words ≡ high ∷ low ∷ ws
     same : map value bytes ≡ soFar cursor found
-    within : length bytes ≤ 17 * cursor
+    within : length bytes ≤ cardMetSize * cursor
 
   module _ (cursor first high low : ℕ) (ws found : List ℕ) (bytes : List Byte) (at : At cursor high low ws found bytes) where
     abbrev pending : List ℕ
@@ -149,7 +153,7 @@ module _ (code : ℕ) (words : List ℕ) (few : length words ≤ 32) where
 
     -- the answer with what this code adds
     abbrev added : List Byte → List Byte
-    added add = bytes ++ map (behind first) add
+    added add = bytes ++ map (commandsLater first) add
 
     count : length words ≡ 2 * cursor + (2 + length ws)
     count = omega (arith, sym (length-drop (2 * cursor) words) ∙ ap length (at .left))
@@ -161,7 +165,7 @@ module _ (code : ℕ) (words : List ℕ) (few : length words ≤ 32) where
         rw (has-no-next cursor pending (omega (arith, h, count))) (ending _ (ap done (values-added cursor first found bytes add (at .same))))
 
     -- another code code-ends
-    list-goes-on : (add : List Byte) (s : Script) → length add ≤ 17 → 2 ≤ length ws → Refines pollTypeFKind (suc cursor) pending (soFar cursor found ++ map value add) (send fieldStage) s
+    list-goes-on : (add : List Byte) (s : Script) → length add ≤ cardMetSize → 2 ≤ length ws → Refines pollTypeFKind (suc cursor) pending (soFar cursor found ++ map value add) (send fieldStage) s
         → Refines pollTypeFKind cursor pending found (codeFinished cursor pending found (map value add)) s
     unfolding codeFinished pick
     list-goes-on add s short h l =
@@ -171,7 +175,7 @@ module _ (code : ℕ) (words : List ℕ) (few : length words ≤ 32) where
         rw (has-next cursor pending (omega (arith, h, count, few)) (omega (arith, h, count)), one) (refines-next fieldStage (suc cursor) _ s n l)
 
     -- a code leads to its script where its end does
-    code-step : (codes : List ℕ) → ((k : ℕ) (add : List Byte) → length add ≤ 17 → Refines pollTypeFKind cursor pending found (codeFinished cursor pending found (map value add)) (pollCodes code k (suc cursor) (added add) codes))
+    code-step : (codes : List ℕ) → ((k : ℕ) (add : List Byte) → length add ≤ cardMetSize → Refines pollTypeFKind cursor pending found (codeFinished cursor pending found (map value add)) (pollCodes code k (suc cursor) (added add) codes))
         → Refines pollTypeFKind cursor pending found (send fieldStage) (pollCodes code first cursor bytes ((256 * high + low) ∷ codes))
     unfolding pollFailure
     code-step codes finishes =
@@ -183,15 +187,15 @@ module _ (code : ℕ) (words : List ℕ) (few : length words ≤ 32) where
         code-refines cursor pending found f code-ends code _ (polls-code code words cursor high low ws (at .left)) first
 
   -- the next code, where there is one
-  next-at : (cursor first high low x y : ℕ) (ws found : List ℕ) (bytes add : List Byte) (at : At cursor high low (x ∷ y ∷ ws) found bytes) → length add ≤ 17
-      → At (suc cursor) x y ws (soFar cursor found ++ map value add) (bytes ++ map (behind first) add)
+  next-at : (cursor first high low x y : ℕ) (ws found : List ℕ) (bytes add : List Byte) (at : At cursor high low (x ∷ y ∷ ws) found bytes) → length add ≤ cardMetSize
+      → At (suc cursor) x y ws (soFar cursor found ++ map value add) (bytes ++ map (commandsLater first) add)
   next-at cursor first high low x y ws found bytes add at short =
       let two : 2 * suc cursor ≡ 2 * cursor + 2 = omega arith in
       let v = values-added cursor first found bytes add (at .same) in
       let n = length-added cursor first found bytes add (at .same) in
       let c = count cursor first high low (x ∷ y ∷ ws) found bytes at in
       let m : length (soFar cursor found ++ map value add) ≤ soFarLimit
-      = omega (arith, short, few, c, n, at .within, ap length (sym v), length-map (bytes ++ map (behind first) add) value) in
+      = omega (arith, short, few, c, n, at .within, ap length (sym v), length-map (bytes ++ map (commandsLater first) add) value) in
       record {
         left = ap (λ k. drop k words) two ∙ sym (drop-drop 2 (2 * cursor) words) ∙ ap (drop 2) (at .left);
         same = v ∙ all-found (suc cursor) (soFar cursor found ++ map value add) (λ e. omega (arith, e)) m;
@@ -207,7 +211,7 @@ module _ (code : ℕ) (words : List ℕ) (few : length words ≤ 32) where
   codes-refine (x ∷ y ∷ ws) cursor first high low found bytes at =
       code-step cursor first high low (x ∷ y ∷ ws) found bytes at ((256 * x + y) ∷ wordsIn ws)
       (λ k add short. list-goes-on cursor first high low (x ∷ y ∷ ws) found bytes at add _ short (omega arith)
-      (codes-refine ws (suc cursor) k x y (soFar cursor found ++ map value add) (bytes ++ map (behind first) add) (next-at cursor first high low x y ws found bytes add at short)))
+      (codes-refine ws (suc cursor) k x y (soFar cursor found ++ map value add) (bytes ++ map (commandsLater first) add) (next-at cursor first high low x y ws found bytes add at short)))
 
 pub poll-refines : (code : ℕ) (words : List ℕ) → systemCodesFit words ≡ true → (found : List ℕ) → Refines pollTypeFKind 0 (code ∷ words) found (send fieldStage) (pollTypeF code (wordsIn words))
 poll-refines code words fits found = go words (list-few words fits) some-code
@@ -215,7 +219,7 @@ poll-refines code words fits found = go words (list-few words fits) some-code
     some-code : 1 ≤ length words / 2
     some-code = leb-true 1 (length words / 2) (both-left (leb 1 (length words / 2)) _ (both-right (eqb (length words % 2) 0) _ fits))
 
-    go : (l : List ℕ) → length l ≤ 32 → 1 ≤ length l / 2 → Refines pollTypeFKind 0 (code ∷ l) found (send fieldStage) (pollTypeF code (wordsIn l))
+    go : (l : List ℕ) → length l ≤ 2 * systemCodes → 1 ≤ length l / 2 → Refines pollTypeFKind 0 (code ∷ l) found (send fieldStage) (pollTypeF code (wordsIn l))
     go [] few h = absurd (omega (arith, h))
     go (x ∷ []) few h = absurd (omega (arith, h))
     go (x ∷ y ∷ ws) few h =

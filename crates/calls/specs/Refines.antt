@@ -10,7 +10,7 @@ use Rattle.errors.specs.Choice.{pick}
 use Rattle.errors.specs.Refusals.{byStatus}
 use Rattle.errors.specs.declared.Fault.{Fault}
 use Rattle.errors.specs.declared.Fault.the-variants.{Transport, TimeOut, FalseStart, BrokenFrame, Length, FrameKind, Identifier, Code, Status, ShortResponse, NoCard, CrcA, Rate, CardStatus, OtherCard, UidLayout}
-use Rattle.exchange.specs.Packets.{Reply, response, failed, resetCode, resetData}
+use Rattle.exchange.specs.Packets.{Reply, response, failed}
 use Rattle.protocol.specs.Scripts.{Byte, Answer, nothing, refused, Script, finish, command, reset, fieldPause, refuse, ifElse}
 use Rattle.protocol.specs.Machine.{plainAnswer}
 use Rattle.stages.specs.Stages.{cmd, Decision, send, keep, next, put, pause, ends, withLength}
@@ -19,6 +19,7 @@ use Rattle.calls.specs.Tables.{commandOf, isResetOf, decidedOf, failedOf
 use Rattle.protocol.specs.Names.{fieldPauseTime, commandClock}
 use Rattle.protocol.specs.Starts.{dataLimit}
 use Rattle.calls.specs.Kinds.{lastStage}
+use Rattle.protocol.specs.Calls.{resetModeCode, resetModeData}
 
 -- A decision of a call of this kind, with its cursor, its pending command and its found bytes, leads to the script: both end with the same answer, or
 -- send the same command and go on so for every reply; what is kept or put by is what the later decisions see.
@@ -30,7 +31,7 @@ pub data Refines (kind : ℕ) : ℕ → List ℕ → List ℕ → Decision → S
       → ((r : Fault) → Refines kind cursor pending found (failedOf kind n cursor pending found r) (k (failed r)))
       → Refines kind cursor pending found (send n) (command code clock bytes k)
   refines-reset : {cursor : ℕ} {pending found : List ℕ} (n : ℕ) (s : Script) → leb n lastStage ≡ true → isResetOf kind n ≡ true
-      → commandOf kind n cursor pending ≡ cmd resetCode commandClock resetData
+      → commandOf kind n cursor pending ≡ cmd resetModeCode commandClock resetModeData
       → Refines kind cursor pending found (decidedOf kind n cursor pending found []) s → Refines kind cursor pending found (send n) (reset s)
   refines-keep : {cursor : ℕ} {pending found : List ℕ} (n : ℕ) (l : List ℕ) (s : Script) → length l ≤ foundLimit → Refines kind cursor pending l (send n) s
       → Refines kind cursor pending found (keep n l) s

@@ -11,11 +11,11 @@ use Rattle.errors.specs.Choice.{pick}
 use Rattle.errors.specs.declared.Fault.{Fault}
 use Rattle.errors.specs.declared.Fault.the-variants.{Status, ShortResponse, UidLayout}
 use Rattle.exchange.specs.Packets.{Reply, response, isEmpty}
-use Rattle.targets.specs.TypeA.{isTargetData}
+use Rattle.targets.specs.TypeA.{isTargetData, isType2}
 use Rattle.protocol.specs.Scripts.{Byte, Answer, done, type1, uidAndAts, nothing, refused, Script, finish, command, either, refuse, ifElse, byteAt, rest}
 use Rattle.protocol.specs.Rules.{anyNonzero, maskedStatus}
 use Rattle.protocol.specs.Arguments.{word}
-use Rattle.protocol.specs.Discovery.{detectTypeA, detectTypeASplit, cascaded, isType2, cardA, uidLength, atsLength, foundA, foundSplit, noneOnStatus, cardType1, tryType1, noTarget}
+use Rattle.protocol.specs.Discovery.{detectTypeA, detectTypeASplit, cascaded, cardA, uidLength, atsLength, foundA, foundSplit, noneOnStatus, cardType1, tryType1, noTarget}
 use Rattle.protocol.specs.Machine.{plainAnswer}
 use Rattle.protocol.specs.Values.{rest-values}
 use Rattle.stages.specs.Stages.{Decision, send, ends, withLength}
@@ -25,7 +25,7 @@ use Rattle.stages.specs.Decided.{foundLimit}
 use Rattle.calls.specs.Tables.{commandOf, isResetOf, decidedOf, failedOf}
 use Rattle.calls.specs.Refines.{Refines, refines-keep, refines-next, refines-put, Awaits, refines-if, refines-status, ending, none-found, refusal, by-length, go-on}
 use Rattle.calls.specs.Single.{empty-length}
-use Rattle.protocol.specs.Names.{ciuRxMode, inListPassiveTargetClock, registerWriteFailed, registersClock, ridClock, ridCode, selResOffset, sensReq, sensResOffset, targetOffset, uidOffset}
+use Rattle.protocol.specs.Names.{ciuRxMode, inListPassiveTargetClock, registerWriteFailed, registersClock, ridClock, ridCode, selResOffset, sensReq, sensResOffset, targetOffset, uidOffset, rxCrcEn}
 use Rattle.protocol.specs.Calls.{inDataExchangeCode, inListPassiveTargetCode, readRegisterCode, writeRegisterCode}
 use Rattle.discovery.specs.Kinds.{typeAKind, typeASplitKind, listStage, fifoStage, listType1Stage, ridStage, readRxModeStage, writeRxModeStage}
 
@@ -45,7 +45,7 @@ abbrev rxWritten : Answer Byte → Reply → Script
 rxWritten a = either (λ bs. ifElse (anyNonzero bs) (refuse (Status registerWriteFailed)) (finish a)) refuse
 
 abbrev rxRead : Answer Byte → Reply → Script
-rxRead a = either (λ bs. ifElse (ltb (length bs) 1) (refuse ShortResponse) (command writeRegisterCode registersClock (word ciuRxMode ++ (getD bs 0 0 % 128 ∷ [])) (rxWritten a))) refuse
+rxRead a = either (λ bs. ifElse (ltb (length bs) 1) (refuse ShortResponse) (command writeRegisterCode registersClock (word ciuRxMode ++ (getD bs 0 0 % rxCrcEn ∷ [])) (rxWritten a))) refuse
 
 abbrev ridAnswered : List ℕ → Reply → Script
 ridAnswered found =
@@ -103,7 +103,7 @@ module _ (kind : ℕ) (like : LikeTypeA kind) where
   stage-4 cursor found a then pending = record {
     answered = λ cs few.
         rw (like .rxMode cursor pending found cs)
-        (by-length cs 1 (λ _. refines-put writeRxModeStage _ _ (omega arith) (go-on writeRxModeStage writeRegisterCode registersClock _ refl (like .noReset 5) (like .commands 5 cursor _) (then (word ciuRxMode ++ (getD cs 0 0 % 128 ∷ []))))));
+        (by-length cs 1 (λ _. refines-put writeRxModeStage _ _ (omega arith) (go-on writeRxModeStage writeRegisterCode registersClock _ refl (like .noReset 5) (like .commands 5 cursor _) (then (word ciuRxMode ++ (getD cs 0 0 % rxCrcEn ∷ []))))));
     failing = λ r. rw (like .fails 4 cursor pending found r) (refusal r);
   }
 

@@ -23,9 +23,9 @@ ghost use mathlib.Core.Path.{_≡_};
 ghost use Prim.Native.Nat.{ℕ, _≤_, _<_};
 ghost use Rattle.stages.specs.Starts.{Starts};
 ghost use Rattle.device.specs.Transceive.{timeoutOf};
-ghost use Rattle.protocol.specs.Arguments.{flag, msOf, isLong};
+ghost use Rattle.protocol.specs.Arguments.{flag, msOf, isLongWait};
 ghost use Rattle.protocol.specs.Calls.{device, readWithoutEncryption, writeWithoutEncryption, timed};
-ghost use Rattle.calls.specs.Numbers.{callOf};
+ghost use Rattle.calls.specs.Numbers.{callOf, initiatorCalls, targetCalls, deviceCalls, blockCalls};
 ghost use Rattle.calls.specs.Firsts.{startFor, startBy};
 
 // A call's arguments that are numbers: milliseconds, a word of 16 bits, two bytes, and its caller. What a call does not use counts for
@@ -101,9 +101,12 @@ pub const LAST: u8 = WRITE_WITHOUT_ENCRYPTION;
 // The most ms that are given to a read or a write of FeliCa blocks.
 const MOST_MS: u32 = 65535;
 
-// Calls 1 to 8: the chip's version, mode, parameters and registers.
+// They have 16 bits.
+const MS_VALUES: u32 = 65536;
+
+// The calls below an initiator's: the chip's version, mode, parameters and registers.
 fn chip(number: u8, numbers: Numbers, first: &[u8], command: &mut [u8; DATA_LIMIT]) -> Start
-    requires { ⌜ number < 9 ⌝ }
+    requires { ⌜ number < initiatorCalls ⌝ }
     ensures { λ r. ⌜ ((second third fourth : List ℕ) → Starts r (now (command .entry)) (now (command .exit)) (startBy (callOf number numbers (now (first .entry)) second third fourth))) ⌝ }
 {
     let x = numbers.x;
@@ -128,7 +131,7 @@ fn is_set(x: u8) -> bool
     x != 0
 }
 
-// Calls 9 to 13: what an initiator does, and the start of a target.
+// What an initiator does, and the start of a target.
 fn as_initiator(
     number: u8,
     numbers: Numbers,
@@ -138,7 +141,7 @@ fn as_initiator(
     fourth: &[u8],
     command: &mut [u8; DATA_LIMIT],
 ) -> Start
-    requires { ⌜ (9 ≤ number) × (number < 14) ⌝ }
+    requires { ⌜ (initiatorCalls ≤ number) × (number < targetCalls) ⌝ }
     ensures { λ r. ⌜ Starts r (now (command .entry)) (now (command .exit)) (startBy (callOf number numbers (now (first .entry)) (now (second .entry)) (now (third .entry)) (now (fourth .entry)))) ⌝ }
 {
     let ms = numbers.ms;
@@ -153,9 +156,9 @@ fn as_initiator(
     }
 }
 
-// Calls 14 to 18: what a target does, and the field.
+// What a target does, and the field.
 fn as_target(number: u8, numbers: Numbers, first: &[u8], command: &mut [u8; DATA_LIMIT]) -> Start
-    requires { ⌜ (14 ≤ number) × (number < 19) ⌝ }
+    requires { ⌜ (targetCalls ≤ number) × (number < deviceCalls) ⌝ }
     ensures { λ r. ⌜ ((second third fourth : List ℕ) → Starts r (now (command .entry)) (now (command .exit)) (startBy (callOf number numbers (now (first .entry)) second third fourth))) ⌝ }
 {
     let ms = numbers.ms;
@@ -180,17 +183,17 @@ fn timeout(given: bool, ms: u16) -> Timeout
 }
 
 // More ms are given than there may be.
-fn is_long(given: bool, ms: u32) -> bool
-    ensures { λ r. ⌜ r ≡ isLong given ms ⌝ }
+fn is_long_wait(given: bool, ms: u32) -> bool
+    ensures { λ r. ⌜ r ≡ isLongWait given ms ⌝ }
 {
     if given { MOST_MS < ms } else { false }
 }
 
 // The ms of a read or a write of FeliCa blocks.
 fn block_timeout(given: bool, ms: u32) -> Timeout
-    ensures { λ r. ⌜ (isLong given ms ≡ Bool.false → timeoutOf r ≡ msOf given ms) ⌝ }
+    ensures { λ r. ⌜ (isLongWait given ms ≡ Bool.false → timeoutOf r ≡ msOf given ms) ⌝ }
 {
-    timeout(given, (ms % 65536) as u16)
+    timeout(given, (ms % MS_VALUES) as u16)
 }
 
 fn read_blocks(numbers: Numbers, idm: &[u8], blocks: &[u8], command: &mut [u8; DATA_LIMIT]) -> Start
@@ -199,7 +202,7 @@ fn read_blocks(numbers: Numbers, idm: &[u8], blocks: &[u8], command: &mut [u8; D
     let service = numbers.word;
     let ms = numbers.ms;
     let given = is_set(numbers.y);
-    if is_long(given, ms) {
+    if is_long_wait(given, ms) {
         return start::refused(Refusal::BadArgument);
     }
     let timeout = block_timeout(given, ms);
@@ -218,14 +221,14 @@ fn write_blocks(
     let service = numbers.word;
     let ms = numbers.ms;
     let given = is_set(numbers.y);
-    if is_long(given, ms) {
+    if is_long_wait(given, ms) {
         return start::refused(Refusal::BadArgument);
     }
     let timeout = block_timeout(given, ms);
     write_without_encryption(idm, service, blocks, bytes, timeout, command)
 }
 
-// Calls from 26 on: FeliCa blocks. A number that has no call is refused with 4.
+// FeliCa blocks. A number that has no call is refused with 4.
 fn later(
     number: u8,
     numbers: Numbers,
@@ -234,7 +237,7 @@ fn later(
     third: &[u8],
     command: &mut [u8; DATA_LIMIT],
 ) -> Start
-    requires { ⌜ 26 ≤ number ⌝ }
+    requires { ⌜ blockCalls ≤ number ⌝ }
     ensures { λ r. ⌜ ((fourth : List ℕ) → Starts r (now (command .entry)) (now (command .exit)) (startBy (callOf number numbers (now (first .entry)) (now (second .entry)) (now (third .entry)) fourth))) ⌝ }
 {
     match number {
@@ -244,7 +247,7 @@ fn later(
     }
 }
 
-// Calls 19 to 25, the discoveries and transceive, and those behind them.
+// The discoveries and transceive, and those behind them.
 fn on_device(
     number: u8,
     numbers: Numbers,
@@ -253,7 +256,7 @@ fn on_device(
     third: &[u8],
     command: &mut [u8; DATA_LIMIT],
 ) -> Start
-    requires { ⌜ 19 ≤ number ⌝ }
+    requires { ⌜ deviceCalls ≤ number ⌝ }
     ensures { λ r. ⌜ ((fourth : List ℕ) → Starts r (now (command .entry)) (now (command .exit)) (startBy (callOf number numbers (now (first .entry)) (now (second .entry)) (now (third .entry)) fourth))) ⌝ }
 {
     let word = numbers.word;

@@ -3,14 +3,14 @@ use mathlib.Core.List.{List, [], _∷_, _++_}
 use Prim.Native.Nat.{ℕ}
 use Rattle.protocol.specs.Names.{commandClock, registersClock}
 use Rattle.protocol.specs.Arguments.{word}
-use Rattle.protocol.specs.Calls.{Request, Row, row, resets, rowOf, resetModeCode, readRegisterCode, writeRegisterCode}
+use Rattle.protocol.specs.Calls.{Request, Row, row, resets, rowOf, resetModeCode, readRegisterCode, writeRegisterCode, resetModeData}
 use Rattle.stages.specs.Stages.{Command, cmd}
 use Rattle.stages.specs.Starts.{Start, staged, limited, asserted}
 use Rattle.chipset.specs.Kinds.{kindOf, resetModeKind}
 
 -- the reset, which is stage 0 of its kind
 abbrev pub resetCommand : List ℕ → Command
-resetCommand pending = cmd resetModeCode commandClock (0x01 ∷ [])
+resetCommand pending = cmd resetModeCode commandClock resetModeData
 
 -- read_single_register and write_single_register as commands of a stage
 abbrev pub readCommand : ℕ → List ℕ → Command

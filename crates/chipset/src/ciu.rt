@@ -3,6 +3,9 @@ pub const MODE: u16 = 0x6301;
 
 pub const RX_MODE: u16 = 0x6303;
 
+// RX_MODE's highest bit switches the CRC check on.
+pub const RX_CRC_EN: u8 = 128;
+
 pub const TX_CONTROL: u16 = 0x6304;
 
 pub const FIFO_DATA: u16 = 0x6339;

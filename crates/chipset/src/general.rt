@@ -7,6 +7,7 @@ use super::response::part;
 use errors::Fault;
 use stages::Command;
 use stages::Decision;
+use stages::FIXED_LIMIT;
 use stages::put::DATA_LIMIT;
 use stages::put::put_two;
 use stages::start;
@@ -43,6 +44,22 @@ pub const MAX_RTY_COM: u8 = 0x04;
 pub const MAX_RETRIES: u8 = 0x05;
 
 pub const ANALOG_106A: u8 = 0x0A;
+
+// The time-outs of ATR_RES and of the exchange, behind their item.
+pub const ATR_RES_TIMEOUTS: [u8; FIXED_LIMIT] = [
+    TIMEOUTS,
+    0x0B,
+    0x0B,
+    0x0A,
+    0,
+    0,
+    0,
+    0,
+    0,
+    0,
+    0,
+    0,
+];
 
 pub fn get_firmware_version(command: &mut [u8; DATA_LIMIT]) -> Start
     ensures { λ r. ⌜ Starts r (now (command .entry)) (now (command .exit)) (firstOf version) ⌝ }

@@ -36,6 +36,9 @@ pub const IN_LIST_PASSIVE_TARGET: u8 = 0x4A;
 
 pub const IN_JUMP_FOR_DEP: u8 = 0x56;
 
+// InDataExchange: the status is a byte's low six bits, and the bit above them the more flag.
+pub const MORE_BIT: u8 = 64;
+
 // The number of the one target that the chip has listed.
 pub const TARGET: u8 = 0x01;
 
@@ -84,9 +87,9 @@ pub fn in_data_exchange_response(response: &[u8]) -> Decision
     if response.len() == 0 {
         return Decision::Refused(Fault::Status(err::NO_DATA));
     }
-    let status = response[0] % 64;
+    let status = response[0] % MORE_BIT;
     if status == 0 {
-        let more = response[0] / 64 % 2;
+        let more = response[0] / MORE_BIT % 2;
         let tail = Tail(more, 0, 0, 0, 0, 0, 0, 0, 0, 0, 0, 0);
         Decision::Done(Layout::tailed(1, response.len() - 1, tail, 1))
     } else {

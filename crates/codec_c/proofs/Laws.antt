@@ -21,7 +21,7 @@ use Rattle.framing.specs.declared.FrameType.{FrameType}
 use Rattle.framing.specs.declared.padded.Padded.{Padded}
 use Rattle.framing.specs.declared.settings.Setting.{Setting}
 use Rattle.framing.specs.declared.settings.Setting.the-variants.{Format, Nothing}
-use Rattle.codec_c.specs.Answers.{written, writtenOf, buildFor, appendB, foundOf, parsed, parseFor, parsedPadded, paddedFor}
+use Rattle.codec_c.specs.Answers.{written, writtenOf, buildFor, appendB, frameFound, parseAnswer, parseFor, parsedPadded, paddedFor}
 use Rattle.codec_c.specs.declared.Found.{Found}
 
 module _ (bytes out after : List ℕ) (count : ℕ) (r : Added) (e : _≡_ {A = Returned × List ℕ} (crc.returned r, after) (added typeB bytes out)) where
@@ -38,7 +38,7 @@ module _ (s t : Setting) (e : s ≡ t) where
   unfolding buildFor writtenOf
   no-setting payload buffer count k h g = rw (← e, h, g)
 
-  pub not-parsed : (packet : List ℕ) (places : Found) (k : ℕ) → s ≡ Nothing → k ≡ 4 → parsed k places ≡ parseFor t packet places
+  pub not-parsed : (packet : List ℕ) (places : Found) (k : ℕ) → s ≡ Nothing → k ≡ 4 → parseAnswer k places ≡ parseFor t packet places
   unfolding parseFor
   not-parsed packet places k h g = rw (← e, h, g)
 
@@ -47,12 +47,12 @@ module _ (s t : Setting) (e : s ≡ t) where
   not-padded packet places zeros k h g = rw (← e, h, g)
 
   module _ (f : FrameFormat) (h : s ≡ Format f) where
-    pub was-padded : (packet : List ℕ) (before places : Found) (zeros : ℕ) (a : Padded) → a ≡ parsePadded f true packet → places ≡ foundOf (a .found)
+    pub was-padded : (packet : List ℕ) (before places : Found) (zeros : ℕ) (a : Padded) → a ≡ parsePadded f true packet → places ≡ frameFound (a .found)
         → parsedPadded 0 places (a .zeros) ≡ paddedFor t packet before zeros
     unfolding paddedFor
     was-padded packet before places zeros a g k = rw (← e, h, ← g, k)
 
-    pub was-parsed : (packet : List ℕ) (before places : Found) (p : FrameType) → p ≡ parseOf f packet → places ≡ foundOf p → parsed 0 places ≡ parseFor t packet before
+    pub was-parsed : (packet : List ℕ) (before places : Found) (p : FrameType) → p ≡ parseOf f packet → places ≡ frameFound p → parseAnswer 0 places ≡ parseFor t packet before
     unfolding parseFor
     was-parsed packet before places p g k = rw (← e, h, ← g, k)
 

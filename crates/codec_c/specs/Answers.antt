@@ -42,24 +42,24 @@ appendB bytes out count = writtenOf (added typeB bytes out .0) (added typeB byte
 abbrev pub found : ℕ → ℕ → ℕ → ℕ → Found
 found kind start len frame = record { kind = kind; start = start; len = len; frame = frame }
 
-abbrev pub foundOf : FrameType → Found
-foundOf (Ack n) = found 1 0 0 n
-foundOf (Error n) = found 2 0 0 n
-foundOf (Data start len frame) = found 3 start len frame
-foundOf FrameType.Nothing = found 0 0 0 0
+abbrev pub frameFound : FrameType → Found
+frameFound (Ack n) = found 1 0 0 n
+frameFound (Error n) = found 2 0 0 n
+frameFound (Data start len frame) = found 3 start len frame
+frameFound FrameType.Nothing = found 0 0 0 0
 
 -- the answer, and what the four places hold after it
 pub record Parsed : Type 0 where
   pub answer : ℕ
   pub places : Found
 
-abbrev pub parsed : ℕ → Found → Parsed
-parsed answer places = record { answer = answer; places = places }
+abbrev pub parseAnswer : ℕ → Found → Parsed
+parseAnswer answer places = record { answer = answer; places = places }
 
 -- where there is no such setting, refusal 4 and nothing written
 unfoldable pub parseFor : Setting → List ℕ → Found → Parsed
-parseFor (Format f) packet before = parsed 0 (foundOf (parseOf f packet))
-parseFor Setting.Nothing packet before = parsed 4 before
+parseFor (Format f) packet before = parseAnswer 0 (frameFound (parseOf f packet))
+parseFor Setting.Nothing packet before = parseAnswer 4 before
 
 -- the padded answer: the same, and the number of extra zeros
 pub record ParsedPadded : Type 0 where
@@ -71,7 +71,7 @@ abbrev pub parsedPadded : ℕ → Found → ℕ → ParsedPadded
 parsedPadded answer places zeros = record { answer = answer; places = places; zeros = zeros }
 
 abbrev pub paddedOf : Padded → ParsedPadded
-paddedOf a = parsedPadded 0 (foundOf (a .found)) (a .zeros)
+paddedOf a = parsedPadded 0 (frameFound (a .found)) (a .zeros)
 
 unfoldable pub paddedFor : Setting → List ℕ → Found → ℕ → ParsedPadded
 paddedFor (Format f) packet before zeros = paddedOf (parsePadded f true packet)

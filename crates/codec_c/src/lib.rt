@@ -4,7 +4,7 @@ ghost use Rattle.crc.specs.Crc.{typeA, typeB, checks};
 ghost use Rattle.errors.specs.Refusals.{numbered};
 ghost use Rattle.framing.specs.Frames.{checksumOf};
 ghost use Rattle.framing.specs.Settings.{settingOf};
-ghost use Rattle.codec_c.specs.Answers.{written, buildFor, appendB, found, foundOf, parsed, parseFor, parsedPadded, paddedFor};
+ghost use Rattle.codec_c.specs.Answers.{written, buildFor, appendB, found, frameFound, parseAnswer, parseFor, parsedPadded, paddedFor};
 use crc::Added;
 use errors::Refusal;
 use framing::Built;
@@ -29,7 +29,7 @@ fn number(refusal: Refusal) -> u8
 
 // The kind is 0 for no frame, 1 for Ack, 2 for Error, 3 for Data.
 fn encode(parsed: FrameType) -> Found
-    ensures { λ r. ⌜ r ≡ foundOf parsed ⌝ }
+    ensures { λ r. ⌜ r ≡ frameFound parsed ⌝ }
 {
     match parsed {
         FrameType::Ack(frame) => Found {
@@ -99,7 +99,7 @@ pub extern "C" fn rcs956_frame_parse(
     len: &mut usize,
     frame: &mut usize,
 ) -> u8
-    ensures { λ r. ⌜ parsed r (found (now (kind .exit)) (now (start .exit)) (now (len .exit)) (now (frame .exit))) ≡ parseFor (settingOf setting) (now (packet .entry)) (found (now (kind .entry)) (now (start .entry)) (now (len .entry)) (now (frame .entry))) ⌝ }
+    ensures { λ r. ⌜ parseAnswer r (found (now (kind .exit)) (now (start .exit)) (now (len .exit)) (now (frame .exit))) ≡ parseFor (settingOf setting) (now (packet .entry)) (found (now (kind .entry)) (now (start .entry)) (now (len .entry)) (now (frame .entry))) ⌝ }
 {
     let Setting::Format(format) = framing::settings::by_number(setting) else {
         return number(Refusal::BadArgument);

@@ -12,10 +12,10 @@ use lib.Seq.{drop-cons, take-length, take-append-seam, drop-append-add, drop-dro
 use borrow.Author.Tests.{lt-ltb, le-ltb}
 use Rattle.errors.specs.Refusals.{Returned, answered, refused, plain}
 use Rattle.errors.specs.Choice.{pick, same}
-use Rattle.crc.specs.Crc.{Kind, crcOf, crcBytes, checks}
+use Rattle.crc.specs.Crc.{CrcKind, crcOf, crcBytes, checks}
 use Rattle.crc.specs.Answers.{added}
 
-module _ (k : Kind) (s : List ℕ) where
+module _ (k : CrcKind) (s : List ℕ) where
   pub short : length s < 2 → false ≡ checks k s
   unfolding checks pick
   short h = rw lt-ltb
@@ -36,7 +36,7 @@ module _ (k : Kind) (s : List ℕ) where
         let d : x / 256 % 256 ≡ x / 256 = omega arith in
         rw (le-ltb (length s) 2 h, last-two h, ← e, d, and-true)
 
-module _ (k : Kind) (s out : List ℕ) where
+module _ (k : CrcKind) (s out : List ℕ) where
   pub no-room : length out < length s + 2 → _≡_ {A = Returned × List ℕ} (refused (plain 2), out) (added k s out)
   unfolding added pick
   no-room h = rw lt-ltb

@@ -13,7 +13,7 @@ use lib.ListN.{length, getD, drop}
 use lib.Seq.{drop-cons}
 use borrow.Author.Tests.{eqb-true}
 use Rattle.crc.specs.Laws.{and-parts}
-use Rattle.crc.specs.Crc.{bitsIn, bits, bytesIn}
+use Rattle.crc.specs.Crc.{bitsIn, bits, registerAfter}
 use Rattle.crc.proofs.Linear.{byte-at-once}
 
 -- the entries of t, from place k on, are as they should be
@@ -33,11 +33,11 @@ pub record Tabled (t : List ℕ) : Type 0 where
 
 -- one turn: the byte at place i of s goes in
 pub turn : {t : List ℕ} → Tabled t → (s : List ℕ) (i r : ℕ) → i < length s → getD s i 0 < 256
-    → bytesIn r (drop i s) ≡ bytesIn (bitXor (r / 256) (getD t (bitXor r (getD s i 0) % 256) 0)) (drop (i + 1) s)
-unfolding bytesIn
+    → registerAfter r (drop i s) ≡ registerAfter (bitXor (r / 256) (getD t (bitXor r (getD s i 0) % 256) 0)) (drop (i + 1) s)
+unfolding registerAfter
 turn {t} p s i r h b =
     let e : length t ≡ 256 = p .whole in
     let k : bitXor r (getD s i 0) % 256 < length t = omega arith in
-    ap (bytesIn r) (drop-cons s i 0 h)
+    ap (registerAfter r) (drop-cons s i 0 h)
     ∙ rw (add-one, from t 0 (p .rule) (bitXor r (getD s i 0) % 256) k, zero-add)
-    (ap (λ (x : ℕ). bytesIn x (drop (suc i) s)) (byte-at-once r (getD s i 0) b))
+    (ap (λ (x : ℕ). registerAfter x (drop (suc i) s)) (byte-at-once r (getD s i 0) b))

@@ -28,36 +28,36 @@ bits zero x = []
 bits (suc n) x = x % 2 ∷ bits n (x / 2)
 
 -- The register after a list of bytes.
-unfoldable pub bytesIn : ℕ → List ℕ → ℕ
-bytesIn register [] = register
-bytesIn register (b ∷ bs) = bytesIn (bitsIn register (bits 8 b)) bs
+unfoldable pub registerAfter : ℕ → List ℕ → ℕ
+registerAfter register [] = register
+registerAfter register (b ∷ bs) = registerAfter (bitsIn register (bits 8 b)) bs
 
 -- The two kinds differ in the register's initial value, and in whether the result is inverted.
-pub record Kind : Type 0 where
+pub record CrcKind : Type 0 where
   pub initial : ℕ
   pub inverted : Bool
 
-abbrev pub kind : ℕ → Bool → Kind
-kind initial inverted = record { initial = initial; inverted = inverted }
+abbrev pub crcKind : ℕ → Bool → CrcKind
+crcKind initial inverted = record { initial = initial; inverted = inverted }
 
-abbrev pub typeA : Kind
-typeA = kind 0x6363 false
+abbrev pub typeA : CrcKind
+typeA = crcKind 0x6363 false
 
-abbrev pub typeB : Kind
-typeB = kind 0xFFFF true
+abbrev pub typeB : CrcKind
+typeB = crcKind 0xFFFF true
 
 -- Inverted: each of the register's 16 bits is the other.
 unfoldable pub result : Bool → ℕ → ℕ
 result true register = 0xFFFF - register
 result false register = register
 
-unfoldable pub crcOf : Kind → List ℕ → ℕ
-crcOf k s = result (k .inverted) (bytesIn (k .initial) s)
+unfoldable pub crcOf : CrcKind → List ℕ → ℕ
+crcOf k s = result (k .inverted) (registerAfter (k .initial) s)
 
 -- The CRC as it is sent: two bytes, the low one first.
-unfoldable pub crcBytes : Kind → List ℕ → List ℕ
+unfoldable pub crcBytes : CrcKind → List ℕ → List ℕ
 crcBytes k s = crcOf k s % 256 ∷ crcOf k s / 256 % 256 ∷ []
 
 -- The last two bytes are the CRC of all before them. Under two bytes: no.
-unfoldable pub checks : Kind → List ℕ → Bool
+unfoldable pub checks : CrcKind → List ℕ → Bool
 checks k s = pick (ltb (length s) 2) false (same (drop (length s - 2) s) (crcBytes k (take (length s - 2) s)))

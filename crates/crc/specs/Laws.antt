@@ -10,13 +10,13 @@ use lib.ListN.{length, take, length-append, take-append-drop}
 use lib.Seq.{take-at, drop-at}
 use borrow.Author.Tests.{le-ltb}
 use Rattle.errors.specs.Choice.{pick, same-self, same-is}
-use Rattle.crc.specs.Crc.{Kind, crcBytes, checks}
+use Rattle.crc.specs.Crc.{CrcKind, crcBytes, checks}
 
-pub crc-length : (k : Kind) (s : List ℕ) → length (crcBytes k s) ≡ 2
+pub crc-length : (k : CrcKind) (s : List ℕ) → length (crcBytes k s) ≡ 2
 unfolding crcBytes
 crc-length k s = refl
 
-pub own-checks : (k : Kind) (s : List ℕ) → checks k (s ++ crcBytes k s) ≡ true
+pub own-checks : (k : CrcKind) (s : List ℕ) → checks k (s ++ crcBytes k s) ≡ true
 unfolding checks pick
 own-checks k s =
     let e : length (s ++ crcBytes k s) ≡ length s + 2 = length-append s (crcBytes k s) ∙ ap (_+_ (length s)) (crc-length k s) in
@@ -31,7 +31,7 @@ unfolding pick
 not-short true b e = cc
 not-short false b e = e
 
-pub checked : (k : Kind) (s : List ℕ) → checks k s ≡ true → s ≡ take (length s - 2) s ++ crcBytes k (take (length s - 2) s)
+pub checked : (k : CrcKind) (s : List ℕ) → checks k s ≡ true → s ≡ take (length s - 2) s ++ crcBytes k (take (length s - 2) s)
 unfolding checks
 checked k s e =
     sym (take-append-drop (length s - 2) s)

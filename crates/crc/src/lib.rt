@@ -3,7 +3,7 @@ ghost use mathlib.Core.List.{List};
 ghost use mathlib.Core.Path.{_≡_};
 ghost use Prim.Native.Nat.{ℕ};
 ghost use Rattle.errors.specs.Refusals.{Returned};
-ghost use Rattle.crc.specs.Crc.{kind, typeA, typeB, crcOf, checks};
+ghost use Rattle.crc.specs.Crc.{crcKind, typeA, typeB, crcOf, checks};
 ghost use Rattle.crc.specs.Answers.{returned, added};
 
 mod table;
@@ -22,7 +22,7 @@ pub enum Added {
 
 // The CRC of `data`, a byte at a time. `table` is filled once, before the loop: a constant that the loop itself names would be filled at each turn.
 fn calculate_crc(data: &[u8], initial: u16, inverted: bool) -> u16
-    ensures { λ r. ⌜ r ≡ crcOf (kind initial inverted) (now («data» .entry)) ⌝ }
+    ensures { λ r. ⌜ r ≡ crcOf (crcKind initial inverted) (now («data» .entry)) ⌝ }
 {
     let table = TABLE;
     let mut register = initial;
@@ -36,7 +36,7 @@ fn calculate_crc(data: &[u8], initial: u16, inverted: bool) -> u16
 }
 
 fn verify_crc(data: &[u8], initial: u16, inverted: bool) -> bool
-    ensures { λ r. ⌜ r ≡ checks (kind initial inverted) (now («data» .entry)) ⌝ }
+    ensures { λ r. ⌜ r ≡ checks (crcKind initial inverted) (now («data» .entry)) ⌝ }
 {
     if data.len() < 2 {
         return false;
@@ -47,7 +47,7 @@ fn verify_crc(data: &[u8], initial: u16, inverted: bool) -> bool
 }
 
 fn append_crc(data: &[u8], out: &mut [u8], initial: u16, inverted: bool) -> Added
-    ensures { λ r. ⌜ _≡_ {A = Returned × List ℕ} (returned r, now (out .exit)) (added (kind initial inverted) (now («data» .entry)) (now (out .entry))) ⌝ }
+    ensures { λ r. ⌜ _≡_ {A = Returned × List ℕ} (returned r, now (out .exit)) (added (crcKind initial inverted) (now («data» .entry)) (now (out .entry))) ⌝ }
 {
     let n = data.len();
     if out.len() < n + 2 {

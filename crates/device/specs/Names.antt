@@ -10,21 +10,7 @@ use lib.Seq.{drop-cons, take-append-add}
 use Rattle.errors.specs.Choice.{pick}
 use Rattle.stages.specs.Decided.{Lays}
 use Rattle.stages.specs.declared.Layout.{Layout}
-
--- a byte in lower-case hex, unpadded
-unfoldable pub hexDigit : ℕ → ℕ
-hexDigit n = pick (ltb n 10) (0x30 + n) (0x57 + n)
-
-unfoldable pub hex : ℕ → List ℕ
-hex b = pick (ltb b 16) (hexDigit b ∷ []) (hexDigit (b / 16) ∷ hexDigit (b % 16) ∷ [])
-
--- version, a dot, revision, in hex
-unfoldable pub dotted : ℕ → ℕ → List ℕ
-dotted ver rev = hex ver ++ (0x2E ∷ hex rev)
-
--- RCS956v and these
-unfoldable pub nameBytes : ℕ → ℕ → List ℕ
-nameBytes ver rev = 0x52 ∷ 0x43 ∷ 0x53 ∷ 0x39 ∷ 0x35 ∷ 0x36 ∷ 0x76 ∷ dotted ver rev
+use Rattle.protocol.specs.Device.{hexDigit, hex, dotted, namePrefix, nameBytes}
 
 -- the version bytes and the name
 abbrev pub openedBytes : ℕ → ℕ → ℕ → List ℕ
@@ -65,12 +51,10 @@ five l h =
 
 -- RCS956v, with a list of five behind it that is cut to the dotted numbers
 pub named-is : (ver rev n : ℕ) (l : List ℕ) → length l ≡ 5 → take n l ≡ dotted ver rev
-    → take (7 + n) (0x52 ∷ 0x43 ∷ 0x53 ∷ 0x39 ∷ 0x35 ∷ 0x36 ∷ 0x76 ∷ getD l 0 0 ∷ getD l 1 0 ∷ getD l 2 0 ∷ getD l 3 0 ∷ getD l 4 0 ∷ [])
+    → take (length namePrefix + n) (namePrefix ++ (getD l 0 0 ∷ getD l 1 0 ∷ getD l 2 0 ∷ getD l 3 0 ∷ getD l 4 0 ∷ []))
     ≡ nameBytes ver rev
-unfolding nameBytes
 named-is ver rev n l h e =
-    let seven : List ℕ = 0x52 ∷ 0x43 ∷ 0x53 ∷ 0x39 ∷ 0x35 ∷ 0x36 ∷ 0x76 ∷ [] in
-    ap (λ r. take (7 + n) (seven ++ r)) (five l h) ∙ take-append-add seven l n ∙ ap (λ r. seven ++ r) e
+    ap (λ r. take (length namePrefix + n) (namePrefix ++ r)) (five l h) ∙ take-append-add namePrefix l n ∙ ap (λ r. namePrefix ++ r) e
 
 -- the first three bytes of a response, and the name behind them
 pub lays-opened : (f b t : List ℕ) (r : Layout) → 4 ≤ length b → t ≡ nameBytes (getD b 1 0) (getD b 2 0) → Lays f b r (take 3 b ++ t)

@@ -9,26 +9,26 @@ use Rattle.stages.specs.Stages.{Command, cmd, Decision, send, keep, withLength}
 use Rattle.chipset.specs.Responses.{foundWritten}
 use Rattle.device.specs.Names.{openedBytes}
 use Rattle.protocol.specs.Arguments.{word}
-use Rattle.protocol.specs.Names.{commandClock, registersClock, rfCfgRam07}
-use Rattle.protocol.specs.Calls.{getFirmwareVersionCode, resetModeCode, rfConfigurationCode, setParametersCode, writeRegisterCode}
+use Rattle.protocol.specs.Names.{commandClock, registersClock, rfCfgRam07, rfFieldItem, fieldOff, timeoutsItem, timeouts, maxRtyComItem, maxRtyCom, maxRetriesItem, maxRetries, analog106AItem, analog106A, openingParameters, openingRfCfg}
+use Rattle.protocol.specs.Calls.{getFirmwareVersionCode, resetModeCode, rfConfigurationCode, setParametersCode, writeRegisterCode, resetModeData}
 use Rattle.device.specs.Kinds.{resetStage, versionStage, fieldOffStage, timeoutsStage, maxRtyComStage, maxRetriesStage, analogStage, parametersStage, resetAgainStage, rfCfgStage}
 
 -- Device::new
 unfoldable pub settingsCommand : ℕ → List ℕ → Command
 settingsCommand stage pending =
-    pick (eqb stage maxRetriesStage) (cmd rfConfigurationCode commandClock (0x05 ∷ 0x00 ∷ 0x00 ∷ 0x01 ∷ []))
-    (pick (eqb stage analogStage) (cmd rfConfigurationCode commandClock (0x0A ∷ 0x5A ∷ 0xF4 ∷ 0x3F ∷ 0x11 ∷ 0x4D ∷ 0x85 ∷ 0x61 ∷ 0x6F ∷ 0x26 ∷ 0x62 ∷ 0x87 ∷ []))
-    (pick (eqb stage parametersStage) (cmd setParametersCode commandClock (0x08 ∷ []))
-    (pick (eqb stage resetAgainStage) (cmd resetModeCode commandClock (0x01 ∷ []))
-    (cmd writeRegisterCode registersClock (word rfCfgRam07 ++ (0x59 ∷ []))))))
+    pick (eqb stage maxRetriesStage) (cmd rfConfigurationCode commandClock (maxRetriesItem ∷ maxRetries))
+    (pick (eqb stage analogStage) (cmd rfConfigurationCode commandClock (analog106AItem ∷ analog106A))
+    (pick (eqb stage parametersStage) (cmd setParametersCode commandClock (openingParameters ∷ []))
+    (pick (eqb stage resetAgainStage) (cmd resetModeCode commandClock resetModeData)
+    (cmd writeRegisterCode registersClock (word rfCfgRam07 ++ (openingRfCfg ∷ []))))))
 
 unfoldable pub openingCommand : ℕ → List ℕ → Command
 openingCommand stage pending =
-    pick (eqb stage resetStage) (cmd resetModeCode commandClock (0x01 ∷ []))
+    pick (eqb stage resetStage) (cmd resetModeCode commandClock resetModeData)
     (pick (eqb stage versionStage) (cmd getFirmwareVersionCode commandClock [])
-    (pick (eqb stage fieldOffStage) (cmd rfConfigurationCode commandClock (0x01 ∷ 0x02 ∷ []))
-    (pick (eqb stage timeoutsStage) (cmd rfConfigurationCode commandClock (0x02 ∷ 0x0B ∷ 0x0B ∷ 0x0A ∷ []))
-    (pick (eqb stage maxRtyComStage) (cmd rfConfigurationCode commandClock (0x04 ∷ 0x00 ∷ []))
+    (pick (eqb stage fieldOffStage) (cmd rfConfigurationCode commandClock (rfFieldItem ∷ fieldOff ∷ []))
+    (pick (eqb stage timeoutsStage) (cmd rfConfigurationCode commandClock (timeoutsItem ∷ timeouts))
+    (pick (eqb stage maxRtyComStage) (cmd rfConfigurationCode commandClock (maxRtyComItem ∷ maxRtyCom))
     (settingsCommand stage pending)))))
 
 unfoldable pub isResetStage : ℕ → Bool

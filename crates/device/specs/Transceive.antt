@@ -13,6 +13,7 @@ use Rattle.errors.specs.declared.Fault.the-variants.{Status, CrcA}
 use Rattle.errors.specs.declared.Refusal.the-variants.{NotSendable}
 use Rattle.crc.specs.Crc.{typeA as crcA, checks}
 use Rattle.targets.specs.Bitrates.{choiceOf}
+use Rattle.targets.specs.TypeA.{isType2}
 use Rattle.targets.specs.declared.Bitrate.{Bitrate}
 use Rattle.protocol.specs.Scripts.{Answer, done, refused}
 use Rattle.protocol.specs.Rules.{maskedStatus}
@@ -59,9 +60,9 @@ pub no-sel-res : (l : List ℕ) → length l ≡ 0 → false ≡ type2SelRes l
 no-sel-res [] h = refl
 no-sel-res (x ∷ l) h = absurd (omega arith)
 
-pub sel-res : (l : List ℕ) → (length l ≡ 0 → ⊥) → eqb (getD l 0 0 / 32 % 4) 0 ≡ type2SelRes l
-sel-res [] h = absurd (h refl)
-sel-res (x ∷ l) h = refl
+pub sel-res : (l : List ℕ) → (r : Bool) → (length l ≡ 0 → ⊥) → r ≡ isType2 (getD l 0 0) → r ≡ type2SelRes l
+sel-res [] r h e = absurd (h refl)
+sel-res (x ∷ l) r h e = e
 
 module _ (r : code.Start) (c₀ c₁ : List ℕ) (c : Command) (t : Bool) where
   pub kind-type2 : t ≡ true → Starts r c₀ c₁ (limited type2Kind c) → Starts r c₀ c₁ (limited (pick t type2Kind thruKind) c)

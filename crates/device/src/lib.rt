@@ -8,11 +8,11 @@ use chipset::general;
 use chipset::registers;
 use errors::Fault;
 use general::ANALOG_106A;
+use general::ATR_RES_TIMEOUTS;
 use general::FIELD_OFF;
 use general::MAX_RETRIES;
 use general::MAX_RTY_COM;
 use general::RF_FIELD;
-use general::TIMEOUTS;
 use stages::Command;
 use stages::Decision;
 use stages::FIXED_LIMIT;
@@ -26,8 +26,8 @@ ghost use Rattle.protocol.specs.Names.{commandClock};
 ghost use Rattle.protocol.specs.Calls.{rfConfigurationCode};
 ghost use Rattle.stages.specs.Stages.{cmd};
 ghost use Rattle.stages.specs.Decided.{tailBytes, DecisionRefines, Commands, fixedLimit, tailLimit};
-ghost use Rattle.device.specs.Names.{hexDigit, dotted, nameBytes};
 ghost use Rattle.device.specs.Opening.{openingCommand, settingsCommand, isResetStage, versionKept, openingDecision};
+ghost use Rattle.protocol.specs.Device.{hexDigit, dotted, nameBytes};
 
 // The kind of the opening; the other kinds are of chipset and discovery.
 pub const OPENING: u8 = 1;
@@ -95,7 +95,7 @@ pub fn command(stage: u8) -> Command
             0,
         ),
         STAGE_FIELD_OFF => configured([RF_FIELD, FIELD_OFF, 0, 0, 0, 0, 0, 0, 0, 0, 0, 0], 2),
-        STAGE_TIMEOUTS => configured([TIMEOUTS, 0x0B, 0x0B, 0x0A, 0, 0, 0, 0, 0, 0, 0, 0], 4),
+        STAGE_TIMEOUTS => configured(ATR_RES_TIMEOUTS, 4),
         STAGE_MAX_RTY_COM => configured([MAX_RTY_COM, 0x00, 0, 0, 0, 0, 0, 0, 0, 0, 0, 0], 2),
         _ => settings(stage),
     }

@@ -15,6 +15,7 @@ use stages::start;
 use stages::start::Start;
 use targets::Bitrate;
 use targets::Coded;
+use targets::type_a;
 ghost use mathlib.Core.Bool.{_&&_};
 ghost use mathlib.Core.Path.{_≡_};
 ghost use Rattle.protocol.specs.Starts.{is106A, type2SelRes, isSendable, clockOf};
@@ -54,7 +55,7 @@ fn is_type2(sel_res: &[u8]) -> bool
     if sel_res.len() == 0 {
         false
     } else {
-        sel_res[0] / 32 % 4 == 0
+        type_a::is_type2(sel_res[0])
     }
 }
 
@@ -167,7 +168,7 @@ pub fn type1_response(response: &[u8]) -> Decision
     if response.len() == 0 {
         return Decision::Refused(Fault::Status(err::NO_DATA));
     }
-    let status = response[0] % 64;
+    let status = response[0] % initiator::MORE_BIT;
     if status == 0 {
         from(response, 1)
     } else {

@@ -8,15 +8,15 @@ use Rattle.errors.specs.Choice.{pick}
 use Rattle.errors.specs.Refusals.{byStatus}
 use Rattle.errors.specs.declared.Fault.{Fault}
 use Rattle.errors.specs.declared.Fault.the-variants.{Status, NoCard, UidLayout}
-use Rattle.targets.specs.TypeA.{isTargetData}
+use Rattle.targets.specs.TypeA.{isTargetData, isType2}
 use Rattle.framing.specs.Lists.{both}
 use Rattle.protocol.specs.Scripts.{done, type1, uidAndAts, nothing, refused, refusedAfter}
 use Rattle.protocol.specs.Rules.{anyNonzero, statusByte, maskedStatus}
 use Rattle.protocol.specs.Arguments.{word}
-use Rattle.protocol.specs.Discovery.{isType2, uidLength, atsLength, sensfReq, byNoCard}
+use Rattle.protocol.specs.Discovery.{uidLength, atsLength, byNoCard, systemCodeReq}
 use Rattle.chipset.specs.Responses.{foundWritten}
 use Rattle.stages.specs.Stages.{Command, cmd, Decision, send, keep, next, put, pause, ends, refuse, withLength}
-use Rattle.protocol.specs.Names.{ciuFifoData, ciuMode, ciuRxMode, ciuTxControl, commandClock, fieldPauseTime, inJumpForDepClock, inListPassiveTargetClock, registerWriteFailed, registersClock, rfNotActivated, ridClock, timeoutStatus, typeBClock, deselectCode, idmAndPmm, listedIdmOffset, pmmEnd, protocolOffset, ridCode, selResOffset, sensReq, sensResOffset, targetOffset, uidOffset, wupbCode, wupbParameter}
+use Rattle.protocol.specs.Names.{ciuFifoData, ciuMode, ciuRxMode, ciuTxControl, commandClock, fieldPauseTime, inJumpForDepClock, inListPassiveTargetClock, registerWriteFailed, registersClock, rfNotActivated, ridClock, timeoutStatus, typeBClock, deselectCode, idmAndPmm, listedIdmOffset, pmmEnd, protocolOffset, ridCode, selResOffset, sensReq, sensResOffset, targetOffset, uidOffset, wupbCode, wupbParameter, rfFieldItem, fieldOn, timeoutsItem, timeouts, rxCrcEn, noDetectSync, atrResCmd0, atrResCmd1}
 use Rattle.protocol.specs.Calls.{inCommunicateThruCode, inDataExchangeCode, inJumpForDepCode, inListPassiveTargetCode, readRegisterCode, rfConfigurationCode, writeRegisterCode}
 use Rattle.discovery.specs.Kinds.{listStage, fifoStage, listType1Stage, ridStage, readRxModeStage, writeRxModeStage, deselectStage, wakeUpStage, fieldStage, rfOnStage, pollStage, timeoutsStage, jumpStage, writeModeStage}
 
@@ -57,7 +57,7 @@ ridOf found bs =
     (pick (eqb (maskedStatus bs) 0) (withLength found 2 (ends (type1 (take 2 found ++ drop 1 bs)))) (ends nothing))
 
 unfoldable pub rxModeRead : List ℕ → Decision
-rxModeRead bs = withLength bs 1 (put writeRxModeStage (word ciuRxMode ++ (getD bs 0 0 % 128 ∷ [])))
+rxModeRead bs = withLength bs 1 (put writeRxModeStage (word ciuRxMode ++ (getD bs 0 0 % rxCrcEn ∷ [])))
 
 unfoldable pub typeADecision : ℕ → List ℕ → List ℕ → Decision
 typeADecision stage found bs =
@@ -124,7 +124,7 @@ typeBFailure stage fault = pick (eqb stage deselectStage) (send wakeUpStage) (pi
 
 unfoldable pub typeFCommand : ℕ → List ℕ → Command
 typeFCommand stage pending =
-    pick (eqb stage fieldStage) (cmd readRegisterCode registersClock (word ciuTxControl)) (pick (eqb stage rfOnStage) (cmd rfConfigurationCode commandClock (0x01 ∷ 0x01 ∷ [])) (cmd inListPassiveTargetCode inListPassiveTargetClock pending))
+    pick (eqb stage fieldStage) (cmd readRegisterCode registersClock (word ciuTxControl)) (pick (eqb stage rfOnStage) (cmd rfConfigurationCode commandClock (rfFieldItem ∷ fieldOn ∷ [])) (cmd inListPassiveTargetCode inListPassiveTargetClock pending))
 
 unfoldable pub txControlRead : List ℕ → Decision
 txControlRead bs = withLength bs 1 (pick (eqb (getD bs 0 0 % 4) 0) (send rfOnStage) (send pollStage))
@@ -140,7 +140,7 @@ typeFDecision stage bs = pick (eqb stage fieldStage) (txControlRead bs) (pick (e
 
 -- the poll of the cursor's code
 abbrev pub pollOf : ℕ → List ℕ → List ℕ
-pollOf cursor pending = 1 ∷ getD pending 0 0 ∷ sensfReq (256 * getD pending (2 * cursor + 1) 0 + getD pending (2 * cursor + 2) 0) 0x01 0x00
+pollOf cursor pending = 1 ∷ getD pending 0 0 ∷ systemCodeReq (256 * getD pending (2 * cursor + 1) 0 + getD pending (2 * cursor + 2) 0)
 
 unfoldable pub pollCommand : ℕ → ℕ → List ℕ → Command
 pollCommand stage cursor pending = typeFCommand stage (pollOf cursor pending)
@@ -192,14 +192,14 @@ pollDecision stage cursor pending found bs =
 
 unfoldable pub depCommand : ℕ → List ℕ → Command
 depCommand stage pending =
-    pick (eqb stage timeoutsStage) (cmd rfConfigurationCode commandClock (0x02 ∷ 0x0B ∷ 0x0B ∷ 0x0A ∷ []))
-    (pick (eqb stage jumpStage) (cmd inJumpForDepCode inJumpForDepClock pending) (cmd writeRegisterCode registersClock (word ciuMode ++ (0x3B ∷ []))))
+    pick (eqb stage timeoutsStage) (cmd rfConfigurationCode commandClock (timeoutsItem ∷ timeouts))
+    (pick (eqb stage jumpStage) (cmd inJumpForDepCode inJumpForDepClock pending) (cmd writeRegisterCode registersClock (word ciuMode ++ (noDetectSync ∷ []))))
 
 unfoldable pub noPartner : ℕ → Decision
 noPartner status = pick (eqb status timeoutStatus || eqb status rfNotActivated) (ends nothing) (refuse (Status status))
 
 unfoldable pub jumpedTo : List ℕ → Decision
-jumpedTo bs = pick (eqb (statusByte bs) 0) (withLength bs 2 (keep writeModeStage (0xD5 ∷ 0x01 ∷ drop 2 bs))) (noPartner (statusByte bs))
+jumpedTo bs = pick (eqb (statusByte bs) 0) (withLength bs 2 (keep writeModeStage (atrResCmd0 ∷ atrResCmd1 ∷ drop 2 bs))) (noPartner (statusByte bs))
 
 unfoldable pub depDecision : ℕ → List ℕ → List ℕ → Decision
 depDecision stage found bs = pick (eqb stage timeoutsStage) (send jumpStage) (pick (eqb stage jumpStage) (jumpedTo bs) (foundWritten found bs))

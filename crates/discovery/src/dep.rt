@@ -7,14 +7,12 @@ use chipset::ciu;
 use chipset::clock;
 use chipset::err;
 use chipset::general;
-use chipset::general::TIMEOUTS;
 use chipset::initiator;
 use chipset::registers;
 use errors::Fault;
 use errors::Refusal;
 use stages::Command;
 use stages::Decision;
-use stages::FIXED_LIMIT;
 use stages::Head;
 use stages::Layout;
 use stages::byte_or;
@@ -95,11 +93,13 @@ const STAGE_JUMP: u8 = 1;
 
 const STAGE_WRITE_MODE: u8 = 2;
 
-// The time-outs of ATR_RES and of the exchange.
-const ATR_RES_TIMEOUTS: [u8; FIXED_LIMIT] = [TIMEOUTS, 0x0B, 0x0B, 0x0A, 0, 0, 0, 0, 0, 0, 0, 0];
-
 // CIU_Mode with the detect-sync bit off.
 const NO_DETECT_SYNC: u8 = 0x3B;
+
+// The first two bytes of ATR_RES.
+const ATR_RES_CMD0: u8 = 0xD5;
+
+const ATR_RES_CMD1: u8 = 0x01;
 
 // The command of a stage.
 pub fn command(stage: u8) -> Command
@@ -109,7 +109,7 @@ pub fn command(stage: u8) -> Command
         STAGE_TIMEOUTS => Command::with(
             general::RF_CONFIGURATION,
             clock::COMMAND,
-            ATR_RES_TIMEOUTS,
+            general::ATR_RES_TIMEOUTS,
             4,
         ),
         STAGE_JUMP => Command::pending(initiator::IN_JUMP_FOR_DEP, clock::IN_JUMP_FOR_DEP),
@@ -138,7 +138,7 @@ fn jumped(response: &[u8]) -> Decision
         } else {
             Decision::Keep(
                 STAGE_WRITE_MODE,
-                Layout::headed(Head(0xD5, 0x01, 0), 2, response, 2),
+                Layout::headed(Head(ATR_RES_CMD0, ATR_RES_CMD1, 0), 2, response, 2),
             )
         }
     } else {

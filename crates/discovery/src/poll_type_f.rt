@@ -1,11 +1,12 @@
-// poll_type_f: detect_type_f for each system code of a list, with request code 01 and time slots 00. The pending command is the
-// bitrate's code and the system codes, two bytes each; the cursor is the number of codes finished.
+// poll_type_f: detect_type_f for each system code of a list. The pending command is the bitrate's code and the system codes, two bytes
+// each; the cursor is the number of codes finished.
 use super::POLL_TYPE_F;
 use super::rates::Supported;
 use super::rates::rate;
 use super::rates::type_f_code;
 use super::type_f;
 use super::type_f::IDM;
+use super::type_f::SENSF_REQ;
 use super::type_f::STAGE_FIELD;
 use errors::Fault;
 use errors::Refusal;
@@ -32,6 +33,11 @@ ghost use Rattle.discovery.specs.Firsts.{pollAsserted};
 const CODES: usize = 16;
 
 const LAST_CODE: u8 = 15;
+
+// Each is polled with this request code, in one time slot.
+const SYSTEM_CODE: u8 = 0x01;
+
+const ONE_SLOT: u8 = 0x00;
 
 // What a code adds to the answer: one of two marks, and behind the first IDm and PMm, which stand in the response from byte 4 on.
 const CARD: u8 = 0x01;
@@ -88,7 +94,20 @@ pub fn command(stage: u8, cursor: u8, pending: &[u8]) -> Command
             code: next.code,
             clock: next.clock,
             is_pending: false,
-            bytes: [1, code, 0x00, high, low, 0x01, 0x00, 0, 0, 0, 0, 0],
+            bytes: [
+                1,
+                code,
+                SENSF_REQ,
+                high,
+                low,
+                SYSTEM_CODE,
+                ONE_SLOT,
+                0,
+                0,
+                0,
+                0,
+                0,
+            ],
             len: 7,
         }
     } else {

@@ -20,6 +20,7 @@ use stages::put::DATA_LIMIT;
 use stages::put::put_two;
 use stages::start;
 use stages::start::Start;
+use targets::type_a::is_type2;
 ghost use mathlib.Core.List.{List};
 ghost use Prim.Native.Nat.{ℕ, _≤_};
 ghost use lib.ListN.{length};
@@ -153,7 +154,7 @@ fn listed_a(response: &[u8]) -> Decision
     if response.len() < UID {
         return Decision::Nothing;
     }
-    if response[SEL_RES] / 32 % 4 == 0 {
+    if is_type2(response[SEL_RES]) {
         Decision::Keep(STAGE_READ_RX_MODE, card(response))
     } else {
         Decision::Done(card(response))
@@ -208,7 +209,7 @@ fn rid(found: &[u8], response: &[u8]) -> Decision
     if response.len() == 0 {
         return Decision::Nothing;
     }
-    if response[0] % 64 != 0 {
+    if response[0] % initiator::MORE_BIT != 0 {
         return Decision::Nothing;
     }
     if found.len() < 2 {
@@ -226,7 +227,10 @@ fn rx_mode(response: &[u8]) -> Decision
     } else {
         let high = (ciu::RX_MODE / 256) as u8;
         let low = (ciu::RX_MODE % 256) as u8;
-        Decision::Put(STAGE_WRITE_RX_MODE, Head(high, low, response[0] % 128))
+        Decision::Put(
+            STAGE_WRITE_RX_MODE,
+            Head(high, low, response[0] % ciu::RX_CRC_EN),
+        )
     }
 }
 

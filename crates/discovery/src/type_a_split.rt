@@ -19,6 +19,7 @@ use stages::byte_or;
 use stages::put::DATA_LIMIT;
 use stages::start::Start;
 use targets::type_a::is_target_data;
+use targets::type_a::is_type2;
 ghost use mathlib.Core.List.{List};
 ghost use Prim.Native.Nat.{ℕ, _≤_};
 ghost use lib.ListN.{length};
@@ -48,7 +49,7 @@ fn found(response: &[u8]) -> Decision
 {
     if is_target_data(&response[TARGET_DATA..]) {
         let uid = response[UID_LENGTH];
-        if response[SEL_RES] / 32 % 4 == 0 {
+        if is_type2(response[SEL_RES]) {
             Decision::Next(STAGE_READ_RX_MODE, uid, card(response))
         } else {
             let ats = byte_or(response, UID + uid as usize, 0);

@@ -44,10 +44,13 @@ pub fn detect_type_f(
     };
     let high = (system_code / 256) as u8;
     let low = (system_code % 256) as u8;
-    let head = [1, code, 0x00, high, low, request_code, time_slots];
+    let head = [1, code, SENSF_REQ, high, low, request_code, time_slots];
     let n = put_two(&head, &[], command);
     start::staged(TYPE_F, n)
 }
+
+// SENSF_REQ's code.
+pub(crate) const SENSF_REQ: u8 = 0x00;
 
 // The stages.
 pub(crate) const STAGE_FIELD: u8 = 0;

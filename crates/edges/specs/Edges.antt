@@ -9,7 +9,7 @@ use Rattle.errors.specs.Choice.{pick, same}
 use Rattle.errors.specs.Refusals.{faultNumbered, plain}
 use Rattle.errors.specs.declared.Fault.{Fault}
 use Rattle.errors.specs.declared.Fault.the-variants.{TimeOut, BrokenFrame}
-use Rattle.crc.specs.Crc.{Kind, typeA, typeB, polynomial, bitIn, bitsIn, bits, bytesIn, result, crcOf, crcBytes, checks}
+use Rattle.crc.specs.Crc.{CrcKind, typeA, typeB, polynomial, bitIn, bitsIn, bits, registerAfter, result, crcOf, crcBytes, checks}
 use Rattle.framing.specs.Frames.{total, checksumOf, ack, normalFrame, extendedFrame, lengthBytes, headOf, frameOf}
 use Rattle.framing.specs.Lists.{starts}
 use Rattle.framing.specs.Parse.{isError, extends, lengthAt, normalAt, extendedAt, normalOf, extendedOf, dataOf, parseOf, payloadOf}
@@ -22,7 +22,7 @@ use Rattle.framing.specs.declared.FrameType.the-variants.{Error, Nothing}
 use Rattle.framing.specs.declared.LengthEncoding.{LengthEncoding}
 use Rattle.framing.specs.declared.LengthEncoding.the-variants.{Normal, ExtendedLittleEndian, NormalOrExtendedBigEndian}
 use Rattle.exchange.specs.Packets.{hasStart, ackLed, Reply, response, failed, replyOf}
-use Rattle.exchange.specs.Exchange.{write, read, pkt, pending, Step, reading, waiting, cancelling, afterAck, advance}
+use Rattle.exchange.specs.Exchange.{write, read, pkt, pending, ExchangePhase, reading, waiting, cancelling, afterAck, advance}
 use Rattle.protocol.specs.Scripts.{Byte, card, done, Script, finish, command, reset, fieldPause, part, rest}
 use Rattle.protocol.specs.Discovery.{cascaded, transceiveType2}
 use Rattle.chipset.specs.Responses.{withStatus}
@@ -36,13 +36,13 @@ pub data Edge : Type 0 where
   payload : FrameFormat → List ℕ → List ℕ → Edge  -- the payload of a packet
   refused : List ℕ → Fault → ℕ → Edge  -- what the packet is refused with in step 5 of the exchange, and the number of that
   skipped : List ℕ → Edge  -- the exchange skips the packet (its step 4), be it the first or a later one
-  crc : Kind → List ℕ → List ℕ → Edge  -- the CRC of some bytes
+  crc : CrcKind → List ℕ → List ℕ → Edge  -- the CRC of some bytes
   uid : List ℕ → List ℕ → Edge  -- the bytes that are sent for a UID
   type2 : List ℕ → List ℕ → Edge  -- the kind of tag that a response with a Type 2 reply is
   type2-call : List ℕ → List Byte → Edge  -- the answer of the call itself, with the bytes' places
 
 -- the exchange reads on, for any command and any clock but 0
-abbrev pub ReadsOn : (ℕ → ℕ → Step) → List ℕ → Type 0
+abbrev pub ReadsOn : (ℕ → ℕ → ExchangePhase) → List ℕ → Type 0
 ReadsOn step p = (code clock : ℕ) → eqb clock 0 ≡ false → advance (step code clock) (pkt p) ≡ pending (read clock) (waiting code clock)
 
 -- what follows the reply to a script's command
@@ -65,9 +65,9 @@ Holds (uid u bs) = cascaded u ≡ bs
 Holds (type2 p bs) = type2Answer p ≡ done bs
 Holds (type2-call p bs) = (bytes : List ℕ) (ms : ℕ) → replied (response p) (transceiveType2 bytes ms) ≡ finish (done bs)
 
-abbrev pub All : List Edge → Type 0
-All [] = Unit {0}
-All (x ∷ xs) = Holds x × All xs
+abbrev pub AllHold : List Edge → Type 0
+AllHold [] = Unit {0}
+AllHold (x ∷ xs) = Holds x × AllHold xs
 
 abbrev pub statusFrame : List ℕ
 statusFrame = 0x00 ∷ 0x00 ∷ 0xFF ∷ 0x01 ∷ 0xFF ∷ 0x7F ∷ 0x81 ∷ 0x00 ∷ []
@@ -82,8 +82,8 @@ twoBytes = 0x00 ∷ 0x0A ∷ 0x0B ∷ []
 abbrev pub fourBytes : List ℕ
 fourBytes = 0x00 ∷ 0x00 ∷ 0x00 ∷ 0xA0 ∷ 0x1E ∷ []
 
-abbrev pub table : List Edge
-table =
+abbrev pub edgeTable : List Edge
+edgeTable =
     frame Normal (0xD4 ∷ 0x02 ∷ []) (0x00 ∷ 0x00 ∷ 0xFF ∷ 0x02 ∷ 0xFE ∷ 0xD4 ∷ 0x02 ∷ 0x2A ∷ 0x00 ∷ [])
     ∷ frame Normal [] (0x00 ∷ 0x00 ∷ 0xFF ∷ 0x00 ∷ 0x00 ∷ 0x00 ∷ 0x00 ∷ [])
     ∷ frame ExtendedLittleEndian [] (0x00 ∷ 0x00 ∷ 0xFF ∷ 0xFF ∷ 0xFF ∷ 0x00 ∷ 0x00 ∷ 0x00 ∷ 0x00 ∷ 0x00 ∷ [])
@@ -128,8 +128,8 @@ broken NormalOrExtendedBigEndian StatusByte = refl
 reads-on : (code clock : ℕ) → eqb clock 0 ≡ false → afterAck code clock ≡ pending (read clock) (waiting code clock)
 reads-on code clock h = ap (λ t. cond t (pending (write ack) (cancelling TimeOut)) (pending (read clock) (waiting code clock))) h
 
-pub edges : All table
+pub edges : AllHold edgeTable
 unfolding formats
-    polynomial bitIn bitsIn bits bytesIn result crcOf crcBytes same checks
+    polynomial bitIn bitsIn bits registerAfter result crcOf crcBytes same checks
     hasStart ackLed replyOf part rest withStatus type2Answer
 edges = (refl, (refl, (refl, (refl, (refl, (refl, (refl, (refl, (refl, (refl, (refl, (broken, (((λ code. refl), refl), ((reads-on, reads-on), (refl, (refl, (refl, (refl, (refl, (refl, (refl, (refl, ((λ bytes ms. refl), ((λ bytes ms. refl), tt))))))))))))))))))))))))

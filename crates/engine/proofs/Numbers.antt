@@ -10,7 +10,7 @@ use Rattle.exchange.specs.Exchange as exchange
 use Rattle.exchange.specs.Steps.{eventOf}
 use Rattle.exchange.specs.declared.Event.{Event}
 use Rattle.engine.specs.Core.{Arrays, After, unchanged}
-use Rattle.engine.specs.Sessions.{State, eventAfter}
+use Rattle.engine.specs.SessionSteps.{State, eventAfter}
 use Rattle.engine.specs.Numbers.{knownIn, afterEventNumber}
 use Rattle.engine.specs.declared.by_number.Known.{Known}
 use Rattle.engine.specs.declared.by_number.Known.the-variants.{Is, Not}

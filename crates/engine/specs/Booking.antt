@@ -15,7 +15,7 @@ use Rattle.exchange.specs.Exchange.{Order, write, read, drain, pause}
 use Rattle.protocol.specs.Scripts.{Byte, Answer}
 use Rattle.protocol.specs.Calls.{Call, isOpening, isPaddedMode}
 use Rattle.protocol.specs.Count.{length-counted}
-use Rattle.protocol.specs.Session.{lastCaller, addFrame, counted, countedFor, ceiling, answered, bookOrder, bookAnswer, Effect, unchanged, runs, ends, bookEffect}
+use Rattle.protocol.specs.Session.{lastCaller, addFrame, counted, countedFor, ceiling, succeeds, bookOrder, bookAnswer, Effect, unchanged, runs, ends, bookEffect}
 use Rattle.protocol.specs.Session as Spec
 use Rattle.protocol.specs.Laws.{frame-not-ack, ack-is-ack}
 use Rattle.engine.specs.Books.{Books, books, booksOf, openedIn, modeIn, callerIn, noBooks, isInRange, oneMore, byCaller, ended, booked}
@@ -110,12 +110,12 @@ frame-booked k opens n code bytes b h =
 
 -- the end of a call, an opening or not, with success or not
 pub end-booked : (c : Call) (a : Answer Byte) (k : ℕ) (b : Spec.Books)
-    → ended (byCaller k (bookNumbers b)) (isOpening c) (cond (answered a) 1 0) ≡ bookNumbers (bookAnswer c a (bySpec k b))
+    → ended (byCaller k (bookNumbers b)) (isOpening c) (cond (succeeds a) 1 0) ≡ bookNumbers (bookAnswer c a (bySpec k b))
 unfolding ended pick
 end-booked c a k b = go (isOpening c)
   where
-    go : (t : Bool) → ended (byCaller k (bookNumbers b)) t (cond (answered a) 1 0)
-        ≡ books (flag (cond t (answered a) (b .opened))) (flag (b .padded)) k (b .counts)
+    go : (t : Bool) → ended (byCaller k (bookNumbers b)) t (cond (succeeds a) 1 0)
+        ≡ books (flag (cond t (succeeds a) (b .opened))) (flag (b .padded)) k (b .counts)
     go true = refl
     go false = refl
 

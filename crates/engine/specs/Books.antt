@@ -12,6 +12,9 @@ use Rattle.protocol.specs.Session.{packetLimit, lastCaller, noCounts, ceiling}
 use Rattle.engine.specs.declared.core.Output.{Output}
 use Rattle.engine.specs.declared.core.Output.the-variants.{Ack, Command, Read, Drain, Pause, Done, Type1, UidAndAts, Nothing, Failed, FailedAfter, Refused}
 
+abbrev pub booksSize : ℕ
+booksSize = 3
+
 pub record Books : Type 0 where
   pub numbers : List ℕ  -- whether the reader is open, the mode, the caller
   pub frames : List ℕ  -- the counts, by caller
@@ -34,11 +37,11 @@ callerIn b = getD (b .numbers) 2 0
 abbrev pub noBooks : ℕ → Books
 noBooks mode = books 0 mode 0 noCounts
 
-abbrev pub inRange : ℕ → ℕ → ℕ → Bool
-inRange opened mode caller = both (leb opened 1) (both (leb mode 1) (leb caller lastCaller))
+abbrev pub booksInRange : ℕ → ℕ → ℕ → Bool
+booksInRange opened mode caller = both (leb opened 1) (both (leb mode 1) (leb caller lastCaller))
 
 abbrev pub isInRange : Books → Bool
-isInRange b = inRange (openedIn b) (modeIn b) (callerIn b)
+isInRange b = booksInRange (openedIn b) (modeIn b) (callerIn b)
 
 -- how many bytes the mode takes off a packet's start: its extra zeros in the padded one, unless it is over-long
 unfoldable pub extraIn : ℕ → List ℕ → ℕ
@@ -56,8 +59,8 @@ byCaller k b = booksOf (set (b .numbers) 2 k) (b .frames)
 abbrev pub countedIn : ℕ → List ℕ → List ℕ
 countedIn k n = set n k (oneMore (getD n k 0))
 
-abbrev pub counted : ℕ → Books → Books
-counted k b = booksOf (b .numbers) (countedIn k (b .frames))
+abbrev pub frameCounted : ℕ → Books → Books
+frameCounted k b = booksOf (b .numbers) (countedIn k (b .frames))
 
 -- an opening that ends leaves the reader open or not; any other call leaves it as it was
 unfoldable pub ended : Books → Bool → ℕ → Books
@@ -66,7 +69,7 @@ ended b isOpening opened = pick isOpening (booksOf (set (b .numbers) 0 opened) (
 -- a refusal at once leaves the books, the caller too
 abbrev pub booked : ℕ → Bool → Output → Books → Books
 booked k isOpening Ack b = byCaller k b
-booked k isOpening (Command n) b = counted k (byCaller k b)
+booked k isOpening (Command n) b = frameCounted k (byCaller k b)
 booked k isOpening (Read ms) b = byCaller k b
 booked k isOpening Drain b = byCaller k b
 booked k isOpening (Pause us) b = byCaller k b

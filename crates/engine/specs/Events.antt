@@ -12,7 +12,7 @@ use Rattle.errors.specs.declared.Fault.the-variants.{Transport}
 use Rattle.framing.specs.Frames.{ack}
 use Rattle.exchange.specs.Packets.{Reply, response, failed}
 use Rattle.exchange.specs.Exchange.{Order, write, read, pause, Event, ended, advance}
-use Rattle.exchange.specs.Steps.{stepOf}
+use Rattle.exchange.specs.Steps.{phaseIn}
 use Rattle.protocol.specs.Scripts.{Script, refused}
 use Rattle.protocol.specs.Device.{deviceNew}
 use Rattle.protocol.specs.Calls.{ReaderCall, opening, reader}
@@ -30,7 +30,7 @@ use Rattle.calls.specs.Starts.{Kind, Starting, refusedNow, first, fromStage, re
 use Rattle.stages.specs.Decided.{responseLimit}
 use Rattle.engine.specs.Transitions.{exchangePhase, resetAckPhase, pausePhase, noCall, Transitioned, orders as goesOn, sends, resetDone, replies, refuses, fits, replyLength, transitionOf, overTransition, endedTransition, validCall}
 use Rattle.engine.specs.Core.{stageOf, admittedOf, transitionedOf, performsOf, failsOf, repliesOf, eventCore, openCore, startOn}
-use Rattle.engine.specs.Relation.{Position, Wait, reply, resetReply, resetAck, resetPause, openingAck, openingReads, pausing, phaseNumber, callAt, phaseAt, Fields, coreWith, arraysAt, Agrees, coreAt, free}
+use Rattle.engine.specs.Relation.{Position, Wait, reply, resetReply, resetAck, resetPause, openingAck, openingReads, pausing, phaseNumber, callAt, phaseAt, Fields, coreWith, arraysAt, PositionAgrees, coreAt, free}
 use Rattle.engine.specs.Exchanges.{NoCommand, good, reply-short}
 use Rattle.engine.specs.Simulation.{Simulates, sim-unchanged, sim-orders, sim-sends, sim-answer, with-command, decision-sims, SimulatesHere, Advances, advances-none, advances, advances-enter, advances-exchange, two-write, two-read, two-pause}
 use Rattle.protocol.specs.Names.{openingReadTime, resetPauseTime}
@@ -39,7 +39,7 @@ use Rattle.device.specs.Kinds.{openingKind, resetStage}
 
 -- ---- an event, by what the call waits for
 
-module _ (p : Position) (w : Wait p) (v : Fields) (agrees : Agrees p v) where
+module _ (p : Position) (w : Wait p) (v : Fields) (agrees : PositionAgrees p v) where
   -- an order follows that is no command
   advances-order : (u : Wait p) (o : Order) → NoCommand o
       → (e : Event) (b : List ℕ) → replyLength (goesOn o (callAt p u) (v .exchange)) ≤ packetLength e
@@ -85,15 +85,15 @@ module _ (p : Position) (w : Wait p) (v : Fields) (agrees : Agrees p v) where
   unfolding overTransition pick
   reset-ends s u h is call r = rw h (rw (← is, ← call) (advances-order u (write ack) refl))
 
-event-advances : (p : Position) (w : Wait p) (v : Fields) (agrees : Agrees p v) (e : Event)
+event-advances : (p : Position) (w : Wait p) (v : Fields) (agrees : PositionAgrees p v) (e : Event)
     → Advances p w v agrees (transitionOf (callAt p w) (v .exchange) e) (progress (phaseAt w (v .exchange)) e)
 unfolding transitionOf transitionedOf repliesOf pick
 event-advances p (reply k h l) v agrees e =
     let w = reply k h l in
-    advances-exchange p w v agrees _ (λ x. refl) (reply-ends p w v agrees k h (l .answered) (l .failing)) (advance (stepOf (v .exchange)) e) (packetLength e) (good (v .exchange) e)
+    advances-exchange p w v agrees _ (λ x. refl) (reply-ends p w v agrees k h (l .answered) (l .failing)) (advance (phaseIn (v .exchange)) e) (packetLength e) (good (v .exchange) e)
 event-advances p (resetReply s h l) v agrees e =
     let w = resetReply s h l in
-    advances-exchange p w v agrees _ (λ x. refl) (reset-ends p w v agrees s (resetAck s h l) h refl refl) (advance (stepOf (v .exchange)) e) (packetLength e) (good (v .exchange) e)
+    advances-exchange p w v agrees _ (λ x. refl) (reset-ends p w v agrees s (resetAck s h l) h refl refl) (advance (phaseIn (v .exchange)) e) (packetLength e) (good (v .exchange) e)
 event-advances p (resetAck s h l) v agrees e =
     let w = resetAck s h l in
     two-write (Advances p w v agrees) (advances-none p w v agrees) (advances-order p w v agrees (resetPause s l) (pause resetPauseTime) tt)
@@ -128,7 +128,7 @@ pub call-fits : (p : Position) (w : Wait p) → validCall (callAt p w) ≡ true
 unfolding validCall
 call-fits p w = rw (p .kindFits, p .stageFits, phase-fits w)
 
-pub event-sims : (p : Position) (w : Wait p) (v : Fields) (agrees : Agrees p v) (e : Event) (b : List ℕ)
+pub event-sims : (p : Position) (w : Wait p) (v : Fields) (agrees : PositionAgrees p v) (e : Event) (b : List ℕ)
     → SimulatesHere p w v agrees (eventCore (coreAt p w v) (arraysAt v) e b) (eventEffect (p .call) e (length b) (progress (phaseAt w (v .exchange)) e))
 unfolding eventCore pick
 event-sims p w v agrees e b = rw (p .running) (event-advances p w v agrees e e b (reply-short (callAt p w) (v .exchange) e))
@@ -180,7 +180,7 @@ first-position q kind pending found h =
 
 start-sims : (v : Fields) (q : ReaderCall) (b : List ℕ) (x : Start) (y : stages.Start) → Starting x y
     → Simulates false idle (startOn (coreWith v noCall) (arraysAt v) y b) (started (reader q) x)
-unfolding startOn stepOf performsOf stageOf
+unfolding startOn phaseIn performsOf stageOf
 start-sims v q b x y (refusedNow r) = sim-unchanged r b (free v refl refl refl)
 start-sims v q b x y (first kind code clock bytes k isKind noReset small stands) =
     sim-sends (with-command v bytes small) noCall false idle (first-position q kind bytes (take (v .kept) (v .found)) isKind)

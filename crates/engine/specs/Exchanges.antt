@@ -9,8 +9,8 @@ use lib.ListN.{length}
 use Rattle.errors.specs.Choice.{pick}
 use Rattle.framing.specs.Frames.{ack}
 use Rattle.exchange.specs.Packets.{replyOf, isEmpty, hasStart, ackLed, Reply, response, failed}
-use Rattle.exchange.specs.Exchange.{Order, write, read, drain, pause, Event, unfit, pending, ended, Step, ExchangeResult, onPacket, onFirstPacket, onLaterPacket, onDrained, advance}
-use Rattle.exchange.specs.Steps.{stepOf, exchangeAt, drainingPhase, rejectingPhase, readingPhase, unsentPhase, overduePhase, sendingPhase, waitingPhase}
+use Rattle.exchange.specs.Exchange.{Order, write, read, drain, pause, Event, unfit, pending, ended, ExchangePhase, ExchangeResult, onPacket, onFirstPacket, onLaterPacket, onDrained, advance}
+use Rattle.exchange.specs.Steps.{phaseIn, exchangeAt, drainingPhase, rejectingPhase, readingPhase, unsentPhase, overduePhase, sendingPhase, waitingPhase}
 use Rattle.exchange.specs.Responses.{response-short}
 use Rattle.exchange.specs.declared.Exchange.{Exchange}
 use Rattle.protocol.specs.Laws.{split, by-write, by-read, by-pause}
@@ -29,7 +29,7 @@ NoCommand (pause us) = Unit {0}
 -- an exchange goes on in one of its seven phases with no command, or ends; a response has two bytes less than the packet, which has n
 abbrev pub Good : ℕ → ℕ → ℕ → ExchangeResult → Type 0
 Good n code clock unfit = Unit {0}
-Good n code clock (pending o to) = (stepOf (exchangeAt (phaseOf to) code clock) ≡ to) × (leb (phaseOf to) drainingPhase ≡ true) × NoCommand o
+Good n code clock (pending o to) = (phaseIn (exchangeAt (phaseOf to) code clock) ≡ to) × (leb (phaseOf to) drainingPhase ≡ true) × NoCommand o
 Good n code clock (ended r) = replyLength (replyTransition r) ≤ n
 
 reply-fits : (code : ℕ) (packet : List ℕ) → replyLength (replyTransition (replyOf code packet)) ≤ length packet
@@ -41,14 +41,14 @@ reply-fits code packet = go (replyOf code packet) refl
 
 module _ (code clock : ℕ) where
   good-packet : (p : List ℕ) → Good (length p) code clock (onPacket code clock p)
-  unfolding stepOf
+  unfolding phaseIn
   good-packet p =
       split (Good (length p) code clock) (ackLed p) _ _
       (λ _. split (Good (length p) code clock) (eqb clock 0) _ _ (λ _. (refl, refl, refl)) (λ _. (refl, refl, tt)))
       (λ _. reply-fits code p)
 
   good-first : (p : List ℕ) → Good (length p) code clock (onFirstPacket code clock p)
-  unfolding stepOf
+  unfolding phaseIn
   good-first p =
       split (Good (length p) code clock) (isEmpty p) _ _ (λ _. omega arith)
       (λ _. split (Good (length p) code clock) (hasStart p) _ _ (λ _. good-packet p) (λ _. (refl, refl, refl)))
@@ -57,14 +57,14 @@ module _ (code clock : ℕ) where
   good-later p = split (Good (length p) code clock) (isEmpty p) _ _ (λ _. omega arith) (λ _. good-packet p)
 
   good-drained : (p : List ℕ) → Good (length p) code clock (onDrained p)
-  unfolding stepOf
+  unfolding phaseIn
   good-drained p = split (Good (length p) code clock) (isEmpty p) _ _ (λ _. omega arith) (λ _. (refl, refl, tt))
 
-pub good : (x : Exchange) (e : Event) → Good (packetLength e) (x .code) (x .clock) (advance (stepOf x) e)
-unfolding stepOf
+pub good : (x : Exchange) (e : Event) → Good (packetLength e) (x .code) (x .clock) (advance (phaseIn x) e)
+unfolding phaseIn
 good x e =
     let P : Event → ExchangeResult → Type 0 = λ d r. Good (packetLength d) (x .code) (x .clock) r in
-    let Q : Step → Type 0 = λ s. Good (packetLength e) (x .code) (x .clock) (advance s e) in
+    let Q : ExchangePhase → Type 0 = λ s. Good (packetLength e) (x .code) (x .clock) (advance s e) in
     split Q (eqb (x .phase) sendingPhase) _ _ (λ _. by-write P unfit (λ _. tt) _ _ (refl, refl, tt) (refl, refl, refl) e)
     (λ _. split Q (eqb (x .phase) readingPhase) _ _ (λ _. by-read P unfit (λ _. tt) _ _ _ _ (good-first (x .code) (x .clock)) (omega arith) (omega arith) tt e)
     (λ _. split Q (eqb (x .phase) waitingPhase) _ _ (λ _. by-read P unfit (λ _. tt) _ _ _ _ (good-later (x .code) (x .clock)) (omega arith) (omega arith) (refl, refl, refl) e)
@@ -93,7 +93,7 @@ reply-short c x e =
     let L : Transitioned → Type 0 = λ m. replyLength m ≤ packetLength e in
     let P : Event → Transitioned → Type 0 = λ d m. replyLength m ≤ packetLength d in
     let none : (d : Event) → P d unfitting = λ d. omega arith in
-    by-pick L (eqb (c .phase) exchangePhase) _ _ (exchange-short (packetLength e) c x (advance (stepOf x) e) (good x e))
+    by-pick L (eqb (c .phase) exchangePhase) _ _ (exchange-short (packetLength e) c x (advance (phaseIn x) e) (good x e))
     (by-pick L (eqb (c .phase) resetAckPhase) _ _ (by-write P unfitting none _ _ (omega arith) (omega arith) e)
     (by-pick L (eqb (c .phase) resetPausePhase) _ _ (by-pause P unfitting none _ (omega arith) e)
     (by-pick L (eqb (c .phase) openingAckPhase) _ _ (by-write P unfitting none _ _ (omega arith) (omega arith) e)

@@ -9,8 +9,8 @@ use Rattle.protocol.specs.Session.{Entry, call, event}
 use Rattle.protocol.specs.Session.{Output as Given, orders, answers, rejects}
 use Rattle.calls.specs.Firsts.{startFor}
 use Rattle.engine.specs.Core.{Arrays, After}
-use Rattle.engine.specs.Sessions.{State, arraysIn, stateIn, sessionAfter, eventAfter, Stepped}
-use Rattle.engine.specs.Sessions.{openAfter as openedAt, startAfter}
+use Rattle.engine.specs.SessionSteps.{State, arraysIn, stateIn, steppedOf, eventAfter, Stepped}
+use Rattle.engine.specs.SessionSteps.{openAfter as openedAt, startAfter}
 use Rattle.engine.specs.declared.core.Output.{Output}
 use Rattle.engine.specs.declared.core.Output.the-variants.{Ack, Command, Read, Drain, Pause, Done, Type1, UidAndAts, Nothing, Failed, FailedAfter, Refused}
 use Rattle.engine.specs.declared.session.Session.{Session}
@@ -52,7 +52,7 @@ afterInput s f (asks k c b) = startAfter s f k (startFor c) b
 afterInput s f (gives e b) = eventAfter s f e b
 
 abbrev pub stepWith : Session → Input → Stepped
-stepWith s i = sessionAfter (afterInput (stateIn s) (arraysIn s) i)
+stepWith s i = steppedOf (afterInput (stateIn s) (arraysIn s) i)
 
 abbrev pub act : Session → Input → Session × Given ℕ
 act s i = ((stepWith s i) .session, outputOf ((stepWith s i) .output) ((stepWith s i) .buffer))

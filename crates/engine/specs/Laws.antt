@@ -26,7 +26,7 @@ use Rattle.exchange.specs.declared.Event.{Event}
 use Rattle.exchange.specs.declared.Event.the-variants.{Ok, Bad, Packet, Time, Fail, Late, Slept}
 use Rattle.exchange.specs.declared.Exchange.{Exchange}
 use Rattle.stages.specs.Decided.{Fitting, foundLimit, responseLimit}
-use Rattle.stages.specs.Put.{put, Appends, puts-none}
+use Rattle.stages.specs.Put.{put, AppendsPart, puts-none}
 use Rattle.stages.specs.declared.Layout.{Layout}
 use Rattle.stages.specs.Stages.{Command}
 use Rattle.protocol.specs.Scripts.{type1, uidAndAts}
@@ -36,11 +36,12 @@ use Rattle.protocol.specs.Starts.{dataLimit}
 use Rattle.engine.specs.Books.{Books, booksOf, callerIn, booked, extraIn}
 use Rattle.engine.specs.declared.core.Progress.{Progress}
 use Rattle.engine.specs.Booking.{range-caller}
-use Rattle.engine.specs.Sessions.{State, state, effected, bookedAfter, valid, isValid as validState}
+use Rattle.engine.specs.SessionSteps.{State, state, effected, bookedAfter, valid, isValidState as validState}
 use Rattle.engine.specs.Core.{isValid, Lent, Arrays, progressed, After, eventCore, endsOf, doneOf, answersOf, sendsOf, running, after}
 use Rattle.engine.specs.declared.call.Call.{Call}
 use Rattle.engine.specs.declared.core.Core.{Core}
 use Rattle.engine.specs.declared.core.Output.the-variants.{Command as Sends, Done, Type1, UidAndAts}
+use Rattle.framing.specs.Names.{longestExtended}
 
 -- ---- a command's frame fits a buffer of 1,024 bytes
 
@@ -53,9 +54,9 @@ pub command-built : (code : ℕ) (bytes b : List ℕ) → length bytes ≤ dataL
     → buildOf rcs956 (commandPayload code bytes) b ≡ left (answered (length (commandFrame code bytes))) (put (commandFrame code bytes) b)
 unfolding buildOf putFrame limitOf commandFrame pick
 command-built code bytes b h room =
-    let n : length (commandPayload code bytes) ≤ 65535 = omega arith in
+    let n : length (commandPayload code bytes) ≤ longestExtended = omega arith in
     let m = command-length code bytes h in
-    rw (le-ltb 65535 (length (commandPayload code bytes)) n, le-ltb (length b) (length (commandFrame code bytes)) (omega (arith, m)))
+    rw (le-ltb longestExtended (length (commandPayload code bytes)) n, le-ltb (length b) (length (commandFrame code bytes)) (omega (arith, m)))
 
 -- the frame of a command was built, and nothing else can be
 module _ (s : Core) (f : Arrays) (c : Call) (m : Command) (b b₁ : List ℕ) (h : length (m .bytes) ≤ dataLimit) (room : bufferNeed ≤ length b) where
@@ -95,7 +96,7 @@ lengths-copied s f bytes b b₁ n uid ats a p q e = e ∙ (λ i. endsOf s f (Uid
 
 -- done with a part of the response
 pub part-copied : (s : Core) (f : Arrays) (bs b b₁ : List ℕ) (n : ℕ) (a : After Core) (start len : ℕ) → start + len ≤ length bs → length bs ≤ responseLimit → bufferNeed ≤ length b
-    → Appends (take (start + len - start) (drop start bs)) b b₁ 0 n → a ≡ endsOf s f (Done n) b₁ → a ≡ doneOf s f (take len (drop start bs)) b
+    → AppendsPart (take (start + len - start) (drop start bs)) b b₁ 0 n → a ≡ endsOf s f (Done n) b₁ → a ≡ doneOf s f (take len (drop start bs)) b
 part-copied s f bs b b₁ n a start len within few room laid e =
     let size : start + len - start ≡ len = omega arith in
     let part : take (start + len - start) (drop start bs) ≡ take len (drop start bs) = ap (λ m. take m (drop start bs)) size in

@@ -3,7 +3,7 @@ pub mod Exchanges
 pub mod Books
 pub mod Booking
 pub mod Core
-pub mod Sessions
+pub mod SessionSteps
 pub mod Laws
 pub mod Inputs
 pub mod Numbers

@@ -9,7 +9,7 @@ use Rattle.exchange.specs.Exchange.{Event, ok, bad, pkt, time, fail, late, slep
 use Rattle.exchange.specs.Steps as steps
 use Rattle.protocol.specs.Calls.{Call, opening, reader}
 use Rattle.engine.specs.Core.{Arrays, After, unchanged}
-use Rattle.engine.specs.Sessions.{State, eventAfter, openAfter, startAfter}
+use Rattle.engine.specs.SessionSteps.{State, eventAfter, openAfter, startAfter}
 use Rattle.calls.specs.Numbers.{callOf, reader-call}
 use Rattle.calls.specs.Firsts.{startBy}
 use Rattle.calls.specs.declared.start.Numbers.{Numbers}
@@ -22,11 +22,11 @@ callInput k (opening mode) b = opens k mode b
 callInput k (reader c) b = asks k c b
 
 -- the events in the order of their numbers; a packet's bytes go with 2 alone
-abbrev pub events : List ℕ → List (Option Event)
-events packet = some ok ∷ some bad ∷ some (pkt packet) ∷ some time ∷ some fail ∷ some late ∷ some slept ∷ []
+abbrev pub eventTable : List ℕ → List (Option Event)
+eventTable packet = some ok ∷ some bad ∷ some (pkt packet) ∷ some time ∷ some fail ∷ some late ∷ some slept ∷ []
 
 unfoldable pub eventBy : ℕ → List ℕ → Option Event
-eventBy number packet = getD (events packet) number none
+eventBy number packet = getD (eventTable packet) number none
 
 unfoldable pub knownIn : Known → List ℕ → Option Event
 knownIn (Is e) packet = some (steps.eventOf e packet)

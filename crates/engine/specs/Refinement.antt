@@ -14,9 +14,9 @@ use Rattle.exchange.specs.Exchange.{Order, Event}
 use Rattle.exchange.specs.Steps.{exchangeAt, sendingPhase}
 use Rattle.protocol.specs.Calls.{ReaderCall, opening, reader, isPaddedMode}
 use Rattle.protocol.specs.Starts.{startOf, dataLimit}
-use Rattle.protocol.specs.Session.{Running, idle, lastCaller, seen, started, Entry, call, event, Effect, unchanged as unchangedOf, runs as runsOf, ends, effectOf, after as afterOf, given, fresh, step, bufferNeed}
+use Rattle.protocol.specs.Session.{Running, idle, lastCaller, seen, started, Entry, call, event, Effect, unchanged as unchangedOf, runs as runsOf, ends, effectOf, afterEffect as afterOf, given, fresh, step, bufferNeed}
 use Rattle.protocol.specs.Session as Spec
-use Rattle.protocol.specs.Machine.{plain, Machine, Obeys, obeys, entries, givenOut, stateAfter}
+use Rattle.protocol.specs.Machine.{outputValues, Machine, Obeys, obeys, entries, givenOut, stateAfter}
 use Rattle.protocol.specs.Reference.{offEntry, Plain, Padded, referenceOf, MachineSame, machine-reference, machine-plain}
 use Rattle.stages.specs.Decided.{foundLimit}
 use Rattle.engine.specs.Booking.{bookNumbers, Bounded, begun-bounded, books-in-range, open-flag, mode-flag, no-books, bounded as bounded-by}
@@ -24,9 +24,9 @@ use Rattle.engine.specs.Books.{noBooks, booked as bookedBy}
 use Rattle.engine.specs.Core.{Arrays, After, unchanged, eventCore}
 use Rattle.engine.specs.Core.{isValid as validCore}
 use Rattle.engine.specs.Transitions.{noCall, validCall}
-use Rattle.engine.specs.Sessions.{State, state, stateIn, valid, isValid, bookedAfter, sessionAfter, eventAfter, openIn, openAfter, startAfter, arraysIn, freshSession}
+use Rattle.engine.specs.SessionSteps.{State, state, stateIn, valid, isValidState, bookedAfter, steppedOf, eventAfter, openIn, openAfter, startAfter, arraysIn, freshSession}
 use Rattle.engine.specs.Inputs.{Input, opens, asks, gives, entryOf, outputOf, afterInput, act}
-use Rattle.engine.specs.Relation.{Position, Wait, callAt, Fields, coreWith, arraysAt, Agrees, coreAt, runningAt, Represents, free, runs, SessionRepresents}
+use Rattle.engine.specs.Relation.{Position, Wait, callAt, Fields, coreWith, arraysAt, PositionAgrees, coreAt, runningAt, Represents, free, runs, SessionRepresents}
 use Rattle.engine.specs.Simulation.{Simulates}
 use Rattle.engine.specs.Events.{call-fits, event-sims, open-sims, call-sims}
 use Rattle.engine.specs.declared.call.Call.{Call as CallNumbers}
@@ -37,8 +37,8 @@ use Rattle.calls.specs.Kinds.{noCallKind}
 -- ---- what an entry leaves of a session, beside what the definitions say
 
 pub record EntryRefines (m : Spec.Session) (e : Entry) (a : After State) (o : Effect) : Type 0 where
-  pub represents : SessionRepresents ((sessionAfter a) .session) (afterOf m e o)
-  pub output : outputOf (a .output) (a .buffer) ≡ plain (given o)
+  pub represents : SessionRepresents ((steppedOf a) .session) (afterOf m e o)
+  pub output : outputOf (a .output) (a .buffer) ≡ outputValues (given o)
 
 module _ (m : Running) (b : Spec.Books) (bounds : Bounded b) where
   abbrev pub specified : Spec.Session
@@ -100,11 +100,11 @@ refines-caller {m} {e} k {x} {y} {u} {w} h g = go (ltb lastCaller k) refl
 -- ---- the entries
 
 -- numbers that stand for a running call, and books that stand for books, are in range
-in-range : (v : Fields) (c : CallNumbers) (b : Spec.Books) → Bounded b → validCall c ≡ true → isValid (state (coreWith v c) (bookNumbers b)) ≡ true
+in-range : (v : Fields) (c : CallNumbers) (b : Spec.Books) → Bounded b → validCall c ≡ true → isValidState (state (coreWith v c) (bookNumbers b)) ≡ true
 unfolding valid validCore
 in-range v c b bounds h = rw (v .pendingFits, v .keptFits, v .phaseFits, h) (books-in-range b bounds)
 
-running-refines : (p : Position) (w : Wait p) (v : Fields) → Agrees p v → (b : Spec.Books) (bounds : Bounded b) (i : Input)
+running-refines : (p : Position) (w : Wait p) (v : Fields) → PositionAgrees p v → (b : Spec.Books) (bounds : Bounded b) (i : Input)
     → EntryRefines (specified (runningAt p w v) b bounds) (entryOf i) (afterInput (state (coreAt p w v) (bookNumbers b)) (arraysAt v) i) (effectOf (runningAt p w v) b (entryOf i))
 unfolding openAfter startAfter eventAfter pick
 running-refines p w v agrees b bounds i = go i (in-range v (callAt p w) b bounds (call-fits p w)) (p .running)
@@ -112,7 +112,7 @@ running-refines p w v agrees b bounds i = go i (in-range v (callAt p w) b bounds
     here : Represents (coreAt p w v) (arraysAt v) (runningAt p w v)
     here = runs p w v agrees refl refl refl
 
-    go : (i : Input) → isValid (state (coreAt p w v) (bookNumbers b)) ≡ true → eqb (p .kind) noCallKind ≡ false
+    go : (i : Input) → isValidState (state (coreAt p w v) (bookNumbers b)) ≡ true → eqb (p .kind) noCallKind ≡ false
         → EntryRefines (specified (runningAt p w v) b bounds) (entryOf i) (afterInput (state (coreAt p w v) (bookNumbers b)) (arraysAt v) i) (effectOf (runningAt p w v) b (entryOf i))
     go (opens c mode buffer) h k = rw (h, k) (refused-refines (runningAt p w v) b bounds _ OutOfTurn buffer here)
     go (asks c q buffer) h k = rw (h, k) (refused-refines (runningAt p w v) b bounds _ OutOfTurn buffer here)
@@ -145,7 +145,7 @@ free-refines v b bounds i = go i (in-range v noCall b bounds refl)
         let fits : mode ≤ 1 = ltb-false 1 mode e in
         rw (e, le-leb mode 1 fits) (opening-refines idle b bounds k mode (length buffer) _ _ _ caller fits (open-sims v mode buffer))
 
-    go : (i : Input) → isValid (state (coreWith v noCall) (bookNumbers b)) ≡ true
+    go : (i : Input) → isValidState (state (coreWith v noCall) (bookNumbers b)) ≡ true
         → EntryRefines (specified idle b bounds) (entryOf i) (afterInput (state (coreWith v noCall) (bookNumbers b)) (arraysAt v) i) (effectOf idle b (entryOf i))
     go (opens k mode buffer) h =
         rw (h, or-true (b .opened))
@@ -162,7 +162,7 @@ free-refines v b bounds i = go i (in-range v noCall b bounds refl)
 -- ---- the theorem
 
 abbrev pub Simulated : Input → Session → Spec.Session → Type 0
-Simulated i s m = SessionRepresents ((act s i) .0) ((step m (entryOf i)) .0) × ((act s i) .1 ≡ plain ((step m (entryOf i)) .1))
+Simulated i s m = SessionRepresents ((act s i) .0) ((step m (entryOf i)) .0) × ((act s i) .1 ≡ outputValues ((step m (entryOf i)) .1))
 
 by-input : (i : Input) (s : Session) (m : Spec.Session) → EntryRefines m (entryOf i) (afterInput (stateIn s) (arraysIn s) i) (effectOf (m .running) (m .books) (entryOf i)) → Simulated i s m
 by-input i s m h = (h .represents, h .output)

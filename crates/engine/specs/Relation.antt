@@ -6,7 +6,7 @@ use Prim.Native.Nat.{ℕ}
 use lib.Dec.{eqb, leb}
 use lib.ListN.{take}
 use Rattle.exchange.specs.Packets.{Reply}
-use Rattle.exchange.specs.Steps.{stepOf, drainingPhase}
+use Rattle.exchange.specs.Steps.{phaseIn, drainingPhase}
 use Rattle.exchange.specs.declared.Exchange.{Exchange}
 use Rattle.protocol.specs.Scripts.{Script}
 use Rattle.protocol.specs.Calls.{Call as CallOf, isOpening}
@@ -20,7 +20,7 @@ use Rattle.protocol.specs.Starts.{dataLimit}
 use Rattle.engine.specs.Booking.{bookNumbers, Bounded}
 use Rattle.engine.specs.Core.{Arrays, arrays}
 use Rattle.engine.specs.Transitions.{exchangePhase, resetAckPhase, resetPausePhase, openingAckPhase, openingReadsPhase, pausePhase, noCall}
-use Rattle.engine.specs.Sessions.{arraysIn, stateIn}
+use Rattle.engine.specs.SessionSteps.{arraysIn, stateIn}
 use Rattle.engine.specs.declared.call.Call.{Call}
 use Rattle.engine.specs.declared.core.Core.{Core}
 use Rattle.engine.specs.declared.session.Session.{Session}
@@ -64,8 +64,8 @@ abbrev pub callAt : (p : Position) → Wait p → Call
 callAt p w = record { kind = p .kind; stage = p .stage; cursor = p .cursor; phase = phaseNumber w }
 
 abbrev pub phaseAt : {p : Position} → Wait p → Exchange → Phase
-phaseAt (reply k h l) x = exchange (stepOf x) (byReply k)
-phaseAt (resetReply s h l) x = exchange (stepOf x) (ofReset s)
+phaseAt (reply k h l) x = exchange (phaseIn x) (byReply k)
+phaseAt (resetReply s h l) x = exchange (phaseIn x) (ofReset s)
 phaseAt (resetAck s h l) x = Spec.resetAck s
 phaseAt (resetPause s l) x = Spec.resetPause s
 phaseAt (openingAck s h l) x = Spec.openingAck s
@@ -91,7 +91,7 @@ abbrev pub arraysAt : Fields → Arrays
 arraysAt v = arrays (v .command) (v .found)
 
 -- the pending command and the found bytes are those of the place
-pub record Agrees (p : Position) (v : Fields) : Type 0 where
+pub record PositionAgrees (p : Position) (v : Fields) : Type 0 where
   pub pending : take (v .pending) (v .command) ≡ p .pending
   pub found : take (v .kept) (v .found) ≡ p .found
 
@@ -104,7 +104,7 @@ runningAt p w v = busy (p .call) (phaseAt w (v .exchange))
 -- the running call of the definitions that the numbers and the arrays represent
 pub data Represents (s : Core) (f : Arrays) (m : Running) : Type 0 where
   free : (v : Fields) → s ≡ coreWith v noCall → f ≡ arraysAt v → m ≡ idle → Represents s f m
-  runs : (p : Position) (w : Wait p) (v : Fields) → Agrees p v → s ≡ coreAt p w v → f ≡ arraysAt v → m ≡ runningAt p w v → Represents s f m
+  runs : (p : Position) (w : Wait p) (v : Fields) → PositionAgrees p v → s ≡ coreAt p w v → f ≡ arraysAt v → m ≡ runningAt p w v → Represents s f m
 
 -- the session of the definitions that a session's fields represent
 pub record SessionRepresents (s : Session) (m : Spec.Session) : Type 0 where

@@ -12,16 +12,16 @@ use Rattle.errors.specs.Choice.{pick}
 use Rattle.errors.specs.declared.Refusal.{Refusal}
 use Rattle.errors.specs.declared.Refusal.the-variants.{OutOfTurn, ShortBuffer, OverLong}
 use Rattle.framing.specs.Frames.{ack}
-use Rattle.exchange.specs.Packets.{commandFrame, Reply, resetCode, resetData}
+use Rattle.exchange.specs.Packets.{commandFrame, Reply}
 use Rattle.exchange.specs.Exchange.{Order, write, read, drain, pause, Event, ok, bad, pkt, time, fail, late, slept, unfit, pending, ended, onWrite, onRead, onPause, ExchangeResult}
-use Rattle.exchange.specs.Steps.{stepOf, exchangeAt, drainingPhase, sendingPhase}
+use Rattle.exchange.specs.Steps.{phaseIn, exchangeAt, drainingPhase, sendingPhase}
 use Rattle.exchange.specs.declared.Exchange.{Exchange}
 use Rattle.protocol.specs.Scripts.{Byte, value, Answer, done, type1, uidAndAts, nothing, refused, refusedAfter, Script, finish, command, reset, fieldPause}
-use Rattle.protocol.specs.Calls.{Call as CallOf, isOpening}
+use Rattle.protocol.specs.Calls.{Call as CallOf, isOpening, resetModeCode, resetModeData}
 use Rattle.protocol.specs.Session.{exchange, Rest, CallResult, enter, afterReply, afterExchange, Running, busy, packetLength, admitted, eventEffect, Effect, effect, runningAfter, packetLimit, bufferNeed}
 use Rattle.protocol.specs.Session.{orders, answers, given, unchanged as unchangedOf, runs as runsOf, ends as endsIn}
 use Rattle.protocol.specs.Session as Spec
-use Rattle.protocol.specs.Machine.{plain, plainAnswer}
+use Rattle.protocol.specs.Machine.{outputValues, plainAnswer}
 use Rattle.stages.specs.Put.{put, take-put}
 use Rattle.stages.specs.Stages.{cmd, Decision, send}
 use Rattle.calls.specs.Tables.{commandOf}
@@ -32,7 +32,7 @@ use Rattle.engine.specs.Booking.{bookNumbers, Bounded, bookBy, quiet-boo
 use Rattle.engine.specs.Core.{Arrays, After, unchanged, running, ordersOf, sendsOf, stageOf, endsOf, answersOf, performsOf, admittedOf, isLong, transitionedOf}
 use Rattle.engine.specs.Transitions.{Transitioned, unfitting, orders as goesOn, fits, replyLength, endedTransition, exchangeTransition, exchangeIn}
 use Rattle.engine.specs.Inputs.{outputOf}
-use Rattle.engine.specs.Relation.{Position, Wait, reply, resetReply, pausing, callAt, phaseAt, Fields, coreWith, arraysAt, Agrees, coreAt, runningAt, Represents, free, runs}
+use Rattle.engine.specs.Relation.{Position, Wait, reply, resetReply, pausing, callAt, phaseAt, Fields, coreWith, arraysAt, PositionAgrees, coreAt, runningAt, Represents, free, runs}
 use Rattle.engine.specs.Exchanges.{NoCommand, Good}
 use Rattle.engine.specs.declared.call.Call.{Call}
 use Rattle.engine.specs.declared.core.Core.{Core}
@@ -46,7 +46,7 @@ use Rattle.calls.specs.Kinds.{lastStage}
 -- caller k, is what the definitions book of the effect.
 pub record Simulates (opens : Bool) (m : Running) (a : After Core) (o : Effect) : Type 0 where
   pub represents : Represents (a .state) (a .arrays) (runningAfter m o)
-  pub output : outputOf (a .output) (a .buffer) ≡ plain (given o)
+  pub output : outputOf (a .output) (a .buffer) ≡ outputValues (given o)
   pub booked : (k : ℕ) (b : Spec.Books) → Bounded b → bookedBy k opens (a .output) (bookNumbers b) ≡ bookNumbers (bookBy k o b)
 
 module _ {t : Bool} {m : Running} where
@@ -62,7 +62,7 @@ module _ {t : Bool} {m : Running} where
 
 module _ (v : Fields) (c : Call) (t : Bool) (m : Running) where
   -- with an order that is no command
-  pub sim-orders : (p : Position) (w : Wait p) (x : Exchange) (o : Order) (b : List ℕ) → leb (x .phase) drainingPhase ≡ true → Agrees p v → NoCommand o
+  pub sim-orders : (p : Position) (w : Wait p) (x : Exchange) (o : Order) (b : List ℕ) → leb (x .phase) drainingPhase ≡ true → PositionAgrees p v → NoCommand o
       → Simulates t m (ordersOf (coreWith v c) (arraysAt v) o (callAt p w) x b) (runsOf (p .call) o (phaseAt w x))
   sim-orders p w x o b small agrees e = go o e
     where
@@ -91,7 +91,7 @@ module _ (v : Fields) (c : Call) (t : Bool) (m : Running) where
       go (pause us) e = record { represents = here; output = refl; booked = λ k n h. quiet-booked k (pause us) n (λ _. refl) }
 
   -- with a command
-  pub sim-sends : (p : Position) (w : Wait p) (code clock : ℕ) (bytes b : List ℕ) → Agrees p v
+  pub sim-sends : (p : Position) (w : Wait p) (code clock : ℕ) (bytes b : List ℕ) → PositionAgrees p v
       → Simulates t m (sendsOf (coreWith v c) (arraysAt v) (callAt p w) (cmd code clock bytes) b)
       (runsOf (p .call) (write (commandFrame code bytes)) (phaseAt w (exchangeAt sendingPhase code clock)))
   sim-sends p w code clock bytes b agrees =
@@ -203,11 +203,11 @@ module _ (p : Position) (m : Running) where
   pub decision-sims : {later found : List ℕ} {i : ℕ} (v : Fields) (stage phase : ℕ) (d : Decision) (s : Script) (b : List ℕ)
       → take (v .pending) (v .command) ≡ later → take (v .kept) (v .found) ≡ found → Refines (p .kind) i later found d s
       → Simulates (isOpening (p .call)) m (performsOf (coreWith v (callOf p stage i phase)) (arraysAt v) d b) (effect (p .call) (enter s))
-  unfolding performsOf stepOf
+  unfolding performsOf phaseIn
   decision-sims v stage phase d s b e f (refines-end a c h) = sim-answer v (callOf p stage _ phase) (p .call) m c a b h
   decision-sims v stage phase d s b e f (refines-send n code clock bytes k h q is-command answered failing) =
       stage-sims v _ _ n _ h (reply k q record { answered = answered; failing = failing }) (callOf p stage _ phase) code clock bytes b e f is-command refl
-  decision-sims v stage phase d s b e f (refines-reset n r h q is-command l) = stage-sims v _ _ n _ h (resetReply r q l) (callOf p stage _ phase) resetCode commandClock resetData b e f is-command refl
+  decision-sims v stage phase d s b e f (refines-reset n r h q is-command l) = stage-sims v _ _ n _ h (resetReply r q l) (callOf p stage _ phase) resetModeCode commandClock resetModeData b e f is-command refl
   decision-sims v stage phase d s b e f (refines-keep n l s′ few k) = decision-sims (with-found v l few) stage phase (send n) s b e (take-put l (v .found)) k
   decision-sims v stage phase d s b e f (refines-next n j l s′ few k) =
       subst (λ a. Simulates (isOpening (p .call)) m a (effect (p .call) (enter s))) (same-stage (with-found v l few) (callOf p stage j phase) (callOf p stage _ phase) (callOf p n j 0) b)
@@ -219,7 +219,7 @@ module _ (p : Position) (m : Running) where
 
 -- ---- an event that a running call meets
 
-module _ (p : Position) (w : Wait p) (v : Fields) (agrees : Agrees p v) where
+module _ (p : Position) (w : Wait p) (v : Fields) (agrees : PositionAgrees p v) where
   abbrev pub SimulatesHere : After Core → Effect → Type 0
   SimulatesHere = Simulates (isOpening (p .call)) (runningAt p w v)
 
@@ -254,7 +254,7 @@ module _ (p : Position) (w : Wait p) (v : Fields) (agrees : Agrees p v) where
   advances-enter mv (fieldPause s) h k = advances mv _ h k
 
   -- the exchange goes on or ends
-  pub advances-exchange : (rest : Rest) → ((x : Exchange) → phaseAt w x ≡ exchange (stepOf x) rest)
+  pub advances-exchange : (rest : Rest) → ((x : Exchange) → phaseAt w x ≡ exchange (phaseIn x) rest)
       → ((r : Reply) → Advances (endedTransition (callAt p w) (v .exchange) r) (afterReply rest r))
       → (r : ExchangeResult) (n : ℕ) → Good n (v .exchange .code) (v .exchange .clock) r → Advances (exchangeTransition (callAt p w) (v .exchange) r) (afterExchange rest r)
   unfolding exchangeTransition transitionedOf

@@ -13,10 +13,10 @@ use Rattle.framing.specs.Frames.{ack}
 use Rattle.framing.specs.Lists.{both}
 use Rattle.errors.specs.Rules.{at-true, at-false}
 use borrow.Author.Tests.{eq-eqb}
-use Rattle.exchange.specs.Exchange.{Event, unfit, pending, ended, onWrite, onRead, onPause, Step, sending, reading, waiting, cancelling, rejecting, draining, ExchangeResult, advance}
+use Rattle.exchange.specs.Exchange.{Event, unfit, pending, ended, onWrite, onRead, onPause, ExchangePhase, sending, reading, waiting, cancelling, rejecting, draining, ExchangeResult, advance}
 use Rattle.exchange.specs.Exchange.{Order as HostOrder, write, read, pause}
 use Rattle.exchange.specs.Packets.{Reply, response, failed, replyOf}
-use Rattle.exchange.specs.Steps.{orderOf, stepOf, exchangeAt, resultIn, SameCommand, sendingPhase, readingPhase, waitingPhase, unsentPhase, overduePhase, rejectingPhase, drainingPhase}
+use Rattle.exchange.specs.Steps.{orderOf, phaseIn, exchangeAt, resultIn, SameCommand, sendingPhase, readingPhase, waitingPhase, unsentPhase, overduePhase, rejectingPhase, drainingPhase}
 use Rattle.exchange.specs.declared.Advanced.{Advanced}
 use Rattle.exchange.specs.declared.Order.{Order}
 use Rattle.exchange.specs.declared.Exchange.{Exchange}
@@ -85,7 +85,7 @@ cancelPhase OtherCard = overduePhase
 cancelPhase UidLayout = overduePhase
 
 -- the number of an exchange's step
-abbrev pub phaseOf : Step → ℕ
+abbrev pub phaseOf : ExchangePhase → ℕ
 phaseOf (sending code clock) = sendingPhase
 phaseOf (reading code clock) = readingPhase
 phaseOf (waiting code clock) = waitingPhase
@@ -94,7 +94,7 @@ phaseOf rejecting = rejectingPhase
 phaseOf draining = drainingPhase
 
 -- the exchange at another step
-abbrev pub exchangeIn : Exchange → Step → Exchange
+abbrev pub exchangeIn : Exchange → ExchangePhase → Exchange
 exchangeIn x step = exchangeAt (phaseOf step) (x .code) (x .clock)
 
 -- what the code's Transition says, with a response by its bytes
@@ -153,7 +153,7 @@ pauseTransition c e = onPause unfitting (sends (at c exchangePhase)) e
 
 unfoldable pub transitionOf : Call → Exchange → Event → Transitioned
 transitionOf c x e =
-    pick (eqb (c .phase) exchangePhase) (exchangeTransition c x (advance (stepOf x) e))
+    pick (eqb (c .phase) exchangePhase) (exchangeTransition c x (advance (phaseIn x) e))
     (pick (eqb (c .phase) resetAckPhase) (resetAckTransition c x e)
     (pick (eqb (c .phase) resetPausePhase) (resetPauseTransition e)
     (pick (eqb (c .phase) openingAckPhase) (openingAckTransition c x e)
@@ -202,8 +202,8 @@ unfolding overTransition pick
 over-other c x m h = rw h
 
 -- the exchange that goes on is the old one at its new step
-phase-of : (n code clock : ℕ) → n ≤ drainingPhase → phaseOf (stepOf (exchangeAt n code clock)) ≡ n
-unfolding stepOf pick
+phase-of : (n code clock : ℕ) → n ≤ drainingPhase → phaseOf (phaseIn (exchangeAt n code clock)) ≡ n
+unfolding phaseIn pick
 phase-of zero code clock h = refl
 phase-of (suc zero) code clock h = refl
 phase-of (suc (suc zero)) code clock h = refl
@@ -213,7 +213,7 @@ phase-of (suc (suc (suc (suc (suc zero))))) code clock h = refl
 phase-of (suc (suc (suc (suc (suc (suc zero)))))) code clock h = refl
 phase-of (suc (suc (suc (suc (suc (suc (suc n))))))) code clock h = absurd (omega arith)
 
-exchange-kept : (x y : Exchange) → y .phase ≤ drainingPhase → y .code ≡ x .code → y .clock ≡ x .clock → y ≡ exchangeIn x (stepOf y)
+exchange-kept : (x y : Exchange) → y .phase ≤ drainingPhase → y .code ≡ x .code → y .clock ≡ x .clock → y ≡ exchangeIn x (phaseIn y)
 exchange-kept x y h p q =
     λ i. exchangeAt (sym (phase-of (y .phase) (y .code) (y .clock) h) i) (p i) (q i)
 
@@ -225,7 +225,7 @@ module _ (c : Call) (x : Exchange) (packet : List ℕ) (a : Advanced) (r : Excha
   pub exchange-pending : (m : Transitioned) (n : Order) (y : Exchange) → a ≡ Advanced.Pending n y → SameCommand x a → m ≡ orders (orderOf n) c y → m ≡ exchangeTransition c x r
   unfolding exchangeTransition
   exchange-pending m n y h kept p =
-      let e : r ≡ pending (orderOf n) (stepOf y) = sym is ∙ ap (resultIn x packet) h in
+      let e : r ≡ pending (orderOf n) (phaseIn y) = sym is ∙ ap (resultIn x packet) h in
       let k = subst (SameCommand x) h kept in
       rw e (p ∙ ap (λ z. orders (orderOf n) c z) (exchange-kept x y (k .0) (k .1) (k .2)))
 
@@ -243,7 +243,7 @@ other : {p : ℕ} (n : ℕ) → p ≡ n → (k : ℕ) → eqb n k ≡ false → 
 other n h k q = ap (λ j. eqb j k) h ∙ q
 
 module _ (c : Call) (x : Exchange) (e : Event) (m : Transitioned) where
-  pub transition-exchange : c .phase ≡ exchangePhase → m ≡ exchangeTransition c x (advance (stepOf x) e) → m ≡ transitionOf c x e
+  pub transition-exchange : c .phase ≡ exchangePhase → m ≡ exchangeTransition c x (advance (phaseIn x) e) → m ≡ transitionOf c x e
   unfolding transitionOf
   transition-exchange h p = at-true m _ _ _ (eq-eqb (c .phase) exchangePhase h) p
 

@@ -32,7 +32,7 @@ use Rattle.engine.specs.Core.{isValid as validCore}
 use Rattle.engine.specs.Exchanges.{by-pick}
 use Rattle.engine.specs.Inputs.{Input, opens as opened, asks, gives, bufferOf, stepWith, afterInput}
 use Rattle.engine.specs.Transitions.{Transitioned, unfitting, orders, sends as sendsStage, resetDone, replies, refuses, fits, transitionOf, validCall}
-use Rattle.engine.specs.Sessions.{State, state, stateIn, valid, isValid, isFree, isAdmitted, bookedAfter, eventAfter, openAfter, startAfter, arraysIn, sessionAfter}
+use Rattle.engine.specs.SessionSteps.{State, state, stateIn, valid, isValidState, isFree, isAdmitted, bookedAfter, eventAfter, openAfter, startAfter, arraysIn, steppedOf}
 use Rattle.engine.specs.declared.call.Call.{Call}
 use Rattle.engine.specs.declared.core.Core.{Core}
 use Rattle.engine.specs.declared.core.Output.{Output}
@@ -180,7 +180,7 @@ module _ (s : State) (f : Arrays) (b : List ℕ) where
   refuses-once r = record { early = λ q e. ap (λ o. after s f o b) e; late = λ e. absurd (omega (arith, e)) }
 
   -- what is booked of the running call
-  booked-stays : (k : ℕ) (t : Bool) (a : After Core) → k ≤ lastCaller → isValid s ≡ true → UnchangedIfRefused (s .core) f b a → Stays (bookedAfter k t (s .books) a)
+  booked-stays : (k : ℕ) (t : Bool) (a : After Core) → k ≤ lastCaller → isValidState s ≡ true → UnchangedIfRefused (s .core) f b a → Stays (bookedAfter k t (s .books) a)
   unfolding valid
   booked-stays c t a few valid k = record {
     early = λ r e. ap (bookedAfter c t (s .books)) (k .early r e);
@@ -207,13 +207,13 @@ module _ (s : State) (f : Arrays) (b : List ℕ) where
       by-test Stays (isAdmitted s) _ _
       (λ admitted. by-pick Stays (ltb (length b) bufferNeed) _ _ (refuses-once ShortBuffer)
       (by-left Stays (ltb lastCaller k) _ _ (refuses-once BadArgument)
-      (λ few. booked-stays k false _ (ltb-false lastCaller k few) (both-left (isValid s) _ (both-left (isFree s) _ admitted)) (start-unchanged (s .core) f b x))))
+      (λ few. booked-stays k false _ (ltb-false lastCaller k few) (both-left (isValidState s) _ (both-left (isFree s) _ admitted)) (start-unchanged (s .core) f b x))))
       (refuses-once OutOfTurn)
 
   event-stays : (e : Event) → Stays (eventAfter s f e b)
   unfolding eventAfter
   event-stays e =
-      by-test Stays (isValid s) _ _ (λ valid. booked-stays _ _ _ (valid-caller s valid) valid (event-unchanged (s .core) f b _)) (refuses-once OutOfTurn)
+      by-test Stays (isValidState s) _ _ (λ valid. booked-stays _ _ _ (valid-caller s valid) valid (event-unchanged (s .core) f b _)) (refuses-once OutOfTurn)
 
 all-stay : (s : State) (f : Arrays) (i : Input) → Stays s f (bufferOf i) (afterInput s f i)
 all-stay s f (opened k mode b) = open-stays s f b k mode
@@ -227,7 +227,7 @@ stays s i = all-stay (stateIn s) (arraysIn s) i
 
 pub refused-unchanged : (s : Session) (i : Input) (r : Refusal) → (stepWith s i) .output ≡ Refused r → numbered r .number ≤ 6
     → stepWith s i ≡ record { session = s; output = Refused r; buffer = bufferOf i }
-refused-unchanged s i r e h = ap sessionAfter (stays s i .early r e)
+refused-unchanged s i r e h = ap steppedOf (stays s i .early r e)
 
 ends-free : (s : Session) (i : Input) → class ((stepWith s i) .output) ≡ 1
     → (isFree (stateIn ((stepWith s i) .session)) ≡ true) × ((stepWith s i) .buffer ≡ bufferOf i)

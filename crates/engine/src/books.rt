@@ -7,7 +7,7 @@ ghost use mathlib.Core.List.{List};
 ghost use mathlib.Core.Path.{_≡_};
 ghost use Prim.Native.Nat.{ℕ, _≤_};
 ghost use Rattle.protocol.specs.Session.{lastCaller};
-ghost use Rattle.engine.specs.Books.{booksOf, inRange, noBooks, extraIn, oneMore, countedIn, byCaller, ended, booked};
+ghost use Rattle.engine.specs.Books.{booksOf, booksInRange, noBooks, extraIn, oneMore, countedIn, byCaller, ended, booked};
 
 // The places of the three numbers: whether the reader is open, the mode that the last opening chose, whose call runs or ran last.
 pub const OPENED: usize = 0;
@@ -37,7 +37,7 @@ pub const CEILING: u32 = 4294967295;
 
 // Every number is in its range.
 pub fn is_in_range(opened: u8, mode: u8, caller: u8) -> bool
-    ensures { λ r. ⌜ r ≡ inRange opened mode caller ⌝ }
+    ensures { λ r. ⌜ r ≡ booksInRange opened mode caller ⌝ }
 {
     if opened > OPEN {
         return false;

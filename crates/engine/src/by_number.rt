@@ -12,8 +12,23 @@ ghost use mathlib.Core.List.{List};
 ghost use mathlib.Core.Path.{_≡_};
 ghost use Prim.Native.Nat.{ℕ};
 ghost use Rattle.engine.specs.Core.{arrays};
-ghost use Rattle.engine.specs.Sessions.{stateOf, effected};
+ghost use Rattle.engine.specs.SessionSteps.{stateOf, effected};
 ghost use Rattle.engine.specs.Numbers.{eventBy, knownIn, afterEventNumber};
+
+// The numbers of events.
+const OK: u8 = 0;
+
+const BAD: u8 = 1;
+
+const PACKET: u8 = 2;
+
+const TIME: u8 = 3;
+
+const FAIL: u8 = 4;
+
+const LATE: u8 = 5;
+
+const SLEPT: u8 = 6;
 
 // The event of a number, where it has one.
 pub enum Known {
@@ -25,13 +40,13 @@ pub fn event_by(number: u8) -> Known
     ensures { λ r. ⌜ ((packet : List ℕ) → knownIn r packet ≡ eventBy number packet) ⌝ }
 {
     match number {
-        0 => Known::Is(Event::Ok),
-        1 => Known::Is(Event::Bad),
-        2 => Known::Is(Event::Packet),
-        3 => Known::Is(Event::Time),
-        4 => Known::Is(Event::Fail),
-        5 => Known::Is(Event::Late),
-        6 => Known::Is(Event::Slept),
+        OK => Known::Is(Event::Ok),
+        BAD => Known::Is(Event::Bad),
+        PACKET => Known::Is(Event::Packet),
+        TIME => Known::Is(Event::Time),
+        FAIL => Known::Is(Event::Fail),
+        LATE => Known::Is(Event::Late),
+        SLEPT => Known::Is(Event::Slept),
         _ => Known::Not,
     }
 }

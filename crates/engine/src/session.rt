@@ -13,7 +13,7 @@ ghost use Rattle.exchange.specs.Steps.{eventOf};
 ghost use Rattle.engine.specs.Inputs.{gives, stepWith};
 ghost use Rattle.calls.specs.Numbers.{callOf};
 ghost use Rattle.engine.specs.Numbers.{callInput};
-ghost use Rattle.engine.specs.Sessions.{stepped, freshSession};
+ghost use Rattle.engine.specs.SessionSteps.{stepped, freshSession};
 
 #[repr(C)]
 pub struct Session {
@@ -39,7 +39,7 @@ impl Session {
             command: [0; DATA_LIMIT],
             found: [0; FOUND_LIMIT],
             frames: [0; CALLERS],
-            books: [0; 3],
+            books: [0; BOOKS],
             core,
         }
     }

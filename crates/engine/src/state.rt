@@ -24,7 +24,7 @@ ghost use Rattle.calls.specs.Numbers.{callOf};
 ghost use Rattle.protocol.specs.Starts.{dataLimit};
 ghost use Rattle.stages.specs.Decided.{foundLimit};
 ghost use Rattle.engine.specs.Core.{Arrays, arrays};
-ghost use Rattle.engine.specs.Sessions.{stateOf, valid, free, admitted, effected, eventAfter, openAfter};
+ghost use Rattle.engine.specs.SessionSteps.{stateOf, valid, free, admitsCall, effected, eventAfter, openAfter};
 ghost use Rattle.engine.specs.Inputs.{afterInput};
 ghost use Rattle.engine.specs.Numbers.{callInput};
 
@@ -53,7 +53,7 @@ fn is_free(core: Core, opened: u8, mode: u8, caller: u8) -> bool
 
 // A call other than an opening may begin: the reader is open, too.
 fn is_admitted(core: Core, opened: u8, mode: u8, caller: u8) -> bool
-    ensures { λ r. ⌜ r ≡ admitted core opened mode caller ⌝ }
+    ensures { λ r. ⌜ r ≡ admitsCall core opened mode caller ⌝ }
 {
     if is_free(core, opened, mode, caller) {
         opened == books::OPEN

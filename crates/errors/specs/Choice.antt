@@ -1,14 +1,18 @@
--- Choice by a test, and equality of two lists as a test.
+-- Choice by a test, a range as a test, and equality of two lists as a test.
 use mathlib.Core.Path.{_≡_, refl, ap₂}
 use mathlib.Core.Bool.{Bool, true, false, _&&_}
 use mathlib.Core.List.{List, [], _∷_}
 use Prim.Native.Nat.{ℕ}
 use borrow.Author.Tests.{eq-eqb, eqb-true}
-use lib.Dec.{eqb}
+use lib.Dec.{eqb, leb}
 
 unfoldable pub pick : {A : Type 0} → Bool → A → A → A
 pick true a b = a
 pick false a b = b
+
+-- a number from low to high
+unfoldable pub inRange : ℕ → ℕ → ℕ → Bool
+inRange low high n = leb low n && leb n high
 
 unfoldable pub same : List ℕ → List ℕ → Bool
 same [] [] = true

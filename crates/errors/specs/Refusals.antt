@@ -20,6 +20,13 @@ numbered BadArgument = plain 4
 numbered Bitrate = plain 5
 numbered NotSendable = plain 6
 
+-- the two refusals that carry values
+abbrev pub statusNumber : ℕ
+statusNumber = 15
+
+abbrev pub cardStatusNumber : ℕ
+cardStatusNumber = 20
+
 -- the end of a running call
 abbrev pub faultNumbered : Fault → Numbered
 faultNumbered Transport = plain 7
@@ -30,12 +37,12 @@ faultNumbered Length = plain 11
 faultNumbered FrameKind = plain 12
 faultNumbered Identifier = plain 13
 faultNumbered Code = plain 14
-faultNumbered (Status s) = record { number = 15; status = s; status2 = 0 }
+faultNumbered (Status s) = record { number = statusNumber; status = s; status2 = 0 }
 faultNumbered ShortResponse = plain 16
 faultNumbered NoCard = plain 17
 faultNumbered CrcA = plain 18
 faultNumbered Rate = plain 19
-faultNumbered (CardStatus s t) = record { number = 20; status = s; status2 = t }
+faultNumbered (CardStatus s t) = record { number = cardStatusNumber; status = s; status2 = t }
 faultNumbered OtherCard = plain 21
 faultNumbered UidLayout = plain 22
 

@@ -17,30 +17,31 @@ use Rattle.framing.specs.Settings.{rcs956}
 use Rattle.framing.specs.declared.FrameFormat.{FrameFormat}
 use Rattle.framing.specs.declared.FrameType.{FrameType}
 use Rattle.framing.specs.declared.FrameType.the-variants.{Ack, Error, Data, Nothing}
-use Rattle.exchange.specs.Packets.{response, failed, payloadReply, frameReply, replyOf}
+use Rattle.exchange.specs.Packets.{response, failed, payloadReply, frameReply, replyOf, errorIdentifier}
 use Rattle.exchange.specs.Spans.{nowhere, partAt, isResponse, payloadSpan, responseSpan, frameLength, payloadFault, frameFault, faultOf}
+use Rattle.framing.specs.Names.{controllerToHost}
 
 -- whether a payload is a response, by its length and its first bytes
 module _ (code : ℕ) where
   pub short : (l : List ℕ) → length l < 2 → false ≡ isResponse (payloadReply code l)
   short [] h = refl
-  short (b ∷ []) h = go (eqb b 0x7F) (eqb b 0xD5)
+  short (b ∷ []) h = go (eqb b errorIdentifier) (eqb b controllerToHost)
     where
-      go : (t u : Bool) → false ≡ isResponse (cond t (failed (Status 0x7F)) (cond u (failed Code) (failed Identifier)))
+      go : (t u : Bool) → false ≡ isResponse (cond t (failed (Status errorIdentifier)) (cond u (failed Code) (failed Identifier)))
       go true u = refl
       go false true = refl
       go false false = refl
   short (b ∷ i ∷ bs) h = absurd (omega arith)
 
-  pub other-identifier : (l : List ℕ) → (getD l 0 0 ≡ 0xD5 → ⊥) → false ≡ isResponse (payloadReply code l)
+  pub other-identifier : (l : List ℕ) → (getD l 0 0 ≡ controllerToHost → ⊥) → false ≡ isResponse (payloadReply code l)
   other-identifier [] h = refl
-  other-identifier (b ∷ bs) h = rw (ne-eqb b 0xD5 h) (go (eqb b 0x7F))
+  other-identifier (b ∷ bs) h = rw (ne-eqb b controllerToHost h) (go (eqb b errorIdentifier))
     where
-      go : (t : Bool) → false ≡ isResponse (cond t (failed (Status 0x7F)) (failed Identifier))
+      go : (t : Bool) → false ≡ isResponse (cond t (failed (Status errorIdentifier)) (failed Identifier))
       go true = refl
       go false = refl
 
-  pub by-code : (l : List ℕ) (next : ℕ) → 2 ≤ length l → getD l 0 0 ≡ 0xD5 → next ≡ (code + 1) % 256
+  pub by-code : (l : List ℕ) (next : ℕ) → 2 ≤ length l → getD l 0 0 ≡ controllerToHost → next ≡ (code + 1) % 256
       → eqb (getD l 1 0) next ≡ isResponse (payloadReply code l)
   by-code [] next h e n = absurd (omega arith)
   by-code (b ∷ []) next h e n = absurd (omega arith)

@@ -61,16 +61,16 @@ module _ {X : Type 0} where
   onPause u a slept = a
 
 -- where an exchange stands; with the command's code and its clock in ms as far as they are still needed
-pub data Step : Type 0 where
-  sending : ℕ → ℕ → Step  -- step 1: the frame is being written
-  reading : ℕ → ℕ → Step  -- step 2: the first packet is awaited
-  waiting : ℕ → ℕ → Step  -- step 4: a packet is awaited under the clock
-  cancelling : Fault → Step  -- ACK is being written, and the exchange then ends with this fault
-  rejecting : Step  -- step 3: ACK is being written
-  draining : Step  -- step 3: the drain
+pub data ExchangePhase : Type 0 where
+  sending : ℕ → ℕ → ExchangePhase  -- step 1: the frame is being written
+  reading : ℕ → ℕ → ExchangePhase  -- step 2: the first packet is awaited
+  waiting : ℕ → ℕ → ExchangePhase  -- step 4: a packet is awaited under the clock
+  cancelling : Fault → ExchangePhase  -- ACK is being written, and the exchange then ends with this fault
+  rejecting : ExchangePhase  -- step 3: ACK is being written
+  draining : ExchangePhase  -- step 3: the drain
 
 abbrev pub ExchangeResult : Type 0
-ExchangeResult = Result Step Reply
+ExchangeResult = Result ExchangePhase Reply
 
 -- step 4, after an ACK-led packet. A clock of 0 ms has passed at once.
 abbrev pub afterAck : ℕ → ℕ → ExchangeResult
@@ -98,7 +98,7 @@ abbrev pub firstReadTime : ℕ
 firstReadTime = 100
 
 -- what an event does to the exchange
-abbrev pub advance : Step → Event → ExchangeResult
+abbrev pub advance : ExchangePhase → Event → ExchangeResult
 advance (sending code clock) e = onWrite unfit (pending (read firstReadTime) (reading code clock)) (pending (write ack) (cancelling Transport)) e
 advance (reading code clock) e = onRead unfit (onFirstPacket code clock) (ended (failed TimeOut)) (ended (failed Transport)) unfit e
 advance (waiting code clock) e =

@@ -14,17 +14,11 @@ use Rattle.framing.specs.Settings.{rcs956, commandPayload}
 use Rattle.framing.specs.declared.FrameType.{FrameType}
 use Rattle.framing.specs.declared.FrameType.the-variants.{Ack, Error, Data, Nothing}
 use Rattle.framing.specs.declared.LengthEncoding.the-variants.{NormalOrExtendedBigEndian}
+use Rattle.framing.specs.Names.{controllerToHost}
 
 -- the frame of a command: D4, the code, the data
 unfoldable pub commandFrame : ℕ → List ℕ → List ℕ
 commandFrame code bytes = frameOf NormalOrExtendedBigEndian (commandPayload code bytes)
-
--- reset_mode's command
-abbrev pub resetCode : ℕ
-resetCode = 0x18
-
-abbrev pub resetData : List ℕ
-resetData = 0x01 ∷ []
 
 -- the bare ACK
 unfoldable pub isAck : List ℕ → Bool
@@ -47,6 +41,10 @@ pub data Reply : Type 0 where
   response : List ℕ → Reply
   failed : Fault → Reply
 
+-- the payload of an error frame, where a response has its identifier
+abbrev pub errorIdentifier : ℕ
+errorIdentifier = 0x7F
+
 -- step 5. Byte 1 of the payload is the code plus 1, as a byte.
 abbrev pub codeReply : ℕ → List ℕ → Reply
 codeReply code [] = failed Code
@@ -54,7 +52,7 @@ codeReply code (b ∷ bs) = cond (eqb b ((code + 1) % 256)) (response bs) (faile
 
 abbrev pub payloadReply : ℕ → List ℕ → Reply
 payloadReply code [] = failed Identifier
-payloadReply code (b ∷ bs) = cond (eqb b 0x7F) (failed (Status 0x7F)) (cond (eqb b 0xD5) (codeReply code bs) (failed Identifier))
+payloadReply code (b ∷ bs) = cond (eqb b errorIdentifier) (failed (Status errorIdentifier)) (cond (eqb b controllerToHost) (codeReply code bs) (failed Identifier))
 
 -- the frame fills the packet
 abbrev pub filling : ℕ → List ℕ → Reply → Reply

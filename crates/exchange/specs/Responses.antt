@@ -9,7 +9,7 @@ use lib.Dec.{eqb}
 use lib.ListN.{length, take, drop, length-append, length-take, length-drop}
 use lib.Seq.{take-all}
 use Rattle.errors.specs.declared.Fault.the-variants.{Length, FrameKind, Identifier, Code, Status}
-use Rattle.framing.specs.Exact.{StartsWith, data-exact}
+use Rattle.framing.specs.Exact.{StartsWithFrame, data-exact}
 use Rattle.framing.specs.Frames.{normalHead, normalFrame}
 use Rattle.framing.specs.Lists.{Bytes}
 use Rattle.framing.specs.Parse.{parseOf, payloadOf}
@@ -18,15 +18,16 @@ use Rattle.framing.specs.Valid.{length-framed, length-extended}
 use Rattle.framing.specs.declared.FrameFormat.{FrameFormat}
 use Rattle.framing.specs.declared.FrameType.{FrameType}
 use Rattle.framing.specs.declared.FrameType.the-variants.{Ack, Error, Data, Nothing}
-use Rattle.exchange.specs.Packets.{Reply, response, failed, codeReply, payloadReply, frameReply, replyOf}
+use Rattle.exchange.specs.Packets.{Reply, response, failed, codeReply, payloadReply, frameReply, replyOf, errorIdentifier}
 use Rattle.exchange.specs.Spans.{partAt, isResponse, payloadSpan, responseSpan, payloadFault, frameFault, faultOf}
+use Rattle.framing.specs.Names.{controllerToHost}
 
 -- a data frame lies inside the packet
 pub data-within : (f : FrameFormat) (p : List ℕ) → Bytes p → (s n m : ℕ) → parseOf f p ≡ Data s n m → s + n ≤ length p
 unfolding normalFrame
 data-within f p bytes s n m e = go (data-exact f p bytes s n m .0 e .1)
   where
-    go : StartsWith (f .length) p s n m → s + n ≤ length p
+    go : StartsWithFrame (f .length) p s n m → s + n ≤ length p
     go w =
         let l = ap length (w .whole) ∙ length-append (w .frame) (w .behind) in
         ⊎-elim
@@ -37,17 +38,17 @@ data-within f p bytes s n m e = go (data-exact f p bytes s n m .0 e .1)
 -- a payload that is a response: identifier, code, and the response
 answers : (code : ℕ) (l : List ℕ) → isResponse (payloadReply code l) ≡ true → (2 ≤ length l) × (payloadReply code l ≡ response (drop 2 l))
 answers code [] e = absurd (false≢true e)
-answers code (b ∷ []) e = absurd (go (eqb b 0x7F) (eqb b 0xD5) e)
+answers code (b ∷ []) e = absurd (go (eqb b errorIdentifier) (eqb b controllerToHost) e)
   where
-    go : (t u : Bool) → isResponse (cond t (failed (Status 0x7F)) (cond u (failed Code) (failed Identifier))) ≡ true → ⊥
+    go : (t u : Bool) → isResponse (cond t (failed (Status errorIdentifier)) (cond u (failed Code) (failed Identifier))) ≡ true → ⊥
     go true u h = false≢true h
     go false true h = false≢true h
     go false false h = false≢true h
-answers code (b ∷ i ∷ bs) e = (omega arith, go (eqb b 0x7F) (eqb b 0xD5) (eqb i ((code + 1) % 256)) e)
+answers code (b ∷ i ∷ bs) e = (omega arith, go (eqb b errorIdentifier) (eqb b controllerToHost) (eqb i ((code + 1) % 256)) e)
   where
     go : (t u v : Bool)
-        → isResponse (cond t (failed (Status 0x7F)) (cond u (cond v (response bs) (failed Code)) (failed Identifier))) ≡ true
-        → cond t (failed (Status 0x7F)) (cond u (cond v (response bs) (failed Code)) (failed Identifier)) ≡ response bs
+        → isResponse (cond t (failed (Status errorIdentifier)) (cond u (cond v (response bs) (failed Code)) (failed Identifier))) ≡ true
+        → cond t (failed (Status errorIdentifier)) (cond u (cond v (response bs) (failed Code)) (failed Identifier)) ≡ response bs
     go true u v h = absurd (false≢true h)
     go false true true h = refl
     go false true false h = absurd (false≢true h)
@@ -56,7 +57,7 @@ answers code (b ∷ i ∷ bs) e = (omega arith, go (eqb b 0x7F) (eqb b 0xD5) (eq
 -- a payload that is none
 refuses : (code : ℕ) (l : List ℕ) → isResponse (payloadReply code l) ≡ false → payloadReply code l ≡ failed (payloadFault l)
 refuses code [] e = refl
-refuses code (b ∷ bs) e = go (eqb b 0x7F) (eqb b 0xD5) e
+refuses code (b ∷ bs) e = go (eqb b errorIdentifier) (eqb b controllerToHost) e
   where
     late : (l : List ℕ) → isResponse (codeReply code l) ≡ false → codeReply code l ≡ failed Code
     late [] h = refl
@@ -66,9 +67,9 @@ refuses code (b ∷ bs) e = go (eqb b 0x7F) (eqb b 0xD5) e
         known true g = absurd (true≢false g)
         known false g = refl
 
-    go : (t u : Bool) → isResponse (cond t (failed (Status 0x7F)) (cond u (codeReply code bs) (failed Identifier))) ≡ false
-        → cond t (failed (Status 0x7F)) (cond u (codeReply code bs) (failed Identifier))
-        ≡ failed (cond t (Status 0x7F) (cond u Code Identifier))
+    go : (t u : Bool) → isResponse (cond t (failed (Status errorIdentifier)) (cond u (codeReply code bs) (failed Identifier))) ≡ false
+        → cond t (failed (Status errorIdentifier)) (cond u (codeReply code bs) (failed Identifier))
+        ≡ failed (cond t (Status errorIdentifier) (cond u Code Identifier))
     go true u h = refl
     go false true h = late bs h
     go false false h = refl

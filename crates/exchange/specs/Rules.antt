@@ -9,8 +9,8 @@ use lib.ListN.{length}
 use Rattle.errors.specs.declared.Fault.{Fault}
 use Rattle.errors.specs.Rules.{same-value}
 use Rattle.exchange.specs.Packets.{isEmpty, failed, replyOf}
-use Rattle.exchange.specs.Exchange.{Event, Step, pending, ended, unfit, ExchangeResult, advance}
-use Rattle.exchange.specs.Steps.{exchangeAt, stepOf, orderOf, resultIn, SameCommand, Handled, drainingPhase}
+use Rattle.exchange.specs.Exchange.{Event, ExchangePhase, pending, ended, unfit, ExchangeResult, advance}
+use Rattle.exchange.specs.Steps.{exchangeAt, phaseIn, orderOf, resultIn, SameCommand, Handled, drainingPhase}
 use Rattle.exchange.specs.declared.Order.{Order as CodeOrder}
 use Rattle.exchange.specs.declared.Exchange.{Exchange}
 use Rattle.exchange.specs.declared.Advanced.{Advanced}
@@ -39,7 +39,7 @@ module _ (x : Exchange) (packet : List ℕ) (r : Advanced) where
   on-false a b t h e = rw h e
 
   pub goes-on : (next : CodeOrder) (phase : ℕ) (to : ExchangeResult) → r ≡ Pending next (exchangeAt phase (x .code) (x .clock)) → phase ≤ drainingPhase
-      → pending (orderOf next) (stepOf (exchangeAt phase (x .code) (x .clock))) ≡ to → Handled x packet to r
+      → pending (orderOf next) (phaseIn (exchangeAt phase (x .code) (x .clock))) ≡ to → Handled x packet to r
   goes-on next phase to e h q = rw e (record { result = q; kept = (h, refl, refl) })
 
   pub fails : (fault : Fault) → r ≡ Failed fault → Handled x packet (ended (failed fault)) r
@@ -53,12 +53,12 @@ stays x packet to e = record { result = e; kept = tt }
 
 -- a handler's promises are those of `advance` in the handler's phase
 pub in-phase : (x : Exchange) (k : ℕ) (event : Event) (packet : List ℕ) (r : Advanced) → x .phase ≡ k
-    → Handled x packet (advance (stepOf (exchangeAt k (x .code) (x .clock))) event) r
-    → (resultIn x packet r ≡ advance (stepOf x) event) × SameCommand x r
-unfolding stepOf
+    → Handled x packet (advance (phaseIn (exchangeAt k (x .code) (x .clock))) event) r
+    → (resultIn x packet r ≡ advance (phaseIn x) event) × SameCommand x r
+unfolding phaseIn
 in-phase x k event packet r e f =
-    let same : stepOf (exchangeAt k (x .code) (x .clock)) ≡ stepOf x = ap (λ (n : ℕ). stepOf (exchangeAt n (x .code) (x .clock))) (sym e) in
-    (f .result ∙ ap (λ (s : Step). advance s event) same, f .kept)
+    let same : phaseIn (exchangeAt k (x .code) (x .clock)) ≡ phaseIn x = ap (λ (n : ℕ). phaseIn (exchangeAt n (x .code) (x .clock))) (sym e) in
+    (f .result ∙ ap (λ (s : ExchangePhase). advance s event) same, f .kept)
 
 pub ruleset cases = (cond-true, cond-false, same-value, eq-eqb, ne-eqb)
 

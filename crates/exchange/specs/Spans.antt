@@ -10,7 +10,8 @@ use Rattle.framing.specs.Parse.{parseOf}
 use Rattle.framing.specs.Settings.{rcs956}
 use Rattle.framing.specs.declared.FrameType.{FrameType}
 use Rattle.framing.specs.declared.FrameType.the-variants.{Ack, Error, Data, Nothing}
-use Rattle.exchange.specs.Packets.{Reply, response, failed, isEmpty, replyOf}
+use Rattle.exchange.specs.Packets.{Reply, response, failed, isEmpty, replyOf, errorIdentifier}
+use Rattle.framing.specs.Names.{controllerToHost}
 
 -- a part of a packet
 pub record Span : Type 0 where
@@ -45,7 +46,7 @@ frameLength Nothing = 0
 
 -- the first check that fails, of a payload and of a packet; the code's check is the last
 abbrev pub payloadFault : List ℕ → Fault
-payloadFault l = cond (isEmpty l) Identifier (cond (eqb (getD l 0 0) 0x7F) (Status 0x7F) (cond (eqb (getD l 0 0) 0xD5) Code Identifier))
+payloadFault l = cond (isEmpty l) Identifier (cond (eqb (getD l 0 0) errorIdentifier) (Status errorIdentifier) (cond (eqb (getD l 0 0) controllerToHost) Code Identifier))
 
 abbrev pub fillingFault : ℕ → List ℕ → Fault → Fault
 fillingFault frame packet fault = cond (eqb frame (length packet)) fault Length

@@ -7,7 +7,7 @@ use lib.Dec.{eqb}
 use Rattle.errors.specs.declared.Fault.the-variants.{Transport, TimeOut}
 use Rattle.framing.specs.Frames.{ack}
 use Rattle.exchange.specs.Packets.{failed, replyOf}
-use Rattle.exchange.specs.Exchange.{Order, write, read, drain, pause, Event as EventOf, ok, bad, pkt, time, fail, late, slept, unfit, pending, ended, Step, sending, reading, waiting, cancelling, rejecting, draining, ExchangeResult}
+use Rattle.exchange.specs.Exchange.{Order, write, read, drain, pause, Event as EventOf, ok, bad, pkt, time, fail, late, slept, unfit, pending, ended, ExchangePhase, sending, reading, waiting, cancelling, rejecting, draining, ExchangeResult}
 use Rattle.exchange.specs.declared.Event.{Event}
 use Rattle.exchange.specs.declared.Event.the-variants.{Ok, Bad, Packet, Time, Fail, Late, Slept}
 use Rattle.exchange.specs.declared.Order.{Order as CodeOrder}
@@ -42,8 +42,8 @@ abbrev pub drainingPhase : ℕ
 drainingPhase = 6
 
 -- any number above is taken for the drain
-unfoldable pub stepOf : Exchange → Step
-stepOf x =
+unfoldable pub phaseIn : Exchange → ExchangePhase
+phaseIn x =
     cond (eqb (x .phase) sendingPhase) (sending (x .code) (x .clock))
     (cond (eqb (x .phase) readingPhase) (reading (x .code) (x .clock))
     (cond (eqb (x .phase) waitingPhase) (waiting (x .code) (x .clock))
@@ -70,7 +70,7 @@ orderOf (Pause us) = pause us
 -- x is the exchange that the event met; step 5 follows a packet that has arrived
 abbrev pub resultIn : Exchange → List ℕ → Advanced → ExchangeResult
 resultIn x packet Unfit = unfit
-resultIn x packet (Pending next y) = pending (orderOf next) (stepOf y)
+resultIn x packet (Pending next y) = pending (orderOf next) (phaseIn y)
 resultIn x packet Arrived = ended (replyOf (x .code) packet)
 resultIn x packet (Failed fault) = ended (failed fault)
 

@@ -9,7 +9,7 @@ ghost use Prim.Native.Nat.{ℕ};
 ghost use lib.ListN.{getD};
 ghost use Rattle.exchange.specs.Packets.{payloadReply};
 ghost use Rattle.exchange.specs.Exchange.{advance as advanceOf, sending, reading, waiting, cancelling, rejecting, draining, onPacket};
-ghost use Rattle.exchange.specs.Steps.{exchangeAt, stepOf, eventOf, resultIn, SameCommand, Handled, sendingPhase};
+ghost use Rattle.exchange.specs.Steps.{exchangeAt, phaseIn, eventOf, resultIn, SameCommand, Handled, sendingPhase};
 ghost use Rattle.exchange.specs.Spans.{partAt, isResponse, responseSpan, frameLength, payloadFault, faultOf};
 
 // What the host returns. A packet's bytes are lent beside it.
@@ -50,7 +50,7 @@ pub enum Advanced {
 // The ms in which the first packet is due.
 const FIRST_READ: u32 = 100;
 
-const ERROR_FRAME: u8 = 0x7F;
+const ERROR_IDENTIFIER: u8 = 0x7F;
 
 impl Exchange {
     // The frame is being written.
@@ -87,7 +87,7 @@ impl Exchange {
 
     // What an event does to the exchange. A fault of step 5 may come out as `Arrived` or as `Failed`: `resultIn` gives both the same meaning.
     pub fn advance(self, event: Event, packet: &[u8]) -> Advanced
-        ensures { λ r. ⌜ resultIn self (now (packet .entry)) r ≡ advanceOf (stepOf self) (eventOf event (now (packet .entry))) ⌝ }
+        ensures { λ r. ⌜ resultIn self (now (packet .entry)) r ≡ advanceOf (phaseIn self) (eventOf event (now (packet .entry))) ⌝ }
         ensures { λ r. ⌜ SameCommand self r ⌝ }
     {
         let phase = self.phase;
@@ -283,8 +283,8 @@ fn payload_fault(payload: &[u8]) -> Fault
         return Fault::Identifier;
     }
     let identifier = payload[0];
-    if identifier == ERROR_FRAME {
-        return Fault::Status(ERROR_FRAME);
+    if identifier == ERROR_IDENTIFIER {
+        return Fault::Status(ERROR_IDENTIFIER);
     }
     if identifier != CONTROLLER_TO_HOST {
         return Fault::Identifier;

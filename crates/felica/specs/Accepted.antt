@@ -11,9 +11,9 @@ use Rattle.errors.specs.Choice.{pick, same-self, same-is}
 use Rattle.errors.specs.declared.Fault.the-variants.{ShortResponse, OtherCard, CardStatus}
 use Rattle.framing.specs.Valid.{both-left, both-right}
 use Rattle.felica.specs.Names.{idmSize, blockSize, codeOffset, flagsEnd, blocksOffset}
-use Rattle.felica.specs.Packets.{reply, readReply, writeReply, readReplyCode, writeReplyCode}
-use Rattle.felica.specs.Fields.{idmIn, flag1In, flag2In, numberIn, blocksIn, hasBlocks}
-use Rattle.felica.specs.Checks.{isComplete, isFrom, byStatus, checkOf, readCheck, writeCheck}
+use Rattle.felica.specs.Packets.{replyPacket, readReply, writeReply, readReplyCode, writeReplyCode}
+use Rattle.felica.specs.Fields.{idmIn, flag1In, flag2In, blockNumberIn, blocksIn, hasBlocks}
+use Rattle.felica.specs.Checks.{isComplete, isFrom, byFlags, checkOf, readCheck, writeCheck}
 use Rattle.felica.specs.Replies.{parts, laid, has-blocks, number-and-blocks}
 use Rattle.felica.specs.declared.check.Checked.the-variants.{Good, Faulty}
 
@@ -24,7 +24,7 @@ record Passed (code : ℕ) (idm : List ℕ) (whole : Bool) (p : List ℕ) : Type
   first : flag1In p ≡ 0
 
 passed : (code : ℕ) (idm : List ℕ) (whole : Bool) (p : List ℕ) → checkOf code idm whole p ≡ Good → Passed code idm whole p
-unfolding checkOf byStatus pick
+unfolding checkOf byFlags pick
 passed code idm whole p h = go (isComplete whole p) (isFrom code idm p) (eqb (flag1In p) 0) refl refl refl h
   where
     go : (t u v : Bool) → isComplete whole p ≡ t → isFrom code idm p ≡ u → eqb (flag1In p) 0 ≡ v
@@ -45,14 +45,14 @@ module _ (code : ℕ) (idm : List ℕ) (whole : Bool) (p : List ℕ) (good : Pas
       let k : pick (eqb (flag1In p) 0) whole true ≡ true = both-right (eqb (getD p 0 0) (length p)) _ (both-right (leb flagsEnd (length p)) _ (good .complete)) in
       rw (eq-eqb (flag1In p) 0 (good .first)) at k
 
-  is : p ≡ reply code idm 0 (flag2In p) (drop flagsEnd p)
+  is : p ≡ replyPacket code idm 0 (flag2In p) (drop flagsEnd p)
   unfolding isComplete isFrom
   is =
       let n : getD p 0 0 ≡ length p =
       eqb-true (getD p 0 0) (length p) (both-left (eqb (getD p 0 0) (length p)) _ (both-right (leb flagsEnd (length p)) _ (good .complete))) in
       let c : getD p codeOffset 0 ≡ code = eqb-true (getD p codeOffset 0) code (both-left (eqb (getD p codeOffset 0) code) _ (good .from)) in
       let i : idmIn p ≡ idm = sym (same-is idm (idmIn p) (both-right (eqb (getD p codeOffset 0) code) _ (good .from))) in
-      laid code p room n c ∙ ap₂ (λ x y. reply code x y (flag2In p) (drop flagsEnd p)) i (good .first)
+      laid code p room n c ∙ ap₂ (λ x y. replyPacket code x y (flag2In p) (drop flagsEnd p)) i (good .first)
 
 -- a good reply is the standard's reply of all blocks asked for, and its data are these bytes of it
 pub record AllRead (idm : List ℕ) (n : ℕ) (p : List ℕ) : Type 0 where
@@ -67,50 +67,50 @@ good-read idm n p h =
     let w = all readReplyCode idm (hasBlocks n p) p k in
     let b = number-and-blocks p n w in
     record {
-      is = is readReplyCode idm (hasBlocks n p) p k ∙ ap (reply readReplyCode idm 0 (flag2In p)) (b .1);
+      is = is readReplyCode idm (hasBlocks n p) p k ∙ ap (replyPacket readReplyCode idm 0 (flag2In p)) (b .1);
       size = b .0;
-      long = eqb-true (length p) (blocksOffset + blockSize * n) (both-right (eqb (numberIn p) n) _ w);
+      long = eqb-true (length p) (blocksOffset + blockSize * n) (both-right (eqb (blockNumberIn p) n) _ w);
     }
 
 pub good-write : (idm p : List ℕ) → writeCheck idm p ≡ Good → p ≡ writeReply idm 0 (flag2In p)
 good-write idm p h =
     let k = passed writeReplyCode idm (eqb (length p) flagsEnd) p h in
     let n : length p ≡ flagsEnd = eqb-true (length p) flagsEnd (all writeReplyCode idm (eqb (length p) flagsEnd) p k) in
-    is writeReplyCode idm (eqb (length p) flagsEnd) p k ∙ ap (reply writeReplyCode idm 0 (flag2In p)) (drop-of-length-le p {i = flagsEnd} (omega arith))
+    is writeReplyCode idm (eqb (length p) flagsEnd) p k ∙ ap (replyPacket writeReplyCode idm 0 (flag2In p)) (drop-of-length-le p {i = flagsEnd} (omega arith))
 
 -- the check of a reply, by its flags
 module _ (code flag1 flag2 : ℕ) (idm bytes : List ℕ) (h : length idm ≡ idmSize) (whole : Bool) where
-  by-flags : (flag1 ≡ 0 → whole ≡ true) → checkOf code idm whole (reply code idm flag1 flag2 bytes) ≡ byStatus flag1 flag2
+  by-flags : (flag1 ≡ 0 → whole ≡ true) → checkOf code idm whole (replyPacket code idm flag1 flag2 bytes) ≡ byFlags flag1 flag2
   unfolding checkOf isComplete isFrom pick
   by-flags w =
-      let p : List ℕ = reply code idm flag1 flag2 bytes in
+      let p : List ℕ = replyPacket code idm flag1 flag2 bytes in
       let q = parts code flag1 flag2 idm bytes h in
       rw (le-leb flagsEnd (length p) (omega (arith, q .size)), eq-eqb (getD p 0 0) (length p) (q .len), q .first, q .second, q .codeIs, eq-eqb code code refl, q .idmIs, same-self idm)
       (go (eqb flag1 0) refl)
     where
-      go : (t : Bool) → eqb flag1 0 ≡ t → pick (pick t whole true) (byStatus flag1 flag2) (Faulty ShortResponse) ≡ byStatus flag1 flag2
+      go : (t : Bool) → eqb flag1 0 ≡ t → pick (pick t whole true) (byFlags flag1 flag2) (Faulty ShortResponse) ≡ byFlags flag1 flag2
       go true e = rw (w (eqb-true flag1 0 e))
       go false e = refl
 
 -- the standard's replies: good, or 20 with both flags
 pub read-good : (idm bytes : List ℕ) (n flag2 : ℕ) → length idm ≡ idmSize → length bytes ≡ blockSize * n → readCheck idm n (readReply idm 0 flag2 bytes) ≡ Good
-unfolding byStatus pick
+unfolding byFlags pick
 read-good idm bytes n flag2 h e =
     by-flags readReplyCode 0 flag2 idm (length bytes / blockSize ∷ bytes) h (hasBlocks n (readReply idm 0 flag2 bytes)) (λ _. has-blocks readReplyCode 0 flag2 n idm bytes h e)
 
 pub write-good : (idm : List ℕ) (flag2 : ℕ) → length idm ≡ idmSize → writeCheck idm (writeReply idm 0 flag2) ≡ Good
-unfolding byStatus pick
+unfolding byFlags pick
 write-good idm flag2 h =
     by-flags writeReplyCode 0 flag2 idm [] h (eqb (length (writeReply idm 0 flag2)) flagsEnd) (λ _. eq-eqb (length (writeReply idm 0 flag2)) flagsEnd (parts writeReplyCode 0 flag2 idm [] h .size))
 
 module _ (idm : List ℕ) (flag1 flag2 : ℕ) (h : length idm ≡ idmSize) (ne : flag1 ≡ 0 → ⊥) where
   pub read-refused : (n : ℕ) → readCheck idm n (readReply idm flag1 flag2 []) ≡ Faulty (CardStatus flag1 flag2)
-  unfolding byStatus pick
+  unfolding byFlags pick
   read-refused n =
       rw (ne-eqb flag1 0 ne)
-      (by-flags readReplyCode flag1 flag2 idm [] h (hasBlocks n (reply readReplyCode idm flag1 flag2 [])) (λ e. absurd (ne e)) ∙ rw (ne-eqb flag1 0 ne))
+      (by-flags readReplyCode flag1 flag2 idm [] h (hasBlocks n (replyPacket readReplyCode idm flag1 flag2 [])) (λ e. absurd (ne e)) ∙ rw (ne-eqb flag1 0 ne))
 
   pub write-refused : writeCheck idm (writeReply idm flag1 flag2) ≡ Faulty (CardStatus flag1 flag2)
-  unfolding byStatus pick
+  unfolding byFlags pick
   write-refused =
       by-flags writeReplyCode flag1 flag2 idm [] h (eqb (length (writeReply idm flag1 flag2)) flagsEnd) (λ e. absurd (ne e)) ∙ rw (ne-eqb flag1 0 ne)

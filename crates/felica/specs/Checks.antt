@@ -22,12 +22,12 @@ unfoldable pub isFrom : ℕ → List ℕ → List ℕ → Bool
 isFrom code idm p = both (eqb (getD p codeOffset 0) code) (same idm (idmIn p))
 
 -- status flag 1 at 0; else 20, with both flags
-unfoldable pub byStatus : ℕ → ℕ → Checked
-byStatus flag1 flag2 = pick (eqb flag1 0) Good (Faulty (CardStatus flag1 flag2))
+unfoldable pub byFlags : ℕ → ℕ → Checked
+byFlags flag1 flag2 = pick (eqb flag1 0) Good (Faulty (CardStatus flag1 flag2))
 
 unfoldable pub checkOf : ℕ → List ℕ → Bool → List ℕ → Checked
 checkOf code idm whole p =
-    pick (isComplete whole p) (pick (isFrom code idm p) (byStatus (flag1In p) (flag2In p)) (Faulty OtherCard)) (Faulty ShortResponse)
+    pick (isComplete whole p) (pick (isFrom code idm p) (byFlags (flag1In p) (flag2In p)) (Faulty OtherCard)) (Faulty ShortResponse)
 
 -- of a read from the card of this IDm, of n blocks, and of a write
 abbrev pub readCheck : List ℕ → ℕ → List ℕ → Checked

@@ -31,8 +31,8 @@ countIn p = getD p countOffset 0
 abbrev pub listIn : List ℕ → List ℕ
 listIn p = take (elementSize * countIn p) (drop requestHead p)
 
-abbrev pub bytesIn : ℕ → List ℕ → List ℕ
-bytesIn count p = drop (requestHead + elementSize * count) p
+abbrev pub blockDataIn : ℕ → List ℕ → List ℕ
+blockDataIn count p = drop (requestHead + elementSize * count) p
 
 -- of a reply: status flags, number of blocks, block data
 abbrev pub flag1In : List ℕ → ℕ
@@ -41,8 +41,8 @@ flag1In p = getD p flag1Offset 0
 abbrev pub flag2In : List ℕ → ℕ
 flag2In p = getD p flag2Offset 0
 
-abbrev pub numberIn : List ℕ → ℕ
-numberIn p = getD p flagsEnd 0
+abbrev pub blockNumberIn : List ℕ → ℕ
+blockNumberIn p = getD p flagsEnd 0
 
 abbrev pub blocksIn : List ℕ → List ℕ
 blocksIn p = drop blocksOffset p
@@ -79,7 +79,7 @@ pub data RequestFields : Type 0 where
 unfoldable pub requestOf : List ℕ → RequestFields
 requestOf p =
     pick (isRequest readCode 0 p) (reads (idmIn p) (serviceIn p) (numbersIn (listIn p)))
-    (pick (isRequest writeCode blockSize p) (writes (idmIn p) (serviceIn p) (numbersIn (listIn p)) (bytesIn (countIn p) p)) noRequest)
+    (pick (isRequest writeCode blockSize p) (writes (idmIn p) (serviceIn p) (numbersIn (listIn p)) (blockDataIn (countIn p) p)) noRequest)
 
 -- what the code's answer says of the packet p
 abbrev pub four : BlockNumbers → List ℕ
@@ -95,7 +95,7 @@ pub record AskedOf (a : Asked) (p : List ℕ) : Type 0 where
 
 abbrev pub requestIn : Request → List ℕ → RequestFields
 requestIn (request.Read a) p = reads (idmIn p) (a .service) (numbersOf a)
-requestIn (request.Write a) p = writes (idmIn p) (a .service) (numbersOf a) (bytesIn (a .count) p)
+requestIn (request.Write a) p = writes (idmIn p) (a .service) (numbersOf a) (blockDataIn (a .count) p)
 requestIn request.Nothing p = noRequest
 
 -- ---- replies
@@ -106,11 +106,11 @@ isReply code p = both (leb flagsEnd (length p)) (both (eqb (getD p 0 0) (length 
 
 -- the number of n blocks, and 16 bytes for each
 unfoldable pub hasBlocks : ℕ → List ℕ → Bool
-hasBlocks n p = both (eqb (numberIn p) n) (eqb (length p) (blocksOffset + blockSize * n))
+hasBlocks n p = both (eqb (blockNumberIn p) n) (eqb (length p) (blocksOffset + blockSize * n))
 
 unfoldable pub readsBlocks : List ℕ → Bool
 readsBlocks p =
-    pick (eqb (flag1In p) 0) (both (leb 1 (numberIn p)) (both (leb (numberIn p) mostBlocks) (hasBlocks (numberIn p) p))) (eqb (length p) flagsEnd)
+    pick (eqb (flag1In p) 0) (both (leb 1 (blockNumberIn p)) (both (leb (blockNumberIn p) mostBlocks) (hasBlocks (blockNumberIn p) p))) (eqb (length p) flagsEnd)
 
 unfoldable pub isReadReply : List ℕ → Bool
 isReadReply p = both (isReply readReplyCode p) (readsBlocks p)
@@ -124,12 +124,12 @@ pub data ReplyFields : Type 0 where
   writeReplied : List ℕ → ℕ → ℕ → ReplyFields
   noReply : ReplyFields
 
-unfoldable pub replyOf : List ℕ → ReplyFields
-replyOf p =
+unfoldable pub replyFieldsOf : List ℕ → ReplyFields
+replyFieldsOf p =
     pick (isReadReply p) (readReplied (idmIn p) (flag1In p) (flag2In p) (blocksIn p))
     (pick (isWriteReply p) (writeReplied (idmIn p) (flag1In p) (flag2In p)) noReply)
 
-abbrev pub replyIn : Reply → List ℕ → ReplyFields
-replyIn (reply.Read flag1 flag2) p = readReplied (idmIn p) flag1 flag2 (blocksIn p)
-replyIn (reply.Write flag1 flag2) p = writeReplied (idmIn p) flag1 flag2
-replyIn reply.Nothing p = noReply
+abbrev pub replyFieldsIn : Reply → List ℕ → ReplyFields
+replyFieldsIn (reply.Read flag1 flag2) p = readReplied (idmIn p) flag1 flag2 (blocksIn p)
+replyFieldsIn (reply.Write flag1 flag2) p = writeReplied (idmIn p) flag1 flag2
+replyFieldsIn reply.Nothing p = noReply

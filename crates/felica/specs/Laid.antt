@@ -15,7 +15,7 @@ use Rattle.errors.specs.Refusals.{refused, answered, plain}
 use Rattle.framing.specs.Build.{Left, left, putFrame}
 use Rattle.framing.specs.Valid.{both-left, both-right}
 use Rattle.felica.specs.Names.{idmSize, blockSize, mostBlocks, elementSize, requestHead, flagsEnd, blocksOffset}
-use Rattle.felica.specs.Packets.{packet, blockList, request, reply, readReply, readReplyCode, idmFits, requestFits, writeFits, areBlocks, readReplyFits, builtOf}
+use Rattle.felica.specs.Packets.{packet, blockList, request, replyPacket, readReply, readReplyCode, idmFits, requestFits, writeFits, areBlocks, readReplyFits, builtOf}
 use Rattle.felica.specs.Lists.{eight, list-length}
 
 -- a part put behind the bytes l that stand at the start of b, which is c otherwise
@@ -91,30 +91,30 @@ pub head-laid : (len code flag1 flag2 : ℕ) (idm : List ℕ) → length idm ≡
 head-laid len code flag1 flag2 idm h = ap (λ l. len ∷ code ∷ l ++ (flag1 ∷ flag2 ∷ [])) (eight idm h)
 
 module _ (code flag1 flag2 : ℕ) (idm bytes : List ℕ) (h : length idm ≡ idmSize) where
-  pub reply-length : length (reply code idm flag1 flag2 bytes) ≡ flagsEnd + length bytes
-  unfolding reply packet
+  pub reply-length : length (replyPacket code idm flag1 flag2 bytes) ≡ flagsEnd + length bytes
+  unfolding replyPacket packet
   reply-length = omega (arith, length-append idm (flag1 ∷ flag2 ∷ bytes))
 
-  reply-laid : (len : ℕ) → len ≡ flagsEnd + length bytes → (len ∷ code ∷ idm ++ (flag1 ∷ flag2 ∷ [])) ++ bytes ≡ reply code idm flag1 flag2 bytes
-  unfolding reply packet
+  reply-laid : (len : ℕ) → len ≡ flagsEnd + length bytes → (len ∷ code ∷ idm ++ (flag1 ∷ flag2 ∷ [])) ++ bytes ≡ replyPacket code idm flag1 flag2 bytes
+  unfolding replyPacket packet
   reply-laid len k =
       let n : len ≡ suc (suc (length (idm ++ (flag1 ∷ flag2 ∷ bytes)))) = omega (arith, length-append idm (flag1 ∷ flag2 ∷ bytes)) in
       ap₂ (λ m l. m ∷ code ∷ l) n (append-assoc idm (flag1 ∷ flag2 ∷ []) bytes)
 
-  pub reply-no-room : (b : List ℕ) (n : ℕ) → n ≡ flagsEnd + length bytes → length b < n → left (refused (plain 2)) b ≡ putFrame (reply code idm flag1 flag2 bytes) b
-  reply-no-room b n e k = no-room (reply code idm flag1 flag2 bytes) b n (e ∙ sym reply-length) k
+  pub reply-no-room : (b : List ℕ) (n : ℕ) → n ≡ flagsEnd + length bytes → length b < n → left (refused (plain 2)) b ≡ putFrame (replyPacket code idm flag1 flag2 bytes) b
+  reply-no-room b n e k = no-room (replyPacket code idm flag1 flag2 bytes) b n (e ∙ sym reply-length) k
 
   -- the head, and what follows it put behind it
   reply-put : (b b₁ : List ℕ) (len : ℕ) → len ≡ flagsEnd + length bytes → len ≤ length b → b₁ ≡ ((len ∷ code ∷ idm ++ (flag1 ∷ flag2 ∷ [])) ++ bytes) ++ drop len b
-      → left (answered len) b₁ ≡ putFrame (reply code idm flag1 flag2 bytes) b
+      → left (answered len) b₁ ≡ putFrame (replyPacket code idm flag1 flag2 bytes) b
   reply-put b b₁ len e room k =
-      has-room (reply code idm flag1 flag2 bytes) b len (e ∙ sym reply-length) room b₁ (k ∙ ap (λ l. l ++ drop len b) (reply-laid len e))
+      has-room (replyPacket code idm flag1 flag2 bytes) b len (e ∙ sym reply-length) room b₁ (k ∙ ap (λ l. l ++ drop len b) (reply-laid len e))
 
 head-length : (len code flag1 flag2 : ℕ) (idm : List ℕ) → length idm ≡ idmSize → length (len ∷ code ∷ idm ++ (flag1 ∷ flag2 ∷ [])) ≡ flagsEnd
 head-length len code flag1 flag2 idm h = omega (arith, length-append idm (flag1 ∷ flag2 ∷ []))
 
 pub flags-put : (code flag1 flag2 : ℕ) (idm head b b₁ : List ℕ) → length idm ≡ idmSize → flagsEnd ≤ length b → head ≡ flagsEnd ∷ code ∷ idm ++ (flag1 ∷ flag2 ∷ [])
-    → b₁ ≡ take 0 b ++ (head ++ drop (0 + length head) b) → left (answered flagsEnd) b₁ ≡ putFrame (reply code idm flag1 flag2 []) b
+    → b₁ ≡ take 0 b ++ (head ++ drop (0 + length head) b) → left (answered flagsEnd) b₁ ≡ putFrame (replyPacket code idm flag1 flag2 []) b
 flags-put code flag1 flag2 idm head b b₁ h room k e =
     let n : length head ≡ flagsEnd = ap length k ∙ head-length flagsEnd code flag1 flag2 idm h in
     let one : b₁ ≡ head ++ drop flagsEnd b = e ∙ ap (λ j. take 0 b ++ (head ++ drop (0 + j) b)) n in
@@ -122,14 +122,14 @@ flags-put code flag1 flag2 idm head b b₁ h room k e =
     (one ∙ ap (λ l. l ++ drop flagsEnd b) (k ∙ sym (append-nil (flagsEnd ∷ code ∷ idm ++ (flag1 ∷ flag2 ∷ [])))))
 
 pub blocks-no-room : (code flag1 flag2 : ℕ) (idm bytes b : List ℕ) → length idm ≡ idmSize → length b < blocksOffset + length bytes
-    → left (refused (plain 2)) b ≡ putFrame (reply code idm flag1 flag2 (length bytes / blockSize ∷ bytes)) b
+    → left (refused (plain 2)) b ≡ putFrame (replyPacket code idm flag1 flag2 (length bytes / blockSize ∷ bytes)) b
 blocks-no-room code flag1 flag2 idm bytes b h k =
-    no-room (reply code idm flag1 flag2 (length bytes / blockSize ∷ bytes)) b (blocksOffset + length bytes) (omega (arith, reply-length code flag1 flag2 idm (length bytes / blockSize ∷ bytes) h)) k
+    no-room (replyPacket code idm flag1 flag2 (length bytes / blockSize ∷ bytes)) b (blocksOffset + length bytes) (omega (arith, reply-length code flag1 flag2 idm (length bytes / blockSize ∷ bytes) h)) k
 
 pub blocks-put : (code flag1 flag2 : ℕ) (idm bytes head b b₁ b₂ b₃ : List ℕ) → length idm ≡ idmSize → blocksOffset + length bytes ≤ length b
     → head ≡ (blocksOffset + length bytes) ∷ code ∷ idm ++ (flag1 ∷ flag2 ∷ []) → b₁ ≡ take 0 b ++ (head ++ drop (0 + length head) b)
     → b₂ ≡ take flagsEnd b₁ ++ ((length bytes / blockSize ∷ []) ++ drop blocksOffset b₁) → b₃ ≡ take blocksOffset b₂ ++ (bytes ++ drop (blocksOffset + length bytes) b₂)
-    → left (answered (blocksOffset + length bytes)) b₃ ≡ putFrame (reply code idm flag1 flag2 (length bytes / blockSize ∷ bytes)) b
+    → left (answered (blocksOffset + length bytes)) b₃ ≡ putFrame (replyPacket code idm flag1 flag2 (length bytes / blockSize ∷ bytes)) b
 blocks-put code flag1 flag2 idm bytes head b b₁ b₂ b₃ h room k e₁ e₂ e₃ =
     let len : ℕ = blocksOffset + length bytes in
     let n : length head ≡ flagsEnd = ap length k ∙ head-length len code flag1 flag2 idm h in
@@ -181,12 +181,12 @@ module _ (idm bytes : List ℕ) (flag1 : ℕ) (r : Bool) (known : r ≡ readRepl
       leb-true (length bytes) (blockSize * mostBlocks) (both-right (leb blockSize (length bytes)) _ (both-right (eqb (length bytes % blockSize) 0) _ k))
 
   module _ (x : Left) (flag2 : ℕ) (b : List ℕ) where
-    pub built-blocks : flag1 ≡ 0 → x ≡ putFrame (reply readReplyCode idm flag1 flag2 (length bytes / blockSize ∷ bytes)) b
+    pub built-blocks : flag1 ≡ 0 → x ≡ putFrame (replyPacket readReplyCode idm flag1 flag2 (length bytes / blockSize ∷ bytes)) b
         → x ≡ builtOf (readReplyFits idm flag1 bytes) (readReply idm flag1 flag2 bytes) b
     unfolding builtOf pick
     built-blocks z e = rw (sym known ∙ good, eq-eqb flag1 0 z) e
 
-    pub built-flags : (flag1 ≡ 0 → ⊥) → x ≡ putFrame (reply readReplyCode idm flag1 flag2 []) b
+    pub built-flags : (flag1 ≡ 0 → ⊥) → x ≡ putFrame (replyPacket readReplyCode idm flag1 flag2 []) b
         → x ≡ builtOf (readReplyFits idm flag1 bytes) (readReply idm flag1 flag2 bytes) b
     unfolding builtOf pick
     built-flags n e = rw (sym known ∙ good, ne-eqb flag1 0 n) e

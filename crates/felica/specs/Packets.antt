@@ -45,18 +45,18 @@ abbrev pub writeRequest : List ℕ → ℕ → List ℕ → List ℕ → List �
 writeRequest idm service blocks bytes = request writeCode idm service blocks bytes
 
 -- code, IDm, status flags 1 and 2, and what follows them
-unfoldable pub reply : ℕ → List ℕ → ℕ → ℕ → List ℕ → List ℕ
-reply code idm flag1 flag2 bytes = packet (code ∷ idm ++ (flag1 ∷ flag2 ∷ bytes))
+unfoldable pub replyPacket : ℕ → List ℕ → ℕ → ℕ → List ℕ → List ℕ
+replyPacket code idm flag1 flag2 bytes = packet (code ∷ idm ++ (flag1 ∷ flag2 ∷ bytes))
 
 -- number of blocks and block data, 16 bytes each, only where status flag 1 is 00
 abbrev pub blocksRead : ℕ → List ℕ → List ℕ
 blocksRead flag1 bytes = pick (eqb flag1 0) (length bytes / blockSize ∷ bytes) []
 
 abbrev pub readReply : List ℕ → ℕ → ℕ → List ℕ → List ℕ
-readReply idm flag1 flag2 bytes = reply readReplyCode idm flag1 flag2 (blocksRead flag1 bytes)
+readReply idm flag1 flag2 bytes = replyPacket readReplyCode idm flag1 flag2 (blocksRead flag1 bytes)
 
 abbrev pub writeReply : List ℕ → ℕ → ℕ → List ℕ
-writeReply idm flag1 flag2 = reply writeReplyCode idm flag1 flag2 []
+writeReply idm flag1 flag2 = replyPacket writeReplyCode idm flag1 flag2 []
 
 -- ---- what there is a packet of
 

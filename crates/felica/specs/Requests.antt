@@ -13,7 +13,7 @@ use Rattle.framing.specs.Lists.{both, Bytes}
 use Rattle.framing.specs.Valid.{both-left, both-right}
 use Rattle.felica.specs.Names.{idmSize, blockSize, mostBlocks, elementSize, element, codeOffset, idmOffset, servicesOffset, serviceLowOffset, serviceHighOffset, countOffset, requestHead}
 use Rattle.felica.specs.Packets.{packet, blockList, request, readRequest, writeRequest, readCode, writeCode, requestFits, writeFits}
-use Rattle.felica.specs.Fields.{idmIn, serviceIn, countIn, listIn, bytesIn, numbersIn, isBlockList, asksBlocks, isRequest, reads, writes, noRequest, requestOf}
+use Rattle.felica.specs.Fields.{idmIn, serviceIn, countIn, listIn, blockDataIn, numbersIn, isBlockList, asksBlocks, isRequest, reads, writes, noRequest, requestOf}
 use Rattle.felica.specs.Lists.{eight, list-length}
 use Rattle.felica.specs.Taken.{list-within}
 use Rattle.felica.specs.Laid.{request-length, fits-idm, fits-few, fits-some, write-named, write-sixteen}
@@ -39,7 +39,7 @@ list-back (x ∷ y ∷ l) h =
 
 -- ---- the fields of a request
 
-pub record Parts (p : List ℕ) (code : ℕ) (idm : List ℕ) (service : ℕ) (blocks bytes : List ℕ) : Type 0 where
+pub record RequestParts (p : List ℕ) (code : ℕ) (idm : List ℕ) (service : ℕ) (blocks bytes : List ℕ) : Type 0 where
   pub len : getD p 0 0 ≡ length p
   pub codeIs : getD p codeOffset 0 ≡ code
   pub one : getD p servicesOffset 0 ≡ 1
@@ -47,10 +47,10 @@ pub record Parts (p : List ℕ) (code : ℕ) (idm : List ℕ) (service : ℕ) (b
   pub serviceIs : serviceIn p ≡ service
   pub count : countIn p ≡ length blocks
   pub list : listIn p ≡ blockList blocks
-  pub bytesIs : bytesIn (countIn p) p ≡ bytes
+  pub bytesIs : blockDataIn (countIn p) p ≡ bytes
 
 eight-parts : (code service a b c d e f g h : ℕ) (blocks bytes : List ℕ)
-    → Parts (request code (a ∷ b ∷ c ∷ d ∷ e ∷ f ∷ g ∷ h ∷ []) service blocks bytes) code (a ∷ b ∷ c ∷ d ∷ e ∷ f ∷ g ∷ h ∷ []) service blocks bytes
+    → RequestParts (request code (a ∷ b ∷ c ∷ d ∷ e ∷ f ∷ g ∷ h ∷ []) service blocks bytes) code (a ∷ b ∷ c ∷ d ∷ e ∷ f ∷ g ∷ h ∷ []) service blocks bytes
 unfolding request packet
 eight-parts code service a b c d e f g h blocks bytes =
     record {
@@ -66,9 +66,9 @@ eight-parts code service a b c d e f g h blocks bytes =
           ∙ drop-at (blockList blocks) bytes (elementSize * length blocks) (list-length blocks);
     }
 
-pub parts : (code service : ℕ) (idm blocks bytes : List ℕ) → length idm ≡ idmSize → Parts (request code idm service blocks bytes) code idm service blocks bytes
+pub parts : (code service : ℕ) (idm blocks bytes : List ℕ) → length idm ≡ idmSize → RequestParts (request code idm service blocks bytes) code idm service blocks bytes
 parts code service idm blocks bytes h =
-    subst (λ l. Parts (request code l service blocks bytes) code l service blocks bytes) (eight idm h)
+    subst (λ l. RequestParts (request code l service blocks bytes) code l service blocks bytes) (eight idm h)
     (eight-parts code service (getD idm 0 0) (getD idm 1 0) (getD idm 2 0) (getD idm 3 0) (getD idm 4 0) (getD idm 5 0) (getD idm 6 0) (getD idm 7 0) blocks bytes)
 
 -- ---- build, then take apart
@@ -170,7 +170,7 @@ module _ (code s : ℕ) (p : List ℕ) (good : isRequest code s p ≡ true) wher
       (le-leb (countIn p) mostBlocks few)
 
   -- the bytes are those of its fields
-  is : Bytes p → p ≡ request code (idmIn p) (serviceIn p) (numbersIn (listIn p)) (bytesIn (countIn p) p)
+  is : Bytes p → p ≡ request code (idmIn p) (serviceIn p) (numbersIn (listIn p)) (blockDataIn (countIn p) p)
   unfolding request packet
   is bytes =
       let low : getD p serviceLowOffset 0 ≡ serviceIn p % 256 = omega (arith, bytes serviceLowOffset, bytes serviceHighOffset) in
@@ -178,29 +178,29 @@ module _ (code s : ℕ) (p : List ℕ) (good : isRequest code s p ≡ true) wher
       let number : getD p countOffset 0 ≡ length (numbersIn (listIn p)) = sym numbered in
       let first : getD p codeOffset 0 ≡ code = eqb-true (getD p codeOffset 0) code (both-left (eqb (getD p codeOffset 0) code) _ behind-len) in
       let one : getD p servicesOffset 0 ≡ 1 = eqb-true (getD p servicesOffset 0) 1 (both-left (eqb (getD p servicesOffset 0) 1) _ behind-code) in
-      let tail : drop requestHead p ≡ blockList (numbersIn (listIn p)) ++ bytesIn (countIn p) p =
+      let tail : drop requestHead p ≡ blockList (numbersIn (listIn p)) ++ blockDataIn (countIn p) p =
       sym (take-append-drop (elementSize * countIn p) (drop requestHead p)) ∙ ap₂ (λ x y. x ++ y) (sym list) (drop-drop (elementSize * countIn p) requestHead p) in
-      let from-services : drop servicesOffset p ≡ 0x01 ∷ serviceIn p % 256 ∷ serviceIn p / 256 ∷ length (numbersIn (listIn p)) ∷ blockList (numbersIn (listIn p)) ++ bytesIn (countIn p) p =
+      let from-services : drop servicesOffset p ≡ 0x01 ∷ serviceIn p % 256 ∷ serviceIn p / 256 ∷ length (numbersIn (listIn p)) ∷ blockList (numbersIn (listIn p)) ++ blockDataIn (countIn p) p =
       drop-cons p servicesOffset 0 (omega (arith, room))
       ∙ ap₂ (λ x r. x ∷ r) one (drop-cons p serviceLowOffset 0 (omega (arith, room))
       ∙ ap₂ (λ x r. x ∷ r) low (drop-cons p serviceHighOffset 0 (omega (arith, room))
       ∙ ap₂ (λ x r. x ∷ r) high (drop-cons p countOffset 0 (omega (arith, room))
       ∙ ap₂ (λ x r. x ∷ r) number tail))) in
       let from-idm : drop idmOffset p ≡ idmIn p ++ drop servicesOffset p = sym (take-append-drop idmSize (drop idmOffset p)) ∙ ap (λ r. idmIn p ++ r) (drop-drop idmSize idmOffset p) in
-      let from-code : drop codeOffset p ≡ code ∷ idmIn p ++ (0x01 ∷ serviceIn p % 256 ∷ serviceIn p / 256 ∷ length (numbersIn (listIn p)) ∷ blockList (numbersIn (listIn p)) ++ bytesIn (countIn p) p) =
+      let from-code : drop codeOffset p ≡ code ∷ idmIn p ++ (0x01 ∷ serviceIn p % 256 ∷ serviceIn p / 256 ∷ length (numbersIn (listIn p)) ∷ blockList (numbersIn (listIn p)) ++ blockDataIn (countIn p) p) =
       drop-cons p codeOffset 0 (omega (arith, room)) ∙ ap₂ (λ x r. x ∷ r) first (from-idm ∙ ap (λ r. idmIn p ++ r) from-services) in
       let n : getD p 0 0 ≡ suc (length (drop codeOffset p)) = omega (arith, len, length-drop codeOffset p, room) in
       drop-cons p 0 0 (omega (arith, room)) ∙ ap (λ x. x ∷ drop codeOffset p) n ∙ ap (λ r. suc (length r) ∷ r) from-code
 
-pub record Read (p idm : List ℕ) (service : ℕ) (blocks : List ℕ) : Type 0 where
+pub record IsReadRequest (p idm : List ℕ) (service : ℕ) (blocks : List ℕ) : Type 0 where
   pub is : p ≡ readRequest idm service blocks
   pub fits : requestFits idm blocks ≡ true
 
-pub record Written (p idm : List ℕ) (service : ℕ) (blocks bytes : List ℕ) : Type 0 where
+pub record IsWriteRequest (p idm : List ℕ) (service : ℕ) (blocks bytes : List ℕ) : Type 0 where
   pub is : p ≡ writeRequest idm service blocks bytes
   pub fits : writeFits idm blocks bytes ≡ true
 
-read-here : (p : List ℕ) → Bytes p → isRequest readCode 0 p ≡ true → Read p (idmIn p) (serviceIn p) (numbersIn (listIn p))
+read-here : (p : List ℕ) → Bytes p → isRequest readCode 0 p ≡ true → IsReadRequest p (idmIn p) (serviceIn p) (numbersIn (listIn p))
 read-here p bytes h =
     let n : length p ≤ requestHead + elementSize * countIn p = omega (arith, whole readCode 0 p h) in
     record {
@@ -208,24 +208,24 @@ read-here p bytes h =
       fits = named readCode 0 p h;
     }
 
-write-here : (p : List ℕ) → Bytes p → isRequest writeCode blockSize p ≡ true → Written p (idmIn p) (serviceIn p) (numbersIn (listIn p)) (bytesIn (countIn p) p)
+write-here : (p : List ℕ) → Bytes p → isRequest writeCode blockSize p ≡ true → IsWriteRequest p (idmIn p) (serviceIn p) (numbersIn (listIn p)) (blockDataIn (countIn p) p)
 unfolding writeFits
 write-here p bytes h =
-    let n : length (bytesIn (countIn p) p) ≡ blockSize * length (numbersIn (listIn p)) =
+    let n : length (blockDataIn (countIn p) p) ≡ blockSize * length (numbersIn (listIn p)) =
     omega (arith, whole writeCode blockSize p h, numbered writeCode blockSize p h, length-drop (requestHead + elementSize * countIn p) p) in
     record {
       is = is writeCode blockSize p h bytes;
-      fits = rw (named writeCode blockSize p h) (eq-eqb (length (bytesIn (countIn p) p)) (blockSize * length (numbersIn (listIn p))) n);
+      fits = rw (named writeCode blockSize p h) (eq-eqb (length (blockDataIn (countIn p) p)) (blockSize * length (numbersIn (listIn p))) n);
     }
 
 -- exactly where the bytes are a request of these fields
-pub read-only : (p idm : List ℕ) (service : ℕ) (blocks : List ℕ) → Bytes p → requestOf p ≡ reads idm service blocks → Read p idm service blocks
+pub read-only : (p idm : List ℕ) (service : ℕ) (blocks : List ℕ) → Bytes p → requestOf p ≡ reads idm service blocks → IsReadRequest p idm service blocks
 unfolding requestOf pick
 read-only p idm service blocks bytes h = go (isRequest readCode 0 p) refl (isRequest writeCode blockSize p) h
   where
     go : (t : Bool) → isRequest readCode 0 p ≡ t → (u : Bool)
-        → pick t (reads (idmIn p) (serviceIn p) (numbersIn (listIn p))) (pick u (writes (idmIn p) (serviceIn p) (numbersIn (listIn p)) (bytesIn (countIn p) p)) noRequest) ≡ reads idm service blocks
-        → Read p idm service blocks
+        → pick t (reads (idmIn p) (serviceIn p) (numbersIn (listIn p))) (pick u (writes (idmIn p) (serviceIn p) (numbersIn (listIn p)) (blockDataIn (countIn p) p)) noRequest) ≡ reads idm service blocks
+        → IsReadRequest p idm service blocks
     go true e u k =
         let a : idmIn p ≡ idm = cc in
         let b : serviceIn p ≡ service = cc in
@@ -234,30 +234,30 @@ read-only p idm service blocks bytes h = go (isRequest readCode 0 p) refl (isReq
     go false e true k = absurd (let z : _≡_ {A = ℕ} 0 1 = cc in omega arith)
     go false e false k = absurd (let z : _≡_ {A = ℕ} 0 1 = cc in omega arith)
 
-pub write-only : (p idm : List ℕ) (service : ℕ) (blocks sent : List ℕ) → Bytes p → requestOf p ≡ writes idm service blocks sent → Written p idm service blocks sent
+pub write-only : (p idm : List ℕ) (service : ℕ) (blocks sent : List ℕ) → Bytes p → requestOf p ≡ writes idm service blocks sent → IsWriteRequest p idm service blocks sent
 unfolding requestOf pick
 write-only p idm service blocks sent bytes h = go (isRequest readCode 0 p) (isRequest writeCode blockSize p) refl h
   where
     go : (t u : Bool) → isRequest writeCode blockSize p ≡ u
-        → pick t (reads (idmIn p) (serviceIn p) (numbersIn (listIn p))) (pick u (writes (idmIn p) (serviceIn p) (numbersIn (listIn p)) (bytesIn (countIn p) p)) noRequest) ≡ writes idm service blocks sent
-        → Written p idm service blocks sent
+        → pick t (reads (idmIn p) (serviceIn p) (numbersIn (listIn p))) (pick u (writes (idmIn p) (serviceIn p) (numbersIn (listIn p)) (blockDataIn (countIn p) p)) noRequest) ≡ writes idm service blocks sent
+        → IsWriteRequest p idm service blocks sent
     go true u e k = absurd (let z : _≡_ {A = ℕ} 0 1 = cc in omega arith)
     go false true e k =
         let a : idmIn p ≡ idm = cc in
         let b : serviceIn p ≡ service = cc in
         let c : numbersIn (listIn p) ≡ blocks = cc in
-        let d : bytesIn (countIn p) p ≡ sent = cc in
+        let d : blockDataIn (countIn p) p ≡ sent = cc in
         rw (a, b, c, d) at (write-here p bytes e)
     go false false e k = absurd (let z : _≡_ {A = ℕ} 0 1 = cc in omega arith)
 
 -- none: the bytes are no request
-pub none-read : (p idm : List ℕ) (service : ℕ) (blocks : List ℕ) → requestOf p ≡ noRequest → Read p idm service blocks → ⊥
+pub none-read : (p idm : List ℕ) (service : ℕ) (blocks : List ℕ) → requestOf p ≡ noRequest → IsReadRequest p idm service blocks → ⊥
 none-read p idm service blocks h r =
     let k : requestOf p ≡ reads idm service blocks = ap requestOf (r .is) ∙ read-back idm blocks service (r .fits) in
     let z : _≡_ {A = ℕ} 0 1 = cc in
     omega arith
 
-pub none-written : (p idm : List ℕ) (service : ℕ) (blocks bytes : List ℕ) → requestOf p ≡ noRequest → Written p idm service blocks bytes → ⊥
+pub none-written : (p idm : List ℕ) (service : ℕ) (blocks bytes : List ℕ) → requestOf p ≡ noRequest → IsWriteRequest p idm service blocks bytes → ⊥
 none-written p idm service blocks bytes h r =
     let k : requestOf p ≡ writes idm service blocks bytes = ap requestOf (r .is) ∙ write-back idm blocks bytes service (r .fits) in
     let z : _≡_ {A = ℕ} 0 1 = cc in

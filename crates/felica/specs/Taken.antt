@@ -14,8 +14,8 @@ use Rattle.framing.specs.Lists.{both}
 use Rattle.framing.specs.Valid.{both-left, both-right}
 use Rattle.felica.specs.Names.{blockSize, mostBlocks, elementSize, codeOffset, servicesOffset, serviceLowOffset, serviceHighOffset, requestHead, flagsEnd}
 use Rattle.felica.specs.Packets.{readCode, writeCode, readReplyCode, writeReplyCode}
-use Rattle.felica.specs.Fields.{idmIn, serviceIn, countIn, listIn, bytesIn, flag1In, flag2In, blocksIn, numbersIn, isBlockList, asksBlocks, isRequest, requestOf, reads, writes, noRequest, four, numbersOf, AskedOf, hasBlocks, isReadReply, isWriteReply, replyOf, readReplied, writeReplied, noReply}
-use Rattle.felica.specs.Checks.{isFrom, byStatus, checkOf, readCheck, writeCheck}
+use Rattle.felica.specs.Fields.{idmIn, serviceIn, countIn, listIn, blockDataIn, flag1In, flag2In, blocksIn, numbersIn, isBlockList, asksBlocks, isRequest, requestOf, reads, writes, noRequest, four, numbersOf, AskedOf, hasBlocks, isReadReply, isWriteReply, replyFieldsOf, readReplied, writeReplied, noReply}
+use Rattle.felica.specs.Checks.{isFrom, byFlags, checkOf, readCheck, writeCheck}
 use Rattle.felica.specs.declared.BlockNumbers.{BlockNumbers}
 use Rattle.felica.specs.declared.check.Checked.{Checked}
 use Rattle.felica.specs.declared.request.Asked.{Asked}
@@ -100,12 +100,12 @@ module _ (p : List ℕ) (a : Asked) (asked : AskedOf a p) where
   as-read r t h = rw (sym t ∙ h) (ap₂ (reads (idmIn p)) (asked .service) (asked .numbers))
 
   pub as-write : (r q : Bool) → r ≡ isRequest readCode 0 p → r ≡ false → q ≡ isRequest writeCode blockSize p → q ≡ true
-      → writes (idmIn p) (a .service) (numbersOf a) (bytesIn (a .count) p) ≡ requestOf p
+      → writes (idmIn p) (a .service) (numbersOf a) (blockDataIn (a .count) p) ≡ requestOf p
   unfolding requestOf pick
   as-write r q t h u k =
       rw (sym t ∙ h, sym u ∙ k)
-      (ap₂ (λ x y. writes (idmIn p) x y (bytesIn (a .count) p)) (asked .service) (asked .numbers)
-      ∙ ap (λ j. writes (idmIn p) (serviceIn p) (numbersIn (listIn p)) (bytesIn j p)) (asked .count))
+      (ap₂ (λ x y. writes (idmIn p) x y (blockDataIn (a .count) p)) (asked .service) (asked .numbers)
+      ∙ ap (λ j. writes (idmIn p) (serviceIn p) (numbersIn (listIn p)) (blockDataIn j p)) (asked .count))
 
 pub as-none : (p : List ℕ) (r q : Bool) → r ≡ isRequest readCode 0 p → r ≡ false → q ≡ isRequest writeCode blockSize p → q ≡ false → noRequest ≡ requestOf p
 unfolding requestOf pick
@@ -122,16 +122,16 @@ pub known-blocks : (p : List ℕ) (n m : ℕ) (r : Bool) → n ≡ m → r ≡ h
 known-blocks p n m r e h = h ∙ ap (λ k. hasBlocks k p) e
 
 module _ (p : List ℕ) (f g : ℕ) (r : Bool) (first : f ≡ flag1In p) (second : g ≡ flag2In p) (known : r ≡ isReadReply p) where
-  pub as-read-reply : r ≡ true → readReplied (idmIn p) f g (blocksIn p) ≡ replyOf p
-  unfolding replyOf pick
+  pub as-read-reply : r ≡ true → readReplied (idmIn p) f g (blocksIn p) ≡ replyFieldsOf p
+  unfolding replyFieldsOf pick
   as-read-reply h = rw (sym known ∙ h) (ap₂ (λ x y. readReplied (idmIn p) x y (blocksIn p)) first second)
 
-  pub as-write-reply : (q : Bool) → r ≡ false → q ≡ isWriteReply p → q ≡ true → writeReplied (idmIn p) f g ≡ replyOf p
-  unfolding replyOf pick
+  pub as-write-reply : (q : Bool) → r ≡ false → q ≡ isWriteReply p → q ≡ true → writeReplied (idmIn p) f g ≡ replyFieldsOf p
+  unfolding replyFieldsOf pick
   as-write-reply q h u k = rw (sym known ∙ h, sym u ∙ k) (ap₂ (writeReplied (idmIn p)) first second)
 
-pub as-no-reply : (p : List ℕ) (r q : Bool) → r ≡ isReadReply p → r ≡ false → q ≡ isWriteReply p → q ≡ false → noReply ≡ replyOf p
-unfolding replyOf pick
+pub as-no-reply : (p : List ℕ) (r q : Bool) → r ≡ isReadReply p → r ≡ false → q ≡ isWriteReply p → q ≡ false → noReply ≡ replyFieldsOf p
+unfolding replyFieldsOf pick
 as-no-reply p r q t h u k = rw (sym t ∙ h, sym u ∙ k)
 
 -- ---- the check of a reply
@@ -140,8 +140,8 @@ pub known-from : (code b : ℕ) (idm i p : List ℕ) (r : Bool) → b ≡ getD p
 unfolding isFrom
 known-from code b idm i p r e f g h = rw (eq-eqb (getD p codeOffset 0) code (sym e ∙ f)) (h ∙ ap (same idm) g)
 
-pub known-status : (r : Checked) (f g x y : ℕ) → f ≡ x → g ≡ y → r ≡ byStatus f g → r ≡ byStatus x y
-known-status r f g x y p q h = h ∙ ap₂ byStatus p q
+pub known-status : (r : Checked) (f g x y : ℕ) → f ≡ x → g ≡ y → r ≡ byFlags f g → r ≡ byFlags x y
+known-status r f g x y p q h = h ∙ ap₂ byFlags p q
 
 pub read-checked : (r : Checked) (request p i : List ℕ) (w : Bool) (n : ℕ) → i ≡ idmIn request → n ≡ countIn request → w ≡ hasBlocks n p
     → r ≡ checkOf readReplyCode i w p → r ≡ readCheck (idmIn request) (countIn request) p

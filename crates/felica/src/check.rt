@@ -13,7 +13,7 @@ use super::request::COUNT_OFFSET;
 use errors::Fault;
 ghost use mathlib.Core.Path.{_≡_};
 ghost use Rattle.felica.specs.Fields.{idmIn, countIn};
-ghost use Rattle.felica.specs.Checks.{isComplete, isFrom, byStatus, checkOf, readCheck, writeCheck};
+ghost use Rattle.felica.specs.Checks.{isComplete, isFrom, byFlags, checkOf, readCheck, writeCheck};
 
 // The reply is the one asked for; or 16, 21 or 20.
 pub enum Checked {
@@ -51,7 +51,7 @@ fn is_from(code: u8, idm: &[u8], reply: &[u8]) -> bool
 
 // Flag 1 at 0; else 20, with both flags.
 fn by_status(flag1: u8, flag2: u8) -> Checked
-    ensures { λ r. ⌜ r ≡ byStatus flag1 flag2 ⌝ }
+    ensures { λ r. ⌜ r ≡ byFlags flag1 flag2 ⌝ }
 {
     if flag1 == 0 {
         Checked::Good

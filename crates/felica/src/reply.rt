@@ -16,8 +16,8 @@ ghost use Prim.Native.Nat.{_*_, _/_, _≤_};
 ghost use lib.ListN.{length};
 ghost use Rattle.framing.specs.Build.{returned, left, putFrame};
 ghost use Rattle.felica.specs.Names.{idmSize, blockSize, mostBlocks};
-ghost use Rattle.felica.specs.Packets.{reply, readReply, writeReply, areBlocks, readReplyFits, builtOf, idmFits};
-ghost use Rattle.felica.specs.Fields.{replyIn, replyOf, isReply, hasBlocks, isReadReply, isWriteReply, readsBlocks, blocksIn};
+ghost use Rattle.felica.specs.Packets.{replyPacket, readReply, writeReply, areBlocks, readReplyFits, builtOf, idmFits};
+ghost use Rattle.felica.specs.Fields.{replyFieldsIn, replyFieldsOf, isReply, hasBlocks, isReadReply, isWriteReply, readsBlocks, blocksIn};
 
 // Where the flags stand, where they end and the number of blocks stands, and where block data starts.
 pub(crate) const FLAG1_OFFSET: usize = 10;
@@ -86,7 +86,7 @@ fn head(len: u8, code: u8, idm: &[u8], flag1: u8, flag2: u8) -> [u8; FLAGS_END]
 // Writes a reply without block data.
 fn put_flags(code: u8, idm: &[u8], flag1: u8, flag2: u8, buffer: &mut [u8]) -> Built
     requires { ⌜ length (now idm) ≡ idmSize ⌝ }
-    ensures { λ r. ⌜ left (returned r) (now (buffer .exit)) ≡ putFrame (reply code (now (idm .entry)) flag1 flag2 []) (now (buffer .entry)) ⌝ }
+    ensures { λ r. ⌜ left (returned r) (now (buffer .exit)) ≡ putFrame (replyPacket code (now (idm .entry)) flag1 flag2 []) (now (buffer .entry)) ⌝ }
 {
     if buffer.len() < FLAGS_END {
         return Built::Refused(Refusal::ShortBuffer);
@@ -99,7 +99,7 @@ fn put_flags(code: u8, idm: &[u8], flag1: u8, flag2: u8, buffer: &mut [u8]) -> B
 // Writes a reply with the number of blocks and their data.
 fn put_blocks(code: u8, idm: &[u8], flag1: u8, flag2: u8, bytes: &[u8], buffer: &mut [u8]) -> Built
     requires { ⌜ (length (now idm) ≡ idmSize) × (length (now bytes) ≤ blockSize * mostBlocks) ⌝ }
-    ensures { λ r. ⌜ left (returned r) (now (buffer .exit)) ≡ putFrame (reply code (now (idm .entry)) flag1 flag2 (length (now (bytes .entry)) / blockSize ∷ now (bytes .entry))) (now (buffer .entry)) ⌝ }
+    ensures { λ r. ⌜ left (returned r) (now (buffer .exit)) ≡ putFrame (replyPacket code (now (idm .entry)) flag1 flag2 (length (now (bytes .entry)) / blockSize ∷ now (bytes .entry))) (now (buffer .entry)) ⌝ }
 {
     let len = BLOCKS_OFFSET + bytes.len();
     if buffer.len() < len {
@@ -202,7 +202,7 @@ fn is_write_reply(packet: &[u8]) -> bool
 
 // A reply taken apart; other bytes give nothing.
 pub fn parse_reply(packet: &[u8]) -> Reply
-    ensures { λ r. ⌜ replyIn r (now (packet .entry)) ≡ replyOf (now (packet .entry)) ⌝ }
+    ensures { λ r. ⌜ replyFieldsIn r (now (packet .entry)) ≡ replyFieldsOf (now (packet .entry)) ⌝ }
 {
     let flag1 = byte_at(packet, FLAG1_OFFSET);
     let flag2 = byte_at(packet, FLAG2_OFFSET);

@@ -19,7 +19,7 @@ ghost use lib.ListN.{length, take, drop};
 ghost use Rattle.framing.specs.Build.{returned, left, putFrame};
 ghost use Rattle.felica.specs.Names.{idmSize, blockSize, mostBlocks, elementSize, requestHead};
 ghost use Rattle.felica.specs.Packets.{request, blockList, readRequest, writeRequest, requestFits, writeFits, builtOf};
-ghost use Rattle.felica.specs.Fields.{requestIn, requestOf, isRequest, asksBlocks, isBlockList, countIn, bytesIn, four, numbersIn, AskedOf};
+ghost use Rattle.felica.specs.Fields.{requestIn, requestOf, isRequest, asksBlocks, isBlockList, countIn, blockDataIn, four, numbersIn, AskedOf};
 
 // The bytes of a block list element, and the first of them, of the first service.
 const ELEMENT_SIZE: usize = 2;
@@ -269,7 +269,7 @@ pub fn parse_request(packet: &[u8]) -> Request
 
 // What stands behind the list of `count` blocks: a write's block data.
 pub fn block_data(packet: &[u8], count: u8) -> &[u8]
-    ensures { λ r. ⌜ now r ≡ bytesIn count (now (packet .entry)) ⌝ }
+    ensures { λ r. ⌜ now r ≡ blockDataIn count (now (packet .entry)) ⌝ }
 {
     let at = REQUEST_HEAD + ELEMENT_SIZE * (count as usize);
     let n = packet.len();

@@ -5,7 +5,7 @@ use lib.Dec.{ltb}
 use lib.ListN.{length, take, drop}
 use Rattle.errors.specs.Refusals.{Returned, answered, refused, numbered, plain}
 use Rattle.errors.specs.declared.Refusal.the-variants.{OverLong, ShortBuffer}
-use Rattle.framing.specs.Frames.{frameOf, startOf, longest}
+use Rattle.framing.specs.Frames.{frameOf, dataStart, longest}
 use Rattle.errors.specs.Choice.{pick}
 use Rattle.framing.specs.Names.{endingSize}
 use Rattle.framing.specs.declared.Built.{Built}
@@ -40,10 +40,10 @@ buildOf f payload b = pick (ltb (limitOf f) (length payload)) (left (refused (pl
 
 -- head and ending put around the n bytes that stand at their place in the buffer b
 unfoldable pub enclosed : LengthEncoding → ℕ → List ℕ → List ℕ
-enclosed e n b = frameOf e (take n (drop (startOf e n) b)) ++ drop (startOf e n + n + endingSize) b
+enclosed e n b = frameOf e (take n (drop (dataStart e n) b)) ++ drop (dataStart e n + n + endingSize) b
 
 -- where the payload is put, or why not
 unfoldable pub placeOf : FrameFormat → ℕ → ℕ → Place
 placeOf f n room =
     pick (ltb (limitOf f) n) (Place.Refused OverLong)
-    (pick (ltb room (startOf (f .length) n + n + endingSize)) (Place.Refused ShortBuffer) (At (startOf (f .length) n)))
+    (pick (ltb room (dataStart (f .length) n + n + endingSize)) (Place.Refused ShortBuffer) (At (dataStart (f .length) n)))

@@ -16,7 +16,7 @@ use Rattle.errors.specs.declared.Refusal.the-variants.{OverLong, ShortBuffer}
 use Rattle.framing.specs.Build.{Left, left, buildOf, putFrame, limitOf, placeOf, enclosed}
 use borrow.Rule.Slice.PartMut.{putMid}
 use Rattle.framing.specs.Copied.{copied, copied-two, copied-here, copied-behind}
-use Rattle.framing.specs.Frames.{checksumOf, ending, frameOf, extendedHead, headOf, startOf, longest, lengthBytes}
+use Rattle.framing.specs.Frames.{checksumOf, ending, frameOf, extendedHead, headOf, dataStart, longest, lengthBytes}
 use Rattle.errors.specs.Choice.{pick}
 use Rattle.framing.specs.Names.{normalStart, extendedStart, endingSize, longestExtended, shortestExtended}
 use Rattle.framing.specs.declared.FrameFormat.{FrameFormat}
@@ -25,8 +25,8 @@ use Rattle.framing.specs.declared.Place.the-variants.{At}
 use Rattle.framing.specs.declared.LengthEncoding.{LengthEncoding}
 use Rattle.framing.specs.declared.LengthEncoding.the-variants.{Normal, ExtendedLittleEndian, NormalOrExtendedBigEndian}
 
-pub length-head : (e : LengthEncoding) (n : ℕ) → length (headOf e n) ≡ startOf e n
-unfolding headOf startOf pick lengthBytes
+pub length-head : (e : LengthEncoding) (n : ℕ) → length (headOf e n) ≡ dataStart e n
+unfolding headOf dataStart pick lengthBytes
 length-head Normal n = refl
 length-head ExtendedLittleEndian n = refl
 length-head NormalOrExtendedBigEndian n = go (ltb n shortestExtended)
@@ -35,8 +35,8 @@ length-head NormalOrExtendedBigEndian n = go (ltb n shortestExtended)
     go true = refl
     go false = refl
 
-pub start-most : (e : LengthEncoding) (n : ℕ) → startOf e n ≤ extendedStart
-unfolding startOf pick
+pub start-most : (e : LengthEncoding) (n : ℕ) → dataStart e n ≤ extendedStart
+unfolding dataStart pick
 start-most Normal n = omega arith
 start-most ExtendedLittleEndian n = omega arith
 start-most NormalOrExtendedBigEndian n = go (ltb n shortestExtended)
@@ -79,13 +79,13 @@ module _ (h b : List ℕ) (n : ℕ) (room : length h + n + endingSize ≤ length
       ∙ ap₂ (λ x y. x ++ (c ∷ 0 ∷ []) ++ y) front back
 
 -- what `enclose` leaves
-pub enclose-done : (e : LengthEncoding) (n start c : ℕ) (b b₁ : List ℕ) → start ≡ startOf e n → b₁ ≡ headOf e n ++ drop (startOf e n) b
-    → startOf e n + n + endingSize ≤ length b → c ≡ checksumOf (take (start + n - start) (drop start b₁))
+pub enclose-done : (e : LengthEncoding) (n start c : ℕ) (b b₁ : List ℕ) → start ≡ dataStart e n → b₁ ≡ headOf e n ++ drop (dataStart e n) b
+    → dataStart e n + n + endingSize ≤ length b → c ≡ checksumOf (take (start + n - start) (drop start b₁))
     → set (set b₁ (start + n) c) (start + n + 1) 0 ≡ enclosed e n b
 unfolding enclosed frameOf
 enclose-done e n start c b b₁ s h room d =
     let H = headOf e n in
-    let lh : length H ≡ startOf e n = length-head e n in
+    let lh : length H ≡ dataStart e n = length-head e n in
     let sl : start ≡ length H = s ∙ sym lh in
     let hl : b₁ ≡ H ++ drop (length H) b = h ∙ ap (λ k. H ++ drop k b) (sym lh) in
     let room′ : length H + n + endingSize ≤ length b = rw lh room in
@@ -95,7 +95,7 @@ enclose-done e n start c b b₁ s h room d =
     let lq : length (take n (drop (length H) b)) ≡ n = length-take-le n (drop (length H) b) (rw (length-drop (length H) b) (omega arith)) in
     rw (hl, sl, dq, ← lh, lq) (written H b n room′ (checksumOf (take n (drop (length H) b))))
 
-pub length-frame : (e : LengthEncoding) (p : List ℕ) → length (frameOf e p) ≡ startOf e (length p) + length p + endingSize
+pub length-frame : (e : LengthEncoding) (p : List ℕ) → length (frameOf e p) ≡ dataStart e (length p) + length p + endingSize
 unfolding frameOf
 length-frame e p =
     length-append (headOf e (length p) ++ p) (ending p)
@@ -104,22 +104,22 @@ length-frame e p =
 -- The answers of `room_for`, and what `build` makes of them.
 module _ (f : FrameFormat) where
   pub record Fits (n room start : ℕ) : Type 0 where
-    pub here : start ≡ startOf (f .length) n
+    pub here : start ≡ dataStart (f .length) n
     pub short : n ≤ longest (f .length)
-    pub inside : startOf (f .length) n + n + endingSize ≤ room
+    pub inside : dataStart (f .length) n + n + endingSize ≤ room
 
   pub place-fits : (n room start : ℕ) → At start ≡ placeOf f n room → Fits n room start
   unfolding placeOf limitOf pick
-  place-fits n room start = go (ltb (min (f .limit) (longest (f .length))) n) (ltb room (startOf (f .length) n + n + endingSize)) refl refl
+  place-fits n room start = go (ltb (min (f .limit) (longest (f .length))) n) (ltb room (dataStart (f .length) n + n + endingSize)) refl refl
     where
-      go : (t u : Bool) → ltb (min (f .limit) (longest (f .length))) n ≡ t → ltb room (startOf (f .length) n + n + endingSize) ≡ u
-          → At start ≡ pick t (Place.Refused OverLong) (pick u (Place.Refused ShortBuffer) (At (startOf (f .length) n))) → Fits n room start
+      go : (t u : Bool) → ltb (min (f .limit) (longest (f .length))) n ≡ t → ltb room (dataStart (f .length) n + n + endingSize) ≡ u
+          → At start ≡ pick t (Place.Refused OverLong) (pick u (Place.Refused ShortBuffer) (At (dataStart (f .length) n))) → Fits n room start
       go true u l m x = let z : _≡_ {A = ℕ} 0 1 = cc in absurd (omega arith)
       go false true l m x = let z : _≡_ {A = ℕ} 0 1 = cc in absurd (omega arith)
       go false false l m x = record {
         here = cc;
         short = omega (arith, ltb-false (min (f .limit) (longest (f .length))) n l);
-        inside = omega (arith, ltb-false room (startOf (f .length) n + n + endingSize) m);
+        inside = omega (arith, ltb-false room (dataStart (f .length) n + n + endingSize) m);
       }
 
   module _ (n room m l : ℕ) (longest-is : m ≡ longest (f .length)) (least-is : l ≡ min (f .limit) m) where
@@ -131,7 +131,7 @@ module _ (f : FrameFormat) where
     unfolding placeOf pick
     place-long h = rw (← limit-is, lt-ltb l n h)
 
-    module _ (start : ℕ) (start-is : start ≡ startOf (f .length) n) (h : n ≤ l) where
+    module _ (start : ℕ) (start-is : start ≡ dataStart (f .length) n) (h : n ≤ l) where
       pub place-short : room < start + n + endingSize → Place.Refused ShortBuffer ≡ placeOf f n room
       unfolding placeOf pick
       place-short k = rw (← limit-is, le-ltb l n h, ← start-is, lt-ltb room (start + n + endingSize) k)
@@ -142,7 +142,7 @@ module _ (f : FrameFormat) where
 
   module _ (p b : List ℕ) where
     abbrev s : ℕ
-    s = startOf (f .length) (length p)
+    s = dataStart (f .length) (length p)
 
     abbrev done : ℕ → Left
     done n = left (answered n) (frameOf (f .length) p ++ drop n b)

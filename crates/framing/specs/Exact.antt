@@ -31,7 +31,7 @@ Carries e q frame start =
     ⊎ ((frame ≡ extendedFrame e q) × (start ≡ extendedStart) × (length q ≤ longestExtended) × (extends e ≡ true))
 
 -- The packet p starts with a frame of m bytes whose payload is the n bytes from s on.
-pub record StartsWith (e : LengthEncoding) (p : List ℕ) (s n m : ℕ) : Type 0 where
+pub record StartsWithFrame (e : LengthEncoding) (p : List ℕ) (s n m : ℕ) : Type 0 where
   pub payload : List ℕ
   pub frame : List ℕ
   pub behind : List ℕ
@@ -107,7 +107,7 @@ length-long e q = length-extended e q ∙ sum (length q)
 same-data : {s s′ n n′ m m′ : ℕ} → s ≡ s′ → n ≡ n′ → m ≡ m′ → Data s n m ≡ Data s′ n′ m′
 same-data p q r = cc
 
-data-of : (e : LengthEncoding) (p : List ℕ) (s n m : ℕ) → Bytes p → StartsWith e p s n m → (starts sof p ≡ true) × (dataOf e p ≡ Data s n m)
+data-of : (e : LengthEncoding) (p : List ℕ) (s n m : ℕ) → Bytes p → StartsWithFrame e p s n m → (starts sof p ≡ true) × (dataOf e p ≡ Data s n m)
 data-of e p s n m bytes w = go (w .carries)
   where
     q : List ℕ
@@ -132,7 +132,7 @@ unfolding normalFrame
 third q r = refl
 
 module _ (e : LengthEncoding) (p : List ℕ) (bytes : Bytes p) where
-  normal-shows : normalAt p ≡ true → StartsWith e p normalStart (getD p lenOffset 0) (getD p lenOffset 0 + normalOverhead)
+  normal-shows : normalAt p ≡ true → StartsWithFrame e p normalStart (getD p lenOffset 0) (getD p lenOffset 0 + normalOverhead)
   unfolding normalAt
   normal-shows h =
       let q : List ℕ = take (getD p lenOffset 0) (drop normalStart p) in
@@ -154,7 +154,7 @@ module _ (e : LengthEncoding) (p : List ℕ) (bytes : Bytes p) where
   length-most ExtendedLittleEndian = omega (arith, bytes firstLenOffset, bytes secondLenOffset)
   length-most NormalOrExtendedBigEndian = omega (arith, bytes firstLenOffset, bytes secondLenOffset)
 
-  extended-shows : extendedAt e p ≡ true → StartsWith e p extendedStart (lengthAt e p) (lengthAt e p + extendedOverhead)
+  extended-shows : extendedAt e p ≡ true → StartsWithFrame e p extendedStart (lengthAt e p) (lengthAt e p + extendedOverhead)
   unfolding extendedAt
   extended-shows h =
       let q : List ℕ = take (lengthAt e p) (drop extendedStart p) in
@@ -172,23 +172,23 @@ module _ (e : LengthEncoding) (p : List ℕ) (bytes : Bytes p) where
         size = ap (λ k. k + extendedOverhead) n ∙ sym (length-long e q);
       }
 
-  as-known : {s n m s′ n′ m′ : ℕ} → StartsWith e p s n m → Data s n m ≡ Data s′ n′ m′ → StartsWith e p s′ n′ m′
+  as-known : {s n m s′ n′ m′ : ℕ} → StartsWithFrame e p s n m → Data s n m ≡ Data s′ n′ m′ → StartsWithFrame e p s′ n′ m′
   as-known {s} {n} {m} {s′} {n′} {m′} w x =
       let a : s ≡ s′ = cc in
       let b : n ≡ n′ = cc in
       let c : m ≡ m′ = cc in
-      subst₃ (λ i j k. StartsWith e p i j k) a b c w
+      subst₃ (λ i j k. StartsWithFrame e p i j k) a b c w
 
   no-data : {s n m : ℕ} → Nothing ≡ Data s n m → ⊥
   no-data x = let z : _≡_ {A = ℕ} 0 1 = cc in omega arith
 
-  data-shows : (s n m : ℕ) → dataOf e p ≡ Data s n m → StartsWith e p s n m
+  data-shows : (s n m : ℕ) → dataOf e p ≡ Data s n m → StartsWithFrame e p s n m
   unfolding dataOf normalOf extendedOf pick
   data-shows s n m = go (normalAt p) (extendedAt e p) refl refl
     where
       go : (t u : Bool) → normalAt p ≡ t → extendedAt e p ≡ u
           → pick t (pick t (Data normalStart (getD p lenOffset 0) (getD p lenOffset 0 + normalOverhead)) Nothing) (pick u (Data extendedStart (lengthAt e p) (lengthAt e p + extendedOverhead)) Nothing) ≡ Data s n m
-          → StartsWith e p s n m
+          → StartsWithFrame e p s n m
       go true u a b x = as-known (normal-shows a) x
       go false true a b x = as-known (extended-shows b) x
       go false false a b x = absurd (no-data x)
@@ -243,7 +243,7 @@ module _ (f : FrameFormat) (p : List ℕ) where
   error-shows n false u v a b c x = absurd (omega (arith, ap kind x))
 
   frame-shows : Bytes p → (s n m : ℕ) (t u v : Bool) → same ack p ≡ u → isError (f .error) p ≡ v → answer t u v ≡ Data s n m
-      → Open f p × StartsWith (f .length) p s n m
+      → Open f p × StartsWithFrame (f .length) p s n m
   unfolding pick
   frame-shows bytes s n m true true v b c x = absurd (omega (arith, ap kind x))
   frame-shows bytes s n m true false true b c x = absurd (omega (arith, ap kind x))
@@ -268,7 +268,7 @@ module _ (f : FrameFormat) (p : List ℕ) where
   )
 
   -- Data: neither of these, and a frame at the packet's start.
-  pub data-exact : Bytes p → (s n m : ℕ) → (parseOf f p ≡ Data s n m) ↔ (Open f p × StartsWith (f .length) p s n m)
+  pub data-exact : Bytes p → (s n m : ℕ) → (parseOf f p ≡ Data s n m) ↔ (Open f p × StartsWithFrame (f .length) p s n m)
   unfolding pick
   data-exact bytes s n m = (
     λ x. frame-shows bytes s n m (starts sof p) (same ack p) (isError (f .error) p) refl refl (sym is-answer ∙ x),

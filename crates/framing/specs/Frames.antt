@@ -53,10 +53,10 @@ headOf ExtendedLittleEndian n = extendedHead (lengthBytes ExtendedLittleEndian n
 headOf NormalOrExtendedBigEndian n = pick (ltb n shortestExtended) (normalHead n) (extendedHead (lengthBytes NormalOrExtendedBigEndian n))
 
 -- how long that is
-unfoldable pub startOf : LengthEncoding → ℕ → ℕ
-startOf Normal n = normalStart
-startOf ExtendedLittleEndian n = extendedStart
-startOf NormalOrExtendedBigEndian n = pick (ltb n shortestExtended) normalStart extendedStart
+unfoldable pub dataStart : LengthEncoding → ℕ → ℕ
+dataStart Normal n = normalStart
+dataStart ExtendedLittleEndian n = extendedStart
+dataStart NormalOrExtendedBigEndian n = pick (ltb n shortestExtended) normalStart extendedStart
 
 -- the frame that carries a payload under a length form: normal, extended, or normal below 256 bytes and else extended
 unfoldable pub frameOf : LengthEncoding → List ℕ → List ℕ

@@ -71,3 +71,10 @@ statusErrorByte = 0x7F
 -- the bytes that the code sums at a time
 abbrev pub pieceSize : ℕ
 pieceSize = 32
+
+-- the first byte of a payload: from the host to the controller, and back
+abbrev pub hostToController : ℕ
+hostToController = 0xD4
+
+abbrev pub controllerToHost : ℕ
+controllerToHost = 0xD5

@@ -38,15 +38,15 @@ zerosIn true p = extraZeros p
 zerosIn false p = 0
 
 -- an answer with its place counted from z bytes further in front
-abbrev pub behind : ℕ → FrameType → FrameType
-behind z (Ack n) = Ack n
-behind z (Error n) = Error n
-behind z (Data start len n) = Data (z + start) len n
-behind z Nothing = Nothing
+abbrev pub shiftedBy : ℕ → FrameType → FrameType
+shiftedBy z (Ack n) = Ack n
+shiftedBy z (Error n) = Error n
+shiftedBy z (Data start len n) = Data (z + start) len n
+shiftedBy z Nothing = Nothing
 
 abbrev pub padded : ℕ → FrameType → Padded
 padded z t = record { zeros = z; found = t }
 
 -- the plain answer of the packet without the bytes that are stepped over, its place that of the packet as it came
 unfoldable pub parsePadded : FrameFormat → Bool → List ℕ → Padded
-parsePadded f on p = padded (zerosIn on p) (behind (zerosIn on p) (parseOf f (drop (zerosIn on p) p)))
+parsePadded f on p = padded (zerosIn on p) (shiftedBy (zerosIn on p) (parseOf f (drop (zerosIn on p) p)))

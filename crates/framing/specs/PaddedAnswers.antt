@@ -12,7 +12,7 @@ use Rattle.errors.specs.Choice.{pick, same, same-not}
 use Rattle.framing.specs.Frames.{sof, ack}
 use Rattle.framing.specs.Lists.{starts}
 use Rattle.framing.specs.Names.{lenOffset, normalStart, extendedStart, normalOverhead, extendedOverhead, ackSize, statusErrorOffset, statusErrorByte}
-use Rattle.framing.specs.Padded.{mostZeros, extraZeros, unpadded, zerosIn, behind, padded, parsePadded}
+use Rattle.framing.specs.Padded.{mostZeros, extraZeros, unpadded, zerosIn, shiftedBy, padded, parsePadded}
 use Rattle.framing.specs.Parse.{isError, normalAt, normalOf, extendedAt, extendedOf, dataOf, lengthAt, parseOf, payloadOf}
 use Rattle.framing.specs.Unpadded.{extra-most, extra-before, extra-fits, extra-false-start, unpadded-before, over-no-start}
 use Rattle.framing.specs.declared.ErrorDetection.the-variants.{StatusByte}
@@ -60,14 +60,14 @@ pub zeros-fit : (on : Bool) (p : List ℕ) → zerosIn on p ≤ length p
 zeros-fit true p = extra-fits p
 zeros-fit false p = omega arith
 
-behind-none : (t : FrameType) → behind 0 t ≡ t
+behind-none : (t : FrameType) → shiftedBy 0 t ≡ t
 behind-none (Ack n) = refl
 behind-none (Error n) = refl
 behind-none (Data start len n) = ap (λ k. Data k len n) (zero-add start)
 behind-none Nothing = refl
 
 -- the payload is the same part of the packet as it came
-pub payload-behind : (z : ℕ) (t : FrameType) (p : List ℕ) → payloadOf (behind z t) p ≡ payloadOf t (drop z p)
+pub payload-behind : (z : ℕ) (t : FrameType) (p : List ℕ) → payloadOf (shiftedBy z t) p ≡ payloadOf t (drop z p)
 unfolding payloadOf
 payload-behind z (Ack n) p = refl
 payload-behind z (Error n) p = refl
@@ -86,9 +86,9 @@ module _ (f : FrameFormat) where
 
   -- with it on, up to 16 zeros before a packet that has the start bytes give the plain answer and their number
   pub on-before : (z : ℕ) (p : List ℕ) → starts sof p ≡ true → z ≤ mostZeros
-      → parsePadded f true (replicate z 0 ++ p) ≡ padded z (behind z (parseOf f p))
+      → parsePadded f true (replicate z 0 ++ p) ≡ padded z (shiftedBy z (parseOf f p))
   unfolding parsePadded unpadded
-  on-before z p h l = ap₂ (λ k q. padded k (behind k (parseOf f q))) (extra-before z p h l) (unpadded-before z p h l)
+  on-before z p h l = ap₂ (λ k q. padded k (shiftedBy k (parseOf f q))) (extra-before z p h l) (unpadded-before z p h l)
 
   -- any other packet is no frame and has no extra zeros: one with 17 or more before the start bytes too
   pub on-no-start : (p : List ℕ) → starts sof (unpadded p) ≡ false → parsePadded f true p ≡ padded 0 Nothing
@@ -118,14 +118,14 @@ module _ (f : FrameFormat) where
   unfolding parsePadded
   error-length on p n h =
       let z = zerosIn on p in
-      by-answer (λ t. behind z t ≡ Error n → n ≡ length p - z) f (drop z p) (λ e. cc) (λ e. cc)
+      by-answer (λ t. shiftedBy z t ≡ Error n → n ≡ length p - z) f (drop z p) (λ e. cc) (λ e. cc)
       (λ e. let same-length : n ≡ length (drop z p) = cc in same-length ∙ length-drop z p) (λ start len k l e. cc) h
 
   -- what `parse_padded` puts together
-  pub padded-known : (on : Bool) (p : List ℕ) (z : ℕ) (t r : FrameType) → z ≡ zerosIn on p → t ≡ parseOf f (take (length p - z) (drop z p)) → r ≡ behind z t
+  pub padded-known : (on : Bool) (p : List ℕ) (z : ℕ) (t r : FrameType) → z ≡ zerosIn on p → t ≡ parseOf f (take (length p - z) (drop z p)) → r ≡ shiftedBy z t
       → padded z r ≡ parsePadded f on p
   unfolding parsePadded
   padded-known on p z t r e a b =
       let whole : length (drop z p) ≤ length p - z = rw (length-drop z p) (omega arith) in
-      ap (padded z) (b ∙ ap (behind z) (a ∙ ap (parseOf f) (take-all (length p - z) (drop z p) whole)))
-      ∙ ap (λ k. padded k (behind k (parseOf f (drop k p)))) e
+      ap (padded z) (b ∙ ap (shiftedBy z) (a ∙ ap (parseOf f) (take-all (length p - z) (drop z p) whole)))
+      ∙ ap (λ k. padded k (shiftedBy k (parseOf f (drop k p)))) e

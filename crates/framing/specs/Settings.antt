@@ -11,6 +11,7 @@ use Rattle.framing.specs.declared.LengthEncoding.{LengthEncoding}
 use Rattle.framing.specs.declared.LengthEncoding.the-variants.{Normal, ExtendedLittleEndian, NormalOrExtendedBigEndian}
 use Rattle.framing.specs.declared.settings.Setting.{Setting}
 use Rattle.framing.specs.declared.settings.Setting.the-variants.{Format, Nothing}
+use Rattle.framing.specs.Names.{hostToController}
 
 abbrev pub formatOf : LengthEncoding → ErrorDetection → FrameFormat
 formatOf e d = record { length = e; error = d; limit = longest e }
@@ -30,4 +31,4 @@ rcs956 = formatOf NormalOrExtendedBigEndian ErrorFrame
 
 -- a command's payload: TFI D4, the code, the data
 abbrev pub commandPayload : ℕ → List ℕ → List ℕ
-commandPayload code bytes = 0xD4 ∷ code ∷ bytes
+commandPayload code bytes = hostToController ∷ code ∷ bytes

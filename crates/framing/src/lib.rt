@@ -7,6 +7,7 @@ mod sums;
 
 use errors::Refusal;
 pub use names::ACK_BYTES;
+pub use names::ACK_SIZE;
 pub use sums::checksum;
 pub use sums::checksum_matches;
 pub use sums::length_checksum;
@@ -17,7 +18,7 @@ ghost use mathlib.Core.Bool.{Bool};
 ghost use mathlib.Core.List.{[], _∷_, _++_};
 ghost use Prim.Native.Nat.{_+_, _-_, _≤_, _<_, _^_, min};
 ghost use lib.ListN.{length, drop};
-ghost use Rattle.framing.specs.Frames.{sof, longest, normalHead, extendedHead, headOf, startOf};
+ghost use Rattle.framing.specs.Frames.{sof, longest, normalHead, extendedHead, headOf, dataStart};
 ghost use Rattle.errors.specs.Choice.{same};
 ghost use Rattle.framing.specs.Lists.{starts};
 ghost use Rattle.framing.specs.Names.{normalStart, extendedStart, endingSize, longestExtended, shortestExtended};
@@ -275,7 +276,7 @@ fn wide(byte: u8) -> usize
 
 // Where the payload starts in a frame of n bytes of payload.
 fn data_start(encoding: LengthEncoding, n: usize) -> usize
-    ensures { λ r. ⌜ r ≡ startOf encoding n ⌝ }
+    ensures { λ r. ⌜ r ≡ dataStart encoding n ⌝ }
 {
     match encoding {
         LengthEncoding::Normal => names::NORMAL_START,
@@ -329,8 +330,8 @@ fn put_extended_head(buffer: &mut [u8], first: u8, second: u8)
 
 // The head of a frame of n bytes of payload.
 fn put_head(encoding: LengthEncoding, n: usize, buffer: &mut [u8])
-    requires { ⌜ (n ≤ longest encoding) × (startOf encoding n ≤ length (now buffer)) ⌝ }
-    ensures { λ _. ⌜ now (buffer .exit) ≡ headOf encoding n ++ drop (startOf encoding n) (now (buffer .entry)) ⌝ }
+    requires { ⌜ (n ≤ longest encoding) × (dataStart encoding n ≤ length (now buffer)) ⌝ }
+    ensures { λ _. ⌜ now (buffer .exit) ≡ headOf encoding n ++ drop (dataStart encoding n) (now (buffer .entry)) ⌝ }
 {
     let high = (n / 256 % 256) as u8;
     let low = (n % 256) as u8;
@@ -349,7 +350,7 @@ fn put_head(encoding: LengthEncoding, n: usize, buffer: &mut [u8])
 
 // Puts head and ending around the n bytes of payload that stand at their place in the buffer.
 fn enclose(encoding: LengthEncoding, n: usize, buffer: &mut [u8])
-    requires { ⌜ (n ≤ longest encoding) × (startOf encoding n + n + endingSize ≤ length (now buffer)) ⌝ }
+    requires { ⌜ (n ≤ longest encoding) × (dataStart encoding n + n + endingSize ≤ length (now buffer)) ⌝ }
     ensures { λ _. ⌜ now (buffer .exit) ≡ enclosed encoding n (now (buffer .entry)) ⌝ }
 {
     let start = data_start(encoding, n);

@@ -6,7 +6,7 @@ ghost use mathlib.Core.Path.{_≡_};
 ghost use Prim.Native.Nat.{_≤_};
 ghost use Rattle.framing.specs.Names.{extendedStart};
 ghost use Rattle.framing.specs.Padded.{mostZeros, extraZeros, zerosIn, parsePadded};
-ghost use Rattle.framing.specs.Padded.{behind as behindOf};
+ghost use Rattle.framing.specs.Padded.{shiftedBy as behindOf};
 ghost use Rattle.framing.specs.Unpadded.{extraAt};
 ghost use Rattle.framing.specs.PaddedAnswers.{payloadStart};
 

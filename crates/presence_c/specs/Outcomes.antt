@@ -6,10 +6,10 @@ use Rattle.errors.specs.Refusals.{roundNumbered}
 use Rattle.presence_list.specs.declared.list.State.{State}
 use Rattle.presence_list.specs.declared.list.Presence.{Presence}
 use Rattle.presence_list.specs.declared.list.Round.{Round}
-use Rattle.presence_list.specs.declared.list.Step.{Step}
+use Rattle.presence_list.specs.declared.list.RoundEffect.{RoundEffect}
 use Rattle.presence_list.specs.declared.list.Answer.{Answer}
 use Rattle.presence_list.specs.declared.list.Answer.the-variants.{Accepted, Refused}
-use Rattle.presence_list.specs.Steps.{After, after, listed, stepOf, roundOf}
+use Rattle.presence_list.specs.Steps.{AfterRound, afterRound, asList, roundStep, roundOf}
 use Rattle.presence_c.specs.declared.outcome.Outcome.{Outcome}
 
 -- the list after a round, and what came out
@@ -35,8 +35,8 @@ unfoldable pub reportFor : Presence → ℕ → Seq ℕ → Reported
 reportFor l n b = reported (roundOf l n b)
 
 -- a round on a list's parts is the round by value
-pub round-reported : (t : Outcome) (r : Step) (l : Presence) (n : ℕ) (b cards arrived departed : Seq ℕ)
-    → t ≡ outcomeOf (r .answer) → after (r .state) cards arrived departed (r .answer) ≡ stepOf (l .state) (l .cards) (l .arrived) (l .departed) n b
+pub round-reported : (t : Outcome) (r : RoundEffect) (l : Presence) (n : ℕ) (b cards arrived departed : Seq ℕ)
+    → t ≡ outcomeOf (r .answer) → afterRound (r .state) cards arrived departed (r .answer) ≡ roundStep (l .state) (l .cards) (l .arrived) (l .departed) n b
     → report (joined cards arrived departed (r .state)) t ≡ reportFor l n b
 unfolding reportFor roundOf
-round-reported t r l n b cards arrived departed p q = ap (report (joined cards arrived departed (r .state))) p ∙ ap (λ (y : After). reported (listed y)) q
+round-reported t r l n b cards arrived departed p q = ap (report (joined cards arrived departed (r .state))) p ∙ ap (λ (y : AfterRound). reported (asList y)) q

@@ -27,10 +27,11 @@ use Rattle.presence_list.specs.declared.list.Answer.the-variants.{Accepted, Ref
 use Rattle.presence_list.specs.declared.list.Presence.{Presence}
 use Rattle.presence_list.specs.declared.list.Round.{Round}
 use Rattle.presence_lines.proofs.PrintLaws.{lists-short, refused-short}
-use Rattle.presence_lines.specs.Lines.{lineLimit, answerRoom, listsText, refusedText, unreadable, textOf, Said, said, saidOf, Reply, onSaid, answerOf, After, after, printed, replyOf}
+use Rattle.presence_lines.specs.Lines.{lineLimit, answerRoom, listsText, refusedText, unreadable, textOf, Said, said, saidOf, LineAnswer, onSaid, answerOf, AfterLine, afterLine, printed, lineReply}
 use Rattle.presence_lines.specs.Readings.{readIn}
 use Rattle.presence_lines.specs.declared.read.Read.{Read}
 use Rattle.presence_lines.specs.declared.read.Read.the-variants.{Round as Said-round, Unreadable as NoRound}
+use Rattle.bench.specs.Lines.{feed}
 
 -- the text of a round
 module _ (a : Answer) (l : Presence) (o o′ : List ℕ) (r : ℕ) where
@@ -48,8 +49,8 @@ few-known l n b r e = rw e (few-after l n b)
 
 -- a line and its answer
 module _ (l x : Presence) (line o o′ : List ℕ) (n : ℕ) where
-  so : (a : Reply) → answerOf l line ≡ a → x ≡ a .list → Appends 0 (a .text) o n o′ → (x ≡ answerOf l line .list) × Appends 0 (answerOf l line .text) o n o′
-  so a h p d = (p ∙ ap (λ (y : Reply). y .list) (sym h), rw h d)
+  so : (a : LineAnswer) → answerOf l line ≡ a → x ≡ a .list → Appends 0 (a .text) o n o′ → (x ≡ answerOf l line .list) × Appends 0 (answerOf l line .text) o n o′
+  so a h p d = (p ∙ ap (λ (y : LineAnswer). y .list) (sym h), rw h d)
 
   pub answer-long : lineLimit < length line → x ≡ l → Appends 0 unreadable o n o′ → (x ≡ answerOf l line .list) × Appends 0 (answerOf l line .text) o n o′
   unfolding answerOf pick
@@ -90,26 +91,26 @@ answer-short l line = go (ltb lineLimit (length line))
     go true = omega (arith, refused-short (AtOnce BadArgument))
     go false = said-short l (saidOf (wordsOf line))
 
-printed-done : (a : Reply) (x : Presence) (m r : ℕ) (o o₁ o₂ : List ℕ) → length (a .text) ≤ 8000 → length o ≡ answerRoom → x ≡ a .list → Appends 0 (a .text) o m o₁ → Appends m (10 ∷ []) o₁ r o₂
-    → after x r o₂ ≡ printed a o
+printed-done : (a : LineAnswer) (x : Presence) (m r : ℕ) (o o₁ o₂ : List ℕ) → length (a .text) ≤ 8000 → length o ≡ answerRoom → x ≡ a .list → Appends 0 (a .text) o m o₁ → Appends m (feed ∷ []) o₁ r o₂
+    → afterLine x r o₂ ≡ printed a o
 unfolding printed
 printed-done a x m r o o₁ o₂ short room p d e =
-    let placed = at-start (a .text ++ (10 ∷ [])) o o₂ r (both-appended _ _ _ _ _ _ _ _ d e) (omega (arith, length-append (a .text) (10 ∷ []))) in
-    ap (λ (y : Presence). after y r o₂) p ∙ ap (λ (y : Placed). after (a .list) (y .next) (y .buffer)) placed
-    ∙ ap (λ (k : ℕ). after (a .list) k (over 0 (a .text ++ (10 ∷ [])) o)) (zero-add (length (a .text ++ (10 ∷ []))))
+    let placed = at-start (a .text ++ (feed ∷ [])) o o₂ r (both-appended _ _ _ _ _ _ _ _ d e) (omega (arith, length-append (a .text) (feed ∷ []))) in
+    ap (λ (y : Presence). afterLine y r o₂) p ∙ ap (λ (y : Placed). afterLine (a .list) (y .next) (y .buffer)) placed
+    ∙ ap (λ (k : ℕ). afterLine (a .list) k (over 0 (a .text ++ (feed ∷ [])) o)) (zero-add (length (a .text ++ (feed ∷ []))))
 
 module _ (l x : Presence) (t : Line) (line o o₁ o₂ : List ℕ) (m r : ℕ) (room : length o ≡ answerRoom) where
-  pub reply-text : (n : ℕ) (y : Presence) (p : List ℕ) → t ≡ Text n → p ≡ take n line → (y ≡ answerOf l p .list) × Appends 0 (answerOf l p .text) o m o₁ → (x ≡ y) × Appends m (10 ∷ []) o₁ r o₂
-      → after x r o₂ ≡ replyOf l t line o
-  unfolding replyOf
+  pub reply-text : (n : ℕ) (y : Presence) (p : List ℕ) → t ≡ Text n → p ≡ take n line → (y ≡ answerOf l p .list) × Appends 0 (answerOf l p .text) o m o₁ → (x ≡ y) × Appends m (feed ∷ []) o₁ r o₂
+      → afterLine x r o₂ ≡ lineReply l t line o
+  unfolding lineReply
   reply-text n y p h q d e = rw (h, ← q) (printed-done (answerOf l p) x m r o o₁ o₂ (answer-short l p) room (e .0 ∙ d .0) (d .1) (e .1))
 
-  pub reply-long : (y : Presence) → t ≡ OverLong → (y ≡ l) × Appends 0 unreadable o m o₁ → (x ≡ y) × Appends m (10 ∷ []) o₁ r o₂ → after x r o₂ ≡ replyOf l t line o
-  unfolding replyOf
+  pub reply-long : (y : Presence) → t ≡ OverLong → (y ≡ l) × Appends 0 unreadable o m o₁ → (x ≡ y) × Appends m (feed ∷ []) o₁ r o₂ → afterLine x r o₂ ≡ lineReply l t line o
+  unfolding lineReply
   reply-long y h d e = rw h (printed-done _ x m r o o₁ o₂ (omega (arith, refused-short (AtOnce BadArgument))) room (e .0 ∙ d .0) (d .1) (e .1))
 
-pub reply-end : (l : Presence) (t : Line) (line o : List ℕ) → t ≡ End → after l 0 o ≡ replyOf l t line o
-unfolding replyOf
+pub reply-end : (l : Presence) (t : Line) (line o : List ℕ) → t ≡ End → afterLine l 0 o ≡ lineReply l t line o
+unfolding lineReply
 reply-end l t line o h = rw h
 
 -- the buffer keeps its length
@@ -117,15 +118,15 @@ long-over : (t b : List ℕ) → length (over 0 t b) ≡ length t + (length b - 
 unfolding over
 long-over t b = simp (length-append, length-drop) (omega arith)
 
-printed-room : (a : Reply) (o : List ℕ) → length (a .text) ≤ 8000 → length o ≡ answerRoom → length (printed a o .out) ≡ answerRoom
+printed-room : (a : LineAnswer) (o : List ℕ) → length (a .text) ≤ 8000 → length o ≡ answerRoom → length (printed a o .out) ≡ answerRoom
 unfolding printed
-printed-room a o h e = omega (arith, long-over (a .text ++ (10 ∷ [])) o, length-append (a .text) (10 ∷ []))
+printed-room a o h e = omega (arith, long-over (a .text ++ (feed ∷ [])) o, length-append (a .text) (feed ∷ []))
 
-pub reply-room : (l x : Presence) (t : Line) (line o o′ : List ℕ) (r : ℕ) → after x r o′ ≡ replyOf l t line o → length o ≡ answerRoom → length o′ ≡ answerRoom
-unfolding replyOf
-reply-room l x t line o o′ r e room = ap (λ (y : After). length (y .out)) e ∙ go t
+pub reply-room : (l x : Presence) (t : Line) (line o o′ : List ℕ) (r : ℕ) → afterLine x r o′ ≡ lineReply l t line o → length o ≡ answerRoom → length o′ ≡ answerRoom
+unfolding lineReply
+reply-room l x t line o o′ r e room = ap (λ (y : AfterLine). length (y .out)) e ∙ go t
   where
-    go : (t : Line) → length (replyOf l t line o .out) ≡ answerRoom
+    go : (t : Line) → length (lineReply l t line o .out) ≡ answerRoom
     go (Text n) = printed-room (answerOf l (take n line)) o (answer-short l (take n line)) room
     go OverLong = printed-room _ o (omega (arith, refused-short (AtOnce BadArgument))) room
     go End = room

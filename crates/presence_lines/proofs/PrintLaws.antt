@@ -22,7 +22,7 @@ use Rattle.presence_list.specs.Names.{recordSize, identifierLimit, lengthOffset
 use Rattle.presence_list.specs.Checks.{byte-in, first-in}
 use Rattle.presence_list.specs.Memory.{pieces, lengthIn}
 use Rattle.presence_list.specs.MemoryLaws.{length-pieces, piece-at}
-use Rattle.presence_lines.specs.Lines.{kinds, bitrates, cardText, bitrateText, cardsText, listsText, refusedText}
+use Rattle.presence_lines.specs.Lines.{kinds, bitrates, cardText, rateText, cardsText, listsText, refusedText}
 
 -- the identifier's bytes of a record
 identifier-in : (b : List ℕ) (at : ℕ) → take identifierLimit (drop 1 (take recordSize (drop at b))) ≡ take identifierLimit (drop (at + 1) b)
@@ -45,8 +45,8 @@ module _ (b : List ℕ) (i : ℕ) where
       rw (← named, ← is) (then-put _ _ _ _ _ _ _ _ (then-put _ _ _ _ _ _ _ _ (both-put _ _ _ _ _ _ _ _ e f) g) h)
 
   pub bitrate-shown : (t : Bool) (w o o₁ o₂ : List ℕ) (at r₁ r₂ : ℕ) → t ≡ true → placed r₁ o₁ ≡ putAt at (ascii ":") o → placed r₂ o₂ ≡ putAt r₁ w o₁
-      → w ≡ getD (wordsOf (ascii "106A 212F 424F 106B 212B 424B 848B")) (getD b (recordSize * i + bitrateOffset) 0) [] → Appends at (bitrateText t (take recordSize (drop (recordSize * i) b))) o r₂ o₂
-  unfolding bitrateText bitrates pick
+      → w ≡ getD (wordsOf (ascii "106A 212F 424F 106B 212B 424B 848B")) (getD b (recordSize * i + bitrateOffset) 0) [] → Appends at (rateText t (take recordSize (drop (recordSize * i) b))) o r₂ o₂
+  unfolding rateText bitrates pick
   bitrate-shown t w o o₁ o₂ at r₁ r₂ h e f is =
       let named : w ≡ getD bitrates (getD (take recordSize (drop (recordSize * i) b)) bitrateOffset 0) [] = is ∙ ap (λ (k : ℕ). getD bitrates k []) (sym (byte-in b (recordSize * i) bitrateOffset (omega arith))) in
       rw (h, ← named) (both-put _ _ _ _ _ _ _ _ e f)
@@ -55,25 +55,25 @@ module _ (b : List ℕ) (i : ℕ) where
 pub none-put : (o : List ℕ) (at : ℕ) → Appends at [] o at o
 none-put o at = record { behind = λ s b before h. before ∙ ap (λ (x : List ℕ). placedAt 0 x b) (sym (append-nil s)) }
 
-pub bitrate-not : (t : Bool) (e o : List ℕ) (at : ℕ) → t ≡ false → Appends at (bitrateText t e) o at o
-unfolding bitrateText pick
+pub bitrate-not : (t : Bool) (e o : List ℕ) (at : ℕ) → t ≡ false → Appends at (rateText t e) o at o
+unfolding rateText pick
 bitrate-not t e o at h = rw h (none-put o at)
 
 -- the cards of a list, one behind the other
-cards-more : (t : Bool) (es : List (List ℕ)) (e : List ℕ) → cardsText t (es ++ (e ∷ [])) ≡ cardsText t es ++ cardText e ++ bitrateText t e
+cards-more : (t : Bool) (es : List (List ℕ)) (e : List ℕ) → cardsText t (es ++ (e ∷ [])) ≡ cardsText t es ++ cardText e ++ rateText t e
 unfolding cardsText
-cards-more t [] e = append-nil (cardText e ++ bitrateText t e)
+cards-more t [] e = append-nil (cardText e ++ rateText t e)
 cards-more t (x ∷ es) e =
-    ap (λ (l : List ℕ). cardText x ++ bitrateText t x ++ l) (cards-more t es e)
-    ∙ sym (append-assoc (cardText x ++ bitrateText t x) (cardsText t es ++ cardText e) (bitrateText t e))
-    ∙ ap (λ (l : List ℕ). l ++ bitrateText t e) (sym (append-assoc (cardText x ++ bitrateText t x) (cardsText t es) (cardText e)))
+    ap (λ (l : List ℕ). cardText x ++ rateText t x ++ l) (cards-more t es e)
+    ∙ sym (append-assoc (cardText x ++ rateText t x) (cardsText t es ++ cardText e) (rateText t e))
+    ∙ ap (λ (l : List ℕ). l ++ rateText t e) (sym (append-assoc (cardText x ++ rateText t x) (cardsText t es) (cardText e)))
 
 pub cards-none : (t : Bool) (es : List (List ℕ)) (o : List ℕ) (at : ℕ) → Appends at (cardsText t (take 0 es)) o at o
 unfolding cardsText
 cards-none t es o at = none-put o at
 
 pub cards-turn : (t : Bool) (n i : ℕ) (b o o₁ o₂ o₃ : List ℕ) (at r₁ r₂ r₃ : ℕ) → i < n → Appends at (cardsText t (take i (pieces n b))) o r₁ o₁
-    → Appends r₁ (cardText (take recordSize (drop (recordSize * i) b))) o₁ r₂ o₂ → Appends r₂ (bitrateText t (take recordSize (drop (recordSize * i) b))) o₂ r₃ o₃ → Appends at (cardsText t (take (i + 1) (pieces n b))) o r₃ o₃
+    → Appends r₁ (cardText (take recordSize (drop (recordSize * i) b))) o₁ r₂ o₂ → Appends r₂ (rateText t (take recordSize (drop (recordSize * i) b))) o₂ r₃ o₃ → Appends at (cardsText t (take (i + 1) (pieces n b))) o r₃ o₃
 cards-turn t n i b o o₁ o₂ o₃ at r₁ r₂ r₃ h before card rate =
     let less : i < length (pieces n b) = rw (length-pieces n b) h in
     let more : take (i + 1) (pieces n b) ≡ take i (pieces n b) ++ (take recordSize (drop (recordSize * i) b) ∷ [])
@@ -128,23 +128,23 @@ card-short e =
     let w : List ℕ = getD kinds (getD e 0 0) [] in
     omega (arith, length-append (ascii " " ++ w ++ ascii ":") (hexOf p), length-append (ascii " " ++ w) (ascii ":"), length-append (ascii " ") w, kind-short (getD e 0 0), hex-short p, length-take (lengthIn e) (take identifierLimit (drop 1 e)), length-take identifierLimit (drop 1 e))
 
-shown-short : (e : List ℕ) → length (bitrateText true e) ≤ 5
-unfolding bitrateText pick
+shown-short : (e : List ℕ) → length (rateText true e) ≤ 5
+unfolding rateText pick
 shown-short e = omega (arith, length-append (ascii ":") (getD bitrates (getD e bitrateOffset 0) []), bitrate-short (getD e bitrateOffset 0))
 
-hidden-short : (e : List ℕ) → length (bitrateText false e) ≤ 0
-unfolding bitrateText pick
+hidden-short : (e : List ℕ) → length (rateText false e) ≤ 0
+unfolding rateText pick
 hidden-short e = omega arith
 
 cards-short : (es : List (List ℕ)) → length (cardsText false es) ≤ 38 * length es
 unfolding cardsText
 cards-short [] = omega arith
-cards-short (e ∷ es) = omega (arith, cards-short es, length-append (cardText e ++ bitrateText false e) (cardsText false es), length-append (cardText e) (bitrateText false e), card-short e, hidden-short e)
+cards-short (e ∷ es) = omega (arith, cards-short es, length-append (cardText e ++ rateText false e) (cardsText false es), length-append (cardText e) (rateText false e), card-short e, hidden-short e)
 
 present-short : (es : List (List ℕ)) → length (cardsText true es) ≤ 43 * length es
 unfolding cardsText
 present-short [] = omega arith
-present-short (e ∷ es) = omega (arith, present-short es, length-append (cardText e ++ bitrateText true e) (cardsText true es), length-append (cardText e) (bitrateText true e), card-short e, shown-short e)
+present-short (e ∷ es) = omega (arith, present-short es, length-append (cardText e ++ rateText true e) (cardsText true es), length-append (cardText e) (rateText true e), card-short e, shown-short e)
 
 pub lists-short : (came left present : List (List ℕ)) → length came ≤ cardLimit → length left ≤ cardLimit → length present ≤ cardLimit → length (listsText came left present) ≤ 8000
 unfolding listsText

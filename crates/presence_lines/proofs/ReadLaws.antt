@@ -16,60 +16,61 @@ use Rattle.targets.specs.Bitrates.{ascii}
 use Rattle.bench.specs.Hex.{isHex, pairsOf, readOf}
 use Rattle.bench.specs.HexLaws.{length-pairs, read-count, read-into, not-read}
 use Rattle.bench.specs.TextLaws.{both-appended, then-put, both-put}
-use Rattle.bench.specs.Texts.{returned, left, over, placed, putAt, Appends}
-use Rattle.bench.specs.WordLaws.{behind, next-word}
+use Rattle.bench.specs.Texts.{returned, over, placed, putAt, Appends}
+use Rattle.bench.specs.WordLaws.{wordsBehind, next-word}
 use Rattle.bench.specs.Words.{wordsOf}
 use Rattle.bench.specs.declared.Put.{Put}
 use Rattle.bench.specs.declared.Put.the-variants.{Bytes as PutBytes, Refused}
 use Rattle.presence_lines.proofs.PrintLaws.{none-put}
-use Rattle.presence_lines.specs.Lines.{kinds, bitrates, placeOf, beforeColon, behindColon, kindOf, bitrateOf, identifierOf, isIdentifier, isCard, recordWith, overLength, identified, recordOf, areCards, recordsOf}
-use Rattle.presence_lines.specs.Readings.{Puts, Filled}
+use Rattle.presence_lines.specs.Lines.{kinds, bitrates, placeAmong, beforeColon, behindColon, kindNamed, bitrateOf, identifierOf, isIdentifier, isCard, recordWith, overLength, identified, recordOfWord, areCards, recordsOfWords, colon}
+use Rattle.presence_lines.specs.Readings.{PutsRecord, ReadSoFar}
 use Rattle.presence_lines.specs.declared.read.Cards.{Cards}
 use Rattle.presence_lines.specs.declared.read.Cards.the-variants.{Bytes, Unreadable}
 use Rattle.presence_list.specs.Names.{identifierLimit, lastCardKind, lastBitrate}
+use Rattle.framing.specs.Build.{left}
 
 -- the place of a word among others
-module _ (w : List ℕ) (ws : List (List ℕ)) (i : ℕ) (rest : placeOf w ws ≡ i + placeOf w (drop i ws)) where
-  here : i < length ws → placeOf w (drop i ws) ≡ pick (same (getD ws i []) w) 0 (suc (placeOf w (drop (suc i) ws)))
-  unfolding placeOf
+module _ (w : List ℕ) (ws : List (List ℕ)) (i : ℕ) (rest : placeAmong w ws ≡ i + placeAmong w (drop i ws)) where
+  here : i < length ws → placeAmong w (drop i ws) ≡ pick (same (getD ws i []) w) 0 (suc (placeAmong w (drop (suc i) ws)))
+  unfolding placeAmong
   here h = rw (drop-cons ws i [] h)
 
-  pub place-found : (x : List ℕ) (t : Bool) → i < length ws → x ≡ getD ws i [] → t ≡ same x w → t ≡ true → i ≡ placeOf w ws
+  pub place-found : (x : List ℕ) (t : Bool) → i < length ws → x ≡ getD ws i [] → t ≡ same x w → t ≡ true → i ≡ placeAmong w ws
   unfolding pick
   place-found x t h e f g =
-      let z : placeOf w (drop i ws) ≡ 0 = here h ∙ rw (← e, ← f, g) in
+      let z : placeAmong w (drop i ws) ≡ 0 = here h ∙ rw (← e, ← f, g) in
       omega (arith, rest, z)
 
-  pub place-next : (x : List ℕ) (t : Bool) → i < length ws → x ≡ getD ws i [] → t ≡ same x w → t ≡ false → placeOf w ws ≡ i + 1 + placeOf w (drop (i + 1) ws)
+  pub place-next : (x : List ℕ) (t : Bool) → i < length ws → x ≡ getD ws i [] → t ≡ same x w → t ≡ false → placeAmong w ws ≡ i + 1 + placeAmong w (drop (i + 1) ws)
   unfolding pick
   place-next x t h e f g =
-      let z : placeOf w (drop i ws) ≡ suc (placeOf w (drop (i + 1) ws)) = here h ∙ rw (← e, ← f, g, add-one) in
+      let z : placeAmong w (drop i ws) ≡ suc (placeAmong w (drop (i + 1) ws)) = here h ∙ rw (← e, ← f, g, add-one) in
       omega (arith, rest, z)
 
-  pub place-end : length ws ≤ i → i ≡ placeOf w ws
-  unfolding placeOf
-  place-end h = let z : placeOf w (drop i ws) ≡ 0 = rw (drop-of-length-le ws {i = i} h) in omega (arith, rest, z)
+  pub place-end : length ws ≤ i → i ≡ placeAmong w ws
+  unfolding placeAmong
+  place-end h = let z : placeAmong w (drop i ws) ≡ 0 = rw (drop-of-length-le ws {i = i} h) in omega (arith, rest, z)
 
-pub place-begin : (w : List ℕ) (ws : List (List ℕ)) → placeOf w ws ≡ 0 + placeOf w (drop 0 ws)
+pub place-begin : (w : List ℕ) (ws : List (List ℕ)) → placeAmong w ws ≡ 0 + placeAmong w (drop 0 ws)
 place-begin w ws = omega arith
 
 -- the first colon of a word
-module _ (w : List ℕ) (n : ℕ) (found : n ≡ 0 + indexOf 58 (slice 0 (length w) w)) where
-  colon : n ≡ indexOf 58 w
+module _ (w : List ℕ) (n : ℕ) (found : n ≡ 0 + indexOf colon (slice 0 (length w) w)) where
+  at-colon : n ≡ indexOf colon w
   unfolding slice
-  colon = found ∙ rw (zero-add, take-length w)
+  at-colon = found ∙ rw (zero-add, take-length w)
 
   pub before-is : take n w ≡ beforeColon w
   unfolding beforeColon
-  before-is = rw (← colon)
+  before-is = rw (← at-colon)
 
   pub behind-is : n < length w → take (length w - (n + 1)) (drop (n + 1) w) ≡ behindColon w
   unfolding behindColon
-  behind-is h = rw (← colon) (take-all (length w - (n + 1)) (drop (n + 1) w) (rw (length-drop (n + 1) w) (omega arith)))
+  behind-is h = rw (← at-colon) (take-all (length w - (n + 1)) (drop (n + 1) w) (rw (length-drop (n + 1) w) (omega arith)))
 
   pub behind-none : length w ≤ n → take (length w - n) (drop n w) ≡ behindColon w
   unfolding behindColon
-  behind-none h = rw (← colon, drop-of-length-le w {i = n} h, drop-of-length-le w {i = n + 1} (omega arith)) (take-all (length w - n) [] (omega arith))
+  behind-none h = rw (← at-colon, drop-of-length-le w {i = n} h, drop-of-length-le w {i = n + 1} (omega arith)) (take-all (length w - n) [] (omega arith))
 
 -- a record, and that of an identifier
 pub record-done : (kind n rate : ℕ) (p z o o₁ o₂ o₃ o₄ : List ℕ) (at r₁ r₂ r₃ r₄ : ℕ) → placed r₁ o₁ ≡ putAt at (kind ∷ []) o → placed r₂ o₂ ≡ putAt r₁ p o₁ → placed r₃ o₃ ≡ putAt r₂ z o₂
@@ -102,23 +103,23 @@ module _ (kind rate at r : ℕ) (w b o : List ℕ) where
     identified-not e g h = absurd (false≢true (sym (not-read w z part q enough known e g) ∙ h))
 
 -- a card, by the places of its parts
-module _ (w p rest : List ℕ) (k : ℕ) (rest-is : rest ≡ behindColon w) (p-is : p ≡ beforeColon w) (kind : k ≡ placeOf p (wordsOf (ascii "A T1 B F DEP"))) where
-  kind-is : k ≡ kindOf w
+module _ (w p rest : List ℕ) (k : ℕ) (rest-is : rest ≡ behindColon w) (p-is : p ≡ beforeColon w) (kind : k ≡ placeAmong p (wordsOf (ascii "A T1 B F DEP"))) where
+  kind-is : k ≡ kindNamed w
   unfolding kinds
-  kind-is = kind ∙ ap (λ (x : List ℕ). placeOf x kinds) p-is
+  kind-is = kind ∙ ap (λ (x : List ℕ). placeAmong x kinds) p-is
 
   pub no-kind : lastCardKind < k → isCard w ≡ false
   unfolding isCard pick
-  no-kind h = rw (lt-leb (kindOf w) lastCardKind (omega (arith, kind-is)))
+  no-kind h = rw (lt-leb (kindNamed w) lastCardKind (omega (arith, kind-is)))
 
-  module _ (q : List ℕ) (m : ℕ) (few : k ≤ lastCardKind) (q-is : q ≡ behindColon rest) (rate : m ≡ placeOf q (wordsOf (ascii "106A 212F 424F 106B 212B 424B 848B"))) where
+  module _ (q : List ℕ) (m : ℕ) (few : k ≤ lastCardKind) (q-is : q ≡ behindColon rest) (rate : m ≡ placeAmong q (wordsOf (ascii "106A 212F 424F 106B 212B 424B 848B"))) where
     rate-is : m ≡ bitrateOf w
     unfolding bitrates
-    rate-is = rate ∙ ap (λ (x : List ℕ). placeOf x bitrates) (q-is ∙ ap behindColon rest-is)
+    rate-is = rate ∙ ap (λ (x : List ℕ). placeAmong x bitrates) (q-is ∙ ap behindColon rest-is)
 
     pub no-rate : lastBitrate < m → isCard w ≡ false
     unfolding isCard pick
-    no-rate h = rw (le-leb (kindOf w) lastCardKind (omega (arith, kind-is)), lt-leb (bitrateOf w) lastBitrate (omega (arith, rate-is)))
+    no-rate h = rw (le-leb (kindNamed w) lastCardKind (omega (arith, kind-is)), lt-leb (bitrateOf w) lastBitrate (omega (arith, rate-is)))
 
     module _ (u : List ℕ) (t : Bool) (less : m ≤ lastBitrate) (u-is : u ≡ beforeColon rest) (test : t ≡ isIdentifier u) where
       identifier-is : u ≡ identifierOf w
@@ -126,13 +127,13 @@ module _ (w p rest : List ℕ) (k : ℕ) (rest-is : rest ≡ behindColon w) (p-i
 
       card-is : isCard w ≡ t
       unfolding isCard pick
-      card-is = rw (le-leb (kindOf w) lastCardKind (omega (arith, kind-is)), le-leb (bitrateOf w) lastBitrate (omega (arith, rate-is))) (ap isIdentifier (sym identifier-is) ∙ sym test)
+      card-is = rw (le-leb (kindNamed w) lastCardKind (omega (arith, kind-is)), le-leb (bitrateOf w) lastBitrate (omega (arith, rate-is))) (ap isIdentifier (sym identifier-is) ∙ sym test)
 
       pub no-identifier : t ≡ false → isCard w ≡ false
       no-identifier h = card-is ∙ h
 
-      pub card-put : (at r : ℕ) (b o : List ℕ) → t ≡ true → Appends at (identified k u m) b r o → (isCard w ≡ true) × Appends at (recordOf w) b r o
-      unfolding recordOf
+      pub card-put : (at r : ℕ) (b o : List ℕ) → t ≡ true → Appends at (identified k u m) b r o → (isCard w ≡ true) × Appends at (recordOfWord w) b r o
+      unfolding recordOfWord
       card-put at r b o h d = (card-is ∙ h, rw (kind-is, rate-is, identifier-is) at d)
 
 pub identifier-hex : (u : List ℕ) (t : Bool) → t ≡ isIdentifier u → t ≡ true → isHex u ≡ true
@@ -144,36 +145,36 @@ identifier-hex u t e h = go (isHex u) refl
     go false f = absurd (false≢true (sym (rw f at e) ∙ h))
 
 -- the cards of a line, one behind the other
-pub filled-none : (ws : List (List ℕ)) (b : List ℕ) → Filled ws ws b 0 b
+pub filled-none : (ws : List (List ℕ)) (b : List ℕ) → ReadSoFar ws ws b 0 b
 filled-none ws b = record { done = []; split = refl; cards = refl; put = none-put b 0 }
 
-module _ (all : List (List ℕ)) (l b o : List ℕ) (at n : ℕ) (filled : Filled all (behind (drop at l)) b n o) where
-  pub filled-all : length l ≤ at → (areCards all ≡ true) × Appends 0 (recordsOf all) b n o
-  unfolding behind areCards recordsOf
+module _ (all : List (List ℕ)) (l b o : List ℕ) (at n : ℕ) (filled : ReadSoFar all (wordsBehind (drop at l)) b n o) where
+  pub filled-all : length l ≤ at → (areCards all ≡ true) × Appends 0 (recordsOfWords all) b n o
+  unfolding wordsBehind areCards recordsOfWords
   filled-all h =
-      let z : behind (drop at l) ≡ [] = ap behind (drop-of-length-le l {i = at} h) in
-      let is : recordsOf all ≡ filled .done = filled .split ∙ ap (λ (x : List (List ℕ)). filled .done ++ recordsOf x) z ∙ append-nil (filled .done) in
+      let z : wordsBehind (drop at l) ≡ [] = ap wordsBehind (drop-of-length-le l {i = at} h) in
+      let is : recordsOfWords all ≡ filled .done = filled .split ∙ ap (λ (x : List (List ℕ)). filled .done ++ recordsOfWords x) z ∙ append-nil (filled .done) in
       (filled .cards ∙ ap areCards z, rw (← is) at (filled .put))
 
   module _ (end : ℕ) (w : List ℕ) (inside : at < length l) (found : end ≡ at + 1 + indexOf 32 (slice (at + 1) (length l) l)) (w-is : w ≡ take (end - (at + 1)) (drop (at + 1) l)) where
-    words-are : behind (drop at l) ≡ w ∷ behind (drop end l)
-    unfolding behind
+    words-are : wordsBehind (drop at l) ≡ w ∷ wordsBehind (drop end l)
+    unfolding wordsBehind
     words-are =
-        ap behind (drop-cons l at 0 inside) ∙ ap (λ (j : ℕ). wordsOf (drop j l)) (sym (add-one at)) ∙ next-word l (at + 1) end (omega arith) found
-        ∙ ap (λ (x : List ℕ). x ∷ behind (drop end l)) (sym w-is)
+        ap wordsBehind (drop-cons l at 0 inside) ∙ ap (λ (j : ℕ). wordsOf (drop j l)) (sym (add-one at)) ∙ next-word l (at + 1) end (omega arith) found
+        ∙ ap (λ (x : List ℕ). x ∷ wordsBehind (drop end l)) (sym w-is)
 
-    pub filled-not : (r : Cards) (o′ : List ℕ) → Puts r (isCard w) n (recordOf w) o o′ → r ≡ Unreadable → areCards all ≡ false
+    pub filled-not : (r : Cards) (o′ : List ℕ) → PutsRecord r (isCard w) n (recordOfWord w) o o′ → r ≡ Unreadable → areCards all ≡ false
     unfolding areCards pick
     filled-not r o′ p e = let not : isCard w ≡ false = rw e at p in filled .cards ∙ ap areCards words-are ∙ rw not
 
-    pub filled-more : (r : Cards) (o′ : List ℕ) (m : ℕ) → Puts r (isCard w) n (recordOf w) o o′ → r ≡ Bytes m → Filled all (behind (drop end l)) b m o′
-    unfolding areCards recordsOf pick
+    pub filled-more : (r : Cards) (o′ : List ℕ) (m : ℕ) → PutsRecord r (isCard w) n (recordOfWord w) o o′ → r ≡ Bytes m → ReadSoFar all (wordsBehind (drop end l)) b m o′
+    unfolding areCards recordsOfWords pick
     filled-more r o′ m p e =
-        let here : (isCard w ≡ true) × Appends n (recordOf w) o m o′ = rw e at p in
+        let here : (isCard w ≡ true) × Appends n (recordOfWord w) o m o′ = rw e at p in
         let is : isCard w ≡ true = here .0 in
         record {
-          done = filled .done ++ recordOf w;
-          split = filled .split ∙ ap (λ (x : List (List ℕ)). filled .done ++ recordsOf x) words-are ∙ sym (append-assoc (filled .done) (recordOf w) (recordsOf (behind (drop end l))));
+          done = filled .done ++ recordOfWord w;
+          split = filled .split ∙ ap (λ (x : List (List ℕ)). filled .done ++ recordsOfWords x) words-are ∙ sym (append-assoc (filled .done) (recordOfWord w) (recordsOfWords (wordsBehind (drop end l))));
           cards = filled .cards ∙ ap areCards words-are ∙ rw is;
           put = both-appended _ _ _ _ _ _ _ _ (filled .put) (here .1);
         }

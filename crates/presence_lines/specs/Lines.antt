@@ -25,6 +25,7 @@ use Rattle.presence_list.specs.declared.list.Answer.{Answer}
 use Rattle.presence_list.specs.declared.list.Answer.the-variants.{Accepted, Refused}
 use Rattle.presence_list.specs.declared.list.Presence.{Presence}
 use Rattle.presence_list.specs.declared.list.Round.{Round}
+use Rattle.bench.specs.Lines.{feed}
 
 -- the longest line, without its line feed; room for its records, and for any answer and a line feed
 abbrev pub lineLimit : ℕ
@@ -46,33 +47,39 @@ bitrates = wordsOf (ascii "106A 212F 424F 106B 212B 424B 848B")
 -- ---- what a line says
 
 -- the place of a word among others; how many they are where it is none of them
-unfoldable pub placeOf : List ℕ → List (List ℕ) → ℕ
-placeOf w [] = 0
-placeOf w (x ∷ xs) = pick (same x w) 0 (suc (placeOf w xs))
+unfoldable pub placeAmong : List ℕ → List (List ℕ) → ℕ
+placeAmong w [] = 0
+placeAmong w (x ∷ xs) = pick (same x w) 0 (suc (placeAmong w xs))
 
--- what stands before and behind the first colon (58)
+abbrev pub colon : ℕ
+colon = 58
+
+-- what stands before and behind the first colon
 unfoldable pub beforeColon : List ℕ → List ℕ
-beforeColon w = take (indexOf 58 w) w
+beforeColon w = take (indexOf colon w) w
 
 unfoldable pub behindColon : List ℕ → List ℕ
-behindColon w = drop (indexOf 58 w + 1) w
+behindColon w = drop (indexOf colon w + 1) w
 
 -- a card is `KIND:HEX:BITRATE`
-abbrev pub kindOf : List ℕ → ℕ
-kindOf w = placeOf (beforeColon w) kinds
+abbrev pub kindNamed : List ℕ → ℕ
+kindNamed w = placeAmong (beforeColon w) kinds
 
 abbrev pub bitrateOf : List ℕ → ℕ
-bitrateOf w = placeOf (behindColon (behindColon w)) bitrates
+bitrateOf w = placeAmong (behindColon (behindColon w)) bitrates
 
 abbrev pub identifierOf : List ℕ → List ℕ
 identifierOf w = beforeColon (behindColon w)
 
--- HEX of at most 1024 bytes
+-- HEX of at most so many bytes
+abbrev pub hexLimit : ℕ
+hexLimit = 1024
+
 abbrev pub isIdentifier : List ℕ → Bool
-isIdentifier w = pick (isHex w) (leb (length w / 2) 1024) false
+isIdentifier w = pick (isHex w) (leb (length w / 2) hexLimit) false
 
 unfoldable pub isCard : List ℕ → Bool
-isCard w = pick (leb (kindOf w) lastCardKind) (pick (leb (bitrateOf w) lastBitrate) (isIdentifier (identifierOf w)) false) false
+isCard w = pick (leb (kindNamed w) lastCardKind) (pick (leb (bitrateOf w) lastBitrate) (isIdentifier (identifierOf w)) false) false
 
 -- a record: kind, identifier with zeros behind it, its length, bitrate, and a byte that is not looked at
 unfoldable pub recordWith : ℕ → List ℕ → ℕ → ℕ → List ℕ
@@ -85,16 +92,16 @@ overLength = suc identifierLimit
 unfoldable pub identified : ℕ → List ℕ → ℕ → List ℕ
 identified kind w bitrate = pick (ltb identifierLimit (length w / 2)) (recordWith kind [] overLength bitrate) (recordWith kind (pairsOf w) (length w / 2) bitrate)
 
-unfoldable pub recordOf : List ℕ → List ℕ
-recordOf w = identified (kindOf w) (identifierOf w) (bitrateOf w)
+unfoldable pub recordOfWord : List ℕ → List ℕ
+recordOfWord w = identified (kindNamed w) (identifierOf w) (bitrateOf w)
 
 unfoldable pub areCards : List (List ℕ) → Bool
 areCards [] = true
 areCards (w ∷ ws) = pick (isCard w) (areCards ws) false
 
-unfoldable pub recordsOf : List (List ℕ) → List ℕ
-recordsOf [] = []
-recordsOf (w ∷ ws) = recordOf w ++ recordsOf ws
+unfoldable pub recordsOfWords : List (List ℕ) → List ℕ
+recordsOfWords [] = []
+recordsOfWords (w ∷ ws) = recordOfWord w ++ recordsOfWords ws
 
 -- a round's number and its records
 pub record Said : Type 0 where
@@ -105,14 +112,14 @@ abbrev pub said : ℕ → List ℕ → Said
 said n p = record { number = n; records = p }
 
 -- `round`, the number, and the cards
-unfoldable pub numbered : Option ℕ → List (List ℕ) → Option Said
-numbered none ws = none
-numbered (some n) ws = pick (areCards ws) (some (said n (recordsOf ws))) none
+unfoldable pub saidRound : Option ℕ → List (List ℕ) → Option Said
+saidRound none ws = none
+saidRound (some n) ws = pick (areCards ws) (some (said n (recordsOfWords ws))) none
 
 unfoldable pub saidOf : List (List ℕ) → Option Said
 saidOf [] = none
 saidOf (name ∷ []) = none
-saidOf (name ∷ number ∷ cards) = pick (same (ascii "round") name) (numbered (numberOf number) cards) none
+saidOf (name ∷ number ∷ cards) = pick (same (ascii "round") name) (saidRound (numberOf number) cards) none
 
 -- ---- what is printed
 
@@ -121,12 +128,12 @@ unfoldable pub cardText : List ℕ → List ℕ
 cardText e = ascii " " ++ getD kinds (getD e 0 0) [] ++ ascii ":" ++ hexOf (take (lengthIn e) (take identifierLimit (drop 1 e)))
 
 -- its bitrate, where it is shown
-unfoldable pub bitrateText : Bool → List ℕ → List ℕ
-bitrateText shown e = pick shown (ascii ":" ++ getD bitrates (getD e bitrateOffset 0) []) []
+unfoldable pub rateText : Bool → List ℕ → List ℕ
+rateText shown e = pick shown (ascii ":" ++ getD bitrates (getD e bitrateOffset 0) []) []
 
 unfoldable pub cardsText : Bool → List (List ℕ) → List ℕ
 cardsText shown [] = []
-cardsText shown (e ∷ es) = cardText e ++ bitrateText shown e ++ cardsText shown es
+cardsText shown (e ∷ es) = cardText e ++ rateText shown e ++ cardsText shown es
 
 -- the arrivals, the departures and the list
 unfoldable pub listsText : List (List ℕ) → List (List ℕ) → List (List ℕ) → List ℕ
@@ -145,38 +152,38 @@ textOf (Refused e) l = refusedText e
 -- ---- a line and its answer
 
 -- the list after a line, and the text for the line
-pub record Reply : Type 0 where
+pub record LineAnswer : Type 0 where
   pub list : Presence
   pub text : List ℕ
 
-abbrev pub reply : Presence → List ℕ → Reply
-reply l t = record { list = l; text = t }
+abbrev pub lineAnswer : Presence → List ℕ → LineAnswer
+lineAnswer l t = record { list = l; text = t }
 
-abbrev pub answered : Round → Reply
-answered r = reply (r .list) (textOf (r .answer) (r .list))
+abbrev pub roundAnswer : Round → LineAnswer
+roundAnswer r = lineAnswer (r .list) (textOf (r .answer) (r .list))
 
-unfoldable pub onSaid : Presence → Option Said → Reply
-onSaid l none = reply l unreadable
-onSaid l (some s) = answered (roundOf l (s .number) (s .records))
+unfoldable pub onSaid : Presence → Option Said → LineAnswer
+onSaid l none = lineAnswer l unreadable
+onSaid l (some s) = roundAnswer (roundOf l (s .number) (s .records))
 
-unfoldable pub answerOf : Presence → List ℕ → Reply
-answerOf l line = pick (ltb lineLimit (length line)) (reply l unreadable) (onSaid l (saidOf (wordsOf line)))
+unfoldable pub answerOf : Presence → List ℕ → LineAnswer
+answerOf l line = pick (ltb lineLimit (length line)) (lineAnswer l unreadable) (onSaid l (saidOf (wordsOf line)))
 
 -- the list and a text's length, with the text's buffer
-pub record After : Type 0 where
+pub record AfterLine : Type 0 where
   pub list : Presence
   pub len : ℕ
   pub out : List ℕ
 
-abbrev pub after : Presence → ℕ → List ℕ → After
-after l n o = record { list = l; len = n; out = o }
+abbrev pub afterLine : Presence → ℕ → List ℕ → AfterLine
+afterLine l n o = record { list = l; len = n; out = o }
 
 -- the text and a line feed (10) at the start of o
-unfoldable pub printed : Reply → List ℕ → After
-printed a o = after (a .list) (length (a .text ++ (10 ∷ []))) (over 0 (a .text ++ (10 ∷ [])) o)
+unfoldable pub printed : LineAnswer → List ℕ → AfterLine
+printed a o = afterLine (a .list) (length (a .text ++ (feed ∷ []))) (over 0 (a .text ++ (feed ∷ [])) o)
 
 -- what is written for a line that stands at the start of b: nothing at the end of the input
-unfoldable pub replyOf : Presence → Line → List ℕ → List ℕ → After
-replyOf l (Text n) b o = printed (answerOf l (take n b)) o
-replyOf l OverLong b o = printed (reply l unreadable) o
-replyOf l End b o = after l 0 o
+unfoldable pub lineReply : Presence → Line → List ℕ → List ℕ → AfterLine
+lineReply l (Text n) b o = printed (answerOf l (take n b)) o
+lineReply l OverLong b o = printed (lineAnswer l unreadable) o
+lineReply l End b o = afterLine l 0 o

@@ -18,7 +18,8 @@ ghost use mathlib.Core.List.{[], _∷_};
 ghost use lib.ListN.{length};
 ghost use Rattle.bench.specs.Texts.{Appends};
 ghost use Rattle.presence_list.specs.Sizes.{FewAfter};
-ghost use Rattle.presence_lines.specs.Lines.{recordsRoom, unreadable as unreadableText, textOf, answerOf, after, replyOf};
+ghost use Rattle.presence_lines.specs.Lines.{recordsRoom, unreadable as unreadableText, textOf, answerOf, afterLine, lineReply};
+ghost use Rattle.bench.specs.Lines.{feed};
 
 // The longest line, without its line feed, and room for any answer and a line feed.
 pub const LINE: usize = 65536;
@@ -88,7 +89,7 @@ fn answer(list: Presence, line: &[u8], out: &mut [u8]) -> Answered
 
 // A line feed behind the text.
 fn fed(answer: Answered, out: &mut [u8]) -> Answered
-    ensures { λ r. ⌜ (r .list ≡ answer .list) × Appends (answer .len) (10 ∷ []) (now (out .entry)) (r .len) (now (out .exit)) ⌝ }
+    ensures { λ r. ⌜ (r .list ≡ answer .list) × Appends (answer .len) (feed ∷ []) (now (out .entry)) (r .len) (now (out .exit)) ⌝ }
 {
     let list = answer.list;
     let len = text::put(b"\n", out, answer.len);
@@ -97,7 +98,7 @@ fn fed(answer: Answered, out: &mut [u8]) -> Answered
 
 // The answer to a line that stands at the start of `line`, with its line feed; nothing at the end of the input.
 pub fn reply(list: Presence, next: Line, line: &[u8], out: &mut [u8; OUT]) -> Answered
-    ensures { λ r. ⌜ after (r .list) (r .len) (now (out .exit)) ≡ replyOf list next (now (line .entry)) (now (out .entry)) ⌝ }
+    ensures { λ r. ⌜ afterLine (r .list) (r .len) (now (out .exit)) ≡ lineReply list next (now (line .entry)) (now (out .entry)) ⌝ }
 {
     match next {
         Line::Text(n) => {

@@ -14,7 +14,7 @@ ghost use lib.ListN.{length, take, drop};
 ghost use Rattle.bench.specs.Texts.{Appends};
 ghost use Rattle.presence_list.specs.Names.{recordSize, cardLimit, cardsSize};
 ghost use Rattle.presence_list.specs.Memory.{pieces};
-ghost use Rattle.presence_lines.specs.Lines.{cardText, bitrateText, cardsText, refusedText, listsText};
+ghost use Rattle.presence_lines.specs.Lines.{cardText, rateText, cardsText, refusedText, listsText};
 
 // A card of the list as `KIND:HEX`, a space before it.
 fn put_card(cards: &[u8], i: usize, out: &mut [u8], at: usize) -> usize
@@ -35,7 +35,7 @@ fn put_card(cards: &[u8], i: usize, out: &mut [u8], at: usize) -> usize
 // Its bitrate, where it is shown.
 fn put_bitrate(cards: &[u8], i: usize, shown: bool, out: &mut [u8], at: usize) -> usize
     requires { ⌜ (i < cardLimit) × (cardsSize ≤ length (now cards)) ⌝ }
-    ensures { λ r. ⌜ Appends at (bitrateText shown (take recordSize (drop (recordSize * i) (now (cards .entry))))) (now (out .entry)) r (now (out .exit)) ⌝ }
+    ensures { λ r. ⌜ Appends at (rateText shown (take recordSize (drop (recordSize * i) (now (cards .entry))))) (now (out .entry)) r (now (out .exit)) ⌝ }
 {
     if shown {
         let bitrate = cards[RECORD * i + BITRATE] as usize;

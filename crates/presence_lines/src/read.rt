@@ -16,9 +16,9 @@ ghost use lib.ListN.{length, drop};
 ghost use Rattle.bench.specs.Hex.{isHex};
 ghost use Rattle.bench.specs.Texts.{Appends};
 ghost use Rattle.bench.specs.Words.{wordsOf};
-ghost use Rattle.bench.specs.WordLaws.{behind};
-ghost use Rattle.presence_lines.specs.Lines.{lineLimit, recordsRoom, placeOf, beforeColon, behindColon, isIdentifier, isCard, recordWith, identified, recordOf, areCards, recordsOf, saidOf};
-ghost use Rattle.presence_lines.specs.Readings.{Puts, readIn, readBytes};
+ghost use Rattle.bench.specs.WordLaws.{wordsBehind};
+ghost use Rattle.presence_lines.specs.Lines.{lineLimit, recordsRoom, placeAmong, beforeColon, behindColon, isIdentifier, isCard, recordWith, identified, recordOfWord, areCards, recordsOfWords, saidOf};
+ghost use Rattle.presence_lines.specs.Readings.{PutsRecord, readIn, readBytes};
 ghost use Rattle.presence_list.specs.Names.{identifierLimit};
 
 // How many bytes an identifier has at most that can be read, and that a record holds.
@@ -47,7 +47,7 @@ pub(crate) enum Cards {
 
 // The place of the word among the words of a text; how many they are where it is none of them.
 fn place(word: &[u8], text: &[u8]) -> usize
-    ensures { λ r. ⌜ r ≡ placeOf (now (word .entry)) (wordsOf (now (text .entry))) ⌝ }
+    ensures { λ r. ⌜ r ≡ placeAmong (now (word .entry)) (wordsOf (now (text .entry))) ⌝ }
 {
     let n = words::count(text);
     let mut i = 0;
@@ -126,7 +126,7 @@ fn put_identified(kind: u8, word: &[u8], bitrate: u8, records: &mut [u8], at: us
 
 // Puts the record of a card, `KIND:HEX:BITRATE`, into the buffer from a place on.
 fn put_card(word: &[u8], records: &mut [u8], at: usize) -> Cards
-    ensures { λ r. ⌜ Puts r (isCard (now (word .entry))) at (recordOf (now (word .entry))) (now (records .entry)) (now (records .exit)) ⌝ }
+    ensures { λ r. ⌜ PutsRecord r (isCard (now (word .entry))) at (recordOfWord (now (word .entry))) (now (records .entry)) (now (records .exit)) ⌝ }
 {
     let rest = behind_colon(word);
     let kind = place(before_colon(word), b"A T1 B F DEP");
@@ -147,7 +147,7 @@ fn put_card(word: &[u8], records: &mut [u8], at: usize) -> Cards
 // Puts the records of the cards behind a place of the line into the buffer, each behind the other.
 fn put_cards(line: &[u8], from: usize, records: &mut [u8]) -> Cards
     requires { ⌜ from ≤ length (now line) ⌝ }
-    ensures { λ r. ⌜ Puts r (areCards (behind (drop from (now (line .entry))))) 0 (recordsOf (behind (drop from (now (line .entry))))) (now (records .entry)) (now (records .exit)) ⌝ }
+    ensures { λ r. ⌜ PutsRecord r (areCards (wordsBehind (drop from (now (line .entry))))) 0 (recordsOfWords (wordsBehind (drop from (now (line .entry))))) (now (records .entry)) (now (records .exit)) ⌝ }
 {
     let n = line.len();
     let mut at = from;

@@ -21,7 +21,7 @@ use Rattle.presence_list.specs.CardsAt.{CardsAt}
 use Rattle.presence_list.specs.Lookups.{cards-at-in-range}
 use Rattle.presence_list.specs.Memory.{pieces, longIn, inRangeIn, ascending}
 use Rattle.presence_list.specs.Presence.{any, every}
-use Rattle.presence_list.specs.Steps.{after, byAdmission, stepOf, inRange, recordsOf, admissionOf, readableIn, staleAt}
+use Rattle.presence_list.specs.Steps.{afterRound, byAdmission, roundStep, listInRange, recordsOf, admissionOf, readableIn, staleAt}
 
 -- a choice that is true has a true test, where its other way is false
 chosen : (t u : Bool) → pick t u false ≡ true → (t ≡ true) × (u ≡ true)
@@ -29,8 +29,8 @@ unfolding pick
 chosen true u h = (refl, h)
 chosen false u h = (cc, cc)
 
-pub range-cards-at : (s : State) (c : Seq ℕ) → length c ≡ cardsSize → inRange s c ≡ true → CardsAt (s .count) c × (s .count ≤ cardLimit)
-unfolding inRange pick pieces every ascending
+pub range-cards-at : (s : State) (c : Seq ℕ) → length c ≡ cardsSize → listInRange s c ≡ true → CardsAt (s .count) c × (s .count ≤ cardLimit)
+unfolding listInRange pick pieces every ascending
 range-cards-at s c l h = go (eqb (s .begun) 0) h
   where
     none : (k : ℕ) → k ≡ 0 → CardsAt k c × (k ≤ cardLimit)
@@ -52,8 +52,8 @@ range-cards-at s c l h = go (eqb (s .begun) 0) h
     go false h = some h
 
 -- it has no more cards than a list takes
-pub range-few : (s : State) (c : Seq ℕ) → inRange s c ≡ true → s .count ≤ cardLimit
-unfolding inRange pick
+pub range-few : (s : State) (c : Seq ℕ) → listInRange s c ≡ true → s .count ≤ cardLimit
+unfolding listInRange pick
 range-few s c h = go (eqb (s .begun) 0) h
   where
     go : (t : Bool)
@@ -63,13 +63,13 @@ range-few s c h = go (eqb (s .begun) 0) h
     go true h = let z = eqb-true (s .count) 0 h in omega arith
     go false h = leb-true (s .count) cardLimit (chosen (leb (s .count) cardLimit) _ (chosen (eqb (s .begun) 1) _ h .1) .0)
 
-pub admitted : (s : State) (c : Seq ℕ) (n : ℕ) (b : Seq ℕ) (r : Admission) → r ≡ admissionOf s c n b → r ≡ Admitted → (inRange s c ≡ true) × (any longIn (recordsOf b) ≡ false)
+pub admitted : (s : State) (c : Seq ℕ) (n : ℕ) (b : Seq ℕ) (r : Admission) → r ≡ admissionOf s c n b → r ≡ Admitted → (listInRange s c ≡ true) × (any longIn (recordsOf b) ≡ false)
 unfolding admissionOf pick
-admitted s c n b r p q = go (any longIn (recordsOf b)) (inRange s c) refl refl (sym p ∙ q)
+admitted s c n b r p q = go (any longIn (recordsOf b)) (listInRange s c) refl refl (sym p ∙ q)
   where
-    go : (t u : Bool) → any longIn (recordsOf b) ≡ t → inRange s c ≡ u
+    go : (t u : Bool) → any longIn (recordsOf b) ≡ t → listInRange s c ≡ u
         → pick t (Refused (AtOnce OverLong)) (pick u (pick (readableIn b) (pick (staleAt s n) (Refused StaleRound) Admitted) (Refused (AtOnce BadArgument))) (Refused (AtOnce OutOfTurn))) ≡ Admitted
-        → (inRange s c ≡ true) × (any longIn (recordsOf b) ≡ false)
+        → (listInRange s c ≡ true) × (any longIn (recordsOf b) ≡ false)
     go true u e f h = absurd (never h)
       where
         never : _≡_ {A = Admission} (Refused (AtOnce OverLong)) Admitted → ⊥
@@ -82,16 +82,16 @@ admitted s c n b r p q = go (any longIn (recordsOf b)) (inRange s c) refl refl (
 
 -- a refused round leaves all as it was
 pub left-as : (s : State) (c a d : Seq ℕ) (n : ℕ) (b : Seq ℕ) (t : State) (g : Answer) (r : Admission) (e : RoundRefusal)
-    → (t ≡ s) × (g ≡ Failed e) → r ≡ Refused e → r ≡ admissionOf s c n b → after t c a d g ≡ stepOf s c a d n b
-unfolding stepOf
+    → (t ≡ s) × (g ≡ Failed e) → r ≡ Refused e → r ≡ admissionOf s c n b → afterRound t c a d g ≡ roundStep s c a d n b
+unfolding roundStep
 left-as s c a d n b t g r e p q f =
-    ap₂ (λ (x : State) (y : Answer). after x c a d y) (p .0) (p .1) ∙ ap (λ (x : Admission). byAdmission x s c a d n b) (sym q ∙ f)
+    ap₂ (λ (x : State) (y : Answer). afterRound x c a d y) (p .0) (p .1) ∙ ap (λ (x : Admission). byAdmission x s c a d n b) (sym q ∙ f)
 
 module _ (s : State) (c : Seq ℕ) where
-  pub range-ascends : (r u : Bool) → (s .begun ≡ 0 → ⊥) → s .begun ≡ 1 → s .count ≤ cardLimit → u ≡ every inRangeIn (pieces (s .count) c) → u ≡ true → r ≡ ascending (pieces (s .count) c) → r ≡ inRange s c
-  unfolding inRange pick
+  pub range-ascends : (r u : Bool) → (s .begun ≡ 0 → ⊥) → s .begun ≡ 1 → s .count ≤ cardLimit → u ≡ every inRangeIn (pieces (s .count) c) → u ≡ true → r ≡ ascending (pieces (s .count) c) → r ≡ listInRange s c
+  unfolding listInRange pick
   range-ascends r u a b l p q e = rw (ne-eqb (s .begun) 0 a, eq-eqb (s .begun) 1 b, le-leb (s .count) cardLimit l, ← p, q) e
 
-  pub range-broken : (u : Bool) → (s .begun ≡ 0 → ⊥) → s .begun ≡ 1 → s .count ≤ cardLimit → u ≡ every inRangeIn (pieces (s .count) c) → u ≡ false → false ≡ inRange s c
-  unfolding inRange pick
+  pub range-broken : (u : Bool) → (s .begun ≡ 0 → ⊥) → s .begun ≡ 1 → s .count ≤ cardLimit → u ≡ every inRangeIn (pieces (s .count) c) → u ≡ false → false ≡ listInRange s c
+  unfolding listInRange pick
   range-broken u a b l p q = rw (ne-eqb (s .begun) 0 a, eq-eqb (s .begun) 1 b, le-leb (s .count) cardLimit l, ← p, q)

@@ -13,54 +13,54 @@ use Rattle.presence_list.specs.Names.{recordSize, identifierLimit, bitra
 use Rattle.presence_list.specs.Keyed.{All, supersede, supersedeAll, Sorted, only}
 use Rattle.presence_list.specs.KeyedLaws.{supersede-sorted, only-supersede, all-append}
 use Rattle.presence_list.specs.CardsAt.{Fit}
-use Rattle.presence_list.specs.Memory.{Whole, cardIn, lengthIn, missedIn, foundIn, longIn, knownIn, inRangeIn, entryOf, entries, aged}
+use Rattle.presence_list.specs.Memory.{Whole, cardIn, lengthIn, missedIn, foundIn, longIn, isKnownIn, inRangeIn, keptRecord, keptRecords, aged}
 use Rattle.presence_list.specs.EntryLaws.{entry-length, entry-bitrate, entry-seen, entry-card}
 use Rattle.presence_list.specs.AgedLaws.{missed-found, missed-length}
 use Rattle.presence_list.specs.Presence.{Found, Round, card, any, every, overLong, known, listed, presentOf}
 
 -- seen in the last round
-abbrev pub seen : List ℕ → Bool
-seen e = eqb (missedIn e) 0
+abbrev pub seenLast : List ℕ → Bool
+seenLast e = eqb (missedIn e) 0
 
-pub entry-found : (f : List ℕ) → length f ≡ recordSize → lengthIn f ≤ identifierLimit → foundIn (entryOf f) ≡ foundIn f
+pub entry-found : (f : List ℕ) → length f ≡ recordSize → lengthIn f ≤ identifierLimit → foundIn (keptRecord f) ≡ foundIn f
 unfolding cardIn
 entry-found f n h =
-    let c : card (foundIn (entryOf f)) ≡ card (foundIn f) = entry-card f n h in
-    let k : foundIn (entryOf f) .kind ≡ foundIn f .kind = ap (λ (l : List ℕ). getD l 0 0) c in
-    let i : foundIn (entryOf f) .identifier ≡ foundIn f .identifier = ap (λ (l : List ℕ). drop 1 l) c in
-    ap₂ (λ (x : ℕ) (l : List ℕ). record { kind = x; identifier = l; bitrate = getD (entryOf f) bitrateOffset 0 }) k i
+    let c : card (foundIn (keptRecord f)) ≡ card (foundIn f) = entry-card f n h in
+    let k : foundIn (keptRecord f) .kind ≡ foundIn f .kind = ap (λ (l : List ℕ). getD l 0 0) c in
+    let i : foundIn (keptRecord f) .identifier ≡ foundIn f .identifier = ap (λ (l : List ℕ). drop 1 l) c in
+    ap₂ (λ (x : ℕ) (l : List ℕ). record { kind = x; identifier = l; bitrate = getD (keptRecord f) bitrateOffset 0 }) k i
     ∙ ap (λ (r : ℕ). record { kind = foundIn f .kind; identifier = foundIn f .identifier; bitrate = r }) (entry-bitrate f n h)
 
-pub entries-found : (fs : List (List ℕ)) → Whole fs → Fit fs → map foundIn (entries fs) ≡ map foundIn fs
-unfolding entries
+pub entries-found : (fs : List (List ℕ)) → Whole fs → Fit fs → map foundIn (keptRecords fs) ≡ map foundIn fs
+unfolding keptRecords
 entries-found [] w h = refl
 entries-found (f ∷ fs) w h = ap₂ (λ (x : Found) (l : List Found). x ∷ l) (entry-found f (w .0) (h .0)) (entries-found fs (w .1) (h .1))
 
 -- the list before a round's records is who was seen in the last round
-pub aged-found : (es : List (List ℕ)) → Fit es → map foundIn (aged es) ≡ map foundIn (only seen es)
+pub aged-found : (es : List (List ℕ)) → Fit es → map foundIn (aged es) ≡ map foundIn (only seenLast es)
 unfolding aged only pick
 aged-found [] f = refl
-aged-found (e ∷ es) f = go (seen e) (aged-found es (f .1))
+aged-found (e ∷ es) f = go (seenLast e) (aged-found es (f .1))
   where
-    go : (t : Bool) → map foundIn (aged es) ≡ map foundIn (only seen es) → map foundIn (pick t (set e missedOffset 1 ∷ aged es) (aged es)) ≡ map foundIn (pick t (e ∷ only seen es) (only seen es))
+    go : (t : Bool) → map foundIn (aged es) ≡ map foundIn (only seenLast es) → map foundIn (pick t (set e missedOffset 1 ∷ aged es) (aged es)) ≡ map foundIn (pick t (e ∷ only seenLast es) (only seenLast es))
     go true r = ap₂ (λ (x : Found) (l : List Found). x ∷ l) (missed-found e (f .0)) r
     go false r = r
 
 -- and none of it is seen yet
-pub aged-unseen : (es : List (List ℕ)) → Whole es → only seen (aged es) ≡ []
+pub aged-unseen : (es : List (List ℕ)) → Whole es → only seenLast (aged es) ≡ []
 unfolding aged only pick
 aged-unseen [] w = refl
-aged-unseen (e ∷ es) w = go (seen e) (aged-unseen es (w .1))
+aged-unseen (e ∷ es) w = go (seenLast e) (aged-unseen es (w .1))
   where
-    unseen : seen (set e missedOffset 1) ≡ false
+    unseen : seenLast (set e missedOffset 1) ≡ false
     unseen = ap (λ (k : ℕ). eqb k 0) (getD-set-same e missedOffset 1 0 (let l = w .0 in omega arith))
 
-    go : (t : Bool) → only seen (aged es) ≡ [] → only seen (pick t (set e missedOffset 1 ∷ aged es) (aged es)) ≡ []
+    go : (t : Bool) → only seenLast (aged es) ≡ [] → only seenLast (pick t (set e missedOffset 1 ∷ aged es) (aged es)) ≡ []
     go true r = rw unseen r
     go false r = r
 
-pub entries-seen : (fs : List (List ℕ)) → Whole fs → Fit fs → All (λ e. seen e ≡ true) (entries fs)
-unfolding entries
+pub entries-seen : (fs : List (List ℕ)) → Whole fs → Fit fs → All (λ e. seenLast e ≡ true) (keptRecords fs)
+unfolding keptRecords
 entries-seen [] w h = tt
 entries-seen (f ∷ fs) w h = (ap (λ (k : ℕ). eqb k 0) (entry-seen f (w .0) (h .0)), entries-seen fs (w .1) (h .1))
 
@@ -72,13 +72,13 @@ only-all q l (x ∷ xs) o a =
     ∙ ap (λ (m : List (List ℕ)). supersedeAll cardIn m xs) (only-supersede cardIn q x l (a .0) o)
 
 -- the cards of the last accepted round
-unfoldable pub lastOf : List Round → List Found
-lastOf [] = []
-lastOf (p ∷ ps) = listed (p .found)
+unfoldable pub lastFound : List Round → List Found
+lastFound [] = []
+lastFound (p ∷ ps) = listed (p .found)
 
 -- with another round, they and its cards are present
-pub last-present : (past : List Round) (r : Round) → supersedeAll card (lastOf past) (r .found) ≡ presentOf (r ∷ past)
-unfolding lastOf listed presentOf
+pub last-present : (past : List Round) (r : Round) → supersedeAll card (lastFound past) (r .found) ≡ presentOf (r ∷ past)
+unfolding lastFound listed presentOf
 last-present [] r = refl
 last-present (p ∷ ps) r = sym (all-append card [] (p .found) (r .found))
 
@@ -104,21 +104,21 @@ unfolding any
 any-long [] w = refl
 any-long (f ∷ fs) w = rw (identifier-length f (w .0), any-long fs (w .1))
 
-pub every-known : (fs : List (List ℕ)) → every known (map foundIn fs) ≡ every knownIn fs
+pub every-known : (fs : List (List ℕ)) → every known (map foundIn fs) ≡ every isKnownIn fs
 unfolding every
 every-known [] = refl
 every-known (f ∷ fs) = rw (every-known fs)
 
 -- a record of the list stays in its range
-pub in-range : (e : List ℕ) → lengthIn e ≤ identifierLimit → missedIn e ≤ 1 → knownIn e ≡ true → inRangeIn e ≡ true
+pub in-range : (e : List ℕ) → lengthIn e ≤ identifierLimit → missedIn e ≤ 1 → isKnownIn e ≡ true → inRangeIn e ≡ true
 unfolding pick
 in-range e h m k = rw (le-leb (lengthIn e) identifierLimit h, le-leb (missedIn e) 1 m) k
 
-pub its-range : (e : List ℕ) → inRangeIn e ≡ true → (lengthIn e ≤ identifierLimit) × (knownIn e ≡ true)
+pub its-range : (e : List ℕ) → inRangeIn e ≡ true → (lengthIn e ≤ identifierLimit) × (isKnownIn e ≡ true)
 unfolding pick
 its-range e h = go (leb (lengthIn e) identifierLimit) (leb (missedIn e) 1) refl h
   where
-    go : (t u : Bool) → leb (lengthIn e) identifierLimit ≡ t → pick t (pick u (knownIn e) false) false ≡ true → (lengthIn e ≤ identifierLimit) × (knownIn e ≡ true)
+    go : (t u : Bool) → leb (lengthIn e) identifierLimit ≡ t → pick t (pick u (isKnownIn e) false) false ≡ true → (lengthIn e ≤ identifierLimit) × (isKnownIn e ≡ true)
     go true true p h = (leb-true (lengthIn e) identifierLimit p, h)
     go true false p h = (leb-true (lengthIn e) identifierLimit p, cc)
     go false u p h = let z : _≡_ {A = ℕ} 0 1 = cc in (omega arith, cc)
@@ -126,7 +126,7 @@ its-range e h = go (leb (lengthIn e) identifierLimit) (leb (missedIn e) 1) refl 
 pub aged-range : (es : List (List ℕ)) → Whole es → All (λ e. inRangeIn e ≡ true) es → All (λ e. inRangeIn e ≡ true) (aged es)
 unfolding aged pick
 aged-range [] w a = tt
-aged-range (e ∷ es) w a = go (seen e) (aged-range es (w .1) (a .1))
+aged-range (e ∷ es) w a = go (seenLast e) (aged-range es (w .1) (a .1))
   where
     here : inRangeIn (set e missedOffset 1) ≡ true
     here =
@@ -139,19 +139,19 @@ aged-range (e ∷ es) w a = go (seen e) (aged-range es (w .1) (a .1))
     go true r = (here, r)
     go false r = r
 
-pub entries-range : (fs : List (List ℕ)) → Whole fs → Fit fs → every knownIn fs ≡ true → All (λ e. inRangeIn e ≡ true) (entries fs)
-unfolding entries every pick
+pub entries-range : (fs : List (List ℕ)) → Whole fs → Fit fs → every isKnownIn fs ≡ true → All (λ e. inRangeIn e ≡ true) (keptRecords fs)
+unfolding keptRecords every pick
 entries-range [] w f k = tt
-entries-range (e ∷ es) w f k = go (knownIn e) refl k (entries-range es (w .1) (f .1))
+entries-range (e ∷ es) w f k = go (isKnownIn e) refl k (entries-range es (w .1) (f .1))
   where
-    here : knownIn e ≡ true → inRangeIn (entryOf e) ≡ true
+    here : isKnownIn e ≡ true → inRangeIn (keptRecord e) ≡ true
     here h =
         let s = entry-seen e (w .0) (f .0) in
-        in-range (entryOf e) (rw (entry-length e (w .0) (f .0)) (f .0)) (omega arith)
+        in-range (keptRecord e) (rw (entry-length e (w .0) (f .0)) (f .0)) (omega arith)
         (ap (λ (x : Found). pick (leb (x .kind) lastCardKind) (leb (x .bitrate) lastBitrate) false) (entry-found e (w .0) (f .0)) ∙ h)
 
-    go : (t : Bool) → knownIn e ≡ t → pick t (every knownIn es) false ≡ true → (every knownIn es ≡ true → All (λ e. inRangeIn e ≡ true) (entries es))
-        → All (λ e. inRangeIn e ≡ true) (entryOf e ∷ entries es)
+    go : (t : Bool) → isKnownIn e ≡ t → pick t (every isKnownIn es) false ≡ true → (every isKnownIn es ≡ true → All (λ e. inRangeIn e ≡ true) (keptRecords es))
+        → All (λ e. inRangeIn e ≡ true) (keptRecord e ∷ keptRecords es)
     go true p k r = (here p, r k)
     go false p k r = let z : _≡_ {A = Bool} false true = k in absurd (never z)
       where

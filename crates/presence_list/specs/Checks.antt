@@ -10,7 +10,7 @@ use lib.Seq.{getD-take, getD-drop, take-take, length-take-le}
 use borrow.Author.Tests.{lt-ltb, le-ltb, le-leb, lt-leb, not-true, not-false}
 use Rattle.errors.specs.Choice.{pick}
 use Rattle.presence_list.specs.Names.{recordSize, identifierLimit, lengthOffset, bitrateOffset, missedOffset, lastCardKind, lastBitrate}
-use Rattle.presence_list.specs.Memory.{pieces, cardIn, lengthIn, longIn, knownIn, inRangeIn}
+use Rattle.presence_list.specs.Memory.{pieces, cardIn, lengthIn, longIn, isKnownIn, inRangeIn}
 use Rattle.presence_list.specs.MemoryLaws.{piece-at, length-pieces}
 use Rattle.presence_list.specs.Presence.{any, every}
 use Rattle.presence_list.specs.Turns.{byte-at, any-found, any-turn, any-end, every-not, every-turn, every-end}
@@ -25,15 +25,15 @@ first-in b at = byte-in b at 0 (omega arith) ∙ ap (λ (k : ℕ). getD b k 0) (
     none : (n : ℕ) → n + 0 ≡ n
     none n = omega arith
 
-pub known-rate : (b : List ℕ) (at : ℕ) → getD b at 0 ≤ lastCardKind → leb (getD b (at + bitrateOffset) 0) lastBitrate ≡ knownIn (take recordSize (drop at b))
+pub known-rate : (b : List ℕ) (at : ℕ) → getD b at 0 ≤ lastCardKind → leb (getD b (at + bitrateOffset) 0) lastBitrate ≡ isKnownIn (take recordSize (drop at b))
 unfolding pick
 known-rate b at h = rw (first-in b at, byte-in b at bitrateOffset (omega arith), le-leb (getD b at 0) lastCardKind h)
 
-pub known-not : (b : List ℕ) (at : ℕ) → lastCardKind < getD b at 0 → false ≡ knownIn (take recordSize (drop at b))
+pub known-not : (b : List ℕ) (at : ℕ) → lastCardKind < getD b at 0 → false ≡ isKnownIn (take recordSize (drop at b))
 unfolding pick
 known-not b at h = rw (first-in b at, lt-leb (getD b at 0) lastCardKind h)
 
-pub range-known : (b : List ℕ) (at : ℕ) (r : Bool) → getD b (at + lengthOffset) 0 ≤ identifierLimit → getD b (at + missedOffset) 0 ≤ 1 → r ≡ knownIn (take recordSize (drop at b)) → r ≡ inRangeIn (take recordSize (drop at b))
+pub range-known : (b : List ℕ) (at : ℕ) (r : Bool) → getD b (at + lengthOffset) 0 ≤ identifierLimit → getD b (at + missedOffset) 0 ≤ 1 → r ≡ isKnownIn (take recordSize (drop at b)) → r ≡ inRangeIn (take recordSize (drop at b))
 unfolding pick
 range-known b at r h k e = rw (byte-in b at lengthOffset (omega arith), le-leb (getD b (at + lengthOffset) 0) identifierLimit h, byte-in b at missedOffset (omega arith), le-leb (getD b (at + missedOffset) 0) 1 k) e
 

@@ -11,30 +11,30 @@ use borrow.Author.Tests.{eq-eqb, ne-eqb}
 use Rattle.errors.specs.Choice.{pick}
 use Rattle.presence_list.specs.Names.{recordSize, missedOffset}
 use Rattle.presence_list.specs.Keyed.{has, without}
-use Rattle.presence_list.specs.Memory.{pieces, joined, laid, added, Whole, missedIn, cardIn, aged}
+use Rattle.presence_list.specs.Memory.{pieces, concatenated, laid, putBehind, Whole, missedIn, cardIn, aged}
 use Rattle.presence_list.specs.MemoryLaws.{piece-at, length-pieces, pieces-whole, length-joined, joined-append, laid-behind, length-laid}
 use Rattle.presence_list.specs.Turns.{take-more}
 use Rattle.presence_list.specs.Checks.{byte-in}
 
-pub added-laid : (es fs : List (List ℕ)) (b : List ℕ) (n : ℕ) → Whole es → n ≡ length es → added n fs (laid es b) ≡ laid (es ++ fs) b
-unfolding added laid
+pub added-laid : (es fs : List (List ℕ)) (b : List ℕ) (n : ℕ) → Whole es → n ≡ length es → putBehind n fs (laid es b) ≡ laid (es ++ fs) b
+unfolding putBehind laid
 added-laid es fs b n w e =
-    let j : length (joined es) ≡ recordSize * n = let i = length-joined es w in omega arith in
+    let j : length (concatenated es) ≡ recordSize * n = let i = length-joined es w in omega arith in
     let all : n + length fs ≡ length (es ++ fs) = let i = length-append es fs in omega arith in
-    ap₂ (λ (x y : List ℕ). x ++ (joined fs ++ y)) (take-at (joined es) (drop (recordSize * length es) b) (recordSize * n) j)
+    ap₂ (λ (x y : List ℕ). x ++ (concatenated fs ++ y)) (take-at (concatenated es) (drop (recordSize * length es) b) (recordSize * n) j)
     (laid-behind es b (n + length fs) w (omega arith) ∙ ap (λ (k : ℕ). drop (recordSize * k) b) all)
-    ∙ sym (append-assoc (joined es) (joined fs) (drop (recordSize * length (es ++ fs)) b))
+    ∙ sym (append-assoc (concatenated es) (concatenated fs) (drop (recordSize * length (es ++ fs)) b))
     ∙ ap (λ (l : List ℕ). l ++ drop (recordSize * length (es ++ fs)) b) (sym (joined-append es fs))
 
-pub added-none : (n : ℕ) (b : List ℕ) → b ≡ added n [] b
-unfolding added joined
+pub added-none : (n : ℕ) (b : List ℕ) → b ≡ putBehind n [] b
+unfolding putBehind concatenated
 added-none n b = sym (ap (λ (k : ℕ). take (recordSize * n) b ++ drop (recordSize * k) b) (none n) ∙ take-append-drop (recordSize * n) b)
   where
     none : (n : ℕ) → n + 0 ≡ n
     none n = omega arith
 
-pub added-one : (n : ℕ) (e b : List ℕ) → length e ≡ recordSize → take (recordSize * n) b ++ (e ++ drop (recordSize * n + length e) b) ≡ added n (e ∷ []) b
-unfolding added joined
+pub added-one : (n : ℕ) (e b : List ℕ) → length e ≡ recordSize → take (recordSize * n) b ++ (e ++ drop (recordSize * n + length e) b) ≡ putBehind n (e ∷ []) b
+unfolding putBehind concatenated
 added-one n e b h =
     let next : recordSize * n + length e ≡ recordSize * (n + 1) = omega arith in
     ap₂ (λ (x : List ℕ) (k : ℕ). take (recordSize * n) b ++ (x ++ drop k b)) (sym (append-nil e)) next
@@ -51,7 +51,7 @@ set-behind (x ∷ xs) ys i a = ap (λ (k : ℕ). set (x ∷ (xs ++ ys)) k a) (on
     one m n = omega arith
 
 pub added-set : (n k a : ℕ) (e b : List ℕ) → recordSize * n ≤ length b → length e ≡ recordSize → k < recordSize
-    → set (take (recordSize * n) b ++ (e ++ drop (recordSize * n + length e) b)) (recordSize * n + k) a ≡ added n (set e k a ∷ []) b
+    → set (take (recordSize * n) b ++ (e ++ drop (recordSize * n + length e) b)) (recordSize * n + k) a ≡ putBehind n (set e k a ∷ []) b
 added-set n k a e b room h l =
     let t : length (take (recordSize * n) b) ≡ recordSize * n = length-take-le (recordSize * n) b room in
     let d : List ℕ = drop (recordSize * n + length e) b in
@@ -80,11 +80,11 @@ Grown f b count i n out₀ out =
 
 module _ (f : List (List ℕ) → List (List ℕ)) (g : Growing f) (b : List ℕ) (count : ℕ) (out₀ : List ℕ) (room : recordSize * count ≤ length b) (out-room : recordSize * count ≤ length out₀) where
   pub grown-none : Grown f b count 0 0 out₀ out₀
-  unfolding laid joined
+  unfolding laid concatenated
   grown-none = (omega arith, omega arith, ap length (sym (g .none)), ap (λ (l : List (List ℕ)). laid l out₀) (sym (g .none)), refl)
 
   pub grown-more : (i n r : ℕ) (out out₁ e : List ℕ) → Grown f b count i n out₀ out → i < count → e ≡ take recordSize (drop (recordSize * i) b)
-      → r ≡ n + length (f (e ∷ [])) → out₁ ≡ added n (f (e ∷ [])) out → Grown f b count (i + 1) r out₀ out₁
+      → r ≡ n + length (f (e ∷ [])) → out₁ ≡ putBehind n (f (e ∷ [])) out → Grown f b count (i + 1) r out₀ out₁
   grown-more i n r out out₁ e inv h p q s =
       let all : List (List ℕ) = pieces count b in
       let size : length all ≡ count = length-pieces count b in
@@ -95,7 +95,7 @@ module _ (f : List (List ℕ) → List (List ℕ)) (g : Growing f) (b : List ℕ
       let w : Whole now = g .whole (take i all) (take-whole i all whole-all) in
       let lays : out₁ ≡ laid (f (take (i + 1) all)) out₀ =
       s
-      ∙ ap (added n (f (e ∷ []))) (inv .3)
+      ∙ ap (putBehind n (f (e ∷ []))) (inv .3)
       ∙ added-laid now (f (e ∷ [])) out₀ n w (inv .2)
       ∙ ap (λ (l : List (List ℕ)). laid l out₀) (sym next) in
       let counts : r ≡ length (f (take (i + 1) all)) =

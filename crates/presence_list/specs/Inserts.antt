@@ -6,13 +6,13 @@ use native.Mathlib.Omega.{arith}
 use lib.ListN.{length, take, drop, length-append, take-append-drop}
 use lib.Seq.{drop-drop}
 use Rattle.presence_list.specs.Names.{recordSize}
-use Rattle.presence_list.specs.Memory.{pieces, joined, laid}
+use Rattle.presence_list.specs.Memory.{pieces, concatenated, laid}
 use Rattle.presence_list.specs.MemoryLaws.{length-pieces, joined-pieces, joined-append, take-pieces, drop-pieces}
 
 module _ (b e : List ℕ) (p m : ℕ) where
   -- a list's first p records, one, and m others that lie from a place on
-  around : (r : List ℕ) → joined (pieces p b ++ e ∷ pieces m r) ≡ take (recordSize * p) b ++ (e ++ take (recordSize * m) r)
-  unfolding joined
+  around : (r : List ℕ) → concatenated (pieces p b ++ e ∷ pieces m r) ≡ take (recordSize * p) b ++ (e ++ take (recordSize * m) r)
+  unfolding concatenated
   around r = joined-append (pieces p b) (e ∷ pieces m r) ∙ ap₂ (λ (x y : List ℕ). x ++ (e ++ y)) (joined-pieces p b) (joined-pieces m r)
 
   size : (r : List ℕ) → length (pieces p b ++ e ∷ pieces m r) ≡ p + m + 1

@@ -13,7 +13,7 @@ use Rattle.presence_list.specs.Order.{before}
 use Rattle.presence_list.specs.Keyed.{place, has, Sorted, Below}
 use Rattle.presence_list.specs.KeyedLaws.{place-le, place-not, place-behind, has-at, has-not-end, below-trans}
 use Rattle.presence_list.specs.CardsAt.{CardsAt, Fit}
-use Rattle.presence_list.specs.Memory.{pieces, cardIn, lengthIn, inRangeIn, knownIn, missedIn, ascending}
+use Rattle.presence_list.specs.Memory.{pieces, cardIn, lengthIn, inRangeIn, isKnownIn, missedIn, ascending}
 use Rattle.presence_list.specs.MemoryLaws.{piece-at, length-pieces}
 use Rattle.presence_list.specs.Presence.{every}
 use Rattle.presence_list.specs.Turns.{every-at, ascending-not, ascending-turn, ascending-end}
@@ -56,7 +56,7 @@ range-length : (e : List ℕ) → inRangeIn e ≡ true → lengthIn e ≤ identi
 unfolding pick
 range-length e h = leb-true (lengthIn e) identifierLimit (go (leb (lengthIn e) identifierLimit) h)
   where
-    go : (t : Bool) → pick t (pick (leb (missedIn e) 1) (knownIn e) false) false ≡ true → t ≡ true
+    go : (t : Bool) → pick t (pick (leb (missedIn e) 1) (isKnownIn e) false) false ≡ true → t ≡ true
     go true h = refl
     go false h = cc
 

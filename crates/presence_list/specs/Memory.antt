@@ -17,17 +17,17 @@ unfoldable pub pieces : ℕ → List ℕ → List (List ℕ)
 pieces zero b = []
 pieces (suc n) b = take recordSize b ∷ pieces n (drop recordSize b)
 
-unfoldable pub joined : List (List ℕ) → List ℕ
-joined [] = []
-joined (e ∷ es) = e ++ joined es
+unfoldable pub concatenated : List (List ℕ) → List ℕ
+concatenated [] = []
+concatenated (e ∷ es) = e ++ concatenated es
 
 -- the pieces at the start of a memory, whose other bytes stay
 unfoldable pub laid : List (List ℕ) → List ℕ → List ℕ
-laid es b = joined es ++ drop (recordSize * length es) b
+laid es b = concatenated es ++ drop (recordSize * length es) b
 
 -- pieces put behind the first n
-unfoldable pub added : ℕ → List (List ℕ) → List ℕ → List ℕ
-added n es b = take (recordSize * n) b ++ (joined es ++ drop (recordSize * (n + length es)) b)
+unfoldable pub putBehind : ℕ → List (List ℕ) → List ℕ → List ℕ
+putBehind n es b = take (recordSize * n) b ++ (concatenated es ++ drop (recordSize * (n + length es)) b)
 
 abbrev pub Whole : List (List ℕ) → Type 0
 Whole es = All (λ e. length e ≡ recordSize) es
@@ -48,16 +48,16 @@ cardIn e = card (foundIn e)
 abbrev pub longIn : List ℕ → Bool
 longIn e = ltb identifierLimit (lengthIn e)
 
-abbrev pub knownIn : List ℕ → Bool
-knownIn e = pick (leb (getD e 0 0) lastCardKind) (leb (getD e bitrateOffset 0) lastBitrate) false
+abbrev pub isKnownIn : List ℕ → Bool
+isKnownIn e = pick (leb (getD e 0 0) lastCardKind) (leb (getD e bitrateOffset 0) lastBitrate) false
 
 -- a lent record as it is kept: zeros behind its identifier, and not missed
-unfoldable pub entryOf : List ℕ → List ℕ
-entryOf r = set (set (cardIn r ++ drop (length (cardIn r)) (replicate recordSize 0)) lengthOffset (lengthIn r)) bitrateOffset (getD r bitrateOffset 0)
+unfoldable pub keptRecord : List ℕ → List ℕ
+keptRecord r = set (set (cardIn r ++ drop (length (cardIn r)) (replicate recordSize 0)) lengthOffset (lengthIn r)) bitrateOffset (getD r bitrateOffset 0)
 
-unfoldable pub entries : List (List ℕ) → List (List ℕ)
-entries [] = []
-entries (r ∷ rs) = entryOf r ∷ entries rs
+unfoldable pub keptRecords : List (List ℕ) → List (List ℕ)
+keptRecords [] = []
+keptRecords (r ∷ rs) = keptRecord r ∷ keptRecords rs
 
 -- the list before the records of a round: who was missed already has left, and all others are missed until they are seen
 unfoldable pub aged : List (List ℕ) → List (List ℕ)
@@ -66,7 +66,7 @@ aged (e ∷ es) = pick (eqb (missedIn e) 0) (set e missedOffset 1 ∷ aged es) (
 
 -- a record of a list in its range
 abbrev pub inRangeIn : List ℕ → Bool
-inRangeIn e = pick (leb (lengthIn e) identifierLimit) (pick (leb (missedIn e) 1) (knownIn e) false) false
+inRangeIn e = pick (leb (lengthIn e) identifierLimit) (pick (leb (missedIn e) 1) (isKnownIn e) false) false
 
 -- each card before the next
 unfoldable pub ascending : List (List ℕ) → Bool

@@ -7,7 +7,7 @@ use lib.ListN.{length, take, drop, getD, length-append, length-drop, take-append
 use lib.Seq.{length-take-le, take-at, drop-at, drop-drop, take-add, drop-append-add, take-all, take-length}
 use borrow.Rule.Slice.PartMut.{putMid}
 use Rattle.presence_list.specs.Names.{recordSize}
-use Rattle.presence_list.specs.Memory.{pieces, joined, laid, Whole}
+use Rattle.presence_list.specs.Memory.{pieces, concatenated, laid, Whole}
 
 pub length-pieces : (n : ℕ) (b : List ℕ) → length (pieces n b) ≡ n
 unfolding pieces
@@ -38,31 +38,31 @@ pub whole-append : (es fs : List (List ℕ)) → Whole es → Whole fs → Whole
 whole-append [] fs w v = v
 whole-append (e ∷ es) fs w v = (w .0, whole-append es fs (w .1) v)
 
-pub length-joined : (es : List (List ℕ)) → Whole es → length (joined es) ≡ recordSize * length es
-unfolding joined
+pub length-joined : (es : List (List ℕ)) → Whole es → length (concatenated es) ≡ recordSize * length es
+unfolding concatenated
 length-joined [] w = refl
-length-joined (e ∷ es) w = let r = length-joined es (w .1) in let z = w .0 in rw (length-append e (joined es)) (omega arith)
+length-joined (e ∷ es) w = let r = length-joined es (w .1) in let z = w .0 in rw (length-append e (concatenated es)) (omega arith)
 
-pub joined-append : (es fs : List (List ℕ)) → joined (es ++ fs) ≡ joined es ++ joined fs
-unfolding joined
+pub joined-append : (es fs : List (List ℕ)) → concatenated (es ++ fs) ≡ concatenated es ++ concatenated fs
+unfolding concatenated
 joined-append [] fs = refl
-joined-append (e ∷ es) fs = ap (λ (l : List ℕ). e ++ l) (joined-append es fs) ∙ sym (append-assoc e (joined es) (joined fs))
+joined-append (e ∷ es) fs = ap (λ (l : List ℕ). e ++ l) (joined-append es fs) ∙ sym (append-assoc e (concatenated es) (concatenated fs))
 
 -- what was put together is taken apart again
-pub pieces-joined : (es : List (List ℕ)) (t : List ℕ) → Whole es → pieces (length es) (joined es ++ t) ≡ es
-unfolding joined pieces
+pub pieces-joined : (es : List (List ℕ)) (t : List ℕ) → Whole es → pieces (length es) (concatenated es ++ t) ≡ es
+unfolding concatenated pieces
 pieces-joined [] t w = refl
 pieces-joined (e ∷ es) t w =
-    ap (λ (l : List ℕ). pieces (suc (length es)) l) (append-assoc e (joined es) t)
-    ∙ ap₂ (λ (x : List ℕ) (l : List (List ℕ)). x ∷ l) (take-at e (joined es ++ t) recordSize (w .0))
-    (ap (pieces (length es)) (drop-at e (joined es ++ t) recordSize (w .0)) ∙ pieces-joined es t (w .1))
+    ap (λ (l : List ℕ). pieces (suc (length es)) l) (append-assoc e (concatenated es) t)
+    ∙ ap₂ (λ (x : List ℕ) (l : List (List ℕ)). x ∷ l) (take-at e (concatenated es ++ t) recordSize (w .0))
+    (ap (pieces (length es)) (drop-at e (concatenated es ++ t) recordSize (w .0)) ∙ pieces-joined es t (w .1))
 
 pub pieces-laid : (es : List (List ℕ)) (b : List ℕ) (n : ℕ) → Whole es → n ≡ length es → pieces n (laid es b) ≡ es
 unfolding laid
-pieces-laid es b n w e = ap (λ k. pieces k (joined es ++ drop (recordSize * length es) b)) e ∙ pieces-joined es (drop (recordSize * length es) b) w
+pieces-laid es b n w e = ap (λ k. pieces k (concatenated es ++ drop (recordSize * length es) b)) e ∙ pieces-joined es (drop (recordSize * length es) b) w
 
-pub joined-pieces : (n : ℕ) (b : List ℕ) → joined (pieces n b) ≡ take (recordSize * n) b
-unfolding joined pieces
+pub joined-pieces : (n : ℕ) (b : List ℕ) → concatenated (pieces n b) ≡ take (recordSize * n) b
+unfolding concatenated pieces
 joined-pieces zero b = refl
 joined-pieces (suc n) b =
     ap (λ (l : List ℕ). take recordSize b ++ l) (joined-pieces n (drop recordSize b)) ∙ sym (take-add recordSize (recordSize * n) b) ∙ ap (λ k. take k b) (further n)
@@ -89,23 +89,23 @@ drop-pieces (suc p) m b =
 
 pub length-laid : (es : List (List ℕ)) (b : List ℕ) → Whole es → recordSize * length es ≤ length b → length (laid es b) ≡ length b
 unfolding laid
-length-laid es b w h = let j = length-joined es w in rw (length-append (joined es) (drop (recordSize * length es) b), length-drop (recordSize * length es) b) (omega arith)
+length-laid es b w h = let j = length-joined es w in rw (length-append (concatenated es) (drop (recordSize * length es) b), length-drop (recordSize * length es) b) (omega arith)
 
 -- behind them nothing changed
 pub laid-behind : (es : List (List ℕ)) (b : List ℕ) (n : ℕ) → Whole es → length es ≤ n → drop (recordSize * n) (laid es b) ≡ drop (recordSize * n) b
 unfolding laid
 laid-behind es b n w h =
     let k : ℕ = recordSize * (n - length es) in
-    let split : length (joined es) + k ≡ recordSize * n = let j = length-joined es w in omega arith in
+    let split : length (concatenated es) + k ≡ recordSize * n = let j = length-joined es w in omega arith in
     let behind : recordSize * length es + k ≡ recordSize * n = omega arith in
-    ap (λ (i : ℕ). drop i (joined es ++ drop (recordSize * length es) b)) (sym split)
-    ∙ drop-append-add (joined es) (drop (recordSize * length es) b) k
+    ap (λ (i : ℕ). drop i (concatenated es ++ drop (recordSize * length es) b)) (sym split)
+    ∙ drop-append-add (concatenated es) (drop (recordSize * length es) b) k
     ∙ drop-drop k (recordSize * length es) b
     ∙ ap (λ (i : ℕ). drop i b) behind
 
 pub laid-again : (es fs : List (List ℕ)) (b : List ℕ) → Whole es → length es ≤ length fs → laid fs (laid es b) ≡ laid fs b
 unfolding laid
-laid-again es fs b w h = ap (λ (l : List ℕ). joined fs ++ l) (laid-behind es b (length fs) w h)
+laid-again es fs b w h = ap (λ (l : List ℕ). concatenated fs ++ l) (laid-behind es b (length fs) w h)
 
 pub laid-pieces : (n : ℕ) (b : List ℕ) → laid (pieces n b) b ≡ b
 unfolding laid

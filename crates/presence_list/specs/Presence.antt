@@ -75,17 +75,17 @@ abbrev pub full : List Round → Round → Bool
 full past r = ltb cardLimit (length (presentOf (r ∷ past)))
 
 -- what a round is answered, behind the accepted ones: a report, or a refusal by its number. 3 comes before all else, and 27 before 28.
-pub data Answer : Type 0 where
-  accepted : Report → Answer
-  refused : ℕ → Answer
+pub data RoundAnswer : Type 0 where
+  accepted : Report → RoundAnswer
+  refused : ℕ → RoundAnswer
 
-unfoldable pub answerTo : List Round → Round → Answer
+unfoldable pub answerTo : List Round → Round → RoundAnswer
 answerTo past r =
     pick (any overLong (r .found)) (refused 3)
     (pick (readable r) (pick (stale past (r .number)) (refused 27) (pick (full past r) (refused 28) (accepted (reportOf past r)))) (refused 4))
 
 -- the accepted rounds with one more: a refused round is none of them
-abbrev pub acceptedWith : Answer → Round → List Round → List Round
+abbrev pub acceptedWith : RoundAnswer → Round → List Round → List Round
 acceptedWith (accepted p) r past = r ∷ past
 acceptedWith (refused n) r past = past
 
@@ -94,6 +94,6 @@ unfoldable pub acceptedOf : List Round → List Round → List Round
 acceptedOf past [] = past
 acceptedOf past (r ∷ rs) = acceptedOf (acceptedWith (answerTo past r) r past) rs
 
-unfoldable pub answersOf : List Round → List Round → List Answer
-answersOf past [] = []
-answersOf past (r ∷ rs) = answerTo past r ∷ answersOf (acceptedWith (answerTo past r) r past) rs
+unfoldable pub roundAnswers : List Round → List Round → List RoundAnswer
+roundAnswers past [] = []
+roundAnswers past (r ∷ rs) = answerTo past r ∷ roundAnswers (acceptedWith (answerTo past r) r past) rs

@@ -10,16 +10,16 @@ use Rattle.presence_list.specs.declared.list.Answer.{Answer as CodeAnswe
 use Rattle.presence_list.specs.declared.list.Answer.the-variants.{Accepted, Refused}
 use Rattle.presence_list.specs.Names.{recordSize}
 use Rattle.presence_list.specs.Memory.{pieces, foundIn}
-use Rattle.presence_list.specs.Presence.{Found, Round, Answer, accepted, refused}
+use Rattle.presence_list.specs.Presence.{Found, Round, RoundAnswer, accepted, refused}
 use Rattle.presence_list.specs.Steps.{recordsOf, roundOf}
 
 -- a round as it is handed in: its number, and its records' bytes
-pub record Input : Type 0 where
+pub record RoundInput : Type 0 where
   pub number : ℕ
   pub records : Seq ℕ
 
 -- the round that it stands for
-abbrev pub roundIn : Input → Round
+abbrev pub roundIn : RoundInput → Round
 roundIn i = record { number = i .number; found = map foundIn (recordsOf (i .records)); whole = eqb (length (i .records) % recordSize) 0 }
 
 -- the cards of a list
@@ -27,19 +27,19 @@ abbrev pub presentIn : Presence → Seq Found
 presentIn l = map foundIn (pieces (l .state .count) (l .cards))
 
 -- what a round's answer says
-abbrev pub said : Presence → CodeAnswer → Answer
-said l (Accepted x y) =
+abbrev pub answerSaid : Presence → CodeAnswer → RoundAnswer
+answerSaid l (Accepted x y) =
     accepted (record { arrived = map foundIn (pieces x (l .arrived)); departed = map foundIn (pieces y (l .departed)); present = presentIn l })
-said l (Refused e) = refused (roundNumbered e .number)
+answerSaid l (Refused e) = refused (roundNumbered e .number)
 
-abbrev pub answerIn : Result → Answer
-answerIn r = said (r .list) (r .answer)
+abbrev pub roundAnswerIn : Result → RoundAnswer
+roundAnswerIn r = answerSaid (r .list) (r .answer)
 
 -- the list that is kept, and all the answers
-unfoldable pub presenceAfter : Presence → Seq Input → Presence
+unfoldable pub presenceAfter : Presence → Seq RoundInput → Presence
 presenceAfter l [] = l
 presenceAfter l (i ∷ is) = presenceAfter (roundOf l (i .number) (i .records) .list) is
 
-unfoldable pub answersIn : Presence → Seq Input → Seq Answer
-answersIn l [] = []
-answersIn l (i ∷ is) = answerIn (roundOf l (i .number) (i .records)) ∷ answersIn (roundOf l (i .number) (i .records) .list) is
+unfoldable pub roundAnswersIn : Presence → Seq RoundInput → Seq RoundAnswer
+roundAnswersIn l [] = []
+roundAnswersIn l (i ∷ is) = roundAnswerIn (roundOf l (i .number) (i .records)) ∷ roundAnswersIn (roundOf l (i .number) (i .records) .list) is

@@ -20,7 +20,7 @@ use Rattle.presence_list.specs.Memory.{pieces}
 use Rattle.presence_list.specs.MemoryLaws.{length-pieces}
 use Rattle.presence_list.specs.Growth.{without-short}
 use Rattle.presence_list.specs.Admissions.{range-few, admitted}
-use Rattle.presence_list.specs.Steps.{recordsOf, admissionOf, listAfter, changed, unchanged, byAdmission, acceptOf, stepOf, roundOf}
+use Rattle.presence_list.specs.Steps.{recordsOf, admissionOf, listAfter, changed, refusedRound, byAdmission, acceptOf, roundStep, roundOf}
 
 -- of an accepted round: who came, who left, and the list after it
 abbrev pub FewAfter : Answer → ℕ → Type 0
@@ -28,12 +28,12 @@ FewAfter (Accepted x y) n = (x ≤ cardLimit) × (y ≤ cardLimit) × (n ≤ car
 FewAfter (Refused e) n = Unit
 
 pub few-after : (l : Presence) (n : ℕ) (b : Seq ℕ) → FewAfter (roundOf l n b .answer) (roundOf l n b .list .state .count)
-unfolding roundOf stepOf acceptOf pick
+unfolding roundOf roundStep acceptOf pick
 few-after l n b = by-admission (admissionOf (l .state) (l .cards) n b) refl
   where
     by-room : l .state .count ≤ cardLimit → (next : Seq (Seq ℕ)) (t : Bool) → ltb cardLimit (length next) ≡ t
-        → FewAfter (pick t (unchanged (l .state) (l .cards) (l .arrived) (l .departed) ListFull) (changed (pieces (l .state .count) (l .cards)) next n (l .arrived) (l .departed)) .answer)
-        (pick t (unchanged (l .state) (l .cards) (l .arrived) (l .departed) ListFull) (changed (pieces (l .state .count) (l .cards)) next n (l .arrived) (l .departed)) .state .count)
+        → FewAfter (pick t (refusedRound (l .state) (l .cards) (l .arrived) (l .departed) ListFull) (changed (pieces (l .state .count) (l .cards)) next n (l .arrived) (l .departed)) .answer)
+        (pick t (refusedRound (l .state) (l .cards) (l .arrived) (l .departed) ListFull) (changed (pieces (l .state .count) (l .cards)) next n (l .arrived) (l .departed)) .state .count)
     by-room few next true h = tt
     by-room few next false h =
         let m = ltb-false cardLimit (length next) h in

@@ -17,12 +17,12 @@ use Rattle.presence_list.specs.declared.list.Admission.{Admission}
 use Rattle.presence_list.specs.declared.list.Admission.the-variants.{Admitted, Refused as NotAdmitted}
 use Rattle.presence_list.specs.Names.{recordSize, cardLimit, cardsSize}
 use Rattle.presence_list.specs.Keyed.{supersedeAll, without}
-use Rattle.presence_list.specs.Memory.{pieces, laid, cardIn, longIn, knownIn, inRangeIn, ascending, aged, entries}
+use Rattle.presence_list.specs.Memory.{pieces, laid, cardIn, longIn, isKnownIn, inRangeIn, ascending, aged, keptRecords}
 use Rattle.presence_list.specs.Presence.{any, every}
 
 -- a list of which nothing is out of range or order; it is empty before the first accepted round
-unfoldable pub inRange : State → Seq ℕ → Bool
-inRange s cards =
+unfoldable pub listInRange : State → Seq ℕ → Bool
+listInRange s cards =
     pick (eqb (s .begun) 0) (eqb (s .count) 0)
     (pick (eqb (s .begun) 1) (pick (leb (s .count) cardLimit) (pick (every inRangeIn (pieces (s .count) cards)) (ascending (pieces (s .count) cards)) false) false) false)
 
@@ -34,57 +34,57 @@ abbrev pub recordsOf : Seq ℕ → Seq (Seq ℕ)
 recordsOf b = pieces (length b / recordSize) b
 
 unfoldable pub readableIn : Seq ℕ → Bool
-readableIn b = pick (eqb (length b % recordSize) 0) (every knownIn (recordsOf b)) false
+readableIn b = pick (eqb (length b % recordSize) 0) (every isKnownIn (recordsOf b)) false
 
 unfoldable pub admissionOf : State → Seq ℕ → ℕ → Seq ℕ → Admission
 admissionOf s cards n b =
     pick (any longIn (recordsOf b)) (NotAdmitted (AtOnce OverLong))
-    (pick (inRange s cards)
+    (pick (listInRange s cards)
     (pick (readableIn b) (pick (staleAt s n) (NotAdmitted StaleRound) Admitted) (NotAdmitted (AtOnce BadArgument)))
     (NotAdmitted (AtOnce OutOfTurn)))
 
 -- what a round leaves
-pub record After : Type 0 where
+pub record AfterRound : Type 0 where
   pub state : State
   pub cards : Seq ℕ
   pub arrived : Seq ℕ
   pub departed : Seq ℕ
   pub answer : Answer
 
-abbrev pub after : State → Seq ℕ → Seq ℕ → Seq ℕ → Answer → After
-after s c a d r = record { state = s; cards = c; arrived = a; departed = d; answer = r }
+abbrev pub afterRound : State → Seq ℕ → Seq ℕ → Seq ℕ → Answer → AfterRound
+afterRound s c a d r = record { state = s; cards = c; arrived = a; departed = d; answer = r }
 
-abbrev pub unchanged : State → Seq ℕ → Seq ℕ → Seq ℕ → RoundRefusal → After
-unchanged s c a d r = after s c a d (Refused r)
+abbrev pub refusedRound : State → Seq ℕ → Seq ℕ → Seq ℕ → RoundRefusal → AfterRound
+refusedRound s c a d r = afterRound s c a d (Refused r)
 
 -- the list's records after a round
 abbrev pub listAfter : Seq (Seq ℕ) → Seq (Seq ℕ) → Seq (Seq ℕ)
-listAfter now found = supersedeAll cardIn (aged now) (entries found)
+listAfter now found = supersedeAll cardIn (aged now) (keptRecords found)
 
 -- what is left of a list, arrivals and departures where the list's records now become others
-abbrev pub changed : Seq (Seq ℕ) → Seq (Seq ℕ) → ℕ → Seq ℕ → Seq ℕ → After
+abbrev pub changed : Seq (Seq ℕ) → Seq (Seq ℕ) → ℕ → Seq ℕ → Seq ℕ → AfterRound
 changed now next n a d =
-    after (record { number = n; begun = 1; count = length next }) (laid next (replicate cardsSize 0)) (laid (without cardIn now next) a) (laid (without cardIn next now) d)
+    afterRound (record { number = n; begun = 1; count = length next }) (laid next (replicate cardsSize 0)) (laid (without cardIn now next) a) (laid (without cardIn next now) d)
     (Accepted (length (without cardIn now next)) (length (without cardIn next now)))
 
-unfoldable pub acceptOf : State → Seq ℕ → Seq ℕ → Seq ℕ → ℕ → Seq ℕ → After
+unfoldable pub acceptOf : State → Seq ℕ → Seq ℕ → Seq ℕ → ℕ → Seq ℕ → AfterRound
 acceptOf s c a d n b =
-    pick (ltb cardLimit (length (listAfter (pieces (s .count) c) (recordsOf b)))) (unchanged s c a d ListFull)
+    pick (ltb cardLimit (length (listAfter (pieces (s .count) c) (recordsOf b)))) (refusedRound s c a d ListFull)
     (changed (pieces (s .count) c) (listAfter (pieces (s .count) c) (recordsOf b)) n a d)
 
-abbrev pub byAdmission : Admission → State → Seq ℕ → Seq ℕ → Seq ℕ → ℕ → Seq ℕ → After
+abbrev pub byAdmission : Admission → State → Seq ℕ → Seq ℕ → Seq ℕ → ℕ → Seq ℕ → AfterRound
 byAdmission Admitted s c a d n b = acceptOf s c a d n b
-byAdmission (NotAdmitted r) s c a d n b = unchanged s c a d r
+byAdmission (NotAdmitted r) s c a d n b = refusedRound s c a d r
 
-unfoldable pub stepOf : State → Seq ℕ → Seq ℕ → Seq ℕ → ℕ → Seq ℕ → After
-stepOf s c a d n b = byAdmission (admissionOf s c n b) s c a d n b
+unfoldable pub roundStep : State → Seq ℕ → Seq ℕ → Seq ℕ → ℕ → Seq ℕ → AfterRound
+roundStep s c a d n b = byAdmission (admissionOf s c n b) s c a d n b
 
 -- the same of a list by value
-abbrev pub listed : After → Round
-listed r = record { list = record { cards = r .cards; arrived = r .arrived; departed = r .departed; state = r .state }; answer = r .answer }
+abbrev pub asList : AfterRound → Round
+asList r = record { list = record { cards = r .cards; arrived = r .arrived; departed = r .departed; state = r .state }; answer = r .answer }
 
 unfoldable pub roundOf : Presence → ℕ → Seq ℕ → Round
-roundOf l n b = listed (stepOf (l .state) (l .cards) (l .arrived) (l .departed) n b)
+roundOf l n b = asList (roundStep (l .state) (l .cards) (l .arrived) (l .departed) n b)
 
 abbrev pub emptyList : Presence
 emptyList =

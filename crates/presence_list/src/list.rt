@@ -14,7 +14,7 @@ ghost use mathlib.Core.Path.{_≡_};
 ghost use mathlib.Core.Bool.{Bool};
 ghost use Rattle.presence_list.specs.Memory.{longIn};
 ghost use Rattle.presence_list.specs.Presence.{any};
-ghost use Rattle.presence_list.specs.Steps.{inRange, staleAt, recordsOf, readableIn, admissionOf, after, acceptOf, stepOf, roundOf, emptyList};
+ghost use Rattle.presence_list.specs.Steps.{listInRange, staleAt, recordsOf, readableIn, admissionOf, afterRound, acceptOf, roundStep, roundOf, emptyList};
 
 // The bytes of the records of a full list.
 pub const CARDS: usize = ROOM * RECORD;
@@ -42,7 +42,7 @@ pub enum Answer {
     Refused(RoundRefusal),
 }
 
-pub struct Step {
+pub struct RoundEffect {
     pub state: State,
     pub answer: Answer,
 }
@@ -61,7 +61,7 @@ pub enum Admission {
 impl State {
     // Whether the list is one that can be: each field in its range, and the cards in order.
     fn is_in_range(self, cards: &[u8; CARDS]) -> bool
-        ensures { λ r. ⌜ r ≡ inRange self (now (cards .entry)) ⌝ }
+        ensures { λ r. ⌜ r ≡ listInRange self (now (cards .entry)) ⌝ }
     {
         let count = self.count as usize;
         if self.begun == 0 {
@@ -106,10 +106,10 @@ impl State {
         Admission::Refused(RoundRefusal::AtOnce(Refusal::OutOfTurn))
     }
 
-    fn refused(self, refusal: RoundRefusal) -> Step
+    fn refused(self, refusal: RoundRefusal) -> RoundEffect
         ensures { λ r. ⌜ (r .state ≡ self) × (r .answer ≡ Answer.Refused refusal) ⌝ }
     {
-        Step {
+        RoundEffect {
             state: self,
             answer: Answer::Refused(refusal),
         }
@@ -123,9 +123,9 @@ impl State {
         departed: &mut [u8; CARDS],
         number: u32,
         records: &[u8],
-    ) -> Step
-        requires { ⌜ (inRange self (now cards) ≡ Bool.true) × (any longIn (recordsOf (now records)) ≡ Bool.false) ⌝ }
-        ensures { λ r. ⌜ after (r .state) (now (cards .exit)) (now (arrived .exit)) (now (departed .exit)) (r .answer) ≡ acceptOf self (now (cards .entry)) (now (arrived .entry)) (now (departed .entry)) number (now (records .entry)) ⌝ }
+    ) -> RoundEffect
+        requires { ⌜ (listInRange self (now cards) ≡ Bool.true) × (any longIn (recordsOf (now records)) ≡ Bool.false) ⌝ }
+        ensures { λ r. ⌜ afterRound (r .state) (now (cards .exit)) (now (arrived .exit)) (now (departed .exit)) (r .answer) ≡ acceptOf self (now (cards .entry)) (now (arrived .entry)) (now (departed .entry)) number (now (records .entry)) ⌝ }
     {
         let count = self.count as usize;
         let mut list = [0u8; CARDS];
@@ -137,7 +137,7 @@ impl State {
         let came = without(cards, count, &list, n, arrived);
         let left = without(&list, n, cards, count, departed);
         bytes::copy(&list, cards);
-        Step {
+        RoundEffect {
             state: State {
                 number,
                 begun: 1,
@@ -155,8 +155,8 @@ impl State {
         departed: &mut [u8; CARDS],
         number: u32,
         records: &[u8],
-    ) -> Step
-        ensures { λ r. ⌜ after (r .state) (now (cards .exit)) (now (arrived .exit)) (now (departed .exit)) (r .answer) ≡ stepOf self (now (cards .entry)) (now (arrived .entry)) (now (departed .entry)) number (now (records .entry)) ⌝ }
+    ) -> RoundEffect
+        ensures { λ r. ⌜ afterRound (r .state) (now (cards .exit)) (now (arrived .exit)) (now (departed .exit)) (r .answer) ≡ roundStep self (now (cards .entry)) (now (arrived .entry)) (now (departed .entry)) number (now (records .entry)) ⌝ }
     {
         match self.admit(cards, number, records) {
             Admission::Admitted => self.accept(cards, arrived, departed, number, records),

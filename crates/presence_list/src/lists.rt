@@ -10,7 +10,7 @@ ghost use Prim.Native.Nat.{_+_, _*_, _≤_};
 ghost use lib.ListN.{length, take, drop};
 ghost use Rattle.presence_list.specs.Names.{recordSize, identifierLimit};
 ghost use Rattle.presence_list.specs.Keyed.{place as placeOf, has, without as withoutOf};
-ghost use Rattle.presence_list.specs.Memory.{pieces, laid, added, cardIn, lengthIn, aged};
+ghost use Rattle.presence_list.specs.Memory.{pieces, laid, putBehind, cardIn, lengthIn, aged};
 ghost use Rattle.presence_list.specs.CardsAt.{CardsAt};
 
 // Where a card's place is: behind all that come before it.
@@ -52,7 +52,7 @@ fn put_missing(
     n: usize,
 ) -> usize
     requires { ⌜ CardsAt size (now other) × (at + recordSize ≤ length (now cards)) × (lengthIn (take recordSize (drop at (now cards))) ≤ identifierLimit) × (recordSize * n + recordSize ≤ length (now out)) ⌝ }
-    ensures { λ r. ⌜ (r ≡ n + length (withoutOf cardIn (pieces size (now (other .entry))) (take recordSize (drop at (now (cards .entry))) ∷ []))) × (now (out .exit) ≡ added n (withoutOf cardIn (pieces size (now (other .entry))) (take recordSize (drop at (now (cards .entry))) ∷ [])) (now (out .entry))) ⌝ }
+    ensures { λ r. ⌜ (r ≡ n + length (withoutOf cardIn (pieces size (now (other .entry))) (take recordSize (drop at (now (cards .entry))) ∷ []))) × (now (out .exit) ≡ putBehind n (withoutOf cardIn (pieces size (now (other .entry))) (take recordSize (drop at (now (cards .entry))) ∷ [])) (now (out .entry))) ⌝ }
 {
     let card = card_at(cards, at);
     let p = place(other, size, card);
@@ -86,7 +86,7 @@ pub(crate) fn without(
 // Puts a record behind the first `n` of `out`, as missed, where it was not missed before; and how many they are then.
 fn put_aged(cards: &[u8], at: usize, out: &mut [u8], n: usize) -> usize
     requires { ⌜ (at + recordSize ≤ length (now cards)) × (recordSize * n + recordSize ≤ length (now out)) ⌝ }
-    ensures { λ r. ⌜ (r ≡ n + length (aged (take recordSize (drop at (now (cards .entry))) ∷ []))) × (now (out .exit) ≡ added n (aged (take recordSize (drop at (now (cards .entry))) ∷ [])) (now (out .entry))) ⌝ }
+    ensures { λ r. ⌜ (r ≡ n + length (aged (take recordSize (drop at (now (cards .entry))) ∷ []))) × (now (out .exit) ≡ putBehind n (aged (take recordSize (drop at (now (cards .entry))) ∷ [])) (now (out .entry))) ⌝ }
 {
     if cards[at + MISSED] != 0 {
         return n;

@@ -12,7 +12,7 @@ ghost use Prim.Native.Nat.{_+_, _*_, _-_, _/_, _≤_, _<_};
 ghost use lib.ListN.{length, take, drop};
 ghost use Rattle.presence_list.specs.Names.{recordSize, identifierLimit, cardLimit, cardsSize};
 ghost use Rattle.presence_list.specs.Keyed.{supersede, supersedeAll};
-ghost use Rattle.presence_list.specs.Memory.{pieces, laid, cardIn, lengthIn, longIn, entryOf, entries};
+ghost use Rattle.presence_list.specs.Memory.{pieces, laid, cardIn, lengthIn, longIn, keptRecord, keptRecords};
 ghost use Rattle.presence_list.specs.Presence.{any};
 ghost use Rattle.presence_list.specs.CardsAt.{CardsAt, PutAll};
 
@@ -44,7 +44,7 @@ fn insert(entry: &[u8; RECORD], cards: &mut [u8], count: usize, place: usize)
 // Puts a record into the list. The answer is how many cards the list has then; where they are more than it takes, nothing is put.
 fn put(found: &[u8], cards: &mut [u8], count: usize) -> usize
     requires { ⌜ (length (now found) ≡ recordSize) × (lengthIn (now found) ≤ identifierLimit) × CardsAt count (now cards) × (count ≤ cardLimit) × (cardsSize ≤ length (now cards)) ⌝ }
-    ensures { λ r. ⌜ (r ≡ length (supersede cardIn (entryOf (now (found .entry))) (pieces count (now (cards .entry))))) × (r ≤ cardLimit → now (cards .exit) ≡ laid (supersede cardIn (entryOf (now (found .entry))) (pieces count (now (cards .entry)))) (now (cards .entry))) ⌝ }
+    ensures { λ r. ⌜ (r ≡ length (supersede cardIn (keptRecord (now (found .entry))) (pieces count (now (cards .entry))))) × (r ≤ cardLimit → now (cards .exit) ≡ laid (supersede cardIn (keptRecord (now (found .entry))) (pieces count (now (cards .entry)))) (now (cards .entry))) ⌝ }
 {
     let card = card_at(found, 0);
     let entry = entry_of(found);
@@ -63,7 +63,7 @@ fn put(found: &[u8], cards: &mut [u8], count: usize) -> usize
 // Puts the records into the list, one after the other. The answer is how many cards the list has then, or more than it takes.
 pub(crate) fn put_all(records: &[u8], cards: &mut [u8], count: usize) -> usize
     requires { ⌜ (any longIn (pieces (length (now records) / recordSize) (now records)) ≡ Bool.false) × CardsAt count (now cards) × (count ≤ cardLimit) × (cardsSize ≤ length (now cards)) ⌝ }
-    ensures { λ r. ⌜ PutAll r (supersedeAll cardIn (pieces count (now (cards .entry))) (entries (pieces (length (now (records .entry)) / recordSize) (now (records .entry))))) (now (cards .entry)) (now (cards .exit)) ⌝ }
+    ensures { λ r. ⌜ PutAll r (supersedeAll cardIn (pieces count (now (cards .entry))) (keptRecords (pieces (length (now (records .entry)) / recordSize) (now (records .entry))))) (now (cards .entry)) (now (cards .exit)) ⌝ }
 {
     let size = records.len() / RECORD;
     let mut n = count;

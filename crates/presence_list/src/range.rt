@@ -10,7 +10,7 @@ ghost use mathlib.Core.Bool.{Bool};
 ghost use Prim.Native.Nat.{_+_, _*_, _/_, _≤_};
 ghost use lib.ListN.{length, take, drop};
 ghost use Rattle.presence_list.specs.Names.{recordSize};
-ghost use Rattle.presence_list.specs.Memory.{pieces, longIn, knownIn, inRangeIn, ascending as ascendingOf};
+ghost use Rattle.presence_list.specs.Memory.{pieces, longIn, isKnownIn, inRangeIn, ascending as ascendingOf};
 ghost use Rattle.presence_list.specs.Presence.{any, every};
 
 // How many bytes an identifier has at most.
@@ -39,7 +39,7 @@ pub(crate) fn any_over_long(records: &[u8]) -> bool
 // Whether the kind and the bitrate of the record that starts at a place are some.
 fn is_known(records: &[u8], at: usize) -> bool
     requires { ⌜ at + recordSize ≤ length (now records) ⌝ }
-    ensures { λ r. ⌜ r ≡ knownIn (take recordSize (drop at (now (records .entry)))) ⌝ }
+    ensures { λ r. ⌜ r ≡ isKnownIn (take recordSize (drop at (now (records .entry)))) ⌝ }
 {
     if records[at] <= LAST_CARD_KIND {
         return records[at + BITRATE] <= LAST_BITRATE;
@@ -49,7 +49,7 @@ fn is_known(records: &[u8], at: usize) -> bool
 
 // Whether all kinds and bitrates of the records are some.
 pub(crate) fn are_known(records: &[u8]) -> bool
-    ensures { λ r. ⌜ r ≡ every knownIn (pieces (length (now (records .entry)) / recordSize) (now (records .entry))) ⌝ }
+    ensures { λ r. ⌜ r ≡ every isKnownIn (pieces (length (now (records .entry)) / recordSize) (now (records .entry))) ⌝ }
 {
     let size = records.len() / RECORD;
     let mut i = 0;

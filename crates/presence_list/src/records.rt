@@ -5,7 +5,7 @@ ghost use mathlib.Core.List.{_++_};
 ghost use Prim.Native.Nat.{_+_, _≤_};
 ghost use lib.ListN.{length, take, drop};
 ghost use Rattle.presence_list.specs.Names.{recordSize, identifierLimit};
-ghost use Rattle.presence_list.specs.Memory.{lengthIn, cardIn, entryOf as entryIn};
+ghost use Rattle.presence_list.specs.Memory.{lengthIn, cardIn, keptRecord as entryIn};
 
 pub const RECORD: usize = 20;
 

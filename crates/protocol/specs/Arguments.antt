@@ -86,6 +86,9 @@ flag x = not (eqb x 0)
 abbrev pub msOf : Bool → ℕ → Option ℕ
 msOf given ms = cond given (some ms) none
 
--- ms that are given are at most 65,535
-abbrev pub isLong : Bool → ℕ → Bool
-isLong given ms = cond given (ltb 65535 ms) false
+-- ms that are given are at most so many
+abbrev pub mostMs : ℕ
+mostMs = 65535
+
+abbrev pub isLongWait : Bool → ℕ → Bool
+isLongWait given ms = cond given (ltb mostMs ms) false

@@ -6,8 +6,8 @@ use mathlib.Core.Option.{Option}
 use Prim.Native.Nat.{ℕ, _*_, _/_}
 use lib.Dec.{eqb}
 use lib.ListN.{length}
-use Rattle.protocol.specs.Names.{commandClock, registersClock, inListPassiveTargetClock, inJumpForDepClock, tgResponseToInitiatorClock}
-use Rattle.protocol.specs.Arguments.{word, activeByte, jumpData, initData, registers, initFits, flag, msOf, isLong}
+use Rattle.protocol.specs.Names.{commandClock, registersClock, inListPassiveTargetClock, inJumpForDepClock, tgResponseToInitiatorClock, rfFieldItem, fieldOff}
+use Rattle.protocol.specs.Arguments.{word, activeByte, jumpData, initData, registers, initFits, flag, msOf, isLongWait}
 use Rattle.protocol.specs.Rules.{Rule, noBytes, allBytes, registersWritten, firstByte, listedTarget, exchangedData, thru, jump, status, initiatorCommand, targetStatus}
 use Rattle.protocol.specs.Rules as rules
 
@@ -74,6 +74,9 @@ setParametersCode = 0x12
 abbrev pub resetModeCode : ℕ
 resetModeCode = 0x18
 
+abbrev pub resetModeData : List ℕ
+resetModeData = 0x01 ∷ []
+
 abbrev pub rfConfigurationCode : ℕ
 rfConfigurationCode = 0x32
 
@@ -115,7 +118,7 @@ rowOf version = row true getFirmwareVersionCode commandClock [] rules.version
 rowOf resetMode = resets
 rowOf (setParameters flags) = row true setParametersCode commandClock (flags ∷ []) noBytes
 rowOf (rfConfiguration item bytes) = row true rfConfigurationCode commandClock (item ∷ bytes) noBytes
-rowOf rfFieldOff = row true rfConfigurationCode commandClock (0x01 ∷ 0x02 ∷ []) noBytes
+rowOf rfFieldOff = row true rfConfigurationCode commandClock (rfFieldItem ∷ fieldOff ∷ []) noBytes
 rowOf (readRegister addresses) = row (registers 2 addresses) readRegisterCode registersClock addresses allBytes
 rowOf (writeRegister values) = row (registers 3 values) writeRegisterCode registersClock values registersWritten
 rowOf (readSingleRegister address) = row true readRegisterCode registersClock (word address) firstByte
@@ -135,7 +138,7 @@ rowOf tgGetTargetStatus = row true tgGetTargetStatusCode commandClock [] targetS
 
 -- with more ms than 65,535 there is no such call
 abbrev pub timed : Bool → ℕ → ReaderCall → ReaderCall
-timed given ms c = cond (isLong given ms) unknown c
+timed given ms c = cond (isLongWait given ms) unknown c
 
 -- the calls of an open reader in the order of their numbers, from 1 on; their arguments are four numbers, ms, a word and two
 -- bytes, and four lists of bytes

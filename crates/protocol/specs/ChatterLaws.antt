@@ -9,11 +9,11 @@ use Rattle.framing.specs.Frames.{ack, sof}
 use Rattle.framing.specs.Lists.{starts}
 use Rattle.framing.specs.Starts.{starts-append}
 use Rattle.framing.specs.Valid.{both-left}
-use Rattle.exchange.specs.Packets.{resetCode, isAck, hasStart, ackLed, isEmpty, Reply}
+use Rattle.exchange.specs.Packets.{isAck, hasStart, ackLed, isEmpty, Reply}
 use Rattle.exchange.specs.Exchange.{Order, write, read, drain, pause, Event, ok, bad, pkt, time, fail, late, slept, unfit, pending, ended, firstReadTime}
 use Rattle.exchange.specs.Exchange.{sending, reading, waiting, cancelling, ExchangeResult, afterAck, onFirstPacket, onLaterPacket, advance}
 use Rattle.protocol.specs.Scripts.{Script, finish, command, reset, fieldPause}
-use Rattle.protocol.specs.Calls.{Call}
+use Rattle.protocol.specs.Calls.{Call, resetModeCode}
 use Rattle.protocol.specs.Session.{Rest, byReply, ofReset, Phase, exchange, resetAck, resetPause, fieldPausing, openingAck, openingReads}
 use Rattle.protocol.specs.Session.{CallResult, enter, afterReply, afterExchange, progress, begin, Books, countedFor, bookOrder, bookAnswer}
 use Rattle.protocol.specs.Record.{Item, ordered, accepted, isCommand, acked}
@@ -45,7 +45,7 @@ proper-ack phase h = not-both (rw ack-is-ack refl) h
 proper-enter : (s : Script) → Proper (enter s)
 proper-enter (finish a) = tt
 proper-enter (command code clock bytes k) = λ _. record { code = code; clock = clock; rest = byReply k; is = refl }
-proper-enter (reset s) = λ _. record { code = resetCode; clock = commandClock; rest = ofReset s; is = refl }
+proper-enter (reset s) = λ _. record { code = resetModeCode; clock = commandClock; rest = ofReset s; is = refl }
 proper-enter (fieldPause s) = not-both refl
 
 proper-reply : (rest : Rest) (r : Reply) → Proper (afterReply rest r)

@@ -6,18 +6,18 @@ use Rattle.exchange.specs.Exchange.{write, read, drain, pause}
 use Rattle.protocol.specs.Scripts.{Byte}
 use Rattle.protocol.specs.Calls.{Call}
 use Rattle.protocol.specs.Session.{Session, Output, orders, answers, rejects, outputs, sessionAfter}
-use Rattle.protocol.specs.Machine.{plain, plainAnswer, Machine, givenOut, stateAfter, entries, same-out, still-represents}
+use Rattle.protocol.specs.Machine.{outputValues, plainAnswer, Machine, givenOut, stateAfter, entries, same-out, still-represents}
 use Rattle.protocol.specs.PollList.{EventAndRoom}
 use Rattle.protocol.specs.Chatter.{waits, Alike, callEntries, linesFrom, answersIn, writesIn, SameFor}
 use Rattle.protocol.specs.ChatterSame.{chatter-same}
 
-plain-answers : (outs : List (Output Byte)) → answersIn (map plain outs) ≡ map plainAnswer (answersIn outs)
+plain-answers : (outs : List (Output Byte)) → answersIn (map outputValues outs) ≡ map plainAnswer (answersIn outs)
 plain-answers [] = refl
 plain-answers (orders x ∷ outs) = plain-answers outs
 plain-answers (answers a ∷ outs) = ap (λ others. plainAnswer a ∷ others) (plain-answers outs)
 plain-answers (rejects r ∷ outs) = plain-answers outs
 
-plain-writes : (outs : List (Output Byte)) → writesIn (map plain outs) ≡ writesIn outs
+plain-writes : (outs : List (Output Byte)) → writesIn (map outputValues outs) ≡ writesIn outs
 plain-writes [] = refl
 plain-writes (orders (write bytes) ∷ outs) = ap (λ others. bytes ∷ others) (plain-writes outs)
 plain-writes (orders (read ms) ∷ outs) = plain-writes outs

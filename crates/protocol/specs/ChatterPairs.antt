@@ -17,7 +17,7 @@ use Rattle.exchange.specs.Exchange.{write, read, Event, ok, bad, pkt, time, fai
 use Rattle.protocol.specs.Scripts.{Byte}
 use Rattle.protocol.specs.Calls.{Call}
 use Rattle.protocol.specs.Session.{Rest, Phase, CallResult, exchange, progress, busy, Books, bookOrder, Session, packetLimit, seen, call, event, Output, orders, answers, rejects, bufferNeed}
-use Rattle.protocol.specs.Session.{runs, bufferNeed, packetLength, eventEffect, after, given, step, outputs, sessionAfter}
+use Rattle.protocol.specs.Session.{runs, bufferNeed, packetLength, eventEffect, afterEffect, given, step, outputs, sessionAfter}
 use Rattle.protocol.specs.Record.{Item, ordered, accepted, Record, Note, Observed, observed, add, observe, isCommand, events, isAckLed, acked}
 use Rattle.protocol.specs.Claim.{allowedBetween}
 use Rattle.protocol.specs.PollList.{EventAndRoom, eventEntry, isIdle}
@@ -133,7 +133,7 @@ module _ (c : Call) (code clock : ℕ) (rest : Rest) (b : Books) (z : eqb clock 
   taken-step : (e : EventAndRoom) → isFurther (seen (b .padded) (e .0)) ≡ true → ltb packetLimit (packetLength (seen (b .padded) (e .0))) ≡ false → ltb (e .1) bufferNeed ≡ false
       → step waitingIn (eventEntry e) ≡ (waitingIn, orders (read clock))
   taken-step e f p r =
-      ap (λ o. (after waitingIn (eventEntry e) o, given o)) (taken (seen (b .padded) (e .0)) (e .1) f p r)
+      ap (λ o. (afterEffect waitingIn (eventEntry e) o, given o)) (taken (seen (b .padded) (e .0)) (e .1) f p r)
       ∙ ap (λ x. (busyIn c (exchange (waiting code clock) rest) x, orders (read clock))) (read-books clock b)
 
   module _ (y : Note) (ds : List EventAndRoom) where
@@ -246,7 +246,7 @@ module _ (c : Call) (code clock : ℕ) (rest : Rest) (z : eqb clock 0 ≡ false)
   ok-step : (b : Books) → step (busyIn c (exchange (sending code clock) rest) b) (event ok bufferNeed) ≡ (busyIn c (exchange (reading code clock) rest) (bookOrder (read firstReadTime) b), orders (read firstReadTime))
   ok-step b =
       let s : Session = busyIn c (exchange (sending code clock) rest) b in
-      ap (λ e. let o = eventEffect c e bufferNeed (progress (exchange (sending code clock) rest) e) in (after s (event ok bufferNeed) o, given o)) (seen-ok (b .padded))
+      ap (λ e. let o = eventEffect c e bufferNeed (progress (exchange (sending code clock) rest) e) in (afterEffect s (event ok bufferNeed) o, given o)) (seen-ok (b .padded))
 
   ack-again : progress (exchange (reading code clock) rest) (pkt ack) ≡ pending (read clock) (exchange (waiting code clock) rest)
   ack-again = rw (led-start ack ack-led, ack-led, z) refl
@@ -254,8 +254,8 @@ module _ (c : Call) (code clock : ℕ) (rest : Rest) (z : eqb clock 0 ≡ false)
   ack-step : (b : Books) → step (busyIn c (exchange (reading code clock) rest) b) (event (pkt ack) bufferNeed) ≡ (busyIn c (exchange (waiting code clock) rest) (bookOrder (read clock) b), orders (read clock))
   ack-step b =
       let s : Session = busyIn c (exchange (reading code clock) rest) b in
-      ap (λ e. let o = eventEffect c e bufferNeed (progress (exchange (reading code clock) rest) e) in (after s (event (pkt ack) bufferNeed) o, given o)) (seen-ack (b .padded))
-      ∙ ap (λ r. let o = eventEffect c (pkt ack) bufferNeed r in (after s (event (pkt ack) bufferNeed) o, given o)) ack-again
+      ap (λ e. let o = eventEffect c e bufferNeed (progress (exchange (reading code clock) rest) e) in (afterEffect s (event (pkt ack) bufferNeed) o, given o)) (seen-ack (b .padded))
+      ∙ ap (λ r. let o = eventEffect c (pkt ack) bufferNeed r in (afterEffect s (event (pkt ack) bufferNeed) o, given o)) ack-again
 
   reaches-wait : (b : Books) (l : Record) (y : Note) → unanswered (seenOf (b .padded) l) ≡ true
       → waits (shown (b .padded) (observed l (y ∷ [])) (busyIn c (exchange (sending code clock) rest) b) acknowledged) ≡ true

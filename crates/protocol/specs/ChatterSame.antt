@@ -12,7 +12,7 @@ use Rattle.protocol.specs.Scripts.{Byte, Answer}
 use Rattle.protocol.specs.Calls.{Call, isOpening}
 use Rattle.protocol.specs.Starts.{Start, refuses, starts, startOf}
 use Rattle.protocol.specs.Session.{Phase, CallResult, progress, begin, Running, idle, busy, Books, lastCaller, admits, booksFor, bookOrder, bookAnswer, Session, seen, packetLimit, Entry, call, event, Output, orders, answers, rejects}
-use Rattle.protocol.specs.Session.{Effect, unchanged, runs, ends, effect, bufferNeed, packetLength, admitted, eventEffect, started, callEffect, after, given, step, outputs, sessionAfter}
+use Rattle.protocol.specs.Session.{Effect, unchanged, runs, ends, effect, bufferNeed, packetLength, admitted, eventEffect, started, callEffect, afterEffect, given, step, outputs, sessionAfter}
 use Rattle.protocol.specs.Record.{Item, ordered, accepted, Record, Note, note, Observed, observed, addCall, addEvent, add, observe, linesOf, seenItem}
 use Rattle.protocol.specs.Laws.{split}
 use Rattle.protocol.specs.PollList.{EventAndRoom, eventEntry, idleWith}
@@ -113,9 +113,9 @@ module _ (c : Call) (t : Trace) where
     abbrev Goal : Effect → Type 0
     Goal o =
         MatchesTrace c t (b .padded) ws
-        (seenBehind (addEvent e l (y ∷ []) (given o)) (after (busyIn c phase b) (event e room) o) es)
-        (sessionAfter (after (busyIn c phase b) (event e room) o) (map eventEntry es))
-        (given o ∷ outputs (after (busyIn c phase b) (event e room) o) (map eventEntry es))
+        (seenBehind (addEvent e l (y ∷ []) (given o)) (afterEffect (busyIn c phase b) (event e room) o) es)
+        (sessionAfter (afterEffect (busyIn c phase b) (event e room) o) (map eventEntry es))
+        (given o ∷ outputs (afterEffect (busyIn c phase b) (event e room) o) (map eventEntry es))
 
     refused-goal : (r : Refusal) → Goal (unchanged r)
     refused-goal r =
@@ -198,7 +198,7 @@ module _ (caller : ℕ) (c : Call) (room : ℕ) where
 
   module _ (b : Books) where
     abbrev Begun : Effect → Type 0
-    Begun o = Begins (after (idleWith b) entry o) (addCall caller c [] [] (given o))
+    Begun o = Begins (afterEffect (idleWith b) entry o) (addCall caller c [] [] (given o))
 
     refused-begins : (r : Refusal) → Begun (unchanged r)
     refused-begins r = silent b refl refl

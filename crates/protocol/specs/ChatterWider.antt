@@ -9,14 +9,15 @@ use lib.ListN.{length}
 use Rattle.errors.specs.declared.Fault.the-variants.{FalseStart, BrokenFrame}
 use Rattle.framing.specs.Frames.{ack}
 use Rattle.exchange.specs.Packets.{commandFrame}
-use Rattle.exchange.specs.Exchange.{write, read, drain, ok, pkt, time}
+use Rattle.exchange.specs.Exchange.{write, read, drain, ok, pkt, time, firstReadTime}
 use Rattle.protocol.specs.Scripts.{refused}
-use Rattle.protocol.specs.Calls.{Call, reader, request, version}
+use Rattle.protocol.specs.Calls.{Call, reader, request, version, getFirmwareVersionCode}
 use Rattle.protocol.specs.Session.{noCounts, Session, Output, orders, answers, outputs, bufferNeed}
-use Rattle.protocol.specs.Machine.{plain}
+use Rattle.protocol.specs.Machine.{outputValues}
 use Rattle.protocol.specs.PollList.{EventAndRoom, idleWith}
 use Rattle.protocol.specs.Chatter.{unanswered, Alike, callEntries, linesFrom, answersIn, SameFor}
 use Rattle.protocol.specs.Sample.{formats}
+use Rattle.protocol.specs.Names.{commandClock}
 
 abbrev openReader : Session
 openReader = idleWith (record { opened = true; padded = false; caller = 0; counts = noCounts })
@@ -35,15 +36,15 @@ abbrev second : List EventAndRoom
 second = (ok, bufferNeed) ∷ (pkt ack, bufferNeed) ∷ falseStart ∷ []
 
 abbrev givenFor : List EventAndRoom → List (Output ℕ)
-givenFor es = map plain (outputs openReader (callEntries 0 asksVersion bufferNeed es))
+givenFor es = map outputValues (outputs openReader (callEntries 0 asksVersion bufferNeed es))
 
 -- the first writes ACK, drains and ends with 9; the second ends with 10
 first-run : givenFor (first ++ ((ok, bufferNeed) ∷ (time, bufferNeed) ∷ []))
-    ≡ orders (write (commandFrame 0x02 [])) ∷ orders (read 100) ∷ orders (write ack) ∷ orders drain ∷ answers (refused FalseStart) ∷ []
+    ≡ orders (write (commandFrame getFirmwareVersionCode [])) ∷ orders (read firstReadTime) ∷ orders (write ack) ∷ orders drain ∷ answers (refused FalseStart) ∷ []
 unfolding formats
 first-run = refl
 
-second-run : givenFor second ≡ orders (write (commandFrame 0x02 [])) ∷ orders (read 100) ∷ orders (read 100) ∷ answers (refused BrokenFrame) ∷ []
+second-run : givenFor second ≡ orders (write (commandFrame getFirmwareVersionCode [])) ∷ orders (read firstReadTime) ∷ orders (read commandClock) ∷ answers (refused BrokenFrame) ∷ []
 unfolding formats
 second-run = refl
 

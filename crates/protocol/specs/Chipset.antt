@@ -3,7 +3,7 @@ use mathlib.Core.List.{List, [], _∷_, _++_}
 use Prim.Native.Nat.{ℕ}
 use Rattle.errors.specs.declared.Fault.{Fault}
 use Rattle.protocol.specs.Scripts.{Script, command, either, refuse, ask}
-use Rattle.protocol.specs.Names.{commandClock, inJumpForDepClock, inListPassiveTargetClock, registersClock}
+use Rattle.protocol.specs.Names.{commandClock, inJumpForDepClock, inListPassiveTargetClock, registersClock, rfFieldItem, fieldOff}
 use Rattle.protocol.specs.Rules.{onVersion, onWritten, onFirstByte, onListed, onExchanged, onJump, withStatusElse}
 use Rattle.protocol.specs.Arguments.{word, jumpData}
 use Rattle.protocol.specs.Calls.{getFirmwareVersionCode, inCommunicateThruCode, inDataExchangeCode, inJumpForDepCode, inListPassiveTargetCode, readRegisterCode, rfConfigurationCode, setParametersCode, writeRegisterCode}
@@ -22,7 +22,7 @@ rfConfiguration item bytes s = ask rfConfigurationCode commandClock (item ∷ by
 
 -- rf_field_off
 abbrev pub rfFieldOff : Script → Script
-rfFieldOff s = rfConfiguration 0x01 (0x02 ∷ []) s
+rfFieldOff s = rfConfiguration rfFieldItem (fieldOff ∷ []) s
 
 -- read_single_register
 abbrev pub readSingleRegister : ℕ → (List ℕ → Script) → Script

@@ -60,19 +60,19 @@ bytesOf (refused r) = []
 bytesOf (refusedAfter r n) = []
 
 -- of call n while it runs, and once it has ended
-pub record Running (l : Record) (n : ℕ) (c : Call) : Type 0 where
+pub record RunningCall (l : Record) (n : ℕ) (c : Call) : Type 0 where
   pub framesWithin : frames (linesOf n l) ≤ limit c
   pub eventsBelow : events (linesOf n l) < allowed c (linesOf n l)
 
-pub record Ended (l : Record) (n : ℕ) (c : Call) (a : Answer Byte) : Type 0 where
+pub record EndedCall (l : Record) (n : ℕ) (c : Call) (a : Answer Byte) : Type 0 where
   pub framesWithin : frames (linesOf n l) ≤ limit c
   pub eventsWithin : events (linesOf n l) ≤ allowed c (linesOf n l)
   pub cardBytes : (k p b : ℕ) → List·Memᴰ (card k p b) (bytesOf a) → CardByte l n k p b
   pub form : Formed (CardByte l n) (formOf c) a
 
 abbrev pub Claim : Record → ℕ → Call → Option (Answer Byte) → Type 0
-Claim l n c none = Running l n c
-Claim l n c (some a) = Ended l n c a
+Claim l n c none = RunningCall l n c
+Claim l n c (some a) = EndedCall l n c a
 
 -- of every call
 abbrev pub Claims : Record → List Note → Type 0

@@ -18,7 +18,7 @@ use Rattle.protocol.specs.Session.{CallResult, begin, progress, Running,
 use Rattle.protocol.specs.Session.{Effect, effect, bufferNeed, packetLimit, seen, packetLength, admitted, eventEffect, started, callEffect, effectOf, booksAfter, given, step, outputs, sessionAfter}
 use Rattle.protocol.specs.Record.{Item, ordered, accepted, Record, Note, note, Observed, observed, addCall, addEvent, add, observe, recordOf, linesOf, seenLines, oneIf, frames, framesBy}
 use Rattle.protocol.specs.Laws.{split, lines-own, lines-other}
-use Rattle.protocol.specs.Theorem.{Agrees, AgreesWith, unused, agrees, fresh-agrees}
+use Rattle.protocol.specs.Theorem.{RunningAgrees, AgreesWith, unused, agrees, fresh-agrees}
 use Rattle.protocol.specs.Seen.{Unused, no-lines, callerAt}
 
 -- ---- one count among those of the callers
@@ -184,7 +184,7 @@ module _ (k : ℕ) (few : k ≤ lastCaller) where
 
   -- ---- any list
 
-  entry-right : (p : Running) (b : Books) (l : Record) (ns : List Note) (e : Entry) → Agrees p (seenLines l ns) ns → Unused l (length ns) → b .caller ≡ callerAt ns
+  entry-right : (p : Running) (b : Books) (l : Record) (ns : List Note) (e : Entry) → RunningAgrees p (seenLines l ns) ns → Unused l (length ns) → b .caller ≡ callerAt ns
       → Right b (observed l ns) → Right (booksAfter b e (effectOf p b e)) (add (observed l ns) e (given (effectOf p b e)))
   entry-right idle b l ns (call caller c room) i u w r = call-right b l ns caller c room u r (admits b c)
   entry-right idle b l [] (event e room) i u w r = r

@@ -18,8 +18,8 @@ use Rattle.protocol.specs.Laws.{split}
 use Rattle.protocol.specs.Count.{counts-right}
 
 -- over all callers
-abbrev pub total : (ℕ → ℕ) → ℕ
-total f = f 0 + f 1 + f 2 + f 3 + f 4 + f 5 + f 6 + f 7
+abbrev pub sumOverCallers : (ℕ → ℕ) → ℕ
+sumOverCallers f = f 0 + f 1 + f 2 + f 3 + f 4 + f 5 + f 6 + f 7
 
 -- ---- accepted calls have one of the eight callers
 
@@ -67,7 +67,7 @@ known-after s w (e ∷ es) h =
 -- ---- the sum
 
 -- a call's frames are those of one caller
-one-caller : (c f : ℕ) → c ≤ lastCaller → total (λ k. cond (eqb k c) f 0) ≡ f
+one-caller : (c f : ℕ) → c ≤ lastCaller → sumOverCallers (λ k. cond (eqb k c) f 0) ≡ f
 one-caller zero f h = omega arith
 one-caller (suc zero) f h = omega arith
 one-caller (suc (suc zero)) f h = omega arith
@@ -78,11 +78,11 @@ one-caller (suc (suc (suc (suc (suc (suc zero)))))) f h = omega arith
 one-caller (suc (suc (suc (suc (suc (suc (suc zero))))))) f h = omega arith
 one-caller (suc (suc (suc (suc (suc (suc (suc (suc c)))))))) f h = absurd (omega arith)
 
-all-callers : (l : Record) (ns : List Note) → Known ns → total (λ k. framesBy k l ns) ≡ framesSinceOpening l ns
+all-callers : (l : Record) (ns : List Note) → Known ns → sumOverCallers (λ k. framesBy k l ns) ≡ framesSinceOpening l ns
 all-callers l [] h = refl
 all-callers l (x ∷ ns) h = go (isOpening (x .call)) (all-callers l ns (h .1))
   where
-    go : (t : Bool) → total (λ k. framesBy k l ns) ≡ framesSinceOpening l ns → total (λ k. cond (eqb k (x .caller)) (frames (linesOf (length ns) l)) 0 + cond t 0 (framesBy k l ns))
+    go : (t : Bool) → sumOverCallers (λ k. framesBy k l ns) ≡ framesSinceOpening l ns → sumOverCallers (λ k. cond (eqb k (x .caller)) (frames (linesOf (length ns) l)) 0 + cond t 0 (framesBy k l ns))
         ≡ frames (linesOf (length ns) l) + cond t 0 (framesSinceOpening l ns)
     go true e = omega (arith, one-caller (x .caller) (frames (linesOf (length ns) l)) (h .0))
     go false e = omega (arith, one-caller (x .caller) (frames (linesOf (length ns) l)) (h .0), e)
@@ -96,11 +96,11 @@ abbrev pub framesIn : List Entry → ℕ → ℕ
 framesIn es k = framesBy k ((recordOf es (outputs fresh es)) .lines) ((recordOf es (outputs fresh es)) .notes)
 
 pub counts-add-up : (es : List Entry) → ((k : ℕ) → k ≤ lastCaller → countsAfter es k < ceiling)
-    → total (countsAfter es) ≡ framesSinceOpening ((recordOf es (outputs fresh es)) .lines) ((recordOf es (outputs fresh es)) .notes)
+    → sumOverCallers (countsAfter es) ≡ framesSinceOpening ((recordOf es (outputs fresh es)) .lines) ((recordOf es (outputs fresh es)) .notes)
 counts-add-up es below = sums ∙ all-callers ((recordOf es (outputs fresh es)) .lines) ((recordOf es (outputs fresh es)) .notes) (known-after fresh (observed [] []) es tt)
   where
     exact : (k : ℕ) → k ≤ lastCaller → countsAfter es k ≡ framesIn es k
     exact k h = omega (arith, counts-right es k h, below k h)
 
-    sums : total (countsAfter es) ≡ total (framesIn es)
+    sums : sumOverCallers (countsAfter es) ≡ sumOverCallers (framesIn es)
     sums = omega (arith, exact 0 (omega arith), exact 1 (omega arith), exact 2 (omega arith), exact 3 (omega arith), exact 4 (omega arith), exact 5 (omega arith), exact 6 (omega arith), exact 7 (omega arith))

@@ -7,13 +7,13 @@ use lib.ListN.{length, take, drop, getD}
 use Rattle.errors.specs.Refusals.{byStatus}
 use Rattle.errors.specs.declared.Fault.{Fault}
 use Rattle.errors.specs.declared.Fault.the-variants.{Transport, TimeOut, FalseStart, BrokenFrame, Length, FrameKind, Identifier, Code, Status, ShortResponse, NoCard, CrcA, Rate, CardStatus, OtherCard, UidLayout}
-use Rattle.targets.specs.TypeA.{isTargetData}
+use Rattle.targets.specs.TypeA.{isTargetData, isType2}
 use Rattle.crc.specs.Crc.{typeA as crcA, checks}
-use Rattle.protocol.specs.Scripts.{Byte, own, behind, Answer, done, type1, uidAndAts, nothing, refused, refusedAfter}
+use Rattle.protocol.specs.Scripts.{Byte, own, commandsLater, Answer, done, type1, uidAndAts, nothing, refused, refusedAfter}
 use Rattle.protocol.specs.Scripts.{Script, finish, command, fieldPause, refuse, either, ifElse, andThen, byteAt, part, rest}
 use Rattle.protocol.specs.Arguments.{word, shortestAtrReq, nfcid3Size}
 use Rattle.protocol.specs.Chipset.{readSingleRegister, writeSingleRegister, rfConfiguration, inListPassiveTarget, inDataExchange, inDataExchangeElse, inCommunicateThru, inCommunicateThruElse, inJumpForDepElse}
-use Rattle.protocol.specs.Names.{ciuFifoData, ciuMode, ciuRxMode, ciuTxControl, registersClock, rfNotActivated, timeoutStatus, typeBClock, ridClock, cascadeTag, deselectCode, idmAndPmm, listedIdmOffset, pmmEnd, protocolOffset, ridCode, selResOffset, sensReq, sensResOffset, targetOffset, uidLengthOffset, uidOffset, wupbCode, wupbParameter}
+use Rattle.protocol.specs.Names.{ciuFifoData, ciuMode, ciuRxMode, ciuTxControl, registersClock, rfNotActivated, timeoutStatus, typeBClock, ridClock, cascadeTag, deselectCode, idmAndPmm, listedIdmOffset, pmmEnd, protocolOffset, ridCode, selResOffset, sensReq, sensResOffset, targetOffset, uidLengthOffset, uidOffset, wupbCode, wupbParameter, timeoutsItem, timeouts, rxCrcEn, rfFieldItem, fieldOn, noDetectSync, atrResCmd0, atrResCmd1, systemCodeRequest, oneTimeSlot, sensfReqCode}
 use Rattle.protocol.specs.Calls.{inCommunicateThruCode, readRegisterCode}
 
 -- ---- detect_type_a
@@ -31,10 +31,7 @@ cardA list = byteAt 0 list (sensResOffset + 1) ∷ byteAt 0 list sensResOffset �
 
 -- Type 2: the CRC check is switched off in the RX mode before the answer
 abbrev pub withoutCrc : Answer Byte → Script
-withoutCrc a = readSingleRegister ciuRxMode (λ bs. writeSingleRegister ciuRxMode (getD bs 0 0 % 128) (finish a))
-
-abbrev pub isType2 : ℕ → Bool
-isType2 selRes = eqb (selRes / 32 % 4) 0
+withoutCrc a = readSingleRegister ciuRxMode (λ bs. writeSingleRegister ciuRxMode (getD bs 0 0 % rxCrcEn) (finish a))
 
 -- the answer, at once or behind the RX mode
 abbrev pub byType2 : List ℕ → Answer Byte → Script
@@ -101,7 +98,7 @@ detectTypeB code afi = inListPassiveTarget 1 code (afi ∷ []) (finish nothing) 
 -- ---- detect_type_f, whose poll is command k
 
 abbrev pub sensfReq : ℕ → ℕ → ℕ → List ℕ
-sensfReq systemCode requestCode timeSlots = 0x00 ∷ word systemCode ++ (requestCode ∷ timeSlots ∷ [])
+sensfReq systemCode requestCode timeSlots = sensfReqCode ∷ word systemCode ++ (requestCode ∷ timeSlots ∷ [])
 
 abbrev pub poll : ℕ → ℕ → List ℕ → Script
 poll k code req =
@@ -111,9 +108,13 @@ poll k code req =
 abbrev pub detectTypeF : ℕ → List ℕ → Script
 detectTypeF code req =
     readSingleRegister ciuTxControl
-    (λ bs. ifElse (eqb (getD bs 0 0 % 4) 0) (rfConfiguration 0x01 (0x01 ∷ []) (fieldPause (poll 2 code req))) (poll 1 code req))
+    (λ bs. ifElse (eqb (getD bs 0 0 % 4) 0) (rfConfiguration rfFieldItem (fieldOn ∷ []) (fieldPause (poll 2 code req))) (poll 1 code req))
 
--- ---- several system codes: detect_type_f for each, with request code 01 and time slots 00
+-- ---- several system codes: detect_type_f for each
+
+-- the request for a list's code
+abbrev pub systemCodeReq : ℕ → List ℕ
+systemCodeReq systemCode = sensfReq systemCode systemCodeRequest oneTimeSlot
 
 -- by 17; a of any other fault
 abbrev pub byNoCard : {A : Type 0} → A → A → Fault → A
@@ -154,9 +155,9 @@ codeEnd f g (refusedAfter r n) = g r
 abbrev pub pollCodes : ℕ → ℕ → ℕ → List Byte → List ℕ → Script
 pollCodes code first finished found [] = finish (done found)
 pollCodes code first finished found (systemCode ∷ codes) =
-    andThen (detectTypeF code (sensfReq systemCode 0x01 0x00)) first
+    andThen (detectTypeF code (systemCodeReq systemCode)) first
     (λ next a. codeEnd
-    (λ bytes. pollCodes code next (suc finished) (found ++ map (behind first) bytes) codes)
+    (λ bytes. pollCodes code next (suc finished) (found ++ map (commandsLater first) bytes) codes)
     (λ r. finish (refusedAfter r finished)) a)
 
 abbrev pub pollTypeF : ℕ → List ℕ → Script
@@ -170,9 +171,9 @@ noPartner r = byStatus (λ status. ifElse (eqb status timeoutStatus || eqb statu
 
 abbrev pub detectDep : ℕ → List ℕ → Script
 detectDep code atrReq =
-    rfConfiguration 0x02 (0x0B ∷ 0x0B ∷ 0x0A ∷ [])
+    rfConfiguration timeoutsItem timeouts
     (inJumpForDepElse 1 code [] (take nfcid3Size (drop 2 atrReq)) (drop shortestAtrReq atrReq)
-    (λ bs. writeSingleRegister ciuMode 0x3B (finish (done (own 0xD5 ∷ own 0x01 ∷ rest 1 bs 2)))) noPartner)
+    (λ bs. writeSingleRegister ciuMode noDetectSync (finish (done (own atrResCmd0 ∷ own atrResCmd1 ∷ rest 1 bs 2)))) noPartner)
 
 -- ---- transceive
 

@@ -11,19 +11,19 @@ use lib.Dec.{eqb}
 use lib.ListN.{length, drop, getElem?}
 use Rattle.framing.specs.Frames.{ack}
 use Rattle.errors.specs.Choice.{same, same-self}
-use Rattle.exchange.specs.Packets.{commandFrame, resetCode, resetData, Reply, response, failed, replyOf}
+use Rattle.exchange.specs.Packets.{commandFrame, Reply, response, failed, replyOf}
 use Rattle.exchange.specs.Exchange.{write, read, drain, pause, pkt}
-use Rattle.exchange.specs.Exchange.{unfit, pending, ended, Step, sending, reading, waiting, cancelling, rejecting, draining}
+use Rattle.exchange.specs.Exchange.{unfit, pending, ended, ExchangePhase, sending, reading, waiting, cancelling, rejecting, draining}
 use Rattle.protocol.specs.Scripts.{Byte, card, Answer, done, type1, uidAndAts, nothing, refused, refusedAfter, Script, finish, command, reset, fieldPause}
-use Rattle.protocol.specs.Calls.{Call, limit}
+use Rattle.protocol.specs.Calls.{Call, limit, resetModeCode, resetModeData}
 use Rattle.protocol.specs.Session.{Rest, byReply, ofReset, Phase, exchange, resetAck, resetPause, fieldPausing, openingAck, openingReads}
 use Rattle.protocol.specs.Session.{CallResult, enter}
 use Rattle.protocol.specs.Record.{Item, ordered, accepted, Record, linesOf, oneIf, frames, events, pendingOrder, acked, allowed}
-use Rattle.protocol.specs.Claim.{allowedBetween, Between, CardByte, bytesOf, Ended}
+use Rattle.protocol.specs.Claim.{allowedBetween, Between, CardByte, bytesOf, EndedCall}
 use Rattle.protocol.specs.Own.{Form, onlyCards, versionAndName, cardsAndFlag, cardAndRates, depAndCards, polledCodes, HasForm, Formed, formOf}
-use Rattle.protocol.specs.Sound.{Within, responseTo, responseIn, Placed, no-bytes, own-byte, card-byte, IsResponseByte, Final, OfExchange, Correct}
+use Rattle.protocol.specs.Sound.{Within, responseTo, responseIn, PlacedBytes, no-bytes, own-byte, card-byte, IsResponseByte, Final, OfExchange, Correct}
 use Rattle.protocol.specs.Laws.{frame-not-ack, ack-is-ack, lines-own}
-use Rattle.protocol.specs.Names.{commandClock, openingReadTime}
+use Rattle.protocol.specs.Names.{commandClock, openingReadTime, fieldPauseTime}
 
 -- ---- the invariant
 
@@ -32,7 +32,7 @@ abbrev pub dueRest : Rest → ℕ
 dueRest (byReply k) = 0
 dueRest (ofReset s) = 2
 
-abbrev pub dueStep : Step → ℕ
+abbrev pub dueStep : ExchangePhase → ℕ
 dueStep (sending code clock) = 4
 dueStep (reading code clock) = 3
 dueStep (waiting code clock) = 2
@@ -48,7 +48,7 @@ due (fieldPausing s) = 1
 due (openingAck s) = 2
 due (openingReads s) = 1
 
-pub step-due : (step : Step) → 1 ≤ dueStep step
+pub step-due : (step : ExchangePhase) → 1 ≤ dueStep step
 step-due (sending code clock) = omega arith
 step-due (reading code clock) = omega arith
 step-due (waiting code clock) = omega arith
@@ -65,20 +65,20 @@ phase-due (openingAck s) = omega arith
 phase-due (openingReads s) = omega arith
 
 -- what is left of the script after the responses rs: at most m frames, and correct
-abbrev pub Left : Form → Script → ℕ → List (List ℕ) → Type 0
-Left o s m rs = Within s m × Correct o s rs
+abbrev pub RestSound : Form → Script → ℕ → List (List ℕ) → Type 0
+RestSound o s m rs = Within s m × Correct o s rs
 
-abbrev pub LeftRest : Form → Rest → ℕ → List (List ℕ) → Type 0
-LeftRest o (byReply k) m rs = ((r : Reply) → Within (k r) m) × ((r : Reply) → OfExchange r → Correct o (k r) (responseIn r ∷ rs))
-LeftRest o (ofReset s) m rs = Within s m × ((bs : List ℕ) → Correct o s (bs ∷ rs))
+abbrev pub ReplySound : Form → Rest → ℕ → List (List ℕ) → Type 0
+ReplySound o (byReply k) m rs = ((r : Reply) → Within (k r) m) × ((r : Reply) → OfExchange r → Correct o (k r) (responseIn r ∷ rs))
+ReplySound o (ofReset s) m rs = Within s m × ((bs : List ℕ) → Correct o s (bs ∷ rs))
 
-abbrev pub LeftPhase : Form → Phase → ℕ → List (List ℕ) → Type 0
-LeftPhase o (exchange step rest) m rs = LeftRest o rest m rs
-LeftPhase o (resetAck s) m rs = Left o s m rs
-LeftPhase o (resetPause s) m rs = Left o s m rs
-LeftPhase o (fieldPausing s) m rs = Left o s m rs
-LeftPhase o (openingAck s) m rs = Left o s m rs
-LeftPhase o (openingReads s) m rs = Left o s m rs
+abbrev pub PhaseSound : Form → Phase → ℕ → List (List ℕ) → Type 0
+PhaseSound o (exchange step rest) m rs = ReplySound o rest m rs
+PhaseSound o (resetAck s) m rs = RestSound o s m rs
+PhaseSound o (resetPause s) m rs = RestSound o s m rs
+PhaseSound o (fieldPausing s) m rs = RestSound o s m rs
+PhaseSound o (openingAck s) m rs = RestSound o s m rs
+PhaseSound o (openingReads s) m rs = RestSound o s m rs
 
 -- the form of an answer, if what it is worked out from stands elsewhere too
 module _ (P Q : ℕ → ℕ → ℕ → Type 0) (f : (k p b : ℕ) → P k p b → Q k p b) where
@@ -111,7 +111,7 @@ module _ (n : ℕ) (c : Call) where
     pub ordinal : frames (linesOf n (drop (suc orderLine) l)) ≡ k
     pub since : (i : ℕ) → i < orderLine → Between l n i
 
-  abbrev pub AtStep : Step → Record → List Item → ℕ → Type 0
+  abbrev pub AtStep : ExchangePhase → Record → List Item → ℕ → Type 0
   AtStep (sending code clock) l xs k = Asked l k code
   AtStep (reading code clock) l xs k = Asked l k code
   AtStep (waiting code clock) l xs k = Asked l k code × (pendingOrder xs ≡ some (read clock)) × (acked xs ≡ true)
@@ -139,7 +139,7 @@ module _ (n : ℕ) (c : Call) where
     pub budget : events xs + due phase ≤ allowed c xs
     pub left : ℕ
     pub room : frames xs + left ≤ limit c
-    pub script : LeftPhase (formOf c) phase left responses
+    pub script : PhaseSound (formOf c) phase left responses
     pub place : At phase l xs (length responses)
     pub source : Sourced l responses
 
@@ -147,7 +147,7 @@ module _ (n : ℕ) (c : Call) where
   abbrev pub Preserved : Record → List Item → CallResult → Type 0
   Preserved l xs unfit = Unit {0}
   Preserved l xs (pending x phase) = Invariant ((n, ordered x) ∷ l) (ordered x ∷ xs) phase
-  Preserved l xs (ended a) = Ended l n c a
+  Preserved l xs (ended a) = EndedCall l n c a
 
   -- ---- a new line
 
@@ -189,7 +189,7 @@ module _ (n : ℕ) (c : Call) where
 
   -- ---- a call ends
 
-  placed-cards : (l : Record) (rs : List (List ℕ)) → Sourced l rs → {bs : List Byte} → Placed rs bs → (k p b : ℕ) → List·Memᴰ (card k p b) bs → CardByte l n k p b
+  placed-cards : (l : Record) (rs : List (List ℕ)) → Sourced l rs → {bs : List Byte} → PlacedBytes rs bs → (k p b : ℕ) → List·Memᴰ (card k p b) bs → CardByte l n k p b
   placed-cards l rs f no-bytes k p b m = absurd (List·Memᴰ·not-nil m)
   placed-cards l rs f (own-byte h) k p b m =
       elim (List·Memᴰ·cases-cons m) [ inl e ↦ absurd (let z : _≡_ {A = ℕ} 0 1 = cc in omega arith) | inr t ↦ placed-cards l rs f h k p b t ]
@@ -225,7 +225,7 @@ module _ (n : ℕ) (c : Call) where
     sent : (code clock : ℕ) (bytes : List ℕ) (rest : Rest) (m : ℕ)
         → events xs + (4 + dueRest rest) ≤ allowed c (ordered (write (commandFrame code bytes)) ∷ xs)
         → frames xs + suc m ≤ limit c
-        → LeftRest (formOf c) rest m rs
+        → ReplySound (formOf c) rest m rs
         → frames xs ≡ length rs
         → Sourced l rs
         → Preserved l xs (pending (write (commandFrame code bytes)) (exchange (sending code clock) rest))
@@ -242,7 +242,7 @@ module _ (n : ℕ) (c : Call) where
           source = later-sourced rs f;
         }
 
-    pub entered : (s : Script) (m : ℕ) → events xs ≤ allowed c xs → frames xs + m ≤ limit c → Left (formOf c) s m rs → frames xs ≡ length rs → Sourced l rs
+    pub entered : (s : Script) (m : ℕ) → events xs ≤ allowed c xs → frames xs + m ≤ limit c → RestSound (formOf c) s m rs → frames xs ≡ length rs → Sourced l rs
         → Preserved l xs (enter s)
     entered (finish a) m b q w e f = closed l xs rs a own-lines (omega arith) b (w .1) f
     entered (command code clock bytes k) zero b q w e f = absurd (w .0)
@@ -251,11 +251,11 @@ module _ (n : ℕ) (c : Call) where
         sent code clock bytes (byReply k) m (omega arith) q w e f
     entered (reset s) zero b q w e f = absurd (w .0)
     entered (reset s) (suc m) b q w e f =
-        let h : frames (ordered (write (commandFrame resetCode resetData)) ∷ xs) ≡ suc (frames xs) = counts resetCode resetData in
-        let g : oneIf (same (commandFrame resetCode resetData) (commandFrame resetCode resetData)) ≡ 1 = rw (same-self (commandFrame resetCode resetData)) in
-        sent resetCode commandClock resetData (ofReset s) m (omega arith) q w e f
+        let h : frames (ordered (write (commandFrame resetModeCode resetModeData)) ∷ xs) ≡ suc (frames xs) = counts resetModeCode resetModeData in
+        let g : oneIf (same (commandFrame resetModeCode resetModeData) (commandFrame resetModeCode resetModeData)) ≡ 1 = rw (same-self (commandFrame resetModeCode resetModeData)) in
+        sent resetModeCode commandClock resetModeData (ofReset s) m (omega arith) q w e f
     entered (fieldPause s) m b q w e f = record {
-      lines = lines-own n l (ordered (pause 20400)) xs own-lines;
+      lines = lines-own n l (ordered (pause fieldPauseTime)) xs own-lines;
       responses = rs;
       budget = omega arith;
       left = m;

@@ -8,7 +8,7 @@ use borrow.Author.Tests.{eq-eqb, ne-eqb}
 use lib.Dec.{eqb, ltb}
 use lib.ListN.{length}
 use Rattle.framing.specs.Enclose.{length-frame}
-use Rattle.framing.specs.Frames.{ack, startOf}
+use Rattle.framing.specs.Frames.{ack, dataStart}
 use Rattle.errors.specs.Choice.{pick, same-self, same-not}
 use Rattle.framing.specs.Parse.{parseOf, payloadOf}
 use Rattle.framing.specs.Settings.{rcs956, commandPayload}
@@ -17,12 +17,13 @@ use Rattle.framing.specs.declared.FrameType.the-variants.{Ack, Error, Data, Not
 use Rattle.framing.specs.declared.LengthEncoding.the-variants.{NormalOrExtendedBigEndian}
 use Rattle.errors.specs.declared.Fault.{Fault}
 use Rattle.errors.specs.declared.Fault.the-variants.{Transport, TimeOut, FalseStart, BrokenFrame, Length, FrameKind, Identifier, Code, Status, ShortResponse, NoCard, CrcA, Rate, CardStatus, OtherCard, UidLayout}
-use Rattle.exchange.specs.Packets.{commandFrame, isAck, Reply, codeReply, payloadReply, filling, frameReply, replyOf}
+use Rattle.exchange.specs.Packets.{commandFrame, isAck, Reply, codeReply, payloadReply, filling, frameReply, replyOf, errorIdentifier}
 use Rattle.exchange.specs.Exchange.{Event, ok, bad, pkt, time, fail, late, slept, onWrite, onRead, onPause}
 use Rattle.protocol.specs.Scripts.{Byte, Answer, Script, ifElse, andThen}
 use Rattle.protocol.specs.Discovery.{byNoCard}
 use Rattle.protocol.specs.Record.{Item, Record, linesOf}
 use Rattle.protocol.specs.Sound.{OfExchange}
+use Rattle.framing.specs.Names.{controllerToHost}
 
 -- a test, by cases, with the equation
 pub split {ℓ} : {X : Type 0} (P : X → Type ℓ) (b : Bool) (x y : X) → (b ≡ true → P x) → (b ≡ false → P y) → P (cond b x y)
@@ -56,7 +57,7 @@ code-reply code (b ∷ bytes) = split OfExchange (eqb b ((code + 1) % 256)) _ _ 
 payload-reply : (code : ℕ) (bytes : List ℕ) → OfExchange (payloadReply code bytes)
 payload-reply code [] = refl
 payload-reply code (b ∷ bytes) =
-    split OfExchange (eqb b 0x7F) _ _ (λ _. refl) (λ _. split OfExchange (eqb b 0xD5) _ _ (λ _. code-reply code bytes) (λ _. refl))
+    split OfExchange (eqb b errorIdentifier) _ _ (λ _. refl) (λ _. split OfExchange (eqb b controllerToHost) _ _ (λ _. code-reply code bytes) (λ _. refl))
 
 filling-reply : (frame : ℕ) (packet : List ℕ) (r : Reply) → OfExchange r → OfExchange (filling frame packet r)
 filling-reply frame packet r h = split OfExchange (eqb frame (length packet)) _ _ (λ _. h) (λ _. refl)
@@ -111,8 +112,8 @@ longer : (x : List ℕ) → 6 < length x → isAck x ≡ false
 unfolding isAck
 longer x h = same-not ack x (λ e. omega (arith, ap length e))
 
-start-least : (n : ℕ) → 5 ≤ startOf NormalOrExtendedBigEndian n
-unfolding startOf pick
+start-least : (n : ℕ) → 5 ≤ dataStart NormalOrExtendedBigEndian n
+unfolding dataStart pick
 start-least n = go (ltb n 256)
   where
     go : (t : Bool) → 5 ≤ pick t 5 8

@@ -16,10 +16,10 @@ plainAnswer nothing = nothing
 plainAnswer (refused r) = refused r
 plainAnswer (refusedAfter r n) = refusedAfter r n
 
-abbrev pub plain : Output Byte → Output ℕ
-plain (orders x) = orders x
-plain (answers a) = answers (plainAnswer a)
-plain (rejects r) = rejects r
+abbrev pub outputValues : Output Byte → Output ℕ
+outputValues (orders x) = orders x
+outputValues (answers a) = answers (plainAnswer a)
+outputValues (rejects r) = rejects r
 
 -- `Represents s m`: the state s of the machine, such as the fields of a struct, stands for the session m of the definitions.
 -- An input is a call or an event with all that it is lent; `entry` is what the list holds of it.
@@ -34,7 +34,7 @@ pub record Machine : Type 1 where
   pub begins : Represents new fresh
   pub counts : (s : State) (m : Session) → Represents s m → frames s ≡ m .books .counts
   pub simulates : (s : State) (m : Session) (i : Input) → Represents s m
-      → Represents ((act s i) .0) ((step m (entry i)) .0) × ((act s i) .1 ≡ plain ((step m (entry i)) .1))
+      → Represents ((act s i) .0) ((step m (entry i)) .0) × ((act s i) .1 ≡ outputValues ((step m (entry i)) .1))
 
 module _ (M : Machine) where
   abbrev pub givenOut : M .State → List (M .Input) → List (Output ℕ)
@@ -50,10 +50,10 @@ module _ (M : Machine) where
 
   -- demand 3 of the machine: what it gives out is what the definitions give out, places left out, and the counts are its own
   pub record Obeys (is : List (M .Input)) : Type 0 where
-    pub same : givenOut (M .new) is ≡ map plain (outputs fresh (entries is))
+    pub same : givenOut (M .new) is ≡ map outputValues (outputs fresh (entries is))
     pub demand : Demand3 (entries is) (outputs fresh (entries is)) (M .frames (stateAfter (M .new) is))
 
-  pub same-out : (s : M .State) (m : Session) → M .Represents s m → (is : List (M .Input)) → givenOut s is ≡ map plain (outputs m (entries is))
+  pub same-out : (s : M .State) (m : Session) → M .Represents s m → (is : List (M .Input)) → givenOut s is ≡ map outputValues (outputs m (entries is))
   same-out s m h [] = refl
   same-out s m h (i ∷ is) =
       let f = M .simulates s m i h in
@@ -63,7 +63,7 @@ module _ (M : Machine) where
   still-represents s m h [] = h
   still-represents s m h (i ∷ is) = still-represents ((M .act s i) .0) ((step m (M .entry i)) .0) ((M .simulates s m i h) .0) is
 
-  pub same-given : (is : List (M .Input)) → givenOut (M .new) is ≡ map plain (outputs fresh (entries is))
+  pub same-given : (is : List (M .Input)) → givenOut (M .new) is ≡ map outputValues (outputs fresh (entries is))
   same-given is = same-out (M .new) fresh (M .begins) is
 
   pub same-counts : (is : List (M .Input)) → M .frames (stateAfter (M .new) is) ≡ (sessionAfter fresh (entries is)) .books .counts

@@ -1,5 +1,6 @@
 -- Numbers of the manual and of the Rust by name: clocks in ms, registers (`ciu` of chipset.rs), status bytes (`err`), pauses in µs. The code
 -- has them in chipset/src: clock.rt, ciu.rt, err.rt. The command codes stand in Calls.antt, each with its command.
+use mathlib.Core.List.{List, [], _∷_}
 use Prim.Native.Nat.{ℕ}
 
 abbrev pub commandClock : ℕ
@@ -58,6 +59,74 @@ resetPauseTime = 10000
 
 abbrev pub fieldPauseTime : ℕ
 fieldPauseTime = 20400
+
+-- RFConfiguration: its items, and the bytes that the Rust gives for each
+abbrev pub rfFieldItem : ℕ
+rfFieldItem = 0x01
+
+abbrev pub fieldOn : ℕ
+fieldOn = 0x01
+
+abbrev pub fieldOff : ℕ
+fieldOff = 0x02
+
+abbrev pub timeoutsItem : ℕ
+timeoutsItem = 0x02
+
+abbrev pub timeouts : List ℕ
+timeouts = 0x0B ∷ 0x0B ∷ 0x0A ∷ []
+
+abbrev pub maxRtyComItem : ℕ
+maxRtyComItem = 0x04
+
+abbrev pub maxRtyCom : List ℕ
+maxRtyCom = 0x00 ∷ []
+
+abbrev pub maxRetriesItem : ℕ
+maxRetriesItem = 0x05
+
+abbrev pub maxRetries : List ℕ
+maxRetries = 0x00 ∷ 0x00 ∷ 0x01 ∷ []
+
+abbrev pub analog106AItem : ℕ
+analog106AItem = 0x0A
+
+abbrev pub analog106A : List ℕ
+analog106A = 0x5A ∷ 0xF4 ∷ 0x3F ∷ 0x11 ∷ 0x4D ∷ 0x85 ∷ 0x61 ∷ 0x6F ∷ 0x26 ∷ 0x62 ∷ 0x87 ∷ []
+
+-- SetParameters' byte in the opening, and RFCfg as it leaves it
+abbrev pub openingParameters : ℕ
+openingParameters = 0x08
+
+abbrev pub openingRfCfg : ℕ
+openingRfCfg = 0x59
+
+-- InDataExchange's status is a byte's low six bits, and the bit above them the more flag; RxCRCEn is the highest bit of CIU_RxMode
+abbrev pub moreBit : ℕ
+moreBit = 64
+
+abbrev pub rxCrcEn : ℕ
+rxCrcEn = 128
+
+-- DEP: CIU_Mode with the detect-sync bit off, and the first two bytes of ATR_RES
+abbrev pub noDetectSync : ℕ
+noDetectSync = 0x3B
+
+abbrev pub atrResCmd0 : ℕ
+atrResCmd0 = 0xD5
+
+abbrev pub atrResCmd1 : ℕ
+atrResCmd1 = 0x01
+
+-- SENSF_REQ: its code, and in a list (N1) the request code for the system code and the number for one time slot
+abbrev pub sensfReqCode : ℕ
+sensfReqCode = 0x00
+
+abbrev pub systemCodeRequest : ℕ
+systemCodeRequest = 0x01
+
+abbrev pub oneTimeSlot : ℕ
+oneTimeSlot = 0x00
 
 -- a card's commands: the cascade tag of a UID, SENS_REQ, RID, DESELECT, WUPB and its parameter
 abbrev pub cascadeTag : ℕ

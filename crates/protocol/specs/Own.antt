@@ -13,7 +13,7 @@ use Rattle.protocol.specs.Rules.{Rule, version, noBytes, allBytes, regis
 use Rattle.protocol.specs.Device.{chipsetName}
 use Rattle.protocol.specs.Calls.{Request, Row, row, resets, rowOf, Call, opening, reader, request, device, unknown}
 use Rattle.protocol.specs.Calls.{DeviceCall, detectTypeA, detectTypeASplit, detectTypeB, detectTypeF, pollTypeF, detectDep, transceive, readWithoutEncryption, writeWithoutEncryption}
-use Rattle.protocol.specs.Names.{idmAndPmm, listedIdmOffset, selResOffset, sensResOffset, targetOffset, uidLengthOffset, uidOffset}
+use Rattle.protocol.specs.Names.{idmAndPmm, listedIdmOffset, selResOffset, sensResOffset, targetOffset, uidLengthOffset, uidOffset, moreBit, atrResCmd0, atrResCmd1}
 
 -- ---- the forms of an answer
 
@@ -40,7 +40,7 @@ pub record VersionAndName (bytes : List Byte) : Type 0 where
 -- D5 01, then card bytes
 pub record DepAndCards (bytes : List Byte) : Type 0 where
   pub cards : List Byte
-  pub form : bytes ≡ own 0xD5 ∷ own 0x01 ∷ cards
+  pub form : bytes ≡ own atrResCmd0 ∷ own atrResCmd1 ∷ cards
   pub allCards : Cards cards
 
 -- The answer for n system codes, which took k commands. A code's poll is its last command: its second, or its third where the field
@@ -66,7 +66,7 @@ module _ (At : ℕ → ℕ → ℕ → Type 0) where
   pub record CardsAndFlag (bytes : List Byte) : Type 0 where
     pub cards : List Byte
     pub status : ℕ
-    pub form : bytes ≡ cards ++ (own (status / 64 % 2) ∷ [])
+    pub form : bytes ≡ cards ++ (own (status / moreBit % 2) ∷ [])
     pub allCards : Cards cards
     pub source : At 0 0 status
 

@@ -9,7 +9,7 @@ use Rattle.errors.specs.declared.Fault.{Fault}
 use Rattle.framing.specs.Frames.{ack}
 use Rattle.exchange.specs.Packets.{commandFrame, hasStart, ackLed, isEmpty, Reply, response, failed}
 use Rattle.exchange.specs.Exchange.{write, Event, ok, bad, pkt, time, fail, late, slept, unfit, pending, ended}
-use Rattle.exchange.specs.Exchange.{Step, sending, reading, waiting, cancelling, rejecting, draining}
+use Rattle.exchange.specs.Exchange.{ExchangePhase, sending, reading, waiting, cancelling, rejecting, draining}
 use Rattle.exchange.specs.Exchange.{ExchangeResult, afterAck, onPacket, onFirstPacket, onLaterPacket, onDrained, advance}
 use Rattle.protocol.specs.Scripts.{Byte, Answer, Script, finish, command, reset, fieldPause, either, ifElse, andThen}
 use Rattle.protocol.specs.Discovery.{detectTypeF}
@@ -65,7 +65,7 @@ bare-later code clock packet = split Bare (isEmpty packet) _ _ (λ _. tt) (λ _.
 bare-drained : (packet : List ℕ) → Bare (onDrained packet)
 bare-drained packet = split Bare (isEmpty packet) _ _ (λ _. tt) (λ _. refl)
 
-pub bare : (step : Step) (e : Event) → Bare (advance step e)
+pub bare : (step : ExchangePhase) (e : Event) → Bare (advance step e)
 bare (sending code clock) = by-write (λ e r. Bare r) unfit (λ _. tt) _ _ refl bare-ack
 bare (reading code clock) = by-read (λ e r. Bare r) unfit (λ _. tt) (onFirstPacket code clock) _ _ _ (bare-first code clock) tt tt tt
 bare (waiting code clock) = by-read (λ e r. Bare r) unfit (λ _. tt) (onLaterPacket code clock) _ _ _ (bare-later code clock) tt tt bare-ack

@@ -15,17 +15,17 @@ use Rattle.errors.specs.declared.Fault.the-variants.{NoCard}
 use Rattle.framing.specs.Lists.{both-false-r}
 use Rattle.exchange.specs.Packets.{commandFrame}
 use Rattle.exchange.specs.Exchange.{Order, write, Event, unfit, pending, ended}
-use Rattle.protocol.specs.Scripts.{Byte, behind, Answer, done, type1, uidAndAts, nothing, refused, refusedAfter}
+use Rattle.protocol.specs.Scripts.{Byte, commandsLater, Answer, done, type1, uidAndAts, nothing, refused, refusedAfter}
 use Rattle.protocol.specs.Scripts.{Script, finish, command, reset, fieldPause}
 use Rattle.protocol.specs.Arguments.{word, systemCodesFit, wordsIn}
-use Rattle.protocol.specs.Discovery.{codeEnd, sensfReq, pollCodes}
+use Rattle.protocol.specs.Discovery.{codeEnd, systemCodeReq, pollCodes}
 use Rattle.protocol.specs.Discovery as discovery
 use Rattle.targets.specs.Bitrates.{Choice, chosen, noCode, choiceOf}
 use Rattle.protocol.specs.Calls.{Call, reader, device, pollTypeF}
 use Rattle.protocol.specs.Starts.{Start, refuses, starts, onCode, withBitrate, codeFor, typeFCode}
 use Rattle.protocol.specs.Session.{Phase, seen, lastCaller}
 use Rattle.protocol.specs.Session.{CallResult, enter, progress, idle, busy, Books, Session, call}
-use Rattle.protocol.specs.Session.{Effect, unchanged, runs, ends, effect, bufferNeed, packetLimit, packetLength, admitted, eventEffect, bookOrder, effectOf, given, after}
+use Rattle.protocol.specs.Session.{Effect, unchanged, runs, ends, effect, bufferNeed, packetLimit, packetLength, admitted, eventEffect, bookOrder, effectOf, given, afterEffect}
 use Rattle.protocol.specs.Record.{Item, ordered, accepted, Record, Note, note, observed, addCall, addEvent, linesOf, oneIf, isCommand, frames}
 use Rattle.protocol.specs.Laws.{by-fault, frame-not-ack, lines-own}
 use Rattle.protocol.specs.Seen.{Unused, no-lines, more-unused}
@@ -86,7 +86,7 @@ module _ (caller : ℕ) (known : leb caller lastCaller ≡ true) (text words : L
   -- what follows a code's single script in the list's
   abbrev restOfList : ℕ → ℕ → List Byte → List ℕ → ℕ → Answer Byte → Script
   restOfList first finished found codes next a =
-      codeEnd (λ bytes. pollCodes code next (suc finished) (found ++ map (behind first) bytes) codes) (λ r. finish (refusedAfter r finished)) a
+      codeEnd (λ bytes. pollCodes code next (suc finished) (found ++ map (commandsLater first) bytes) codes) (λ r. finish (refusedAfter r finished)) a
 
   -- the single calls ns are over: in the record m they took `first` commands, and they add the bytes `found`
   record Behind (m : Record) (ns : List Note) (first : ℕ) (found : List Byte) : Type 0 where
@@ -120,7 +120,7 @@ module _ (caller : ℕ) (known : leb caller lastCaller ≡ true) (text words : L
   -- the first where the event e has this effect
   abbrev oneStep : Books → Record → Phase → List Refusal → List EventAndRoom → EventAndRoom → Effect → Run
   oneStep b l p x es e o =
-      from (addEvent (e .0) l (note caller listCall none ∷ []) (given o)) (addRefusal (given o) x) (after (busyWith listCall p (hers b)) (eventEntry e) o) (map eventEntry es)
+      from (addEvent (e .0) l (note caller listCall none ∷ []) (given o)) (addRefusal (given o) x) (afterEffect (busyWith listCall p (hers b)) (eventEntry e) o) (map eventEntry es)
 
   abbrev BusyEqual : List EventAndRoom → Type 0
   BusyEqual es = (b : Books) (l m : Record) (ns : List Note) (systemCode : ℕ) (codes : List ℕ) (p q : Phase) (x : List Refusal)
@@ -128,8 +128,8 @@ module _ (caller : ℕ) (known : leb caller lastCaller ≡ true) (text words : L
 
   -- the next single call is begun
   begun : (b : Books) → b .opened ≡ true → (systemCode : ℕ)
-      → effectOf idle (hers b) (call caller (single text systemCode) room) ≡ effect (single text systemCode) (enter (discovery.detectTypeF code (sensfReq systemCode 0x01 0x00)))
-  begun b o systemCode = rw (o, enough, known, takes (λ code. starts (discovery.detectTypeF code (sensfReq systemCode 0x01 0x00)))) refl
+      → effectOf idle (hers b) (call caller (single text systemCode) room) ≡ effect (single text systemCode) (enter (discovery.detectTypeF code (systemCodeReq systemCode)))
+  begun b o systemCode = rw (o, enough, known, takes (λ code. starts (discovery.detectTypeF code (systemCodeReq systemCode)))) refl
 
   -- an event e ends a code, and the list goes on, after k commands; a: the single call's answer
   module _ (es : List EventAndRoom) (ih : BusyEqual es) (b : Books) (isOpen : b .opened ≡ true) (l m : Record) (ns : List Note) (systemCode : ℕ) (p : Phase) (x : List Refusal)
@@ -164,14 +164,14 @@ module _ (caller : ℕ) (known : leb caller lastCaller ≡ true) (text words : L
         (from
         (addCall caller (single text y) (withEvent m ns e) ns₁ (given o))
         (addRefusal (given o) x)
-        (after (idleWith (hers b)) (call caller (single text y) room) o)
-        (handOn caller room es (after (idleWith (hers b)) (call caller (single text y) room) o) (map (single text) codes))))
+        (afterEffect (idleWith (hers b)) (call caller (single text y) room) o)
+        (handOn caller room es (afterEffect (idleWith (hers b)) (call caller (single text y) room) o) (map (single text) codes))))
         (begun b isOpen y)
         (ih (bookOrder askField (hers b)) ((0, ordered askField) ∷ (0, accepted (e .0)) ∷ l) ((suc (length ns), ordered askField) ∷ withEvent m ns e) ns₁ y codes _ _ x isOpen record {
           first = k;
           found = found;
           k = suc k;
-          phases = (refl, detect-no-reset code (sensfReq y 0x01 0x00));
+          phases = (refl, detect-no-reset code (systemCodeReq y));
           lines = ap (λ (xs : List Item). ordered askField ∷ accepted (e .0) ∷ xs) lines;
           before = behind-later (suc (length ns)) (ordered askField) (omega arith) before;
           commands = one-command;
@@ -187,7 +187,7 @@ module _ (caller : ℕ) (known : leb caller lastCaller ≡ true) (text words : L
 
     abbrev manyAfter : Effect → Run
     manyAfter o =
-        let s : Session = after (busyWith (single text systemCode) q (hers b)) (eventEntry e) o in
+        let s : Session = afterEffect (busyWith (single text systemCode) q (hers b)) (eventEntry e) o in
         let cs : List Call = map (single text) codes in
         from (addEvent (e .0) m (note caller (single text systemCode) none ∷ ns) (given o)) (addRefusal (given o) x) s
         (cond (endsCode (given o)) (withNext caller room cs s (handOn caller room es)) (handOn caller room es s cs))
@@ -223,12 +223,12 @@ module _ (caller : ℕ) (known : leb caller lastCaller ≡ true) (text words : L
 
     -- the code has ended: with a card, or without one
     behind-more : (a : Answer Byte)
-        → Behind (withEvent m ns e) (note caller (single text systemCode) (some a) ∷ ns) (g .k) (g .found ++ map (behind (g .first)) (codeBytes (some a)))
+        → Behind (withEvent m ns e) (note caller (single text systemCode) (some a) ∷ ns) (g .k) (g .found ++ map (commandsLater (g .first)) (codeBytes (some a)))
     behind-more a =
         let old : Behind (withEvent m ns e) ns (g .first) (g .found) = behind-later (length ns) (accepted (e .0)) (omega arith) (g .before) in
         record {
           firstIs = rw (lines-own (length ns) m (accepted (e .0)) (linesOf (length ns) m) refl) (omega (arith, g .commands, old .firstIs));
-          foundIs = ap₂ (λ (xs ys : List Byte). xs ++ ys) (old .foundIs) (ap (λ (j : ℕ). map (behind j) (codeBytes (some a))) (old .firstIs));
+          foundIs = ap₂ (λ (xs ys : List Byte). xs ++ ys) (old .foundIs) (ap (λ (j : ℕ). map (commandsLater j) (codeBytes (some a))) (old .firstIs));
         }
 
     -- with another fault
@@ -242,7 +242,7 @@ module _ (caller : ℕ) (known : leb caller lastCaller ≡ true) (text words : L
     AfterCode a = Both (effect listCall (enter (restOfList (g .first) (length ns) (g .found) codes (g .k) a))) (ends (single text systemCode) a)
 
     both-go-on : (a : Answer Byte) → ((o : Option (Answer Byte)) → byNewest o (length ns) (some a) ≡ o) → Equal n
-        (oneAfter (effect listCall (enter (pollCodes code (g .k) (suc (length ns)) (g .found ++ map (behind (g .first)) (codeBytes (some a))) codes))))
+        (oneAfter (effect listCall (enter (pollCodes code (g .k) (suc (length ns)) (g .found ++ map (commandsLater (g .first)) (codeBytes (some a))) codes))))
         (from (observed (withEvent m ns e) (note caller (single text systemCode) (some a) ∷ ns)) x (idleWith (hers b))
         (withNext caller room (map (single text) codes) (idleWith (hers b)) (handOn caller room es)))
     both-go-on a newest = goes-on es ih b isOpen l m ns systemCode p x e a (g .k) _ (g .lines) (g .unused) (behind-more a) newest codes (g .total)
@@ -297,9 +297,9 @@ module _ (caller : ℕ) (text words : List ℕ) (room : ℕ) (es : List EventAnd
 
   abbrev Started : Effect → Effect → Type 0
   Started o u = Equal size
-      (from (addCall caller theList [] [] (given o)) (addRefusal (given o) []) (after (idleWith b) (call caller theList room) o) (map eventEntry es))
-      (from (addCall caller (single text y) [] [] (given u)) (addRefusal (given u) []) (after (idleWith b) (call caller (single text y) room) u)
-      (handOn caller room es (after (idleWith b) (call caller (single text y) room) u) (map (single text) ys)))
+      (from (addCall caller theList [] [] (given o)) (addRefusal (given o) []) (afterEffect (idleWith b) (call caller theList room) o) (map eventEntry es))
+      (from (addCall caller (single text y) [] [] (given u)) (addRefusal (given u) []) (afterEffect (idleWith b) (call caller (single text y) room) u)
+      (handOn caller room es (afterEffect (idleWith b) (call caller (single text y) room) u) (map (single text) ys)))
 
   abbrev Starts : Type 0
   Starts = Started (effectOf idle b (call caller theList room)) (effectOf idle b (call caller (single text y) room))
@@ -309,13 +309,13 @@ module _ (caller : ℕ) (text words : List ℕ) (room : ℕ) (es : List EventAnd
 
   start-runs : leb caller lastCaller ≡ true → (code : ℕ) → ((f : ℕ → Start) → codeFor typeFCode text f ≡ f code) → ltb room bufferNeed ≡ false → Started
       (effect theList (enter (pollCodes code 0 0 [] (y ∷ ys))))
-      (effect (single text y) (enter (discovery.detectTypeF code (sensfReq y 0x01 0x00))))
+      (effect (single text y) (enter (discovery.detectTypeF code (systemCodeReq y))))
   start-runs known code takes enough =
       busy-equal caller known text words room code takes enough es (bookOrder askField (hers caller known text words room code takes enough b)) ((0, ordered askField) ∷ []) ((0, ordered askField) ∷ []) [] y ys _ _ [] isOpen record {
         first = 0;
         found = [];
         k = 1;
-        phases = (refl, detect-no-reset code (sensfReq y 0x01 0x00));
+        phases = (refl, detect-no-reset code (systemCodeReq y));
         lines = refl;
         before = record { firstIs = refl; foundIs = refl };
         commands = let f : frames (ordered askField ∷ []) ≡ 1 = ask-counts in omega arith;
@@ -344,12 +344,12 @@ module _ (caller : ℕ) (text words : List ℕ) (room : ℕ) (es : List EventAnd
               by-bitrate Starts (choiceOf text)
               (λ none-taken. subst₂ Started
               (let e : unchanged BadBitrate ≡ effectOf idle b (call caller theList room) = rw (isOpen, h, known, fits, none-taken (λ code. starts (discovery.pollTypeF code (wordsIn words)))) refl in e)
-              (let e : unchanged BadBitrate ≡ effectOf idle b (call caller (single text y) room) = rw (isOpen, h, known, none-taken (λ code. starts (discovery.detectTypeF code (sensfReq y 0x01 0x00)))) refl in e)
+              (let e : unchanged BadBitrate ≡ effectOf idle b (call caller (single text y) room) = rw (isOpen, h, known, none-taken (λ code. starts (discovery.detectTypeF code (systemCodeReq y)))) refl in e)
               (start-refused BadBitrate))
               (λ code takes. subst₂ Started
               (let e : effect theList (enter (pollCodes code 0 0 [] (y ∷ ys))) ≡ effectOf idle b (call caller theList room) = rw (isOpen, h, known, fits, takes (λ code. starts (discovery.pollTypeF code (wordsIn words))), codes) refl in e)
-              (let e : effect (single text y) (enter (discovery.detectTypeF code (sensfReq y 0x01 0x00))) ≡ effectOf idle b (call caller (single text y) room) =
-              rw (isOpen, h, known, takes (λ code. starts (discovery.detectTypeF code (sensfReq y 0x01 0x00)))) refl in e)
+              (let e : effect (single text y) (enter (discovery.detectTypeF code (systemCodeReq y))) ≡ effectOf idle b (call caller (single text y) room) =
+              rw (isOpen, h, known, takes (λ code. starts (discovery.detectTypeF code (systemCodeReq y)))) refl in e)
               (start-runs known code takes h))
 
 -- no codes: 4

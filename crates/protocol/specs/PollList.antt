@@ -8,12 +8,13 @@ use lib.Dec.{eqb}
 use lib.ListN.{length}
 use Rattle.errors.specs.declared.Refusal.{Refusal}
 use Rattle.exchange.specs.Exchange.{Event}
-use Rattle.protocol.specs.Scripts.{Byte, behind, Answer, done, type1, uidAndAts, nothing, refused, refusedAfter}
+use Rattle.protocol.specs.Scripts.{Byte, commandsLater, Answer, done, type1, uidAndAts, nothing, refused, refusedAfter}
 use Rattle.protocol.specs.Discovery.{byNoCard, cardMet, noCardMet}
 use Rattle.protocol.specs.Calls.{Call, reader, device, detectTypeF, pollTypeF}
 use Rattle.protocol.specs.Arguments.{wordsIn}
 use Rattle.protocol.specs.Session.{Running, idle, busy, Books, Session, Entry, call, event, Output, orders, answers, rejects, step, outputs, sessionAfter}
 use Rattle.protocol.specs.Record.{Item, Record, Note, Observed, recordOf, linesOf, frames}
+use Rattle.protocol.specs.Names.{systemCodeRequest, oneTimeSlot}
 
 -- ---- the two lists of entries
 
@@ -30,7 +31,7 @@ oneCall caller text words room es = call caller (reader (device (pollTypeF text 
 
 -- the single call of a code
 abbrev pub single : List ℕ → ℕ → Call
-single text code = reader (device (detectTypeF text code 0x01 0x00))
+single text code = reader (device (detectTypeF text code systemCodeRequest oneTimeSlot))
 
 -- a single call's end after which the next one is made: an answer, or 17
 abbrev pub goesOn : Answer Byte → Bool
@@ -102,7 +103,7 @@ codeBytes (some (refusedAfter r n)) = []
 -- what they all add. A card byte's command has the frames of the calls before it, too.
 abbrev pub allBytes : Record → List Note → List Byte
 allBytes l [] = []
-allBytes l (x ∷ ns) = allBytes l ns ++ map (behind (framesOf l ns)) (codeBytes (x .answer))
+allBytes l (x ∷ ns) = allBytes l ns ++ map (commandsLater (framesOf l ns)) (codeBytes (x .answer))
 
 -- of n codes: all are finished, and the answer is what they add
 abbrev pub allFinished : ℕ → Record → List Note → Option (Answer Byte)

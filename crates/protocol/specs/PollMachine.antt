@@ -6,7 +6,7 @@ use Prim.Native.Nat.{ℕ}
 use lib.ListN.{length}
 use Rattle.protocol.specs.Arguments.{systemCodesFit, wordsIn}
 use Rattle.protocol.specs.Session.{Books, Session, outputs, sessionAfter}
-use Rattle.protocol.specs.Machine.{plain, Machine, givenOut, stateAfter, entries, same-out, still-represents}
+use Rattle.protocol.specs.Machine.{outputValues, Machine, givenOut, stateAfter, entries, same-out, still-represents}
 use Rattle.protocol.specs.PollList.{EventAndRoom, oneCall, singleCalls, run, Equal, idleWith}
 use Rattle.protocol.specs.PollEqual.{poll-equals-singles}
 
@@ -14,8 +14,8 @@ module _ (M : Machine) where
   -- of the inputs of the one call and of the single calls, from a state s that stands for the session m: what is given out is what the
   -- definitions give out, which is equal; and the machine's counts are equal
   pub record EqualFrom (n : ℕ) (s : M .State) (m : Session) (one many : List (M .Input)) : Type 0 where
-    pub sameOne : givenOut M s one ≡ map plain (outputs m (entries M one))
-    pub sameMany : givenOut M s many ≡ map plain (outputs m (entries M many))
+    pub sameOne : givenOut M s one ≡ map outputValues (outputs m (entries M one))
+    pub sameMany : givenOut M s many ≡ map outputValues (outputs m (entries M many))
     pub equal : Equal n (run m (entries M one)) (run m (entries M many))
     pub counts : M .frames (stateAfter M s one) ≡ M .frames (stateAfter M s many)
 

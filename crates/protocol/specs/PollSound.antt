@@ -9,13 +9,13 @@ use borrow.Author.Tests.{eq-eqb, ne-eqb, eqb-true}
 use lib.Dec.{eqb}
 use lib.ListN.{length, take, getD, getElem?}
 use Rattle.errors.specs.declared.Fault.{Fault}
-use Rattle.protocol.specs.Scripts.{Byte, own, card, behind, Answer, done, type1, uidAndAts, nothing, refused, refusedAfter}
+use Rattle.protocol.specs.Scripts.{Byte, own, card, commandsLater, Answer, done, type1, uidAndAts, nothing, refused, refusedAfter}
 use Rattle.protocol.specs.Scripts.{Script, finish, command, reset, fieldPause, andThen, part, rest}
 use Rattle.protocol.specs.Arguments.{wordsIn}
-use Rattle.protocol.specs.Discovery.{sensfReq, poll, detectTypeF, byNoCard, cardMet, noCardMet, codeEnd, pollCodes}
+use Rattle.protocol.specs.Discovery.{poll, detectTypeF, byNoCard, cardMet, noCardMet, codeEnd, pollCodes, systemCodeReq}
 use Rattle.protocol.specs.Own.{Form, Polled, met, not-met, polledCodes}
 use Rattle.protocol.specs.Laws.{by-fault}
-use Rattle.protocol.specs.Sound.{Within, responseTo, responseIn, Placed, no-bytes, own-byte, card-byte, IsResponseByte, Final, Ends, Correct}
+use Rattle.protocol.specs.Sound.{Within, responseTo, responseIn, PlacedBytes, no-bytes, own-byte, card-byte, IsResponseByte, Final, Ends, Correct}
 use Rattle.protocol.specs.Sound.{ends-either, ends-if, ends-short, placed-part, placed-append, sound-rules}
 use Rattle.protocol.specs.Names.{idmAndPmm, listedIdmOffset, pmmEnd}
 
@@ -69,7 +69,7 @@ codes-within code first finished found [] = tt
 codes-within code first finished found (c ∷ codes) =
     let e : 3 * suc (length codes) ≡ 3 + 3 * length codes = omega arith in
     rw e
-    (within-then (detectTypeF code (sensfReq c 0x01 0x00)) 3 (3 * length codes) first _ (detect-within code (sensfReq c 0x01 0x00))
+    (within-then (detectTypeF code (systemCodeReq c)) 3 (3 * length codes) first _ (detect-within code (systemCodeReq c))
     (λ next a. within-end _ _ (3 * length codes)
     (λ bs. codes-within code next (suc finished) _ codes) (λ r. tt) a))
 
@@ -98,13 +98,13 @@ response-byte-later rs bs k p b h = go (eqb k (length rs)) refl
         absurd (let w : _≡_ {A = ℕ} 0 1 = cc in omega arith)
     go false e = h
 
-placed-later : (rs : List (List ℕ)) (bs : List ℕ) (xs : List Byte) → Placed rs xs → Placed (bs ∷ rs) xs
+placed-later : (rs : List (List ℕ)) (bs : List ℕ) (xs : List Byte) → PlacedBytes rs xs → PlacedBytes (bs ∷ rs) xs
 placed-later rs bs xs no-bytes = no-bytes
 placed-later rs bs xs (own-byte h) = own-byte (placed-later rs bs _ h)
 placed-later rs bs xs (card-byte {k} {p} {b} e h) = card-byte (response-byte-later rs bs k p b e) (placed-later rs bs _ h)
 
 -- what detect_type_f adds to the responses rs, and how it ends: with the bytes behind position 4 of the response to its poll, or with a fault
-pub record Found (rs rs′ : List (List ℕ)) (bytes : List Byte) : Type 0 where
+pub record FoundSoFar (rs rs′ : List (List ℕ)) (bytes : List Byte) : Type 0 where
   pub list : List ℕ
   pub more : ℕ
   pub few : more ≤ 1
@@ -119,7 +119,7 @@ pub record NotFound (rs rs′ : List (List ℕ)) : Type 0 where
   pub took : length rs′ ≡ length rs + (more + 2)
 
 abbrev pub EndsWith : List (List ℕ) → List (List ℕ) → Answer Byte → Type 0
-EndsWith rs rs′ (done bytes) = Found rs rs′ bytes
+EndsWith rs rs′ (done bytes) = FoundSoFar rs rs′ bytes
 EndsWith rs rs′ (type1 bytes) = ⊥
 EndsWith rs rs′ (uidAndAts bytes uid ats) = ⊥
 EndsWith rs rs′ nothing = ⊥
@@ -127,22 +127,22 @@ EndsWith rs rs′ (refused r) = byNoCard true false r ≡ true → NotFound rs r
 EndsWith rs rs′ (refusedAfter r n) = ⊥
 
 abbrev pub CodeEnds : List (List ℕ) → List (List ℕ) → Answer Byte → Type 0
-CodeEnds rs rs′ a = ((bs : List Byte) → Placed rs bs → Placed rs′ bs) × EndsWith rs rs′ a
+CodeEnds rs rs′ a = ((bs : List Byte) → PlacedBytes rs bs → PlacedBytes rs′ bs) × EndsWith rs rs′ a
 
 module _ (code : ℕ) (req : List ℕ) (rs : List (List ℕ)) where
   -- a fault before the poll is not 17
   fault-ends : (before : List (List ℕ)) (bs : List ℕ) (r : Fault) → byNoCard true false r ≡ false
-      → ((xs : List Byte) → Placed rs xs → Placed before xs) → CodeEnds rs (bs ∷ before) (refused r)
+      → ((xs : List Byte) → PlacedBytes rs xs → PlacedBytes before xs) → CodeEnds rs (bs ∷ before) (refused r)
   fault-ends before bs r h w = (λ xs p. placed-later before bs xs (w xs p), λ k. absurd (let z : _≡_ {A = ℕ} 0 1 = cc in omega arith))
 
   -- the poll's
   none-ends : (before : List (List ℕ)) (bs : List ℕ) (more : ℕ) (r : Fault) → more ≤ 1 → length before ≡ length rs + (more + 1)
-      → ((xs : List Byte) → Placed rs xs → Placed before xs) → CodeEnds rs (bs ∷ before) (refused r)
+      → ((xs : List Byte) → PlacedBytes rs xs → PlacedBytes before xs) → CodeEnds rs (bs ∷ before) (refused r)
   none-ends before bs more r few e w = (λ xs p. placed-later before bs xs (w xs p), λ k. record { more = more; few = few; took = omega arith })
 
   -- IDm and PMm are in the list
   card-ends : (before : List (List ℕ)) (list : List ℕ) (more : ℕ) → more ≤ 1 → length before ≡ length rs + (more + 1)
-      → ((xs : List Byte) → Placed rs xs → Placed before xs) → pmmEnd ≤ length list → CodeEnds rs (list ∷ before) (done (rest (more + 1) list listedIdmOffset))
+      → ((xs : List Byte) → PlacedBytes rs xs → PlacedBytes before xs) → pmmEnd ≤ length list → CodeEnds rs (list ∷ before) (done (rest (more + 1) list listedIdmOffset))
   card-ends before list more few e w h = (
     λ xs p. placed-later before list xs (w xs p),
     record {
@@ -157,7 +157,7 @@ module _ (code : ℕ) (req : List ℕ) (rs : List (List ℕ)) where
   )
 
   poll-ends : (before : List (List ℕ)) (more : ℕ) → more ≤ 1 → length before ≡ length rs + (more + 1)
-      → ((xs : List Byte) → Placed rs xs → Placed before xs) → Ends (CodeEnds rs) (poll (more + 1) code req) before
+      → ((xs : List Byte) → PlacedBytes rs xs → PlacedBytes before xs) → Ends (CodeEnds rs) (poll (more + 1) code req) before
   poll-ends before more few e w =
       let fault : (bs : List ℕ) (r : Fault) → CodeEnds rs (bs ∷ before) (refused r) = λ bs r. none-ends before bs more r few e w in
       let found : (list : List ℕ) → pmmEnd ≤ length list → CodeEnds rs (list ∷ before) (done (rest (more + 1) list listedIdmOffset)) =
@@ -185,27 +185,27 @@ take-part k bs p zero j = refl
 take-part k bs p (suc n) j =
     let e : suc n + j ≡ suc (n + j) = omega arith in rw e (ap (λ (xs : List Byte). card k p (getD bs p 0) ∷ xs) (take-part k bs (suc p) n j))
 
-behind-part : (m k : ℕ) (bs : List ℕ) (p n : ℕ) → map (behind m) (part k bs p n) ≡ part (m + k) bs p n
+behind-part : (m k : ℕ) (bs : List ℕ) (p n : ℕ) → map (commandsLater m) (part k bs p n) ≡ part (m + k) bs p n
 unfolding part
 behind-part m k bs p zero = refl
 behind-part m k bs p (suc n) = ap (λ (xs : List Byte). card (m + k) p (getD bs p 0) ∷ xs) (behind-part m k bs (suc p) n)
 
-first-16 : (m k : ℕ) (bs : List ℕ) → pmmEnd ≤ length bs → map (behind m) (take idmAndPmm (rest k bs listedIdmOffset)) ≡ part (m + k) bs listedIdmOffset idmAndPmm
+first-16 : (m k : ℕ) (bs : List ℕ) → pmmEnd ≤ length bs → map (commandsLater m) (take idmAndPmm (rest k bs listedIdmOffset)) ≡ part (m + k) bs listedIdmOffset idmAndPmm
 unfolding rest
 first-16 m k bs h =
     let e : length bs - listedIdmOffset ≡ idmAndPmm + (length bs - pmmEnd) = omega arith in
     let t : take idmAndPmm (part k bs listedIdmOffset (length bs - listedIdmOffset)) ≡ part k bs listedIdmOffset idmAndPmm = rw e (take-part k bs listedIdmOffset idmAndPmm (length bs - pmmEnd)) in
-    ap (map (behind m)) t ∙ behind-part m k bs listedIdmOffset idmAndPmm
+    ap (map (commandsLater m)) t ∙ behind-part m k bs listedIdmOffset idmAndPmm
 
 -- the codes finished, and what they found, after the responses rs
 pub record SoFar (rs : List (List ℕ)) (finished : ℕ) (found : List Byte) : Type 0 where
-  pub placed : Placed rs found
+  pub placed : PlacedBytes rs found
   pub polled : Polled finished (length rs) found
 
-module _ (rs rs′ : List (List ℕ)) (finished : ℕ) (found : List Byte) (so : SoFar rs finished found) (w : (xs : List Byte) → Placed rs xs → Placed rs′ xs) where
-  card-found : (bytes : List Byte) → Found rs rs′ bytes → SoFar rs′ (suc finished) (found ++ map (behind (length rs)) (cardMet bytes))
+module _ (rs rs′ : List (List ℕ)) (finished : ℕ) (found : List Byte) (so : SoFar rs finished found) (w : (xs : List Byte) → PlacedBytes rs xs → PlacedBytes rs′ xs) where
+  card-found : (bytes : List Byte) → FoundSoFar rs rs′ bytes → SoFar rs′ (suc finished) (found ++ map (commandsLater (length rs)) (cardMet bytes))
   card-found bytes f =
-      let e : map (behind (length rs)) (cardMet bytes) ≡ own 0x01 ∷ part (length rs + (f .more + 1)) (f .list) listedIdmOffset idmAndPmm =
+      let e : map (commandsLater (length rs)) (cardMet bytes) ≡ own 0x01 ∷ part (length rs + (f .more + 1)) (f .list) listedIdmOffset idmAndPmm =
       rw (f .form) (ap (λ (xs : List Byte). own 0x01 ∷ xs) (first-16 (length rs) (f .more + 1) (f .list) (f .enough))) in
       rw e record {
         placed = placed-append rs′ found _ (w found (so .placed)) (own-byte (placed-part rs′ _ (f .list) listedIdmOffset idmAndPmm pmmEnd (f .source) (f .enough) tt));
@@ -220,7 +220,7 @@ module _ (rs rs′ : List (List ℕ)) (finished : ℕ) (found : List Byte) (so :
 
 module _ (o : Form) (rs rs′ : List (List ℕ)) (finished : ℕ) (found : List Byte) (so : SoFar rs finished found)
     (f : List Byte → Script) (g : Fault → Script)
-    (h : (bytes : List Byte) → SoFar rs′ (suc finished) (found ++ map (behind (length rs)) bytes) → Correct o (f bytes) rs′)
+    (h : (bytes : List Byte) → SoFar rs′ (suc finished) (found ++ map (commandsLater (length rs)) bytes) → Correct o (f bytes) rs′)
     (k : (r : Fault) → Correct o (g r) rs′) where
   code-ends : (a : Answer Byte) → CodeEnds rs rs′ a → Correct o (codeEnd f g a) rs′
   code-ends (done bytes) (w, e) = h (cardMet bytes) (card-found rs rs′ finished found so w bytes e)
@@ -239,7 +239,7 @@ codes-correct code finished found (c ∷ codes) rs so =
     let o : Form = polledCodes (suc finished + length codes) in
     let e : finished + suc (length codes) ≡ suc finished + length codes = omega arith in
     rw e
-    (ends-then (CodeEnds rs) (Final o) _ (detectTypeF code (sensfReq c 0x01 0x00)) rs (detect-ends code (sensfReq c 0x01 0x00) rs)
+    (ends-then (CodeEnds rs) (Final o) _ (detectTypeF code (systemCodeReq c)) rs (detect-ends code (systemCodeReq c) rs)
     (λ rs′ a p. code-ends o rs rs′ finished found so _ _
-    (λ bytes new. codes-correct code (suc finished) (found ++ map (behind (length rs)) bytes) codes rs′ new)
+    (λ bytes new. codes-correct code (suc finished) (found ++ map (commandsLater (length rs)) bytes) codes rs′ new)
     (λ r. tt) a p))

@@ -12,7 +12,7 @@ use Rattle.errors.specs.declared.Fault.the-variants.{Transport, TimeOut, FalseS
 use Rattle.framing.specs.Frames.{ack}
 use Rattle.exchange.specs.Packets.{hasStart, ackLed, isEmpty, Reply, failed, replyOf}
 use Rattle.exchange.specs.Exchange.{Order, write, read, drain, pause, Event, ok, bad, pkt, time, fail, late, slept, firstReadTime}
-use Rattle.exchange.specs.Exchange.{unfit, pending, ended, Step, sending, reading, waiting, cancelling, rejecting, draining}
+use Rattle.exchange.specs.Exchange.{unfit, pending, ended, ExchangePhase, sending, reading, waiting, cancelling, rejecting, draining}
 use Rattle.exchange.specs.Exchange.{ExchangeResult, afterAck, onFirstPacket, onLaterPacket, onDrained, advance}
 use Rattle.protocol.specs.Scripts.{refused, Script}
 use Rattle.protocol.specs.Calls.{Call}
@@ -22,7 +22,7 @@ use Rattle.protocol.specs.Record.{Item, ordered, accepted, Record, lines
 use Rattle.protocol.specs.Own.{formOf}
 use Rattle.protocol.specs.Sound.{responseIn, OfExchange}
 use Rattle.protocol.specs.Laws.{split, of-exchange, by-write, by-read, by-pause, lines-own}
-use Rattle.protocol.specs.Invariant.{dueStep, step-due, due, phase-due, Left, LeftPhase, Asked, At, Invariant, Preserved}
+use Rattle.protocol.specs.Invariant.{dueStep, step-due, due, phase-due, RestSound, PhaseSound, Asked, At, Invariant, Preserved}
 use Rattle.protocol.specs.Invariant.{later-sourced, asked-later, closed, entered, bare, Brought, sourced-more, nothing-brought, brought}
 use Rattle.protocol.specs.Names.{resetPauseTime, openingReadTime}
 
@@ -44,7 +44,7 @@ module _ (n : ℕ) (c : Call) (l : Record) (xs : List Item) where
   goes-on : {phase : Phase} (new : Phase) (e : Event) (x : Order) (g : Invariant n c l xs phase)
       → events (ordered x ∷ accepted e ∷ xs) + due new ≤ allowed c (ordered x ∷ accepted e ∷ xs)
       → frames (ordered x ∷ accepted e ∷ xs) ≡ frames xs
-      → LeftPhase (formOf c) new (g .left) (g .responses)
+      → PhaseSound (formOf c) new (g .left) (g .responses)
       → At n c new ((n, ordered x) ∷ (n, accepted e) ∷ l) (ordered x ∷ accepted e ∷ xs) (length (g .responses))
       → PreservedBy e (pending x new)
   goes-on new e x g b q w s = record {
@@ -65,14 +65,14 @@ module _ (n : ℕ) (c : Call) (l : Record) (xs : List Item) where
       (later-sourced n c (g .responses) (g .source))
 
   -- the script goes on
-  resumes : {phase : Phase} (s : Script) (e : Event) (g : Invariant n c l xs phase) → Left (formOf c) s (g .left) (g .responses) → frames xs ≡ length (g .responses)
+  resumes : {phase : Phase} (s : Script) (e : Event) (g : Invariant n c l xs phase) → RestSound (formOf c) s (g .left) (g .responses) → frames xs ≡ length (g .responses)
       → PreservedBy e (enter s)
   resumes {phase} s e g w q =
       entered n c _ _ (g .responses) (own-lines e g) s (g .left) (omega (arith, phase-due phase)) (omega arith) w (omega arith)
       (later-sourced n c (g .responses) (g .source))
 
   -- the exchange ends with a reply
-  replies : {step : Step} (rest : Rest) (e : Event) (r : Reply) (g : Invariant n c l xs (exchange step rest)) → OfExchange r
+  replies : {step : ExchangePhase} (rest : Rest) (e : Event) (r : Reply) (g : Invariant n c l xs (exchange step rest)) → OfExchange r
       → Brought n c ((n, accepted e) ∷ l) (length (g .responses)) (responseIn r) → PreservedIn rest e (ended r)
   replies {step} (byReply k) e r g q f =
       entered n c _ _ (responseIn r ∷ g .responses) (own-lines e g) (k r) (g .left) (omega (arith, step-due step)) (omega arith)
@@ -94,23 +94,23 @@ module _ (n : ℕ) (c : Call) (l : Record) (xs : List Item) where
       }
 
   -- with a refusal; with what step 5 makes of the packet
-  fails : {step : Step} {rest : Rest} (e : Event) (r : Fault) → OfExchange (failed r) → Invariant n c l xs (exchange step rest) → PreservedIn rest e (ended (failed r))
+  fails : {step : ExchangePhase} {rest : Rest} (e : Event) (r : Fault) → OfExchange (failed r) → Invariant n c l xs (exchange step rest) → PreservedIn rest e (ended (failed r))
   fails {rest = rest} e r q g = replies rest e (failed r) g q (nothing-brought n c _ (length (g .responses)))
 
-  replies-to : {step : Step} {rest : Rest} (code : ℕ) (packet : List ℕ) (g : Invariant n c l xs (exchange step rest))
+  replies-to : {step : ExchangePhase} {rest : Rest} (code : ℕ) (packet : List ℕ) (g : Invariant n c l xs (exchange step rest))
       → Asked n c l (length (g .responses)) code → PreservedIn rest (pkt packet) (ended (replyOf code packet))
   replies-to {rest = rest} code packet g a =
       replies rest (pkt packet) (replyOf code packet) g (of-exchange code packet) (brought n c l (length (g .responses)) code packet (replyOf code packet) a refl)
 
   -- ACK is written, and the exchange then ends with a refusal
-  cancels : {step : Step} {rest : Rest} (e : Event) (r : Fault) → OfExchange (failed r) → Invariant n c l xs (exchange step rest) → 2 ≤ dueStep step
+  cancels : {step : ExchangePhase} {rest : Rest} (e : Event) (r : Fault) → OfExchange (failed r) → Invariant n c l xs (exchange step rest) → 2 ≤ dueStep step
       → PreservedIn rest e (pending (write ack) (cancelling r))
   cancels {rest = rest} e r q g d =
       let b : frames (ordered (write ack) ∷ xs) ≡ frames xs = bare n c xs in
       goes-on (exchange (cancelling r) rest) e (write ack) g (omega arith) (omega arith) (g .script) (omega arith, q)
 
   -- an ACK-led packet comes: the first, or an idle read
-  reads-on : {step : Step} {rest : Rest} (code clock : ℕ) (packet : List ℕ) (g : Invariant n c l xs (exchange step rest)) → 2 ≤ dueStep step
+  reads-on : {step : ExchangePhase} {rest : Rest} (code clock : ℕ) (packet : List ℕ) (g : Invariant n c l xs (exchange step rest)) → 2 ≤ dueStep step
       → 3 ≤ dueStep step + oneIf (idleUnder (pendingOrder xs) xs (pkt packet)) → Asked n c l (length (g .responses)) code → ackLed packet ≡ true
       → PreservedIn rest (pkt packet) (afterAck code clock)
   reads-on {rest = rest} code clock packet g d b a v =
@@ -125,7 +125,7 @@ module _ (n : ℕ) (c : Call) (l : Record) (xs : List Item) where
       let z : eqb (frames xs) 0 ≡ false = ne-eqb (frames xs) 0 (λ e. omega arith) in rw (g .place .1 .1, z, g .place .1 .2, v)
 
   -- the drain goes on
-  drains : {step : Step} {rest : Rest} (e : Event) → Invariant n c l xs (exchange step rest)
+  drains : {step : ExchangePhase} {rest : Rest} (e : Event) → Invariant n c l xs (exchange step rest)
       → 2 ≤ dueStep step + oneIf (idleUnder (pendingOrder xs) xs e) → PreservedIn rest e (pending drain draining)
   drains {rest = rest} e g i = goes-on (exchange draining rest) e drain g (omega arith) (omega arith) (g .script) (omega arith, refl)
 
@@ -161,7 +161,7 @@ module _ (n : ℕ) (c : Call) (l : Record) (xs : List Item) where
   -- ---- every event
 
   -- in the exchange
-  advance-preserved : (step : Step) (rest : Rest) → Invariant n c l xs (exchange step rest) → (e : Event) → PreservedIn rest e (advance step e)
+  advance-preserved : (step : ExchangePhase) (rest : Rest) → Invariant n c l xs (exchange step rest) → (e : Event) → PreservedIn rest e (advance step e)
   advance-preserved (sending code clock) rest g =
       by-write (PreservedIn rest) unfit (λ _. tt) _ _
       (goes-on (exchange (reading code clock) rest) ok (read firstReadTime) g (omega arith) (omega arith) (g .script)

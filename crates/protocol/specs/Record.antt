@@ -7,10 +7,10 @@ use Prim.Native.Nat.{ℕ, _+_, _*_}
 use lib.Dec.{eqb}
 use lib.ListN.{length}
 use Rattle.errors.specs.Choice.{same}
-use Rattle.exchange.specs.Packets.{commandFrame, resetCode, resetData, isAck, ackLed, isEmpty}
+use Rattle.exchange.specs.Packets.{commandFrame, isAck, ackLed, isEmpty}
 use Rattle.exchange.specs.Exchange.{Order, write, read, drain, pause, Event, onRead}
 use Rattle.protocol.specs.Scripts.{Byte, Answer}
-use Rattle.protocol.specs.Calls.{Call, opening, reader, isOpening, isPaddedMode}
+use Rattle.protocol.specs.Calls.{Call, opening, reader, isOpening, isPaddedMode, resetModeCode, resetModeData}
 use Rattle.protocol.specs.Session.{seen, Entry, call, event, Output, orders, answers, rejects}
 use Rattle.protocol.specs.Names.{fieldPauseTime}
 
@@ -137,7 +137,7 @@ frames xs = count isCommand xs
 
 -- a reset counts from its command frame on, a field pause from its order
 abbrev pub resets : List Item → ℕ
-resets xs = count (isWrite (λ bytes. same (commandFrame resetCode resetData) bytes)) xs
+resets xs = count (isWrite (λ bytes. same (commandFrame resetModeCode resetModeData) bytes)) xs
 
 abbrev pub fieldPauses : List Item → ℕ
 fieldPauses xs = count isFieldPause xs

@@ -14,9 +14,9 @@ use Rattle.exchange.specs.Exchange.{Event, ok, bad, pkt, time, fail, late, slep
 use Rattle.protocol.specs.Calls.{Call, opening, reader, isOpening}
 use Rattle.protocol.specs.Starts.{Start, refuses, starts, startOf, readerStart}
 use Rattle.protocol.specs.Session.{CallResult, enter, progress, Running, idle, busy, Books, lastCaller, admits, Session, fresh, packetLimit, seen, Entry, call, event, seenEntry}
-use Rattle.protocol.specs.Session.{Effect, unchanged, runs, ends, effect, bufferNeed, withRoom, withCaller, packetLength, admitted, eventEffect, started, callEffect, effectOf, runningAfter, booksAfter, after, given, step, outputs, sessionAfter}
+use Rattle.protocol.specs.Session.{Effect, unchanged, runs, ends, effect, bufferNeed, withRoom, withCaller, packetLength, admitted, eventEffect, started, callEffect, effectOf, runningAfter, booksAfter, afterEffect, given, step, outputs, sessionAfter}
 use Rattle.protocol.specs.Laws.{split}
-use Rattle.protocol.specs.Machine.{plain, Machine, givenOut, stateAfter, entries, same-given, same-counts}
+use Rattle.protocol.specs.Machine.{outputValues, Machine, givenOut, stateAfter, entries, same-given, same-counts}
 
 -- ---- the same with the mode off
 
@@ -44,10 +44,10 @@ offEntry (call k c room) = call k (offCall c) room
 offEntry (event e room) = event e room
 
 -- an opening's mode is one that there is
-abbrev pub Fits : Entry → Type 0
-Fits (call k (opening mode) room) = leb mode 1 ≡ true
-Fits (call k (reader c) room) = Unit {0}
-Fits (event e room) = Unit {0}
+abbrev pub HasMode : Entry → Type 0
+HasMode (call k (opening mode) room) = leb mode 1 ≡ true
+HasMode (call k (reader c) room) = Unit {0}
+HasMode (event e room) = Unit {0}
 
 -- ---- one entry
 
@@ -72,7 +72,7 @@ off-event c e room unfit = refl
 off-event c e room (pending x phase) = off-admitted e room (runs c x phase)
 off-event c e room (ended a) = off-admitted e room (ends c a)
 
-off-started : (k : ℕ) (c : Call) (room : ℕ) → Fits (call k c room) → started (offCall c) (startOf (offCall c)) ≡ offEffect (started c (startOf c))
+off-started : (k : ℕ) (c : Call) (room : ℕ) → HasMode (call k c room) → started (offCall c) (startOf (offCall c)) ≡ offEffect (started c (startOf c))
 off-started k (opening mode) room h = rw h
 off-started k (reader c) room h = go (readerStart c)
   where
@@ -80,7 +80,7 @@ off-started k (reader c) room h = go (readerStart c)
     go (refuses r) = refl
     go (starts s) = off-effect (reader c) (enter s)
 
-off-call : (t : Bool) (k : ℕ) (c : Call) (room : ℕ) → Fits (call k c room) → callEffect t k (offCall c) room ≡ offEffect (callEffect t k c room)
+off-call : (t : Bool) (k : ℕ) (c : Call) (room : ℕ) → HasMode (call k c room) → callEffect t k (offCall c) room ≡ offEffect (callEffect t k c room)
 off-call t k c room h =
     let off-caller : withCaller k (started (offCall c) (startOf (offCall c))) ≡ offEffect (withCaller k (started c (startOf c))) =
     ap (withCaller k) (off-started k c room h) ∙ off-if (leb k lastCaller) (started c (startOf c)) (unchanged BadArgument) in
@@ -92,7 +92,7 @@ off-call t k c room h =
 abbrev offSeen : Session → Entry → Entry
 offSeen s e = offEntry (seenEntry (s .books .padded) e)
 
-off-effect-of : (p : Running) (b : Books) (e : Entry) → Fits e
+off-effect-of : (p : Running) (b : Books) (e : Entry) → HasMode e
     → effectOf (offRunning p) (offBooks b) (offEntry (seenEntry (b .padded) e)) ≡ offEffect (effectOf p b e)
 off-effect-of idle b (call k c room) h = rw (same-opening c) (off-call (admits b c) k c room h)
 off-effect-of idle b (event e room) h = refl
@@ -119,11 +119,11 @@ off-given (unchanged r) = refl
 off-given (runs c x phase) = refl
 off-given (ends c a) = refl
 
-off-step : (s : Session) (e : Entry) → Fits e → step (off s) (offSeen s e) ≡ (off ((step s e) .0), (step s e) .1)
+off-step : (s : Session) (e : Entry) → HasMode e → step (off s) (offSeen s e) ≡ (off ((step s e) .0), (step s e) .1)
 off-step s e h =
     let o : Effect = effectOf (s .running) (s .books) e in
     let is : effectOf (offRunning (s .running)) (offBooks (s .books)) (offSeen s e) ≡ offEffect o = off-effect-of (s .running) (s .books) e h in
-    ap (λ x. (after (off s) (offSeen s e) x, given x)) is
+    ap (λ x. (afterEffect (off s) (offSeen s e) x, given x)) is
     ∙ (λ i. (record { running = off-running (s .running) o i; books = off-books (s .books) (s .books .padded) e o i }, off-given o i))
 
 -- ---- any list
@@ -133,7 +133,7 @@ abbrev Off : Session → List Entry → List Entry → Type 0
 Off s [] [] = Unit {0}
 Off s [] (d ∷ ds) = ⊥
 Off s (e ∷ es) [] = ⊥
-Off s (e ∷ es) (d ∷ ds) = Fits e × (step (off s) d ≡ step (off s) (offSeen s e)) × Off ((step s e) .0) es ds
+Off s (e ∷ es) (d ∷ ds) = HasMode e × (step (off s) d ≡ step (off s) (offSeen s e)) × Off ((step s e) .0) es ds
 
 off-list : (s : Session) (es ds : List Entry) → Off s es ds → (outputs (off s) ds ≡ outputs s es) × (sessionAfter (off s) ds ≡ off (sessionAfter s es))
 off-list s [] [] h = (refl, refl)
@@ -165,7 +165,7 @@ NoZeros slept = Unit {0}
 
 -- openings have a mode that there is, and packets have no extra zeros
 abbrev PlainEntry : Entry → Type 0
-PlainEntry (call k c room) = Fits (call k c room)
+PlainEntry (call k c room) = HasMode (call k c room)
 PlainEntry (event e room) = NoZeros e
 
 abbrev pub Plain : List Entry → Type 0
@@ -207,7 +207,7 @@ Padded (e ∷ es) = PaddedEntry e × Padded es
 abbrev pub plainEntry : Entry → Entry
 plainEntry e = offEntry (seenEntry true e)
 
-padded-fits : (e : Entry) → PaddedEntry e → Fits e
+padded-fits : (e : Entry) → PaddedEntry e → HasMode e
 padded-fits (call k (opening mode) room) h = rw h
 padded-fits (call k (reader c) room) h = tt
 padded-fits (event e room) h = tt
@@ -236,9 +236,9 @@ fresh-off (call k (opening mode) room ∷ es) h = (
   padded-fits (call k (opening mode) room) (h .0),
   refl,
   subst (λ m. Off ((step fresh (call k (opening m) room)) .0) es (map plainEntry es)) (sym (h .0))
-      (split (λ o. Off (after fresh (call k (opening 1) room) o) es (map plainEntry es)) (ltb room bufferNeed) _ _
+      (split (λ o. Off (afterEffect fresh (call k (opening 1) room) o) es (map plainEntry es)) (ltb room bufferNeed) _ _
       (λ _. fresh-off es (h .1))
-      (λ _. split (λ o. Off (after fresh (call k (opening 1) room) o) es (map plainEntry es)) (leb k lastCaller) _ _
+      (λ _. split (λ o. Off (afterEffect fresh (call k (opening 1) room) o) es (map plainEntry es)) (leb k lastCaller) _ _
       (λ _. padded-off _ es refl (h .1))
       (λ _. fresh-off es (h .1)))),
 )
@@ -301,7 +301,7 @@ leaves-out s [] = record { given = refl; after = refl }
 leaves-out s (e ∷ es) = go (isLong e) refl (leaves-out ((step s e) .0) es)
   where
     stays : isLong e ≡ true → (step s e) .0 ≡ s
-    stays h = ap (after s e) ((long-effect (s .running) (s .books) e h) .1)
+    stays h = ap (afterEffect s e) ((long-effect (s .running) (s .books) e h) .1)
 
     go : (t : Bool) → isLong e ≡ t → LeavesOut ((step s e) .0) es → LeavesOut s (e ∷ es)
     go true h next = record {
@@ -353,8 +353,8 @@ module _ (M : Machine) (is js : List (M .Input)) where
       let r = as-reference (entries M is) h in
       record {
         given =
-            ap (givenOthers (entries M is)) (same-given M is) ∙ others-map plain (entries M is) (outputs fresh (entries M is))
-            ∙ ap (map plain) (r .given ∙ ap (outputs fresh) (sym e)) ∙ sym (same-given M js);
+            ap (givenOthers (entries M is)) (same-given M is) ∙ others-map outputValues (entries M is) (outputs fresh (entries M is))
+            ∙ ap (map outputValues) (r .given ∙ ap (outputs fresh) (sym e)) ∙ sym (same-given M js);
         counted = same-counts M is ∙ r .counted ∙ ap (λ es. (sessionAfter fresh es) .books .counts) (sym e) ∙ sym (same-counts M js);
       }
 
@@ -363,6 +363,6 @@ module _ (M : Machine) (is js : List (M .Input)) where
       → (givenOut M (M .new) is ≡ givenOut M (M .new) js) × (M .frames (stateAfter M (M .new) is) ≡ M .frames (stateAfter M (M .new) js))
   machine-plain h e =
       let p = plain-same (entries M is) h in (
-        same-given M is ∙ ap (map plain) (sym (p .given) ∙ ap (outputs fresh) (sym e)) ∙ sym (same-given M js),
+        same-given M is ∙ ap (map outputValues) (sym (p .given) ∙ ap (outputs fresh) (sym e)) ∙ sym (same-given M js),
         same-counts M is ∙ sym (p .counted) ∙ ap (λ es. (sessionAfter fresh es) .books .counts) (sym e) ∙ sym (same-counts M js),
       )

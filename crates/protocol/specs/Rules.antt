@@ -9,7 +9,7 @@ use Rattle.errors.specs.declared.Fault.{Fault}
 use Rattle.errors.specs.declared.Fault.the-variants.{Status, ShortResponse, Rate}
 use Rattle.exchange.specs.Packets.{isEmpty}
 use Rattle.protocol.specs.Scripts.{Script, finish, refuse, ifElse, done, nothing, Byte, own, card, byteAt, rest}
-use Rattle.protocol.specs.Names.{noData, registerWriteFailed}
+use Rattle.protocol.specs.Names.{noData, registerWriteFailed, moreBit}
 
 -- ---- status and length; g says what a refusal leads to
 
@@ -59,10 +59,10 @@ onListed bytes none f = ifElse (eqb (getD bytes 0 0) 0) none (withLength bytes 2
 
 -- in_data_exchange: the status is masked; its bit 6 is the more flag
 abbrev pub maskedStatus : List ℕ → ℕ
-maskedStatus bytes = getD bytes 0 0 % 64
+maskedStatus bytes = getD bytes 0 0 % moreBit
 
 abbrev pub moreFlag : List ℕ → ℕ
-moreFlag bytes = getD bytes 0 0 / 64 % 2
+moreFlag bytes = getD bytes 0 0 / moreBit % 2
 
 abbrev pub onExchanged : List ℕ → (List ℕ → Script) → (Fault → Script) → Script
 onExchanged bytes f g =

@@ -7,9 +7,9 @@ use lib.ListN.{replicate, take}
 use Rattle.errors.specs.declared.Refusal.the-variants.{OutOfTurn, ShortBuffer, OverLong, BadArgument}
 use Rattle.errors.specs.declared.Fault.the-variants.{Transport, TimeOut, BrokenFrame, Length, FrameKind, Identifier, Code, Status, UidLayout}
 use Rattle.framing.specs.Frames.{ack, total, checksumOf, lengthBytes, normalFrame, extendedFrame, headOf, frameOf}
-use Rattle.errors.specs.Choice.{pick, same}
-use Rattle.targets.specs.Form.{inRange, allDigits}
-use Rattle.targets.specs.Bitrates.{isRate, sendLength, isBitrate, parseOf as parseText, codeOf, choiceOf}
+use Rattle.errors.specs.Choice.{pick, same, inRange}
+use Rattle.targets.specs.Form.{allDigits}
+use Rattle.targets.specs.Bitrates.{isRate, sendLength, isBitrate, sendPartOf as parseText, codeOf, choiceOf}
 use Rattle.framing.specs.Lists.{starts}
 use Rattle.framing.specs.Padded.{isPadded, zerosUpTo, extraZeros, unpadded}
 use Rattle.framing.specs.Parse.{isError, extends, lengthAt, normalAt, extendedAt, normalOf, extendedOf, dataOf, parseOf, payloadOf}
@@ -21,7 +21,8 @@ use Rattle.protocol.specs.Calls.{opening, reader, request, version, devi
 use Rattle.framing.specs.declared.LengthEncoding.the-variants.{NormalOrExtendedBigEndian}
 use Rattle.protocol.specs.Session.{Entry, call, event, Output, orders, answers, rejects, fresh, outputs, sessionAfter}
 use Rattle.protocol.specs.Record.{Item, recordOf, linesOf, frames, events, resets, idleReads, allowed}
-use Rattle.protocol.specs.Machine.{plain}
+use Rattle.protocol.specs.Machine.{outputValues}
+use Rattle.protocol.specs.Device.{hexDigit, hex, dotted}
 
 -- an entry, and what is given out for it
 abbrev Pair : Type 0
@@ -41,7 +42,7 @@ writes bytes = orders (write bytes)
 
 -- the run is what the definitions give out
 abbrev Runs : List Pair → Type 0
-Runs ps = map plain (outputs fresh (entriesOf ps)) ≡ givenFor ps
+Runs ps = map outputValues (outputs fresh (entriesOf ps)) ≡ givenFor ps
 
 -- document 01's whole case: `open`, `bad`, `version`
 whole-case : Runs ((call 0 (opening 0) 1024, writes ack) ∷ on bad (answers (refused Transport)) ∷ (call 0 (reader (request version)) 1024, rejects OutOfTurn) ∷ [])
@@ -115,7 +116,7 @@ run mode z = openingRun mode z ++ versionRun z
 
 -- to unfold this is to unfold the formats
 unfoldable pub formats : Unit {0}
-unfolding isPadded zerosUpTo extraZeros unpadded total checksumOf lengthBytes normalFrame extendedFrame headOf frameOf pick starts same isError extends lengthAt normalAt extendedAt normalOf extendedOf dataOf parseOf payloadOf commandFrame isAck hasStart ackLed replyOf
+unfolding isPadded zerosUpTo extraZeros unpadded total checksumOf lengthBytes normalFrame extendedFrame headOf frameOf pick starts same isError extends lengthAt normalAt extendedAt normalOf extendedOf dataOf parseOf payloadOf commandFrame isAck hasStart ackLed replyOf hexDigit hex dotted
 formats = tt
 
 opened : Runs (run 0 0)

@@ -17,9 +17,9 @@ value (own b) = b
 value (card k p b) = b
 
 -- the same byte in a call in which n commands come before
-abbrev pub behind : ℕ → Byte → Byte
-behind n (own b) = own b
-behind n (card k p b) = card (n + k) p b
+abbrev pub commandsLater : ℕ → Byte → Byte
+commandsLater n (own b) = own b
+commandsLater n (card k p b) = card (n + k) p b
 
 -- how a call ends: `done` with bytes, the same of a Type 1 tag, the same with the lengths of a UID and an ATS among them, `none`, or
 -- `refused`, of a list with the number of codes finished

@@ -9,11 +9,11 @@ use Rattle.errors.specs.declared.Refusal.the-variants.{OutOfTurn, ShortBuffer, 
 use Rattle.errors.specs.declared.Fault.the-variants.{Transport}
 use Rattle.framing.specs.Frames.{ack}
 use Rattle.framing.specs.Padded.{unpadded}
-use Rattle.exchange.specs.Packets.{commandFrame, resetCode, resetData, isAck, Reply}
+use Rattle.exchange.specs.Packets.{commandFrame, isAck, Reply}
 use Rattle.exchange.specs.Exchange.{Order, write, read, drain, pause, Event, ok, bad, pkt, time, fail, late, slept}
-use Rattle.exchange.specs.Exchange.{Result, unfit, pending, ended, onWrite, onRead, onPause, Step, sending, advance, ExchangeResult}
+use Rattle.exchange.specs.Exchange.{Result, unfit, pending, ended, onWrite, onRead, onPause, ExchangePhase, sending, advance, ExchangeResult}
 use Rattle.protocol.specs.Scripts.{Byte, Answer, done, type1, uidAndAts, nothing, refused, Script, finish, command, reset, fieldPause, refusedAfter}
-use Rattle.protocol.specs.Calls.{Call, opening, reader, isOpening, isPaddedMode}
+use Rattle.protocol.specs.Calls.{Call, opening, reader, isOpening, isPaddedMode, resetModeCode, resetModeData}
 use Rattle.protocol.specs.Starts.{Start, refuses, starts, startOf}
 use Rattle.protocol.specs.Names.{fieldPauseTime, openingReadTime, resetPauseTime, commandClock}
 
@@ -25,7 +25,7 @@ pub data Rest : Type 0 where
   ofReset : Script → Rest
 
 pub data Phase : Type 0 where
-  exchange : Step → Rest → Phase
+  exchange : ExchangePhase → Rest → Phase
   resetAck : Script → Phase  -- `reset_mode`: ACK is being written
   resetPause : Script → Phase  -- its 10 ms
   fieldPausing : Script → Phase  -- the field pause
@@ -39,7 +39,7 @@ CallResult = Result Phase (Answer Byte)
 abbrev pub enter : Script → CallResult
 enter (finish a) = ended a
 enter (command code clock bytes k) = pending (write (commandFrame code bytes)) (exchange (sending code clock) (byReply k))
-enter (reset s) = pending (write (commandFrame resetCode resetData)) (exchange (sending resetCode commandClock) (ofReset s))
+enter (reset s) = pending (write (commandFrame resetModeCode resetModeData)) (exchange (sending resetModeCode commandClock) (ofReset s))
 enter (fieldPause s) = pending (pause fieldPauseTime) (fieldPausing s)
 
 -- what a reply leads to
@@ -125,16 +125,16 @@ abbrev pub bookOrder : Order → Books → Books
 bookOrder x b = record { opened = b .opened; padded = b .padded; caller = b .caller; counts = countedFor (b .caller) x (b .counts) }
 
 -- an opening that succeeds leaves the reader open, one that fails unopened; any other call leaves it as it was
-abbrev pub answered : Answer Byte → Bool
-answered (done bytes) = true
-answered (type1 bytes) = true
-answered (uidAndAts bytes uid ats) = true
-answered nothing = false
-answered (refused r) = false
-answered (refusedAfter r n) = false
+abbrev pub succeeds : Answer Byte → Bool
+succeeds (done bytes) = true
+succeeds (type1 bytes) = true
+succeeds (uidAndAts bytes uid ats) = true
+succeeds nothing = false
+succeeds (refused r) = false
+succeeds (refusedAfter r n) = false
 
 abbrev pub bookAnswer : Call → Answer Byte → Books → Books
-bookAnswer c a b = record { opened = cond (isOpening c) (answered a) (b .opened); padded = b .padded; caller = b .caller; counts = b .counts }
+bookAnswer c a b = record { opened = cond (isOpening c) (succeeds a) (b .opened); padded = b .padded; caller = b .caller; counts = b .counts }
 
 -- ---- the session
 
@@ -235,9 +235,9 @@ runningAfter p (unchanged r) = p
 runningAfter p (runs c x phase) = busy c phase
 runningAfter p (ends c a) = idle
 
-abbrev pub booksOf : Entry → Books → Books
-booksOf (call caller c room) b = booksFor caller c b
-booksOf (event e room) b = b
+abbrev pub booksBy : Entry → Books → Books
+booksBy (call caller c room) b = booksFor caller c b
+booksBy (event e room) b = b
 
 abbrev pub bookEffect : Effect → Books → Books
 bookEffect (unchanged r) b = b
@@ -246,11 +246,11 @@ bookEffect (ends c a) b = bookAnswer c a b
 
 abbrev pub booksAfter : Books → Entry → Effect → Books
 booksAfter b e (unchanged r) = b
-booksAfter b e (runs c x phase) = bookEffect (runs c x phase) (booksOf e b)
-booksAfter b e (ends c a) = bookEffect (ends c a) (booksOf e b)
+booksAfter b e (runs c x phase) = bookEffect (runs c x phase) (booksBy e b)
+booksAfter b e (ends c a) = bookEffect (ends c a) (booksBy e b)
 
-abbrev pub after : Session → Entry → Effect → Session
-after s e o = record { running = runningAfter (s .running) o; books = booksAfter (s .books) e o }
+abbrev pub afterEffect : Session → Entry → Effect → Session
+afterEffect s e o = record { running = runningAfter (s .running) o; books = booksAfter (s .books) e o }
 
 abbrev pub given : Effect → Output Byte
 given (unchanged r) = rejects r
@@ -258,7 +258,7 @@ given (runs c x phase) = orders x
 given (ends c a) = answers a
 
 abbrev pub step : Session → Entry → Session × Output Byte
-step s e = (after s e (effectOf (s .running) (s .books) e), given (effectOf (s .running) (s .books) e))
+step s e = (afterEffect s e (effectOf (s .running) (s .books) e), given (effectOf (s .running) (s .books) e))
 
 -- what a list gives out, and the session after it
 abbrev pub outputs : Session → List Entry → List (Output Byte)

@@ -2,7 +2,7 @@
 -- Rules by which `search` proves a script sound.
 use mathlib.Core.Path.{_≡_, refl, sym, ap, _∙_}
 use mathlib.Core.Bool.{Bool, true, false, not, cond}
-use mathlib.Core.List.{List, [], _∷_, _++_}
+use mathlib.Core.List.{List, [], _∷_, _++_, map}
 use mathlib.Core.Option.{Option, none, some}
 use Prim.Native.Nat.{ℕ, zero, suc, _+_, _-_, _%_, _/_, _≤_, _<_}
 use native.Mathlib.Decide.{decLe}
@@ -22,10 +22,10 @@ use Rattle.protocol.specs.Scripts.{Byte, own, card, Answer, done, type1,
 use Rattle.protocol.specs.Scripts.{Script, finish, command, reset, fieldPause, either, ifElse, byteAt, part, rest}
 use Rattle.protocol.specs.Starts.{Start, refuses, starts, onCode, withBitrate}
 use Rattle.protocol.specs.Rules.{rateBytes, versionBytes, rate, sendIndex, receiveIndex}
-use Rattle.protocol.specs.Device.{hexDigit, hex, chipsetName}
+use Rattle.protocol.specs.Device.{chipsetName, nameBytes}
 use Rattle.protocol.specs.Discovery.{byNoCard, cardA, uidLength, atsLength}
 use Rattle.protocol.specs.Own.{Cards, Owns, CardsAndFlag, CardAndRates, DepAndCards, Form, versionAndName, HasForm, Formed}
-use Rattle.protocol.specs.Names.{selResOffset, sensResOffset, targetOffset, uidLengthOffset, uidOffset}
+use Rattle.protocol.specs.Names.{selResOffset, sensResOffset, targetOffset, uidLengthOffset, uidOffset, moreBit, atrResCmd0, atrResCmd1}
 
 -- on no path more than n command frames
 abbrev pub Within : Script → ℕ → Type 0
@@ -46,19 +46,19 @@ responseIn (response bs) = bs
 responseIn (failed r) = []
 
 -- each card byte is at its place
-pub data Placed (rs : List (List ℕ)) : List Byte → Type 0 where
-  no-bytes : Placed rs []
-  own-byte : {b : ℕ} {bs : List Byte} → Placed rs bs → Placed rs (own b ∷ bs)
-  card-byte : {k p b : ℕ} {bs : List Byte} → getElem? (responseTo rs k) p ≡ some b → Placed rs bs → Placed rs (card k p b ∷ bs)
+pub data PlacedBytes (rs : List (List ℕ)) : List Byte → Type 0 where
+  no-bytes : PlacedBytes rs []
+  own-byte : {b : ℕ} {bs : List Byte} → PlacedBytes rs bs → PlacedBytes rs (own b ∷ bs)
+  card-byte : {k p b : ℕ} {bs : List Byte} → getElem? (responseTo rs k) p ≡ some b → PlacedBytes rs bs → PlacedBytes rs (card k p b ∷ bs)
 
 -- b is the byte at position p of the response to command k
 abbrev pub IsResponseByte : List (List ℕ) → ℕ → ℕ → ℕ → Type 0
 IsResponseByte rs k p b = getElem? (responseTo rs k) p ≡ some b
 
 abbrev pub Final : Form → List (List ℕ) → Answer Byte → Type 0
-Final o rs (done bs) = Placed rs bs × HasForm (IsResponseByte rs) o bs
-Final o rs (type1 bs) = Placed rs bs × HasForm (IsResponseByte rs) o bs
-Final o rs (uidAndAts bs uid ats) = Placed rs bs × Formed (IsResponseByte rs) o (uidAndAts bs uid ats)
+Final o rs (done bs) = PlacedBytes rs bs × HasForm (IsResponseByte rs) o bs
+Final o rs (type1 bs) = PlacedBytes rs bs × HasForm (IsResponseByte rs) o bs
+Final o rs (uidAndAts bs uid ats) = PlacedBytes rs bs × Formed (IsResponseByte rs) o (uidAndAts bs uid ats)
 Final o rs nothing = Unit {0}
 Final o rs (refused r) = Unit {0}
 Final o rs (refusedAfter r n) = Unit {0}
@@ -161,46 +161,43 @@ in-range (b ∷ bs) (suc p) h = in-range bs p (le-of-suc-le-suc h)
 pub reach : (bs : List ℕ) (p m : ℕ) → m ≤ length bs → T (ltb p m) → getElem? bs p ≡ some (getD bs p 0)
 reach bs p m h t = in-range bs p (omega (arith, ltb→lt p m t))
 
-pub part-placed : (rs : List (List ℕ)) (k : ℕ) (bs : List ℕ) (p n : ℕ) → responseTo rs k ≡ bs → p + n ≤ length bs → Placed rs (part k bs p n)
+pub part-placed : (rs : List (List ℕ)) (k : ℕ) (bs : List ℕ) (p n : ℕ) → responseTo rs k ≡ bs → p + n ≤ length bs → PlacedBytes rs (part k bs p n)
 unfolding part
 part-placed rs k bs p zero e h = no-bytes
 part-placed rs k bs p (suc n) e h = card-byte {k = k} {p = p} {b = getD bs p 0} (rw e (in-range bs p (omega arith))) (part-placed rs k bs (suc p) n e (omega arith))
 
-pub placed-part : (rs : List (List ℕ)) (k : ℕ) (bs : List ℕ) (p n m : ℕ) → responseTo rs k ≡ bs → m ≤ length bs → T (leb (p + n) m) → Placed rs (part k bs p n)
+pub placed-part : (rs : List (List ℕ)) (k : ℕ) (bs : List ℕ) (p n m : ℕ) → responseTo rs k ≡ bs → m ≤ length bs → T (leb (p + n) m) → PlacedBytes rs (part k bs p n)
 placed-part rs k bs p n m e h t = part-placed rs k bs p n e (omega (arith, leb→le (p + n) m t))
 
 -- all but the last bytes, from a position on
-pub placed-inner : (rs : List (List ℕ)) (k : ℕ) (bs : List ℕ) (p q : ℕ) → responseTo rs k ≡ bs → T (leb p q) → Placed rs (part k bs p (length bs - q))
+pub placed-inner : (rs : List (List ℕ)) (k : ℕ) (bs : List ℕ) (p q : ℕ) → responseTo rs k ≡ bs → T (leb p q) → PlacedBytes rs (part k bs p (length bs - q))
 unfolding part
 placed-inner rs k bs p q e t = go (decLe q (length bs))
   where
-    go : Dec (q ≤ length bs) → Placed rs (part k bs p (length bs - q))
+    go : Dec (q ≤ length bs) → PlacedBytes rs (part k bs p (length bs - q))
     go (yes h) = part-placed rs k bs p (length bs - q) e (omega (arith, leb→le p q t))
     go (no h) = let z : length bs - q ≡ 0 = omega arith in rw z no-bytes
 
-pub placed-rest : (rs : List (List ℕ)) (k : ℕ) (bs : List ℕ) (p : ℕ) → responseTo rs k ≡ bs → Placed rs (rest k bs p)
+pub placed-rest : (rs : List (List ℕ)) (k : ℕ) (bs : List ℕ) (p : ℕ) → responseTo rs k ≡ bs → PlacedBytes rs (rest k bs p)
 unfolding rest part
 placed-rest rs k bs p e = go (decLe p (length bs))
   where
-    go : Dec (p ≤ length bs) → Placed rs (part k bs p (length bs - p))
+    go : Dec (p ≤ length bs) → PlacedBytes rs (part k bs p (length bs - p))
     go (yes h) = part-placed rs k bs p (length bs - p) e (omega arith)
     go (no h) = let z : length bs - p ≡ 0 = omega arith in rw z no-bytes
 
-pub placed-append : (rs : List (List ℕ)) (xs ys : List Byte) → Placed rs xs → Placed rs ys → Placed rs (xs ++ ys)
+pub placed-append : (rs : List (List ℕ)) (xs ys : List Byte) → PlacedBytes rs xs → PlacedBytes rs ys → PlacedBytes rs (xs ++ ys)
 placed-append rs xs ys no-bytes q = q
 placed-append rs xs ys (own-byte p) q = own-byte (placed-append rs _ ys p q)
 placed-append rs xs ys (card-byte e p) q = card-byte e (placed-append rs _ ys p q)
 
-placed-hex : (rs : List (List ℕ)) (b : ℕ) → Placed rs (hex b)
-placed-hex rs b = go (ltb b 16)
-  where
-    go : (t : Bool) → Placed rs (cond t (own (hexDigit b) ∷ []) (own (hexDigit (b / 16)) ∷ own (hexDigit (b % 16)) ∷ []))
-    go true = own-byte no-bytes
-    go false = own-byte (own-byte no-bytes)
+placed-own : (rs : List (List ℕ)) (l : List ℕ) → PlacedBytes rs (map own l)
+placed-own rs [] = no-bytes
+placed-own rs (b ∷ l) = own-byte (placed-own rs l)
 
 -- ---- rules, for the form of an answer
 
-pub formed : (rs : List (List ℕ)) (bs : List Byte) (F : Type 0) → Placed rs bs → F → Placed rs bs × F
+pub formed : (rs : List (List ℕ)) (bs : List Byte) (F : Type 0) → PlacedBytes rs bs → F → PlacedBytes rs bs × F
 formed rs bs F h k = (h, k)
 
 pub cards-part : (k : ℕ) (bs : List ℕ) (p n : ℕ) → Cards (part k bs p n)
@@ -212,17 +209,9 @@ pub cards-rest : (k : ℕ) (bs : List ℕ) (p : ℕ) → Cards (rest k bs p)
 unfolding rest
 cards-rest k bs p = cards-part k bs p (length bs - p)
 
-owns-append : (xs ys : List Byte) → Owns xs → Owns ys → Owns (xs ++ ys)
-owns-append [] ys h k = k
-owns-append (own b ∷ xs) ys h k = owns-append xs ys h k
-owns-append (card c p b ∷ xs) ys h k = absurd h
-
-owns-hex : (b : ℕ) → Owns (hex b)
-owns-hex b = go (ltb b 16)
-  where
-    go : (t : Bool) → Owns (cond t (own (hexDigit b) ∷ []) (own (hexDigit (b / 16)) ∷ own (hexDigit (b % 16)) ∷ []))
-    go true = tt
-    go false = tt
+owns-own : (l : List ℕ) → Owns (map own l)
+owns-own [] = tt
+owns-own (b ∷ l) = owns-own l
 
 -- the opening's answer, whose version is command 1
 pub version-name : (rs : List (List ℕ)) (bs : List ℕ) → responseTo rs 1 ≡ bs → 4 ≤ length bs
@@ -230,15 +219,14 @@ pub version-name : (rs : List (List ℕ)) (bs : List ℕ) → responseTo rs 1 �
 unfolding part
 version-name rs bs e h =
     let ver : ℕ = getD bs 1 0 in
-    let rev : ℕ = getD bs 2 0 in
-    let name : Placed rs (chipsetName ver rev) = search (no-bytes, own-byte, placed-append, placed-hex) depth 30 in (
-      placed-append rs (part 1 bs 0 3) (chipsetName ver rev) (part-placed rs 1 bs 0 3 e (omega arith)) name,
+    let rev : ℕ = getD bs 2 0 in (
+      placed-append rs (part 1 bs 0 3) (chipsetName ver rev) (part-placed rs 1 bs 0 3 e (omega arith)) (placed-own rs (nameBytes ver rev)),
       record {
         ic = getD bs 0 0;
         ver = ver;
         rev = rev;
         form = refl;
-        ownName = owns-append (hex ver) (own 0x2E ∷ hex rev) (owns-hex ver) (owns-hex rev);
+        ownName = owns-own (nameBytes ver rev);
       },
     )
 
@@ -246,7 +234,7 @@ pub first-byte : (bs : List ℕ) → T (not (isEmpty bs)) → getElem? bs 0 ≡ 
 first-byte [] h = absurd h
 first-byte (b ∷ bs) h = refl
 
-pub cards-flag : (rs : List (List ℕ)) (cards : List Byte) (status : ℕ) → Cards cards → IsResponseByte rs 0 0 status → CardsAndFlag (IsResponseByte rs) (cards ++ (own (status / 64 % 2) ∷ []))
+pub cards-flag : (rs : List (List ℕ)) (cards : List Byte) (status : ℕ) → Cards cards → IsResponseByte rs 0 0 status → CardsAndFlag (IsResponseByte rs) (cards ++ (own (status / moreBit % 2) ∷ []))
 cards-flag rs cards status h k = record { cards = cards; status = status; form = refl; allCards = h; source = k }
 
 T→true : (t : Bool) → T t → t ≡ true
@@ -267,12 +255,12 @@ pub rates-none : (bs : List ℕ) → T (not (eqb (getD bs 0 0) 1)) → 2 ≤ len
 rates-none bs h k =
     record { state = getD bs 0 0; indices = getD bs 1 0; form = rw (not-true (eqb (getD bs 0 0) 1) h) refl; source = in-range bs 1 k }
 
-pub dep-cards : (cards : List Byte) → Cards cards → DepAndCards (own 0xD5 ∷ own 0x01 ∷ cards)
+pub dep-cards : (cards : List Byte) → Cards cards → DepAndCards (own atrResCmd0 ∷ own atrResCmd1 ∷ cards)
 dep-cards cards h = record { cards = cards; form = refl; allCards = h }
 
 -- Type A's answer with two lengths, whose list is command 0
 module _ (o : Form) (rs : List (List ℕ)) (list : List ℕ) (e : responseTo rs 0 ≡ list) (long : uidOffset ≤ length list) where
-  cards-placed : Placed rs (cardA list)
+  cards-placed : PlacedBytes rs (cardA list)
   cards-placed =
       let at : (p : ℕ) → p < uidOffset → getElem? (responseTo rs 0) p ≡ some (getD list p 0) = λ p h. rw e (in-range list p (omega arith)) in
       card-byte (at (sensResOffset + 1) (omega arith)) (card-byte (at sensResOffset (omega arith)) (card-byte (at selResOffset (omega arith)) (placed-rest rs 0 list uidOffset e)))

@@ -9,6 +9,7 @@ use Rattle.errors.specs.declared.Refusal.{Refusal}
 use Rattle.errors.specs.declared.Refusal.the-variants.{OverLong, BadArgument, NotSendable, Bitrate as BadBitrate}
 use Rattle.felica.specs.Packets.{requestFits, writeFits}
 use Rattle.targets.specs.Bitrates.{Choice, chosen, noCode, choiceOf}
+use Rattle.targets.specs.TypeA.{isType2}
 use Rattle.targets.specs.declared.Bitrate.{Bitrate}
 use Rattle.targets.specs.declared.Bitrate.the-variants.{B106A, B212F, B424F, B106B, B212B, B424B, B848B, Other}
 use Rattle.protocol.specs.Scripts.{Script, reset, ask, ifElse}
@@ -17,7 +18,7 @@ use Rattle.protocol.specs.Arguments.{systemCodesFit, atrReqFits, wordsIn
 use Rattle.protocol.specs.Calls.{Row, row, resets, Request, rowOf, ReaderCall, request, device, unknown, Call, opening, reader, paddedMode}
 use Rattle.protocol.specs.Calls.{DeviceCall, detectTypeA, detectTypeASplit, detectTypeB, detectTypeF, pollTypeF, detectDep, transceive, readWithoutEncryption, writeWithoutEncryption}
 use Rattle.protocol.specs.Device.{deviceNew}
-use Rattle.protocol.specs.Discovery.{cascaded, isType2, sensfReq}
+use Rattle.protocol.specs.Discovery.{cascaded, sensfReq}
 use Rattle.protocol.specs.Blocks.{readBlocks, writeBlocks}
 use Rattle.protocol.specs.Discovery as discovery
 

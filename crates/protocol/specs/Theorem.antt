@@ -15,12 +15,12 @@ use Rattle.protocol.specs.Starts.{Start, refuses, starts, startOf}
 use Rattle.protocol.specs.Session.{Phase, CallResult, begin, progress, Running, idle, busy, Books, lastCaller, admits, Session, fresh, Entry, call, event}
 use Rattle.protocol.specs.Session.{Effect, effect, bufferNeed, packetLimit, seen, seenEntry, withRoom, packetLength, admitted, eventEffect, started, callEffect, effectOf, runningAfter, given, step, outputs}
 use Rattle.protocol.specs.Record.{Item, ordered, accepted, Record, Note, Observed, observed, addCall, addEvent, add, observe, recordOf, linesOf, modeAt, asSeen, frames, allowed}
-use Rattle.protocol.specs.Claim.{Running as Claimed, CardByte, Claim, Claims}
+use Rattle.protocol.specs.Claim.{RunningCall as Claimed, CardByte, Claim, Claims}
 use Rattle.protocol.specs.Own.{formOf}
 use Rattle.protocol.specs.Sound.{Sound}
 use Rattle.protocol.specs.CallsSound.{sound}
 use Rattle.protocol.specs.Laws.{split, lines-own, lines-other}
-use Rattle.protocol.specs.Invariant.{phase-due, Left, Sourced, Invariant, Preserved, later-card, later-sourced, form-by, bare, entered}
+use Rattle.protocol.specs.Invariant.{phase-due, RestSound, Sourced, Invariant, Preserved, later-card, later-sourced, form-by, bare, entered}
 use Rattle.protocol.specs.Preserved.{PreservedBy, preserved}
 use Rattle.protocol.specs.Seen.{Unused, no-lines, more-unused, unused-seen, add-seen, callerAt, books-after}
 
@@ -53,13 +53,13 @@ pub record Current (c : Call) (phase : Phase) (l : Record) (y : Note) (n : ℕ) 
   pub ownLines : List Item
   pub invariant : Invariant n c l ownLines phase
 
-abbrev pub Agrees : Running → Record → List Note → Type 0
-Agrees idle l ns = Claims l ns × Unused l (length ns)
-Agrees (busy c phase) l [] = ⊥
-Agrees (busy c phase) l (y ∷ ns) = Current c phase l y (length ns) × Claims l ns × Unused l (suc (length ns))
+abbrev pub RunningAgrees : Running → Record → List Note → Type 0
+RunningAgrees idle l ns = Claims l ns × Unused l (length ns)
+RunningAgrees (busy c phase) l [] = ⊥
+RunningAgrees (busy c phase) l (y ∷ ns) = Current c phase l y (length ns) × Claims l ns × Unused l (suc (length ns))
 
 abbrev AgreesAt : Running → Observed → Type 0
-AgreesAt p w = Agrees p (w .lines) (w .notes)
+AgreesAt p w = RunningAgrees p (w .lines) (w .notes)
 
 -- the record as the modes see it, and the mode
 pub record AgreesWith (s : Session) (w : Observed) : Type 0 where
@@ -67,7 +67,7 @@ pub record AgreesWith (s : Session) (w : Observed) : Type 0 where
   pub mode : s .books .padded ≡ modeAt (w .notes)
   pub caller : s .books .caller ≡ callerAt (w .notes)
 
-none-unused : (p : Running) (l : Record) (ns : List Note) → Agrees p l ns → Unused l (length ns)
+none-unused : (p : Running) (l : Record) (ns : List Note) → RunningAgrees p l ns → Unused l (length ns)
 none-unused idle l ns i = i .1
 none-unused (busy c phase) l [] i = absurd i
 none-unused (busy c phase) l (y ∷ ns) i = i .2
@@ -87,7 +87,7 @@ begun caller l ns c (pending x phase) h u q = (
 begun caller l ns c (ended a) h u q = ((q, h), more-unused l (length ns) u)
 
 -- a call goes on or ends
-module _ (c : Call) (phase : Phase) (l : Record) (y : Note) (ns : List Note) (e : Event) (i : Agrees (busy c phase) l (y ∷ ns)) where
+module _ (c : Call) (phase : Phase) (l : Record) (y : Note) (ns : List Note) (e : Event) (i : RunningAgrees (busy c phase) l (y ∷ ns)) where
   abbrev n : ℕ
   n = length ns
 
@@ -121,7 +121,7 @@ module _ (c : Call) (phase : Phase) (l : Record) (y : Note) (ns : List Note) (e 
   event-result-agrees room (pending x new) q = admitted-agrees room (effect c (pending x new)) (result-agrees (pending x new) q)
   event-result-agrees room (ended a) q = admitted-agrees room (effect c (ended a)) (result-agrees (ended a) q)
 
-event-agrees : (c : Call) (phase : Phase) (l : Record) (ns : List Note) (e : Event) (room : ℕ) → Agrees (busy c phase) l ns
+event-agrees : (c : Call) (phase : Phase) (l : Record) (ns : List Note) (e : Event) (room : ℕ) → RunningAgrees (busy c phase) l ns
     → AgreesAt
     (runningAfter (busy c phase) (eventEffect c e room (progress phase e)))
     (addEvent e l ns (given (eventEffect c e room (progress phase e))))
@@ -131,7 +131,7 @@ event-agrees c phase l (y ∷ ns) e room i =
 
 -- ---- a call
 
-module _ (caller : ℕ) (l : Record) (ns : List Note) (c : Call) (i : Agrees idle l ns) where
+module _ (caller : ℕ) (l : Record) (ns : List Note) (c : Call) (i : RunningAgrees idle l ns) where
   abbrev Starts : Effect → Type 0
   Starts o = AgreesAt (runningAfter idle o) (addCall caller c l ns (given o))
 
@@ -141,7 +141,7 @@ module _ (caller : ℕ) (l : Record) (ns : List Note) (c : Call) (i : Agrees idl
   no-line : linesOf (length ns) l ≡ []
   no-line = no-lines l (length ns) (length ns) (i .1) (omega arith)
 
-  begin-preserved : (b : Bool) (s : Script) → isOpening c ≡ b → Left (formOf c) s (limit c) [] → Preserved (length ns) c l [] (begin b s)
+  begin-preserved : (b : Bool) (s : Script) → isOpening c ≡ b → RestSound (formOf c) s (limit c) [] → Preserved (length ns) c l [] (begin b s)
   begin-preserved true s e h =
       let f : frames (ordered (write ack) ∷ []) ≡ 0 = bare (length ns) c [] in
       let a : 2 ≤ allowed c (ordered (write ack) ∷ []) = rw e (omega arith) in
@@ -170,7 +170,7 @@ module _ (caller : ℕ) (l : Record) (ns : List Note) (c : Call) (i : Agrees idl
 
 -- ---- any list
 
-step-agrees : (p : Running) (b : Books) (l : Record) (ns : List Note) (e : Entry) → Agrees p l ns
+step-agrees : (p : Running) (b : Books) (l : Record) (ns : List Note) (e : Entry) → RunningAgrees p l ns
     → AgreesAt (runningAfter p (effectOf p b e)) (add (observed l ns) (seenEntry (b .padded) e) (given (effectOf p b e)))
 step-agrees idle b l ns (call caller c room) i = call-agrees caller l ns c i (admits b c) room
 step-agrees idle b l [] (event e room) i = i
@@ -193,7 +193,7 @@ still-runs n c l xs phase g =
     let e : linesOf n l ≡ xs = g .lines in
     record { framesWithin = rw e (omega arith); eventsBelow = rw e (omega (arith, phase-due phase)) }
 
-claims : (p : Running) (l : Record) (ns : List Note) → Agrees p l ns → Claims l ns
+claims : (p : Running) (l : Record) (ns : List Note) → RunningAgrees p l ns → Claims l ns
 claims idle l ns i = i .0
 claims (busy c phase) l [] i = absurd i
 claims (busy c phase) l (y ∷ ns) i =

@@ -10,9 +10,9 @@ use borrow.Author.Tests.{lt-ltb, le-ltb}
 use lib.ListN.{length, drop, getD, length-drop}
 use lib.Seq.{getD-drop, drop-drop}
 use Rattle.errors.specs.declared.Fault.the-variants.{UidLayout}
-use Rattle.targets.specs.TypeA.{TargetData, isTargetData, target-taken, target-only, target-long, uid-length-at, ats-length-at, parts-at}
+use Rattle.targets.specs.TypeA.{TargetData, isTargetData, target-taken, target-only, target-long, uid-length-at, ats-length-at, parts-at, isType2}
 use Rattle.protocol.specs.Scripts.{value, done, uidAndAts, nothing, finish, refuse, ifElse}
-use Rattle.protocol.specs.Discovery.{cardA, isType2, withoutCrc, byType2, foundA, uidLength, atsLength, foundSplit}
+use Rattle.protocol.specs.Discovery.{cardA, withoutCrc, byType2, foundA, uidLength, atsLength, foundSplit}
 use Rattle.protocol.specs.Values.{rest-values}
 use Rattle.protocol.specs.Names.{selResOffset, sensResOffset, targetOffset, uidOffset}
 

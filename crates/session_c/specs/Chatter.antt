@@ -12,7 +12,7 @@ use Rattle.engine.specs.Inputs.{Input}
 use Rattle.engine.specs.Refinement.{engine}
 use Rattle.engine.specs.Chatter.{engine-chatter}
 use Rattle.engine.specs.declared.session.Session.{Session}
-use Rattle.session_c.specs.Entries.{HostEntry, inputOf, bufferIn}
+use Rattle.session_c.specs.Entries.{HostEntry, hostInput, bufferIn}
 use Rattle.session_c.specs.Demand3.{inputs, sessionAfter, reportsFor, same, MixedEntry, mixedInput, mixedBuffer}
 
 module _ (E : Type 0) (input : E → Option Input) (buffer : E → List ℕ) where
@@ -55,8 +55,8 @@ module _ (E : Type 0) (input : E → Option Input) (buffer : E → List ℕ) whe
       }
 
 -- of the host's entries
-pub host-chatter : Chatters HostEntry inputOf bufferIn
-host-chatter = chatters HostEntry inputOf bufferIn
+pub host-chatter : Chatters HostEntry hostInput bufferIn
+host-chatter = chatters HostEntry hostInput bufferIn
 
 -- of both in one list
 pub mixed-chatter : Chatters MixedEntry mixedInput mixedBuffer

@@ -6,12 +6,12 @@ use mathlib.Core.Option.{Option, none, some}
 use Prim.Native.Nat.{ℕ}
 use Rattle.protocol.specs.Session.{Output as Given}
 use Rattle.protocol.specs.Machine.{Obeys, givenOut, stateAfter}
-use Rattle.engine.specs.Sessions.{freshSession}
+use Rattle.engine.specs.SessionSteps.{freshSession}
 use Rattle.engine.specs.Inputs.{Input, bufferOf, stepWith}
 use Rattle.engine.specs.Refinement.{engine, engine-demand3}
 use Rattle.engine.specs.declared.session.Session.{Session}
-use Rattle.session_c.specs.Outcomes.{Report}
-use Rattle.session_c.specs.Entries.{HostEntry, inputOf, bufferIn, reportWith}
+use Rattle.session_c.specs.Outcomes.{Reported}
+use Rattle.session_c.specs.Entries.{HostEntry, hostInput, bufferIn, reportWith}
 use Rattle.session_c.specs.Outputs.{outputIn, output-is}
 
 -- ---- entries of any kind, each with its engine's entry, if it has one, and the bytes of its buffer
@@ -21,7 +21,7 @@ withInput none is = is
 withInput (some i) is = i ∷ is
 
 -- the orders and answers that the outcomes and the buffers say, those of the engine's entries
-abbrev withReport : Option Input → Report → List (Given ℕ) → List (Given ℕ)
+abbrev withReport : Option Input → Reported → List (Given ℕ) → List (Given ℕ)
 withReport none r os = os
 withReport (some i) r os = outputIn (r .outcome) (r .buffer) ∷ os
 
@@ -31,7 +31,7 @@ module _ (E : Type 0) (input : E → Option Input) (buffer : E → List ℕ) whe
   inputs [] = []
   inputs (e ∷ es) = withInput (input e) (inputs es)
 
-  abbrev reportFor : Session → E → Report
+  abbrev reportFor : Session → E → Reported
   reportFor s e = reportWith s (input e) (buffer e)
 
   -- the session behind a list
@@ -47,7 +47,7 @@ module _ (E : Type 0) (input : E → Option Input) (buffer : E → List ℕ) whe
   abbrev pub Same : Session → List E → Type 0
   Same s es = (sessionAfter s es ≡ stateAfter engine s (inputs es)) × (reportsFor s es ≡ givenOut engine s (inputs es))
 
-  abbrev SameWith : Session → Option Input → Report → List E → Type 0
+  abbrev SameWith : Session → Option Input → Reported → List E → Type 0
   SameWith s i r es =
       (sessionAfter (r .session) es ≡ stateAfter engine s (withInput i (inputs es)))
       × (withReport i r (reportsFor (r .session) es) ≡ givenOut engine s (withInput i (inputs es)))
@@ -74,11 +74,11 @@ module _ (E : Type 0) (input : E → Option Input) (buffer : E → List ℕ) whe
 -- ---- the host's entries
 
 abbrev pub HostObeys : List HostEntry → Type 0
-HostObeys hs = ObeysFor HostEntry inputOf bufferIn hs
+HostObeys hs = ObeysFor HostEntry hostInput bufferIn hs
 
 -- demand 3 of the host's entries: for every list of them, from a fresh session
 pub host-demand3 : (hs : List HostEntry) → HostObeys hs
-host-demand3 hs = obeys-for HostEntry inputOf bufferIn hs
+host-demand3 hs = obeys-for HostEntry hostInput bufferIn hs
 
 -- ---- the host's entries and the session's own, in one list
 
@@ -87,7 +87,7 @@ pub data MixedEntry : Type 0 where
   bySession : Input → MixedEntry
 
 abbrev pub mixedInput : MixedEntry → Option Input
-mixedInput (byHost h) = inputOf h
+mixedInput (byHost h) = hostInput h
 mixedInput (bySession i) = some i
 
 abbrev pub mixedBuffer : MixedEntry → List ℕ

@@ -9,7 +9,7 @@ use Rattle.calls.specs.Numbers.{callOf}
 use Rattle.calls.specs.declared.start.Numbers.{Numbers}
 use Rattle.engine.specs.Numbers.{callInput, eventBy}
 use Rattle.engine.specs.declared.session.Session.{Session}
-use Rattle.session_c.specs.Outcomes.{Report, report, reportOf, refusedOutcome, withRefusal}
+use Rattle.session_c.specs.Outcomes.{Reported, report, stepReported, refusedOutcome, refusalOutcome}
 
 -- a call or an event as the host gives it: a number, its arguments and the bytes of the buffer
 pub data HostEntry : Type 0 where
@@ -21,18 +21,18 @@ eventInput none b = none
 eventInput (some e) b = some (gives e b)
 
 -- the engine's entry; none for an event with a number that has none
-abbrev pub inputOf : HostEntry → Option Input
-inputOf (hostCall number numbers first second third fourth b) = some (callInput (numbers .caller) (callOf number numbers first second third fourth) b)
-inputOf (hostEvent number packet b) = eventInput (eventBy number packet) b
+abbrev pub hostInput : HostEntry → Option Input
+hostInput (hostCall number numbers first second third fourth b) = some (callInput (numbers .caller) (callOf number numbers first second third fourth) b)
+hostInput (hostEvent number packet b) = eventInput (eventBy number packet) b
 
 abbrev pub bufferIn : HostEntry → List ℕ
 bufferIn (hostCall number numbers first second third fourth b) = b
 bufferIn (hostEvent number packet b) = b
 
 -- what has no entry of the engine is refused as out of turn, and nothing changes
-abbrev pub reportWith : Session → Option Input → List ℕ → Report
-reportWith s none b = report s (withRefusal refusedOutcome (plain 1) 0) b
-reportWith s (some i) b = reportOf (stepWith s i)
+abbrev pub reportWith : Session → Option Input → List ℕ → Reported
+reportWith s none b = report s (refusalOutcome refusedOutcome (plain 1) 0) b
+reportWith s (some i) b = stepReported (stepWith s i)
 
-abbrev pub reportFor : Session → HostEntry → Report
-reportFor s h = reportWith s (inputOf h) (bufferIn h)
+abbrev pub reportFor : Session → HostEntry → Reported
+reportFor s h = reportWith s (hostInput h) (bufferIn h)

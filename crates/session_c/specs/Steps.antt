@@ -5,17 +5,17 @@ use mathlib.Core.Option.{Option, none, some}
 use Prim.Native.Nat.{ℕ}
 use Rattle.exchange.specs.Exchange.{Event}
 use Rattle.engine.specs.Core.{After, arrays}
-use Rattle.engine.specs.Sessions.{State, effected, arraysIn, stateIn, sessionAfter}
+use Rattle.engine.specs.SessionSteps.{State, effected, arraysIn, stateIn, steppedOf}
 use Rattle.engine.specs.Inputs.{Input, afterInput}
 use Rattle.engine.specs.Numbers.{afterEventNumber}
 use Rattle.engine.specs.declared.session.Session.{Session}
 use Rattle.engine.specs.declared.core.Progress.{Progress}
-use Rattle.session_c.specs.Outcomes.{Report, report, reportOf, joined, outcomeOf}
+use Rattle.session_c.specs.Outcomes.{Reported, report, stepReported, joined, outcomeOf}
 use Rattle.session_c.specs.Entries.{eventInput, reportWith}
 use Rattle.session_c.specs.declared.outcome.Outcome.{Outcome}
 
-abbrev pub reportAfter : After State → Report
-reportAfter a = reportOf (sessionAfter a)
+abbrev pub reportAfter : After State → Reported
+reportAfter a = stepReported (steppedOf a)
 
 reported : (o : Outcome) (e : Progress) (a : After State) (command found frames books b : List ℕ)
     → o ≡ outcomeOf (e .output) → effected e books frames (arrays command found) b ≡ a → report (joined command found frames books (e .core)) o b ≡ reportAfter a

@@ -16,16 +16,16 @@ use Rattle.protocol.specs.Calls.{Call, opening, reader}
 use Rattle.engine.specs.Inputs.{Input, opens, asks, gives, bufferOf, stepWith}
 use Rattle.calls.specs.Numbers.{callOf}
 use Rattle.engine.specs.Numbers.{callInput, eventBy}
-use Rattle.engine.specs.Sessions.{stateIn, isFree}
+use Rattle.engine.specs.SessionSteps.{stateIn, isFree}
 use Rattle.engine.specs.Unchanged.{refused-unchanged, refused-ends, list-ends}
 use Rattle.engine.specs.declared.session.Session.{Session}
 use Rattle.engine.specs.declared.core.Output.{Output}
 use Rattle.engine.specs.declared.core.Output.the-variants.{Ack, Command, Read, Drain, Pause, Done, Type1, UidAndAts, Nothing, Failed, FailedAfter, Refused}
-use Rattle.session_c.specs.Outcomes.{Report, reportOf, refusedOutcome, listRefusedOutcome, outcomeOf}
+use Rattle.session_c.specs.Outcomes.{Reported, stepReported, refusedOutcome, listRefusedOutcome, outcomeOf}
 use Rattle.session_c.specs.Entries.{HostEntry, hostCall, hostEvent, bufferIn, eventInput, reportWith, reportFor}
 
 -- what a report has to say of the session s and the buffer b that went in
-pub record RefusedUnchanged (s : Session) (b : List ℕ) (r : Report) : Type 0 where
+pub record RefusedUnchanged (s : Session) (b : List ℕ) (r : Reported) : Type 0 where
   pub early : (r .outcome) .kind ≡ refusedOutcome → (r .outcome) .refusal ≤ 6 → (r .session ≡ s) × (r .buffer ≡ b)
   pub late : (r .outcome) .kind ≡ refusedOutcome → 7 ≤ (r .outcome) .refusal → (isFree (stateIn (r .session)) ≡ true) × (r .buffer ≡ b)
   pub listed : (r .outcome) .kind ≡ listRefusedOutcome → (isFree (stateIn (r .session)) ≡ true) × (r .buffer ≡ b)
@@ -94,7 +94,7 @@ listed-by (Failed r) e = absurd (omega (arith, e))
 listed-by (FailedAfter r n) e = record { fault = r; finished = n; is = refl }
 listed-by (Refused r) e = absurd (omega (arith, e))
 
-step-unchanged : (s : Session) (i : Input) → RefusedUnchanged s (bufferOf i) (reportOf (stepWith s i))
+step-unchanged : (s : Session) (i : Input) → RefusedUnchanged s (bufferOf i) (stepReported (stepWith s i))
 step-unchanged s i = record {
   early = λ k h. early (refused-by ((stepWith s i) .output) k) h;
   late = λ k h. late (refused-by ((stepWith s i) .output) k) h;
@@ -112,7 +112,7 @@ step-unchanged s i = record {
     late (at-once r e) h = absurd (omega (arith, h, ap (λ x. (outcomeOf x) .refusal) e, refusal-early r))
     late (later r e) h = refused-ends s i r e
 
-call-unchanged : (s : Session) (k : ℕ) (c : Call) (b : List ℕ) → RefusedUnchanged s b (reportOf (stepWith s (callInput k c b)))
+call-unchanged : (s : Session) (k : ℕ) (c : Call) (b : List ℕ) → RefusedUnchanged s b (stepReported (stepWith s (callInput k c b)))
 call-unchanged s k (opening mode) b = step-unchanged s (opens k mode b)
 call-unchanged s k (reader c) b = step-unchanged s (asks k c b)
 

@@ -7,7 +7,7 @@ use engine::session::Session;
 use engine::state;
 use outcome::Outcome;
 ghost use mathlib.Core.Path.{_≡_};
-ghost use Rattle.engine.specs.Sessions.{freshSession};
+ghost use Rattle.engine.specs.SessionSteps.{freshSession};
 ghost use Rattle.session_c.specs.Outcomes.{report};
 ghost use Rattle.session_c.specs.Entries.{hostCall, hostEvent, reportFor};
 

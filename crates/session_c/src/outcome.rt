@@ -2,8 +2,9 @@
 use engine::core::Output;
 use errors::Fault;
 use errors::Numbered;
+use framing::ACK_SIZE;
 ghost use mathlib.Core.Path.{_≡_};
-ghost use Rattle.session_c.specs.Outcomes.{withBytes, withTime, withLengths, withRefusal, outcomeOf};
+ghost use Rattle.session_c.specs.Outcomes.{bytesOutcome, timeOutcome, lengthsOutcome, refusalOutcome, outcomeOf};
 
 pub const WRITE: u8 = 0;
 
@@ -50,7 +51,7 @@ struct Failure {
 
 impl Outcome {
     fn bytes(kind: u8, len: usize) -> Outcome
-        ensures { λ r. ⌜ r ≡ withBytes kind len ⌝ }
+        ensures { λ r. ⌜ r ≡ bytesOutcome kind len ⌝ }
     {
         Outcome {
             kind,
@@ -66,7 +67,7 @@ impl Outcome {
     }
 
     fn uid_and_ats(len: usize, uid: u8, ats: u8) -> Outcome
-        ensures { λ r. ⌜ r ≡ withLengths len uid ats ⌝ }
+        ensures { λ r. ⌜ r ≡ lengthsOutcome len uid ats ⌝ }
     {
         Outcome {
             kind: UID_AND_ATS,
@@ -82,7 +83,7 @@ impl Outcome {
     }
 
     fn timed(kind: u8, time: u32) -> Outcome
-        ensures { λ r. ⌜ r ≡ withTime kind time ⌝ }
+        ensures { λ r. ⌜ r ≡ timeOutcome kind time ⌝ }
     {
         Outcome {
             kind,
@@ -98,7 +99,7 @@ impl Outcome {
     }
 
     fn refused(kind: u8, numbered: Numbered, finished: u8) -> Outcome
-        ensures { λ r. ⌜ r ≡ withRefusal kind numbered finished ⌝ }
+        ensures { λ r. ⌜ r ≡ refusalOutcome kind numbered finished ⌝ }
     {
         Outcome {
             kind,
@@ -117,7 +118,7 @@ impl Outcome {
         ensures { λ r. ⌜ r ≡ outcomeOf output ⌝ }
     {
         let failure = match output {
-            Output::Ack => return Outcome::bytes(WRITE, 6),
+            Output::Ack => return Outcome::bytes(WRITE, ACK_SIZE),
             Output::Command(len) => return Outcome::bytes(WRITE, len),
             Output::Read(ms) => return Outcome::timed(READ, ms),
             Output::Drain => return Outcome::bytes(DRAIN, 0),

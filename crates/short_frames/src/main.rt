@@ -3,7 +3,7 @@
 mod summary;
 
 use acceptance::Entry;
-use acceptance::Step;
+use acceptance::Reached;
 use acceptance::lines;
 use summary::Summary;
 
@@ -15,7 +15,7 @@ fn main() {
     let summed = 1 < os::arg_count();
     let mut summary = Summary::empty();
     let mut buffer = io::large_buffer();
-    let mut step = Step::At(Entry::start());
+    let mut step = Reached::At(Entry::start());
     let mut left = ENTRIES;
     while left > 0 {
         let block = lines::fill(step, &mut buffer);

@@ -19,7 +19,7 @@ pub record Puts (b : List ℕ) (n : ℕ) (l c : List ℕ) : Type 0 where
   pub is : b ≡ put l c
 
 -- a part was put behind the first len bytes of t₀, which is t₁ now, and r is their number then; or it did not fit
-pub record Appends (part t₀ t₁ : List ℕ) (len r : ℕ) : Type 0 where
+pub record AppendsPart (part t₀ t₁ : List ℕ) (len r : ℕ) : Type 0 where
   pub count : len + length part ≤ length t₀ → r ≡ len + length part
   pub puts : (l c : List ℕ) → len + length part ≤ length t₀ → Puts t₀ len l c → Puts t₁ r (l ++ part) c
   pub left : length t₀ < len + length part → (r ≡ len) × (t₁ ≡ t₀)

@@ -2,14 +2,14 @@
 ghost use mathlib.Core.List.{_++_};
 ghost use Prim.Native.Nat.{ℕ, _+_};
 ghost use lib.ListN.{length};
-ghost use Rattle.stages.specs.Put.{Appends, Sum, Joins};
+ghost use Rattle.stages.specs.Put.{AppendsPart, Sum, Joins};
 
 // The most bytes of a command's data.
 pub const DATA_LIMIT: usize = 512;
 
 // Puts a part behind the first `len` bytes, where it fits, and answers how many there are then.
 pub fn append(part: &[u8], target: &mut [u8], len: usize) -> usize
-    ensures { λ r. ⌜ Appends (now (part .entry)) (now (target .entry)) (now (target .exit)) len r ⌝ }
+    ensures { λ r. ⌜ AppendsPart (now (part .entry)) (now (target .entry)) (now (target .exit)) len r ⌝ }
 {
     if target.len() < len {
         return len;

@@ -1,4 +1,4 @@
--- `isRate` and `parseOf` take exactly the texts of `Form`; with some texts, those that document 01 names among them.
+-- `isRate` and `sendPartOf` take exactly the texts of `Form`; with some texts, those that document 01 names among them.
 use mathlib.Core.Bool.{Bool, true, false, cond, _&&_, _||_, or-true}
 use mathlib.Core.List.{List, [], _∷_, _++_, append-assoc, append-nil}
 use mathlib.Core.Logic.{_↔_}
@@ -12,9 +12,9 @@ use lib.ListN.{length, take, drop, getD, length-append}
 use lib.Seq.{drop-append-add, getD-at, length-take-le, split-at, take-all, take-at, take-length, take-suc}
 use Rattle.errors.specs.Refusals.{answered, plain, refused}
 use Rattle.targets.specs.declared.Bitrate.the-variants.{B848B, Other}
-use Rattle.errors.specs.Choice.{same}
-use Rattle.targets.specs.Bitrates.{ascii, choiceOf, chosen, codeOf, isBitrate, isRate, noCode, parseOf, sendLength}
-use Rattle.targets.specs.Form.{Rate, Sends, allDigits, inRange, isCapital, isDigit, one, rate, two}
+use Rattle.errors.specs.Choice.{same, inRange}
+use Rattle.targets.specs.Bitrates.{ascii, choiceOf, chosen, codeOf, isBitrate, isRate, noCode, sendPartOf, sendLength}
+use Rattle.targets.specs.Form.{Rate, SendPart, allDigits, isCapital, isDigit, one, rate, two}
 use Rattle.targets.proofs.Laws.{and-l, and-r, send-le, sent}
 
 pub rate-yes : {t : List ℕ} → Rate t → isRate t ≡ true
@@ -57,8 +57,8 @@ past-rate (rate ds l h d c) u =
     let k : sendLength (l ∷ u) ≡ sendLength u + 1 = rw (above 65 90 l (omega arith) c) in
     rw append-assoc (omega (arith, past-digits ds (l ∷ u) d, k, length-append ds (l ∷ [])))
 
-sends-yes : {t : List ℕ} {n : ℕ} → Sends t n → parseOf t ≡ answered n
-unfolding parseOf isBitrate sendLength
+sends-yes : {t : List ℕ} {n : ℕ} → SendPart t n → sendPartOf t ≡ answered n
+unfolding sendPartOf isBitrate sendLength
 sends-yes (one {s} r) =
     let n : sendLength s ≡ length s = omega (arith, rw append-nil at (past-rate r [])) in
     rw (n, take-length, rate-yes r, eq-eqb (length s) (length s) refl)
@@ -78,16 +78,16 @@ slash (b ∷ bs) h = go (eqb b 47) refl (slash bs) h
 
 -- a text whose first m bytes are a rate
 module _ (t : List ℕ) (m : ℕ) (send : Rate (take m t)) where
-  pub alone : m ≡ length t → Sends t m
+  pub alone : m ≡ length t → SendPart t m
   alone e = rw e (one (rw (e, take-length) at send))
 
-  pub both : m < length t → getD t m 0 ≡ 47 → Rate (drop (m + 1) t) → Sends t m
+  pub both : m < length t → getD t m 0 ≡ 47 → Rate (drop (m + 1) t) → SendPart t m
   both h e r =
       let w : take m t ++ 47 ∷ drop (m + 1) t ≡ t = sym (split-at t m 0 h ∙ rw (e, add-one)) in
       let n : length (take m t) ≡ m = length-take-le m t (omega arith) in
-      subst₂ Sends w n (two send r)
+      subst₂ SendPart w n (two send r)
 
-sends-only : (t : List ℕ) (n : ℕ) → parseOf t ≡ answered n → Sends t n
+sends-only : (t : List ℕ) (n : ℕ) → sendPartOf t ≡ answered n → SendPart t n
 unfolding isBitrate
 sends-only t n e = rw (sent t n (sym e) .1) (go (eqb m (length t)) refl (and-r (isRate (take m t)) _ yes))
   where
@@ -100,16 +100,16 @@ sends-only t n e = rw (sent t n (sym e) .1) (go (eqb m (length t)) refl (and-r (
     send : Rate (take m t)
     send = rate-only (take m t) (and-l (isRate (take m t)) _ yes)
 
-    go : (x : Bool) → eqb m (length t) ≡ x → (x || isRate (drop (m + 1) t)) ≡ true → Sends t m
+    go : (x : Bool) → eqb m (length t) ≡ x → (x || isRate (drop (m + 1) t)) ≡ true → SendPart t m
     go true h k = alone t m send (eqb-true m (length t) h)
     go false h k =
         let l : m < length t = omega (arith, send-le t, eqb-false m (length t) h) in both t m send l (slash t l) (rate-only (drop (m + 1) t) k)
 
-pub parse-exact : (t : List ℕ) (n : ℕ) → (parseOf t ≡ answered n) ↔ Sends t n
+pub parse-exact : (t : List ℕ) (n : ℕ) → (sendPartOf t ≡ answered n) ↔ SendPart t n
 parse-exact t n = (sends-only t n, sends-yes)
 
-pub refused-exact : (t : List ℕ) → ((n : ℕ) → Sends t n → ⊥) → parseOf t ≡ refused (plain 5)
-unfolding parseOf
+pub refused-exact : (t : List ℕ) → ((n : ℕ) → SendPart t n → ⊥) → sendPartOf t ≡ refused (plain 5)
+unfolding sendPartOf
 refused-exact t h = go (isBitrate t) (λ e. h (sendLength t) (sends-only t (sendLength t) e))
   where
     go : (b : Bool) → (cond b (answered (sendLength t)) (refused (plain 5)) ≡ answered (sendLength t) → ⊥)
@@ -117,17 +117,17 @@ refused-exact t h = go (isBitrate t) (λ e. h (sendLength t) (sends-only t (send
     go true f = absurd (f refl)
     go false f = refl
 
-pub texts : (parseOf (ascii "106A") ≡ answered 4)
-    × (parseOf (ascii "212F/424F") ≡ answered 4)
-    × (parseOf (ascii "106A/") ≡ refused (plain 5))
-    × (parseOf (ascii "/106A") ≡ refused (plain 5))
-    × (parseOf (ascii "106A/212F/424F") ≡ refused (plain 5))
-    × (parseOf (ascii "106a") ≡ refused (plain 5))
-    × (parseOf (ascii "A") ≡ refused (plain 5))
-    × (parseOf (ascii "") ≡ refused (plain 5))
-    × (parseOf (ascii "106" ++ 195 ∷ 132 ∷ []) ≡ refused (plain 5))
+pub texts : (sendPartOf (ascii "106A") ≡ answered 4)
+    × (sendPartOf (ascii "212F/424F") ≡ answered 4)
+    × (sendPartOf (ascii "106A/") ≡ refused (plain 5))
+    × (sendPartOf (ascii "/106A") ≡ refused (plain 5))
+    × (sendPartOf (ascii "106A/212F/424F") ≡ refused (plain 5))
+    × (sendPartOf (ascii "106a") ≡ refused (plain 5))
+    × (sendPartOf (ascii "A") ≡ refused (plain 5))
+    × (sendPartOf (ascii "") ≡ refused (plain 5))
+    × (sendPartOf (ascii "106" ++ 195 ∷ 132 ∷ []) ≡ refused (plain 5))
     × (choiceOf (ascii "848B/106B") ≡ chosen B848B)
     × (choiceOf (ascii "0106A") ≡ chosen Other)
     × (choiceOf (ascii "106A/") ≡ noCode (plain 5))
-unfolding parseOf choiceOf codeOf same isBitrate isRate sendLength allDigits inRange
+unfolding sendPartOf choiceOf codeOf same isBitrate isRate sendLength allDigits inRange
 texts = (refl, refl, refl, refl, refl, refl, refl, refl, refl, refl, refl, refl)

@@ -16,9 +16,9 @@ use Rattle.targets.specs.declared.Bitrate.{Bitrate}
 use Rattle.targets.specs.declared.Bitrate.the-variants.{B106A, B212F, B424F, B106B, B212B, B424B, B848B, Other}
 use Rattle.targets.specs.declared.Parsed.{Parsed}
 use Rattle.targets.specs.declared.Parsed.the-variants.{Send, Refused}
-use Rattle.errors.specs.Choice.{same, same-is, same-not}
-use Rattle.targets.specs.Form.{inRange, allDigits}
-use Rattle.targets.specs.Bitrates.{sendLength, isRate, isBitrate, parseOf, codeOf, ascii, choiceOf, choiceOn, chosen, noCode, parsed}
+use Rattle.errors.specs.Choice.{same, same-is, same-not, inRange}
+use Rattle.targets.specs.Form.{allDigits}
+use Rattle.targets.specs.Bitrates.{sendLength, isRate, isBitrate, sendPartOf, codeOf, ascii, choiceOf, choiceOn, chosen, noCode, parsed}
 
 pub and-l : (a b : Bool) → (a && b) ≡ true → a ≡ true
 and-l true b e = refl
@@ -70,7 +70,7 @@ module _ (t : List ℕ) where
   by-text false u x y is e f n = f n
 
   pub known-choice : (codeOf t ≡ Other → ⊥) → chosen (codeOf t) ≡ choiceOf t
-  unfolding codeOf choiceOf parseOf isBitrate isRate sendLength allDigits inRange same
+  unfolding codeOf choiceOf sendPartOf isBitrate isRate sendLength allDigits inRange same
   known-choice =
       by-text (same t (ascii "106A")) (ascii "106A") B106A _ (same-is t (ascii "106A")) refl
       (by-text (same t (ascii "212F")) (ascii "212F") B212F _ (same-is t (ascii "212F")) refl
@@ -96,8 +96,8 @@ front-four (a ∷ b ∷ []) h = absurd (omega arith)
 front-four (a ∷ b ∷ c ∷ []) h = absurd (omega arith)
 front-four (a ∷ b ∷ c ∷ d ∷ t) h = refl
 
-pub refused-too : (t : List ℕ) (r : Parsed) (e : Refusal) → r ≡ Refused e → parsed r ≡ parseOf t → noCode (plain 5) ≡ choiceOf t
-unfolding parseOf choiceOf
+pub refused-too : (t : List ℕ) (r : Parsed) (e : Refusal) → r ≡ Refused e → parsed r ≡ sendPartOf t → noCode (plain 5) ≡ choiceOf t
+unfolding sendPartOf choiceOf
 refused-too t r e is known = go (isBitrate t) (ap parsed (sym is) ∙ known)
   where
     go : (b : Bool) → refused (numbered e) ≡ cond b (answered (sendLength t)) (refused (plain 5))
@@ -106,8 +106,8 @@ refused-too t r e is known = go (isBitrate t) (ap parsed (sym is) ∙ known)
     go false h = refl
 
 -- what an answer of the send part's length says
-pub sent : (t : List ℕ) (n : ℕ) → answered n ≡ parseOf t → (isBitrate t ≡ true) × (n ≡ sendLength t)
-unfolding parseOf
+pub sent : (t : List ℕ) (n : ℕ) → answered n ≡ sendPartOf t → (isBitrate t ≡ true) × (n ≡ sendLength t)
+unfolding sendPartOf
 sent t n e = go (isBitrate t) e
   where
     go : (b : Bool) → answered n ≡ cond b (answered (sendLength t)) (refused (plain 5)) → (b ≡ true) × (n ≡ sendLength t)
@@ -115,8 +115,8 @@ sent t n e = go (isBitrate t) e
     go false h = (cc, cc)
 
 -- A text that is parsed, with a send part of n bytes.
-module _ (t : List ℕ) (r : Parsed) (n : ℕ) (is : r ≡ Send n) (known : parsed r ≡ parseOf t) where
-  same-known : answered n ≡ parseOf t
+module _ (t : List ℕ) (r : Parsed) (n : ℕ) (is : r ≡ Send n) (known : parsed r ≡ sendPartOf t) where
+  same-known : answered n ≡ sendPartOf t
   same-known = ap parsed (sym is) ∙ known
 
   pub sent-le : n ≤ length t

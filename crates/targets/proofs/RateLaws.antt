@@ -12,10 +12,11 @@ use lib.Dec.{leb, eqb}
 use lib.ListN.{length, take, drop, getD, length-append, length-drop}
 use lib.Seq.{drop-append-add, getD-at, length-take-le, take-all, take-length, take-suc}
 use Rattle.errors.specs.Refusals.{answered, plain, refused}
-use Rattle.targets.specs.Bitrates.{StartsWith, isRate, parseOf}
-use Rattle.targets.specs.Form.{Rate, Sends, allDigits, inRange, isCapital, isDigit, one, rate, two}
+use Rattle.targets.specs.Bitrates.{StartsWithRate, isRate, sendPartOf}
+use Rattle.targets.specs.Form.{Rate, SendPart, allDigits, isCapital, isDigit, one, rate, two}
 use Rattle.targets.proofs.Laws.{and-l, and-r}
 use Rattle.targets.proofs.Exact.{alone, both, parse-exact, rate-only, rate-yes, refused-exact}
+use Rattle.errors.specs.Choice.{inRange}
 
 -- ---- digits
 
@@ -60,7 +61,7 @@ module _ (t : List ℕ) (i : ℕ) (within : i ≤ length t) (all : allDigits (ta
     digits : Digits t i
     digits = record { within = within; all = all; end = λ _. sym digit ∙ none }
 
-    pub letter-next : s ≡ true → StartsWith t (i + 1)
+    pub letter-next : s ≡ true → StartsWithRate t (i + 1)
     letter-next e =
         record {
           within = omega arith;
@@ -68,7 +69,7 @@ module _ (t : List ℕ) (i : ℕ) (within : i ≤ length t) (all : allDigits (ta
           only = λ s u q w. found t s u i digits q w .0;
         }
 
-    pub no-letter : s ≡ false → StartsWith t 0
+    pub no-letter : s ≡ false → StartsWithRate t 0
     no-letter e =
         record {
           within = omega arith;
@@ -76,7 +77,7 @@ module _ (t : List ℕ) (i : ℕ) (within : i ≤ length t) (all : allDigits (ta
           only = λ s u q w. absurd (true≢false (sym (found t s u i digits q w .1) ∙ sym capital ∙ e));
         }
 
-  pub no-more : length t ≤ i → StartsWith t 0
+  pub no-more : length t ≤ i → StartsWithRate t 0
   no-more h =
       record {
         within = omega arith;
@@ -99,7 +100,7 @@ not-rate t h = go (isRate t) (rate-only t)
     go true f = absurd (h (f refl))
     go false f = refl
 
-module _ (t : List ℕ) (n : ℕ) (starts : StartsWith t n) where
+module _ (t : List ℕ) (n : ℕ) (starts : StartsWithRate t n) where
   whole : Rate t → length t ≡ n
   whole q = starts .only t [] q (sym (append-nil t))
 
@@ -114,10 +115,10 @@ module _ (t : List ℕ) (n : ℕ) (starts : StartsWith t n) where
       go false e = not-rate t (λ q. eqb-false n (length t) e (sym (whole q)))
 
   -- how a bitrate goes on behind it
-  send-part : {m : ℕ} → Sends t m → (2 ≤ n) × ((n ≡ length t) ⊎ ((getD t n 0 ≡ 47) × Rate (drop (n + 1) t)))
+  send-part : {m : ℕ} → SendPart t m → (2 ≤ n) × ((n ≡ length t) ⊎ ((getD t n 0 ≡ 47) × Rate (drop (n + 1) t)))
   send-part s = go s refl
     where
-      go : {u : List ℕ} {m : ℕ} → Sends u m → t ≡ u → (2 ≤ n) × ((n ≡ length t) ⊎ ((getD t n 0 ≡ 47) × Rate (drop (n + 1) t)))
+      go : {u : List ℕ} {m : ℕ} → SendPart u m → t ≡ u → (2 ≤ n) × ((n ≡ length t) ⊎ ((getD t n 0 ≡ 47) × Rate (drop (n + 1) t)))
       go (one {s} q) w =
           let e : length s ≡ n = starts .only s [] q (w ∙ sym (append-nil s)) in
           (omega (arith, e, rate-long q), inl (sym e ∙ sym (ap length w)))
@@ -125,14 +126,14 @@ module _ (t : List ℕ) (n : ℕ) (starts : StartsWith t n) where
           let e : length s ≡ n = starts .only s (47 ∷ r) a w in
           (omega (arith, e, rate-long a), inr (rw (w, ← e) (getD-at s 47 r 0 (length s) refl), rw (w, ← e, drop-append-add s (47 ∷ r) 1) b))
 
-  pub no-send : n < 2 → refused (plain 5) ≡ parseOf t
+  pub no-send : n < 2 → refused (plain 5) ≡ sendPartOf t
   no-send h = sym (refused-exact t (λ m s. omega (arith, send-part s .0)))
 
-  pub send-alone : 2 ≤ n → n ≡ length t → answered n ≡ parseOf t
+  pub send-alone : 2 ≤ n → n ≡ length t → answered n ≡ sendPartOf t
   send-alone h e = sym (parse-exact t n .1 (alone t n (starts .rated h) e))
 
   module _ (h : 2 ≤ n) (ne : n ≡ length t → ⊥) where
-    pub no-slash : (getD t n 0 ≡ 47 → ⊥) → refused (plain 5) ≡ parseOf t
+    pub no-slash : (getD t n 0 ≡ 47 → ⊥) → refused (plain 5) ≡ sendPartOf t
     no-slash f = sym (refused-exact t (λ m s. go (send-part s .1)))
       where
         go : (n ≡ length t) ⊎ ((getD t n 0 ≡ 47) × Rate (drop (n + 1) t)) → ⊥
@@ -144,11 +145,11 @@ module _ (t : List ℕ) (n : ℕ) (starts : StartsWith t n) where
       behind : r ≡ isRate (drop (n + 1) t)
       behind = receive ∙ ap isRate (take-all (length t - (n + 1)) (drop (n + 1) t) (simp length-drop (le-refl _)))
 
-      pub send-both : getD t n 0 ≡ 47 → r ≡ true → answered n ≡ parseOf t
+      pub send-both : getD t n 0 ≡ 47 → r ≡ true → answered n ≡ sendPartOf t
       send-both e f =
           sym (parse-exact t n .1 (both t n (starts .rated h) (omega (arith, starts .within, ne)) e (rate-only (drop (n + 1) t) (sym behind ∙ f))))
 
-      pub receive-bad : r ≡ false → refused (plain 5) ≡ parseOf t
+      pub receive-bad : r ≡ false → refused (plain 5) ≡ sendPartOf t
       receive-bad f = sym (refused-exact t (λ m s. go (send-part s .1)))
         where
           go : (n ≡ length t) ⊎ ((getD t n 0 ≡ 47) × Rate (drop (n + 1) t)) → ⊥

@@ -1,4 +1,4 @@
--- What the functions answer. That `isRate` and `parseOf` take exactly the texts of `Form` is proved in `proofs/Exact`.
+-- What the functions answer. That `isRate` and `sendPartOf` take exactly the texts of `Form` is proved in `proofs/Exact`.
 use mathlib.Core.Bool.{Bool, cond, _&&_, _||_}
 use mathlib.Core.List.{List, [], _∷_, _++_}
 use mathlib.Core.Path.{_≡_}
@@ -36,8 +36,8 @@ abbrev pub parsed : Parsed → Returned
 parsed (Send n) = answered n
 parsed (Refused e) = refused (numbered e)
 
-unfoldable pub parseOf : List ℕ → Returned
-parseOf t = cond (isBitrate t) (answered (sendLength t)) (refused (plain 5))
+unfoldable pub sendPartOf : List ℕ → Returned
+sendPartOf t = cond (isBitrate t) (answered (sendLength t)) (refused (plain 5))
 
 -- The bytes of a text in quotes.
 abbrev pub ascii : String → List ℕ
@@ -70,10 +70,10 @@ choiceOn t (answered n) = chosen (codeOf (take n t))
 choiceOn t (refused k) = noCode k
 
 unfoldable pub choiceOf : List ℕ → Choice
-choiceOf t = choiceOn t (parseOf t)
+choiceOf t = choiceOn t (sendPartOf t)
 
 -- `rate_length`: the rate that a text starts with has n bytes; where n is under 2 there is none.
-pub record StartsWith (t : List ℕ) (n : ℕ) : Type 0 where
+pub record StartsWithRate (t : List ℕ) (n : ℕ) : Type 0 where
   pub within : n ≤ length t
   pub rated : 2 ≤ n → Rate (take n t)
   pub only : (s u : List ℕ) → Rate s → t ≡ s ++ u → length s ≡ n

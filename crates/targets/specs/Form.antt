@@ -3,11 +3,8 @@ use mathlib.Core.Bool.{Bool, true, _&&_}
 use mathlib.Core.List.{List, [], _∷_, _++_}
 use mathlib.Core.Path.{_≡_}
 use Prim.Native.Nat.{ℕ, _≤_}
-use lib.Dec.{leb}
 use lib.ListN.{length}
-
-unfoldable pub inRange : ℕ → ℕ → ℕ → Bool
-inRange low high b = leb low b && leb b high
+use Rattle.errors.specs.Choice.{inRange}
 
 -- `0` to `9`
 abbrev pub isDigit : ℕ → Bool
@@ -27,6 +24,6 @@ pub data Rate : List ℕ → Type 0 where
       → Rate (digits ++ letter ∷ [])
 
 -- A bitrate, with the length of its send part: one rate, or two with `/` (47) between.
-pub data Sends : List ℕ → ℕ → Type 0 where
-  one : {s : List ℕ} → Rate s → Sends s (length s)
-  two : {s r : List ℕ} → Rate s → Rate r → Sends (s ++ 47 ∷ r) (length s)
+pub data SendPart : List ℕ → ℕ → Type 0 where
+  one : {s : List ℕ} → Rate s → SendPart s (length s)
+  two : {s r : List ℕ} → Rate s → Rate r → SendPart (s ++ 47 ∷ r) (length s)

@@ -3,7 +3,7 @@
 use mathlib.Core.Bool.{Bool, true, false, _||_}
 use mathlib.Core.List.{List, [], _∷_, _++_}
 use mathlib.Core.Path.{_≡_, refl, sym, ap, subst, _∙_}
-use Prim.Native.Nat.{ℕ, suc, _+_, _≤_}
+use Prim.Native.Nat.{ℕ, suc, _+_, _/_, _%_, _≤_}
 use native.Mathlib.Omega.{arith}
 use borrow.Author.Tests.{eqb-true, eq-eqb, le-ltb, ltb-false}
 use lib.Dec.{eqb, ltb}
@@ -27,7 +27,11 @@ pub data TargetData : List ℕ → List ℕ → List ℕ → Type 0 where
   targetData : (first second selRes : ℕ) (uid ats : List ℕ) → UidLength (length uid) → Ats ats
       → TargetData (first ∷ second ∷ selRes ∷ length uid ∷ (uid ++ ats)) uid ats
 
--- ---- the same as a test
+-- SEL_RES of a Type 2 tag: its bits 5 and 6 are 0
+abbrev pub isType2 : ℕ → Bool
+isType2 selRes = eqb (selRes / 32 % 4) 0
+
+-- ---- target data as a test
 
 unfoldable pub isUidLength : ℕ → Bool
 isUidLength n = eqb n 4 || (eqb n 7 || eqb n 10)

@@ -4,8 +4,8 @@ pub mod type_a;
 use errors::Refusal;
 ghost use mathlib.Core.List.{[], _∷_};
 ghost use mathlib.Core.Path.{_≡_};
-ghost use Rattle.targets.specs.Bitrates.{choiceOf, coded, codeOf, isRate, parsed, parseOf, StartsWith};
-ghost use Rattle.targets.specs.Form.{inRange};
+ghost use Rattle.targets.specs.Bitrates.{choiceOf, coded, codeOf, isRate, parsed, sendPartOf, StartsWithRate};
+ghost use Rattle.errors.specs.Choice.{inRange};
 
 // The length of a text's send part, which the text starts with.
 pub enum Parsed {
@@ -39,7 +39,7 @@ fn in_range(byte: u8, low: u8, high: u8) -> bool
 
 // The length of the digits that the text starts with and a capital letter behind them; 0 where none follows.
 fn rate_length(text: &[u8]) -> usize
-    ensures { λ r. ⌜ StartsWith (now (text .entry)) r ⌝ }
+    ensures { λ r. ⌜ StartsWithRate (now (text .entry)) r ⌝ }
 {
     let mut i = 0;
     while i < text.len() {
@@ -64,7 +64,7 @@ pub fn is_valid_bitrate(text: &[u8]) -> bool
 
 // One rate, or two with `/` between; the send part is the first.
 pub fn parse(text: &[u8]) -> Parsed
-    ensures { λ r. ⌜ parsed r ≡ parseOf (now (text .entry)) ⌝ }
+    ensures { λ r. ⌜ parsed r ≡ sendPartOf (now (text .entry)) ⌝ }
 {
     let n = rate_length(text);
     if n < 2 {

@@ -1,11 +1,11 @@
 -- `build` meets its contract.
-use Rattle.acceptance.specs.Order.{bytesOf}
+use Rattle.acceptance.specs.Order.{payloadBytes}
 use borrow.Author.Needs.{needs}
 use Rattle.acceptance.proofs.build.Statement.{statement}
 use Rattle.acceptance.proofs.build.Tie as tie
 
 pub build-spec : {M : Type 1} → statement M
-unfolding bytesOf
+unfolding payloadBytes
 build-spec =
     tie.close
     (tie.spec

@@ -1,11 +1,11 @@
 -- `called` meets its contract.
 use borrow.Author.Needs.{needs}
-use Rattle.bench_session.specs.Answers.{stepOf}
+use Rattle.bench_session.specs.Answers.{saidStep}
 use Rattle.bench_session.proofs.called.Statement.{statement}
 use Rattle.bench_session.proofs.called.Tie as tie
 
 returns : tie.Need-returns
-unfolding stepOf
+unfolding saidStep
 returns c =
     let at = c .before .before in
     let at-part4 = at .before .before in

@@ -1,6 +1,6 @@
 -- `step` meets its contract.
 use borrow.Author.Needs.{needs}
-use Rattle.bench_session.specs.Answers.{stepOf}
+use Rattle.bench_session.specs.Answers.{saidStep}
 use Rattle.bench_session.proofs.AnswerLaws.{unchanged-is}
 use Rattle.bench_session.proofs.step.Statement.{statement}
 use Rattle.bench_session.proofs.step.Tie as tie
@@ -12,7 +12,7 @@ returns-2 : tie.Need-returns-2
 returns-2 c = rw (c .before .before .before .before .before .before .input2 .given .1) (c .before .before .on-event .ensures)
 
 returns-3 : tie.Need-returns-3
-unfolding stepOf
+unfolding saidStep
 returns-3 c = rw (c .before .enum-told .given .1) (unchanged-is _ _ _ (c .unreadable .ensures .0) (c .unreadable .ensures .1))
 
 pub step-spec : {M : Type 1} → statement M

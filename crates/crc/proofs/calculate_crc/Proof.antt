@@ -6,13 +6,13 @@ use Prim.Native.Nat.{_-_, _≤_, _<_, zero-le, ℕ}
 use native.Mathlib.Omega.{arith}
 use borrow.Author.Needs.{needs}
 use lib.ListN.{length, drop, drop-of-length-le}
-use Rattle.crc.specs.Crc.{polynomial, bitIn, bitsIn, bits, bytesIn, result, crcOf}
+use Rattle.crc.specs.Crc.{polynomial, bitIn, bitsIn, bits, registerAfter, result, crcOf}
 use Rattle.crc.proofs.Entries.{tabled, Tabled, turn}
 use Rattle.crc.proofs.calculate_crc.Statement.{statement}
 use Rattle.crc.proofs.calculate_crc.Tie as tie
 
 abbrev Inv-loop : tie.InvT-loop
-Inv-loop «data» initial inverted table register₀ i₀ register i = (i ≤ length «data») × (bytesIn register (drop i «data») ≡ bytesIn initial «data») × Tabled table
+Inv-loop «data» initial inverted table register₀ i₀ register i = (i ≤ length «data») × (registerAfter register (drop i «data») ≡ registerAfter initial «data») × Tabled table
 
 abbrev μ-loop : tie.MeasureT-loop
 μ-loop «data» initial inverted table register₀ i₀ register i = length «data» - i
@@ -32,8 +32,8 @@ loop-again c =
     )
 
 -- after the loop nothing is left to go in
-end : (c : tie.After-loop Inv-loop μ-loop) → c .before .loop .register ≡ bytesIn (c .before .before .args .initial) (now (c .before .before .args .«data»))
-unfolding bytesIn
+end : (c : tie.After-loop Inv-loop μ-loop) → c .before .loop .register ≡ registerAfter (c .before .before .args .initial) (now (c .before .before .args .«data»))
+unfolding registerAfter
 end c =
     let h : length (c .before .before .args .«data» .now) ≤ c .before .loop .i = omega arith in
     rw (drop-of-length-le _ h) at (c .before .loop .inv .1)

@@ -1,9 +1,9 @@
 -- `device::hex_digit` meets its contract.
 use Rattle.framing.specs.Rules.{steps}
-use Rattle.device.specs.Names.{hexDigit}
 use borrow.Author.Needs.{needs}
 use Rattle.device.proofs.hex_digit.Statement.{statement}
 use Rattle.device.proofs.hex_digit.Tie as tie
+use Rattle.protocol.specs.Device.{hexDigit}
 
 pub hex-digit-spec : {M : Type 1} → statement M
 unfolding hexDigit

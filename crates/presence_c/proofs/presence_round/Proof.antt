@@ -44,17 +44,17 @@ use denote.Triple.Table.{entered, cited}
 use denote.Triple.Walked.{says, Stays, stay-ref, stay-none, stay-none-slice, gave-slice, walkOf, AllGo, goes-ref, goes-none, goes-none-slice, goes-gave-slice, Walks, ends-at, walked, walk-meets}
 use denote.Triple.Clauses.{ensured, lasts}
 use denote.Exit.{yes}
-use Rattle.presence_list.specs.Steps.{after, stepOf}
+use Rattle.presence_list.specs.Steps.{afterRound, roundStep}
 use Rattle.presence_c.specs.Outcomes.{outcomeOf, round-reported}
 use Rattle.presence_list.specs.declared.list.Presence.{Presence}
-use Rattle.presence_list.specs.declared.list.Step.{Step}
+use Rattle.presence_list.specs.declared.list.RoundEffect.{RoundEffect}
 use Rattle.presence_list.specs.declared.list.Answer.{Answer}
 use Rattle.presence_c.specs.declared.outcome.Outcome.{Outcome}
 use Rattle.presence_list.proofs.list.Presence as T
 use Rattle.presence_list.proofs.list.State as N
 use Rattle.presence_list.proofs.list.State.Laws as N′
-use Rattle.presence_list.proofs.list.Step as R
-use Rattle.presence_list.proofs.list.Step.Laws as R′
+use Rattle.presence_list.proofs.list.RoundEffect as R
+use Rattle.presence_list.proofs.list.RoundEffect.Laws as R′
 use Rattle.presence_list.proofs.list.Answer as I
 use Rattle.presence_list.proofs.list.Answer.Laws as I′
 use Rattle.presence_c.proofs.outcome.Outcome as O
@@ -160,7 +160,7 @@ module _ {M : Type 1} (𝓤 : URA M) (H : Heap 𝓤) (A : Atoms 𝓤) (W : Given
     goes-of : ent 𝓤 (sep 𝓤 (sem 𝓤 H A ftrue) (sem 𝓤 H A Given-out)) (Of₀ 𝓤 H A at-mem run .pre to-of)
     goes-of = qed W (‵ ftrue ∷ ‵ Given-out ∷ []) ∵ join ! $ frame ! $ done !
 
-  exits : (r : Step) (t : Outcome) (x₀ : List ℕ) (x₁ : List ℕ) (x₂ : List ℕ) → after (r .state) x₀ x₁ x₂ (r .answer) ≡ stepOf (h .state) (h .cards) (h .arrived) (h .departed) n₁ (p₁ .now) → t ≡ outcomeOf (r .answer)
+  exits : (r : RoundEffect) (t : Outcome) (x₀ : List ℕ) (x₁ : List ℕ) (x₂ : List ℕ) → afterRound (r .state) x₀ x₁ x₂ (r .answer) ≡ roundStep (h .state) (h .cards) (h .arrived) (h .departed) n₁ (p₁ .now) → t ≡ outcomeOf (r .answer)
       → ent 𝓤 (⋆ 𝓤 H A (‵ (fobs γ (T.the-row .coded .code (record { cards = x₀; arrived = x₁; departed = x₂; state = r .state }))) ∷ ‵ (fbor κ₀ (Body (mem T.the-row) b o γ)) ∷ ‵ (flft κ₀ q₀) ∷ (‵ (flft κ₁ q₁) ⊛ ‵ ftrue) ∷ ‵ Ownp₁ ∷ ‵ (O.the-row .own t (mO t ∷ [])) ∷ [])) (Post (mO t))
   exits r t x₀ x₁ x₂ e s =
       qed W (‵ (fobs γ (T.the-row .coded .code (record { cards = x₀; arrived = x₁; departed = x₂; state = r .state }))) ∷ ‵ (fbor κ₀ (Body (mem T.the-row) b o γ)) ∷ ‵ (flft κ₀ q₀) ∷ (‵ (flft κ₁ q₁) ⊛ ‵ ftrue) ∷ ‵ Ownp₁ ∷ ‵ (O.the-row .own t (mO t ∷ [])) ∷ []) ∵
@@ -168,10 +168,10 @@ module _ {M : Type 1} (𝓤 : URA M) (H : Heap 𝓤) (A : Atoms 𝓤) (W : Given
       move ! (2 ∷ 3 ∷ []) $ join ! $ frame ! $ feqI ! (List Val) (vptr b o ∷ []) (vptr b o ∷ []) refl $ fjoin3 ! $ nothing ! $ move ! (2 ∷ 0 ∷ []) $ fjoin ! $ owned ! u32 (Is u32) (uint-makes 𝓤 H A W w32) n₁ _ (refl, n₁-fits) $ fjoin ! $ move ! (1 ∷ 0 ∷ []) $ fjoin ! $ done !
 
   -- what is known of the parts of the result, and of the outcome
-  part₀ : (r : Step) (v : Val) → Is R.the-row r (v ∷ []) → Fits (r .state)
+  part₀ : (r : RoundEffect) (v : Val) → Is R.the-row r (v ∷ []) → Fits (r .state)
   part₀ r v is = LL.owed R.the-type R′.the-laws r _ is .0
 
-  part₁ : (r : Step) (v : Val) → Is R.the-row r (v ∷ []) → Is I.the-row (r .answer) (mI (r .answer) ∷ [])
+  part₁ : (r : RoundEffect) (v : Val) → Is R.the-row r (v ∷ []) → Is I.the-row (r .answer) (mI (r .answer) ∷ [])
   part₁ r v is = LL.owed R.the-type R′.the-laws r _ is .1 .0
 
   whole-outcome : (t : Outcome) (u : Val) → Is O.the-row t (u ∷ []) → Is O.the-row t (mO t ∷ [])
@@ -203,9 +203,9 @@ module _ {M : Type 1} (𝓤 : URA M) (H : Heap 𝓤) (A : Atoms 𝓤) (W : Given
         move ! (3 ∷ 13 ∷ []) $ join ! $ move ! (5 ∷ 0 ∷ []) $ join ! $ move ! (6 ∷ 0 ∷ []) $ join ! $ use2 W (raw (Step₀ 𝓤 H A at-mem run .pre (to-step α₀ α₁ α₂ δ₀ δ₁ δ₂))) (goes-step α₀ α₁ α₂ δ₀ δ₁ δ₂) $
         -- the call
         calls-at ! fm (Step₀ 𝓤 H A at-mem run) known (to-step α₀ α₁ α₂ δ₀ δ₁ δ₂) (and-then ! (load ! (from ! (stop !)) (look ! 20 refl)) (and-then ! (load ! (from ! (stop !)) (look ! 14 refl)) (and-then ! (load ! (from ! (stop !)) (look ! 12 refl)) (and-then ! (load ! (from ! (stop !)) (look ! 10 refl)) (and-then ! (load ! (from ! (stop !)) (look ! 24 refl)) (and-then ! (load ! (from ! (stop !)) (look ! 22 refl)) (no-more !))))))) (λ v.
-        use1 W (later (some (λ (r : Step). ((‵ (flft (α₀ ∷ []) fullShare) ⊛ ‵ (flft (α₁ ∷ []) fullShare) ⊛ ‵ (flft (α₂ ∷ []) fullShare) ⊛ ‵ (flft κ₁ q₁) ⊛ ‵ ftrue) ⊛ ‵ (R.the-row .own r (v ∷ []))) ⊛ raw (ensured 𝓤 H A step.ended (step.clauses 𝓤 H A at-mem run) ((α₀ ∷ []), ((α₁ ∷ []), ((α₂ ∷ []), (κ₁, tt)))) (h .state, ((ref₀ δ₀), ((ref₁ δ₁), ((ref₂ δ₂), (n₁, (p₁, tt)))))) tt r)))) (id⊢ 𝓤 _) $ await ! tt $ pick ! (λ r. split ! $
-        move ! (1 ∷ []) $ use1 W (some (λ (zs : Unit {0} × (List ℕ × (List ℕ × (List ℕ × (Unit {0} × (Unit {0} × Unit {0})))))). ‵ (lasts step.ended ((α₀ ∷ []), ((α₁ ∷ []), ((α₂ ∷ []), (κ₁, tt)))) (h .state, ((ref₀ δ₀), ((ref₁ δ₁), ((ref₂ δ₂), (n₁, (p₁, tt)))))) zs) ⊛ raw (fact 𝓤 (after (r .state) (zs .1 .0) (zs .1 .1 .0) (zs .1 .1 .1 .0) (r .answer) ≡ stepOf (h .state) (h .cards) (h .arrived) (h .departed) n₁ (p₁ .now))))) (id⊢ 𝓤 _) $ pick ! (λ zs. split ! $
-        move ! (1 ∷ []) $ heard ! (after (r .state) (zs .1 .0) (zs .1 .1 .0) (zs .1 .1 .1 .0) (r .answer) ≡ stepOf (h .state) (h .cards) (h .arrived) (h .departed) n₁ (p₁ .now)) (λ e.
+        use1 W (later (some (λ (r : RoundEffect). ((‵ (flft (α₀ ∷ []) fullShare) ⊛ ‵ (flft (α₁ ∷ []) fullShare) ⊛ ‵ (flft (α₂ ∷ []) fullShare) ⊛ ‵ (flft κ₁ q₁) ⊛ ‵ ftrue) ⊛ ‵ (R.the-row .own r (v ∷ []))) ⊛ raw (ensured 𝓤 H A step.ended (step.clauses 𝓤 H A at-mem run) ((α₀ ∷ []), ((α₁ ∷ []), ((α₂ ∷ []), (κ₁, tt)))) (h .state, ((ref₀ δ₀), ((ref₁ δ₁), ((ref₂ δ₂), (n₁, (p₁, tt)))))) tt r)))) (id⊢ 𝓤 _) $ await ! tt $ pick ! (λ r. split ! $
+        move ! (1 ∷ []) $ use1 W (some (λ (zs : Unit {0} × (List ℕ × (List ℕ × (List ℕ × (Unit {0} × (Unit {0} × Unit {0})))))). ‵ (lasts step.ended ((α₀ ∷ []), ((α₁ ∷ []), ((α₂ ∷ []), (κ₁, tt)))) (h .state, ((ref₀ δ₀), ((ref₁ δ₁), ((ref₂ δ₂), (n₁, (p₁, tt)))))) zs) ⊛ raw (fact 𝓤 (afterRound (r .state) (zs .1 .0) (zs .1 .1 .0) (zs .1 .1 .1 .0) (r .answer) ≡ roundStep (h .state) (h .cards) (h .arrived) (h .departed) n₁ (p₁ .now))))) (id⊢ 𝓤 _) $ pick ! (λ zs. split ! $
+        move ! (1 ∷ []) $ heard ! (afterRound (r .state) (zs .1 .0) (zs .1 .1 .0) (zs .1 .1 .1 .0) (r .answer) ≡ roundStep (h .state) (h .cards) (h .arrived) (h .departed) n₁ (p₁ .now)) (λ e.
         fsplit ! $ drop ! $ fsplit ! $ move ! (1 ∷ []) $ fsplit ! $ move ! (1 ∷ []) $ fsplit ! $ move ! (1 ∷ []) $ fsplit ! $ drop ! $ fsplit ! $ drop ! $ move ! (4 ∷ []) $ split ! $ move ! (1 ∷ []) $ peeks ! R.the-row (Is R.the-row) (shows 𝓤 H A R.the-row) r (v ∷ []) (λ is. drop ! $
         -- the lifetimes are ended, and the arrays are back
         split ! $ move ! (1 ∷ []) $ split ! $ move ! (1 ∷ []) $ split ! $

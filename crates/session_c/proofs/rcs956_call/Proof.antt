@@ -46,7 +46,7 @@ use denote.Triple.Clauses.{ensured, lasts}
 use denote.Exit.{yes}
 use Rattle.calls.specs.Numbers.{callOf}
 use Rattle.engine.specs.Core.{arrays}
-use Rattle.engine.specs.Sessions.{effected, stateIn}
+use Rattle.engine.specs.SessionSteps.{effected, stateIn}
 use Rattle.engine.specs.Inputs.{afterInput}
 use Rattle.engine.specs.Numbers.{callInput}
 use Rattle.session_c.specs.Outcomes.{outcomeOf}

@@ -45,7 +45,7 @@ use denote.Triple.Walked.{says, Stays, stay-ref, stay-none, stay-none-slice, gav
 use denote.Triple.Clauses.{ensured, lasts}
 use denote.Exit.{yes}
 use Rattle.engine.specs.Core.{arrays}
-use Rattle.engine.specs.Sessions.{effected, stateIn, arraysIn}
+use Rattle.engine.specs.SessionSteps.{effected, stateIn, arraysIn}
 use Rattle.engine.specs.Numbers.{eventBy, afterEventNumber}
 use Rattle.session_c.specs.Outcomes.{outcomeOf}
 use Rattle.session_c.specs.Steps.{event-reported}

@@ -1,8 +1,8 @@
 -- `in_range` meets its contract.
 use borrow.Author.Tests.{le-leb, lt-leb}
-use Rattle.targets.specs.Form.{inRange}
 use Rattle.targets.proofs.in_range.Statement.{statement}
 use Rattle.targets.proofs.in_range.Tie as tie
+use Rattle.errors.specs.Choice.{inRange}
 
 pub in-range-spec : {M : Type 1} → statement M
 unfolding inRange

@@ -2,14 +2,14 @@
 use Prim.Native.Nat.{_-_, _≤_}
 use mathlib.Core.Path.{_≡_}
 use lib.ListN.{length, drop}
-use Rattle.bench.specs.Hex.{allDigits}
+use Rattle.bench.specs.Hex.{allHexDigits}
 use Rattle.bench.specs.HexLaws.{digits-more, digits-stop, digits-end}
 use borrow.Author.Needs.{needs}
 use Rattle.bench.proofs.hex.all_digits.Statement.{statement}
 use Rattle.bench.proofs.hex.all_digits.Tie as tie
 
 abbrev Inv-loop : tie.InvT-loop
-Inv-loop word i₀ i = (i ≤ length word) × (allDigits word ≡ allDigits (drop i word))
+Inv-loop word i₀ i = (i ≤ length word) × (allHexDigits word ≡ allHexDigits (drop i word))
 
 abbrev μ-loop : tie.MeasureT-loop
 μ-loop word i₀ i = length word - i

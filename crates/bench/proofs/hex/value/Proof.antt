@@ -5,9 +5,10 @@ use Rattle.bench.specs.HexLaws.{value-below, value-between}
 use borrow.Author.Needs.{needs}
 use Rattle.bench.proofs.hex.value.Statement.{statement}
 use Rattle.bench.proofs.hex.value.Tie as tie
+use Rattle.errors.specs.Choice.{inRange}
 
 pub value-spec : {M : Type 1} → statement M
-unfolding valueOf
+unfolding valueOf inRange
 value-spec =
     tie.close
     (tie.spec

@@ -4,9 +4,10 @@ use Rattle.framing.specs.Rules.{cases}
 use Rattle.bench.specs.Numbers.{digitValue}
 use Rattle.bench.proofs.number.digit.Statement.{statement}
 use Rattle.bench.proofs.number.digit.Tie as tie
+use Rattle.errors.specs.Choice.{inRange}
 
 pub digit-spec : {M : Type 1} → statement M
-unfolding digitValue
+unfolding digitValue inRange
 digit-spec =
     tie.close
     (tie.spec

@@ -3,12 +3,12 @@ use borrow.Author.Needs.{needs}
 use Prim.Native.Nat.{_-_}
 use native.Mathlib.Omega.{arith}
 use lib.ListN.{length}
-use Rattle.bench_input.proofs.WordsLaws.{Begun, begin, all-read, next-fits, next-none, next-begun}
+use Rattle.bench_input.proofs.WordsLaws.{LettersBegun, begin, all-read, next-fits, next-none, next-begun}
 use Rattle.bench_input.proofs.letters.read.Statement.{statement}
 use Rattle.bench_input.proofs.letters.read.Tie as tie
 
 abbrev Inv-loop : tie.InvT-loop
-Inv-loop line letters bytes₀ taken₀ k₀ bytes taken k = Begun line letters bytes₀ bytes taken k
+Inv-loop line letters bytes₀ taken₀ k₀ bytes taken k = LettersBegun line letters bytes₀ bytes taken k
 
 abbrev μ-loop : tie.MeasureT-loop
 μ-loop line letters bytes₀ taken₀ k₀ bytes taken k = length letters - k

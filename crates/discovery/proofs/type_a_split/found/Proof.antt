@@ -1,6 +1,7 @@
 -- `type_a_split::found` meets its contract.
 use native.Mathlib.Omega.{arith}
 use borrow.Author.Needs.{needs}
+use Rattle.errors.specs.Rules.{same-value}
 use Rattle.stages.specs.Laws.{decided, decision-true, decision-false, decision-next}
 use Rattle.discovery.specs.Decisions.{splitFound}
 use Rattle.discovery.specs.SplitLaws.{data-known, decision-lengths}
@@ -8,18 +9,18 @@ use Rattle.discovery.proofs.type_a_split.found.Statement.{statement}
 use Rattle.discovery.proofs.type_a_split.found.Tie as tie
 
 cast-byte-or : tie.Need-cast-byte-or
-cast-byte-or c = omega (arith, c .before .before .shared-slice-known2 .given 5)
+cast-byte-or c = omega (arith, c .before .before .before .shared-slice-known2 .given 5)
 
 add-byte-or : tie.Need-add-byte-or
-add-byte-or c = omega (arith, c .before .before .shared-slice-known2 .given 5)
+add-byte-or c = omega (arith, c .before .before .before .shared-slice-known2 .given 5)
 
 returns : tie.Need-returns
 unfolding splitFound
-returns c = λ f. decision-true _ _ _ _ _ _ (search (data-known, needs)) (decision-true _ _ _ _ _ _ (search (decided, needs)) (decision-next _ _ _ _ _ _ (c .card .ensures f)))
+returns c = λ f. decision-true _ _ _ _ _ _ (search (data-known, needs)) (decision-true _ _ _ _ _ _ (search (same-value, needs)) (decision-next _ _ _ _ _ _ (c .card .ensures f)))
 
 returns-2 : tie.Need-returns-2
 unfolding splitFound
-returns-2 c = λ f. decision-true _ _ _ _ _ _ (search (data-known, needs)) (decision-false _ _ _ _ _ _ (search (decided, needs)) (decision-lengths _ _ _ _ _ _ _ (c .card2 .ensures f) (search needs)))
+returns-2 c = λ f. decision-true _ _ _ _ _ _ (search (data-known, needs)) (decision-false _ _ _ _ _ _ (search (same-value, needs)) (decision-lengths _ _ _ _ _ _ _ (c .card2 .ensures f) (search needs)))
 
 returns-3 : tie.Need-returns-3
 unfolding splitFound
@@ -35,6 +36,7 @@ found-spec =
     (λ c κs. search needs)
     (λ c. search needs)
     (λ c. search needs)
+    (λ c κs. search needs)
     (λ c κs. search needs)
     cast-byte-or
     add-byte-or

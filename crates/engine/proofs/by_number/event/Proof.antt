@@ -1,7 +1,7 @@
 -- `engine::by_number::event` meets its contract.
 use borrow.Author.Needs.{needs}
 use mathlib.Core.Path.{ap}
-use Rattle.engine.specs.Sessions.{withBooks}
+use Rattle.engine.specs.SessionSteps.{withBooks}
 use Rattle.engine.proofs.Numbers.{not-known, is-known}
 use Rattle.engine.proofs.by_number.event.Statement.{statement}
 use Rattle.engine.proofs.by_number.event.Tie as tie

@@ -3,7 +3,7 @@ use mathlib.Core.Path.{sym, ap, _∙_}
 use borrow.Author.Tests.{lt-ltb, le-ltb}
 use Rattle.errors.specs.Rules.{at-true, at-false}
 use Rattle.stages.specs.Starts.{starts-fit}
-use Rattle.engine.specs.Sessions.{withBooks, startAfter, bookedAfter}
+use Rattle.engine.specs.SessionSteps.{withBooks, startAfter, bookedAfter}
 use Rattle.engine.specs.Laws.{booked-after}
 use Rattle.engine.specs.Numbers.{reader-input, opening-input}
 use Rattle.engine.proofs.state.call.Statement.{statement}

@@ -3,7 +3,7 @@ use native.Mathlib.Omega.{arith}
 use mathlib.Core.Path.{sym, ap, _∙_}
 use Rattle.framing.specs.Valid.{both-left}
 use Rattle.errors.specs.Rules.{at-true, at-false}
-use Rattle.engine.specs.Sessions.{stateOf, valid, withBooks, bookedAfter, eventAfter}
+use Rattle.engine.specs.SessionSteps.{stateOf, valid, withBooks, bookedAfter, eventAfter}
 use Rattle.engine.specs.Laws.{booked-after, valid-caller, event-seen, extra-few}
 use Rattle.engine.proofs.state.event.Statement.{statement}
 use Rattle.engine.proofs.state.event.Tie as tie

@@ -3,7 +3,7 @@ use mathlib.Core.Bool.{true}
 use mathlib.Core.Path.{sym, ap, ap₂, _∙_}
 use borrow.Author.Tests.{lt-ltb, le-ltb}
 use Rattle.errors.specs.Rules.{at-true, at-false}
-use Rattle.engine.specs.Sessions.{withBooks, bookedAfter, openAfter}
+use Rattle.engine.specs.SessionSteps.{withBooks, bookedAfter, openAfter}
 use Rattle.engine.specs.Laws.{booked-after}
 use Rattle.engine.proofs.state.open.Statement.{statement}
 use Rattle.engine.proofs.state.open.Tie as tie

@@ -2,7 +2,7 @@
 use mathlib.Core.Path.{refl}
 use borrow.Author.Needs.{needs}
 use Rattle.exchange.specs.Rules.{goes-on, fails, stays, step-rules}
-use Rattle.exchange.specs.Steps.{stepOf}
+use Rattle.exchange.specs.Steps.{phaseIn}
 use Rattle.exchange.proofs.Tags.{not-read}
 use Rattle.exchange.proofs.Exchange.on_drain.Statement.{statement}
 use Rattle.exchange.proofs.Exchange.on_drain.Tie as tie
@@ -11,14 +11,14 @@ returns : tie.Need-returns
 returns c = rw (c .before .enum-told .given .1) (search (step-rules, needs) depth 8)
 
 returns-2 : tie.Need-returns-2
-unfolding stepOf
+unfolding phaseIn
 returns-2 c = rw (c .before .before .enum-told .given .1) (search (step-rules, needs) depth 8)
 
 returns-3 : tie.Need-returns-3
 returns-3 c = rw (c .enum-told2 .given .1) (fails _ _ _ _ refl)
 
 returns-4 : tie.Need-returns-4
-unfolding stepOf
+unfolding phaseIn
 returns-4 c = rw (c .before .enum-told3 .given .1) (search (goes-on, needs) depth 6)
 
 returns-5 : tie.Need-returns-5

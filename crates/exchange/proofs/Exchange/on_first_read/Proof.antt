@@ -3,7 +3,7 @@ use mathlib.Core.Path.{refl}
 use borrow.Author.Needs.{needs}
 use Rattle.exchange.specs.Packets.{hasStart}
 use Rattle.exchange.specs.Rules.{fails, stays, step-rules}
-use Rattle.exchange.specs.Steps.{stepOf}
+use Rattle.exchange.specs.Steps.{phaseIn}
 use Rattle.exchange.proofs.Tags.{not-read-first}
 use Rattle.exchange.proofs.Exchange.on_first_read.Statement.{statement}
 use Rattle.exchange.proofs.Exchange.on_first_read.Tie as tie
@@ -16,7 +16,7 @@ unfolding hasStart
 returns-2 c = rw (c .before .before .before .before .enum-told .given .1) (search (step-rules, needs) depth 8)
 
 returns-3 : tie.Need-returns-3
-unfolding stepOf hasStart
+unfolding phaseIn hasStart
 returns-3 c = rw (c .before .before .before .before .enum-told .given .1) (search (step-rules, needs) depth 8)
 
 returns-4 : tie.Need-returns-4

@@ -2,7 +2,7 @@
 use mathlib.Core.Path.{refl}
 use borrow.Author.Needs.{needs}
 use Rattle.exchange.specs.Rules.{goes-on, fails, stays, step-rules}
-use Rattle.exchange.specs.Steps.{stepOf}
+use Rattle.exchange.specs.Steps.{phaseIn}
 use Rattle.exchange.proofs.Tags.{not-read}
 use Rattle.exchange.proofs.Exchange.on_later_read.Statement.{statement}
 use Rattle.exchange.proofs.Exchange.on_later_read.Tie as tie
@@ -20,7 +20,7 @@ returns-4 : tie.Need-returns-4
 returns-4 c = rw (c .enum-told3 .given .1) (fails _ _ _ _ refl)
 
 returns-5 : tie.Need-returns-5
-unfolding stepOf
+unfolding phaseIn
 returns-5 c = rw (c .before .enum-told4 .given .1) (search (goes-on, needs) depth 6)
 
 returns-6 : tie.Need-returns-6

@@ -2,16 +2,16 @@
 use borrow.Author.Needs.{needs}
 use Rattle.exchange.specs.Packets.{ackLed}
 use Rattle.exchange.specs.Rules.{step-rules}
-use Rattle.exchange.specs.Steps.{stepOf}
+use Rattle.exchange.specs.Steps.{phaseIn}
 use Rattle.exchange.proofs.Exchange.on_packet.Statement.{statement}
 use Rattle.exchange.proofs.Exchange.on_packet.Tie as tie
 
 returns : tie.Need-returns
-unfolding stepOf ackLed
+unfolding phaseIn ackLed
 returns c = search (step-rules, needs) depth 8
 
 returns-2 : tie.Need-returns-2
-unfolding stepOf ackLed
+unfolding phaseIn ackLed
 returns-2 c = search (step-rules, needs) depth 8
 
 returns-3 : tie.Need-returns-3

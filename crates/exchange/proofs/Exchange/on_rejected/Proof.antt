@@ -1,17 +1,17 @@
 -- `exchange::Exchange::on_rejected` meets its contract.
 use borrow.Author.Needs.{needs}
 use Rattle.exchange.specs.Rules.{goes-on, stays}
-use Rattle.exchange.specs.Steps.{stepOf}
+use Rattle.exchange.specs.Steps.{phaseIn}
 use Rattle.exchange.proofs.Tags.{not-written}
 use Rattle.exchange.proofs.Exchange.on_rejected.Statement.{statement}
 use Rattle.exchange.proofs.Exchange.on_rejected.Tie as tie
 
 returns : tie.Need-returns
-unfolding stepOf
+unfolding phaseIn
 returns c p = rw (c .before .enum-told .given .1) (search (goes-on, needs) depth 6)
 
 returns-2 : tie.Need-returns-2
-unfolding stepOf
+unfolding phaseIn
 returns-2 c p = rw (c .before .enum-told2 .given .1) (search (goes-on, needs) depth 6)
 
 returns-3 : tie.Need-returns-3

@@ -3,7 +3,7 @@ use mathlib.Core.Path.{_≡_}
 use Prim.Native.Nat.{_≤_, _-_, _+_}
 use lib.ListN.{length, drop}
 use Rattle.bench.specs.Words.{wordsOf}
-use Rattle.presence_lines.specs.Lines.{placeOf}
+use Rattle.presence_lines.specs.Lines.{placeAmong}
 use native.Mathlib.Omega.{arith}
 use Rattle.presence_lines.proofs.ReadLaws.{place-begin, place-found, place-next, place-end}
 use borrow.Author.Needs.{needs}
@@ -11,7 +11,7 @@ use Rattle.presence_lines.proofs.read.place.Statement.{statement}
 use Rattle.presence_lines.proofs.read.place.Tie as tie
 
 abbrev Inv-loop : tie.InvT-loop
-Inv-loop word text n i₀ i = (n ≡ length (wordsOf text)) × (i ≤ n) × (placeOf word (wordsOf text) ≡ i + placeOf word (drop i (wordsOf text)))
+Inv-loop word text n i₀ i = (n ≡ length (wordsOf text)) × (i ≤ n) × (placeAmong word (wordsOf text) ≡ i + placeAmong word (drop i (wordsOf text)))
 
 abbrev μ-loop : tie.MeasureT-loop
 μ-loop word text n i₀ i = n - i

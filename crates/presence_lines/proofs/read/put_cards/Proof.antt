@@ -3,15 +3,15 @@ use mathlib.Core.Path.{_≡_, refl}
 use Prim.Native.Nat.{_≤_, _-_}
 use native.Mathlib.Omega.{arith}
 use lib.ListN.{length, drop}
-use Rattle.bench.specs.WordLaws.{behind}
-use Rattle.presence_lines.specs.Readings.{Filled}
+use Rattle.bench.specs.WordLaws.{wordsBehind}
+use Rattle.presence_lines.specs.Readings.{ReadSoFar}
 use Rattle.presence_lines.proofs.ReadLaws.{filled-none, filled-all, filled-not, filled-more}
 use borrow.Author.Needs.{needs}
 use Rattle.presence_lines.proofs.read.put_cards.Statement.{statement}
 use Rattle.presence_lines.proofs.read.put_cards.Tie as tie
 
 abbrev Inv-loop : tie.InvT-loop
-Inv-loop line from records₀ n at₀ len₀ records at len = (n ≡ length line) × (at ≤ n) × (length records ≡ length records₀) × Filled (behind (drop from line)) (behind (drop at line)) records₀ len records
+Inv-loop line from records₀ n at₀ len₀ records at len = (n ≡ length line) × (at ≤ n) × (length records ≡ length records₀) × ReadSoFar (wordsBehind (drop from line)) (wordsBehind (drop at line)) records₀ len records
 
 abbrev μ-loop : tie.MeasureT-loop
 μ-loop line from records₀ n at₀ len₀ records at len = n - at

@@ -1,6 +1,6 @@
 -- `put::put_all` meets its contract.
 use Rattle.presence_list.specs.Names.{recordSize}
-use Rattle.presence_list.specs.Fills.{Filled, filled-none, filled-cards-at, filled-fit, filled-more, filled-over, filled-all}
+use Rattle.presence_list.specs.Fills.{FilledSoFar, filled-none, filled-cards-at, filled-fit, filled-more, filled-over, filled-all}
 use lib.Seq.{length-take-le}
 use lib.ListN.{length, drop, length-drop}
 use Prim.Native.Nat.{_-_, _/_, _*_}
@@ -12,7 +12,7 @@ use Rattle.presence_list.proofs.put.put_all.Statement.{statement}
 use Rattle.presence_list.proofs.put.put_all.Tie as tie
 
 abbrev Inv-loop : tie.InvT-loop
-Inv-loop records cards₀ count size n₀ i₀ cards n i = (size ≡ length records / recordSize) × Filled cards₀ count records size i n cards
+Inv-loop records cards₀ count size n₀ i₀ cards n i = (size ≡ length records / recordSize) × FilledSoFar cards₀ count records size i n cards
 
 abbrev μ-loop : tie.MeasureT-loop
 μ-loop records cards₀ count size n₀ i₀ cards n i = size - i

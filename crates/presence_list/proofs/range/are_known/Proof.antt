@@ -5,13 +5,13 @@ use mathlib.Core.Path.{_≡_, refl}
 use Prim.Native.Nat.{_-_, _≤_, _/_}
 use lib.ListN.{length, drop}
 use Rattle.presence_list.specs.Presence.{every}
-use Rattle.presence_list.specs.Memory.{pieces, knownIn}
+use Rattle.presence_list.specs.Memory.{pieces, isKnownIn}
 use borrow.Author.Needs.{needs}
 use Rattle.presence_list.proofs.range.are_known.Statement.{statement}
 use Rattle.presence_list.proofs.range.are_known.Tie as tie
 
 abbrev Inv-loop : tie.InvT-loop
-Inv-loop records size i₀ i = (size ≡ length records / recordSize) × (i ≤ size) × (every knownIn (pieces size records) ≡ every knownIn (drop i (pieces size records)))
+Inv-loop records size i₀ i = (size ≡ length records / recordSize) × (i ≤ size) × (every isKnownIn (pieces size records) ≡ every isKnownIn (drop i (pieces size records)))
 
 abbrev μ-loop : tie.MeasureT-loop
 μ-loop records size i₀ i = size - i

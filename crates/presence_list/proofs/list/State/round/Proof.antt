@@ -1,6 +1,6 @@
 -- `list::State::round` meets its contract.
 use Rattle.presence_list.specs.Admissions.{admitted, left-as}
-use Rattle.presence_list.specs.Steps.{stepOf, byAdmission}
+use Rattle.presence_list.specs.Steps.{roundStep, byAdmission}
 use mathlib.Core.Path.{sym, ap, _∙_}
 use borrow.Author.Needs.{needs}
 use Rattle.presence_list.proofs.list.State.round.Statement.{statement}
@@ -12,7 +12,7 @@ accept-requires c κs =
     admitted (a .self) (a .cards .now) (a .number) (a .records .now) _ (c .before .before .before .before .before .admit .ensures) (c .before .before .before .enum-told .given .1)
 
 returns : tie.Need-returns
-unfolding stepOf
+unfolding roundStep
 returns c = let a = c .before .before .before .before .before .before .before .before .before .args in c .accept .ensures ∙ ap (λ r. byAdmission r (a .self) (a .cards .now) (a .arrived .now) (a .departed .now) (a .number) (a .records .now)) (sym (c .before .before .before .before .enum-told .given .1) ∙ c .before .before .before .before .before .before .admit .ensures)
 
 returns-2 : tie.Need-returns-2

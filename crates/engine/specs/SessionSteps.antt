@@ -13,7 +13,7 @@ use Rattle.protocol.specs.Session.{seen, bufferNeed, noCounts, lastCaller}
 use Rattle.protocol.specs.Starts.{dataLimit}
 use Rattle.stages.specs.Starts.{Start}
 use Rattle.stages.specs.Decided.{foundLimit}
-use Rattle.engine.specs.Books.{Books, booksOf, openedIn, modeIn, callerIn, noBooks, inRange, booked}
+use Rattle.engine.specs.Books.{Books, booksOf, openedIn, modeIn, callerIn, noBooks, booksInRange, booked, booksSize}
 use Rattle.engine.specs.Core.{noCore, Arrays, arrays, progressed, After, after, unchanged, eventCore, openCore, startOn}
 use Rattle.engine.specs.Core.{isValid as validCore}
 use Rattle.engine.specs.declared.core.Core.{Core}
@@ -38,10 +38,10 @@ stateOf c b n = state c (booksOf b n)
 
 -- every number is in its range
 unfoldable pub valid : Core → ℕ → ℕ → ℕ → Bool
-valid c opened mode caller = both (validCore c) (inRange opened mode caller)
+valid c opened mode caller = both (validCore c) (booksInRange opened mode caller)
 
-abbrev pub isValid : State → Bool
-isValid s = valid (s .core) (openedIn (s .books)) (modeIn (s .books)) (callerIn (s .books))
+abbrev pub isValidState : State → Bool
+isValidState s = valid (s .core) (openedIn (s .books)) (modeIn (s .books)) (callerIn (s .books))
 
 abbrev pub withBooks : List ℕ → List ℕ → After Core → After State
 withBooks b n a = after (stateOf (a .state) b n) (a .arrays) (a .output) (a .buffer)
@@ -58,7 +58,7 @@ bookedAfter k isOpening b a = after (state (a .state) (booked k isOpening (a .ou
 -- an event is taken as the mode sees it
 unfoldable pub eventAfter : State → Arrays → Event → List ℕ → After State
 eventAfter s f e b =
-    pick (isValid s) (bookedAfter (callerIn (s .books)) (eqb (s .core .call .kind) openingKind) (s .books) (eventCore (s .core) f (seen (isPaddedMode (modeIn (s .books))) e) b)) (unchanged s f OutOfTurn b)
+    pick (isValidState s) (bookedAfter (callerIn (s .books)) (eqb (s .core .call .kind) openingKind) (s .books) (eventCore (s .core) f (seen (isPaddedMode (modeIn (s .books))) e) b)) (unchanged s f OutOfTurn b)
 
 -- a call: 1, 2, then its own refusals
 abbrev pub free : Core → ℕ → ℕ → ℕ → Bool
@@ -82,11 +82,11 @@ unfoldable pub openAfter : State → Arrays → ℕ → ℕ → List ℕ → Aft
 openAfter s f k mode b = pick (isFree s) (withRoom s f b (withCaller s f k b (openIn s f k mode b))) (unchanged s f OutOfTurn b)
 
 -- a call of an open reader
-abbrev pub admitted : Core → ℕ → ℕ → ℕ → Bool
-admitted c opened mode caller = both (free c opened mode caller) (eqb opened 1)
+abbrev pub admitsCall : Core → ℕ → ℕ → ℕ → Bool
+admitsCall c opened mode caller = both (free c opened mode caller) (eqb opened 1)
 
 abbrev pub isAdmitted : State → Bool
-isAdmitted s = admitted (s .core) (openedIn (s .books)) (modeIn (s .books)) (callerIn (s .books))
+isAdmitted s = admitsCall (s .core) (openedIn (s .books)) (modeIn (s .books)) (callerIn (s .books))
 
 unfoldable pub startAfter : State → Arrays → ℕ → Start → List ℕ → After State
 startAfter s f k x b =
@@ -102,8 +102,8 @@ pub record Stepped : Type 0 where
 abbrev pub stepped : Step → List ℕ → Stepped
 stepped r b = record { session = r .session; output = r .output; buffer = b }
 
-abbrev pub sessionAfter : After State → Stepped
-sessionAfter a =
+abbrev pub steppedOf : After State → Stepped
+steppedOf a =
     record { session = record { command = a .arrays .command; found = a .arrays .found; frames = a .state .books .frames; books = a .state .books .numbers; core = a .state .core }; output = a .output; buffer = a .buffer }
 
 abbrev pub arraysIn : Session → Arrays
@@ -118,6 +118,6 @@ freshSession =
       command = replicate dataLimit 0;
       found = replicate foundLimit 0;
       frames = noCounts;
-      books = replicate 3 0;
+      books = replicate booksSize 0;
       core = noCore;
     }
