@@ -7,7 +7,7 @@ ghost use mathlib.Core.Bool.{Bool};
 ghost use Prim.Native.Nat.{_+_, _*_, _/_, _≤_, _<_};
 ghost use lib.ListN.{length};
 ghost use Rattle.bench.specs.Texts.{returned, over, placed, putAt};
-ghost use Rattle.bench.specs.Hex.{valueOf, allHexDigits as allDigitsOf, isHex, pairsOf, readOf, digitOf, digitsOf, hexOf};
+ghost use Rattle.bench.specs.Hex.{valueOf, allHexDigits, isHex, pairsOf, readOf, digitOf, digitsOf, hexOf};
 ghost use Rattle.framing.specs.Build.{left};
 
 // The value of a hex digit; 16 where the byte is none.
@@ -23,7 +23,7 @@ fn value(digit: u8) -> u8
 }
 
 fn all_digits(word: &[u8]) -> bool
-    ensures { λ r. ⌜ r ≡ allDigitsOf (now (word .entry)) ⌝ }
+    ensures { λ r. ⌜ r ≡ allHexDigits (now (word .entry)) ⌝ }
 {
     let mut i = 0;
     while i < word.len() {

@@ -6,6 +6,7 @@ use Rattle.exchange.specs.Exchange.{write, read, drain, pause, Event}
 use Rattle.protocol.specs.Scripts.{done, type1, uidAndAts, nothing, refused, refusedAfter}
 use Rattle.protocol.specs.Calls.{ReaderCall, opening, reader}
 use Rattle.protocol.specs.Session.{Entry, call, event}
+use Rattle.protocol.specs.Session.{StepResult, stepResult}
 use Rattle.protocol.specs.Session.{Output as Given, orders, answers, rejects}
 use Rattle.calls.specs.Firsts.{startFor}
 use Rattle.engine.specs.Core.{Arrays, After}
@@ -54,5 +55,5 @@ afterInput s f (gives e b) = eventAfter s f e b
 abbrev pub stepWith : Session → Input → Stepped
 stepWith s i = steppedOf (afterInput (stateIn s) (arraysIn s) i)
 
-abbrev pub act : Session → Input → Session × Given ℕ
-act s i = ((stepWith s i) .session, outputOf ((stepWith s i) .output) ((stepWith s i) .buffer))
+abbrev pub act : Session → Input → StepResult Session ℕ
+act s i = stepResult ((stepWith s i) .session) (outputOf ((stepWith s i) .output) ((stepWith s i) .buffer))

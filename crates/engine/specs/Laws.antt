@@ -36,7 +36,7 @@ use Rattle.protocol.specs.Starts.{dataLimit}
 use Rattle.engine.specs.Books.{Books, booksOf, callerIn, booked, extraIn}
 use Rattle.engine.specs.declared.core.Progress.{Progress}
 use Rattle.engine.specs.Booking.{range-caller}
-use Rattle.engine.specs.SessionSteps.{State, state, effected, bookedAfter, valid, isValidState as validState}
+use Rattle.engine.specs.SessionSteps.{State, state, effected, bookedAfter, valid, isValidState}
 use Rattle.engine.specs.Core.{isValid, Lent, Arrays, progressed, After, eventCore, endsOf, doneOf, answersOf, sendsOf, running, after}
 use Rattle.engine.specs.declared.call.Call.{Call}
 use Rattle.engine.specs.declared.core.Core.{Core}
@@ -133,7 +133,7 @@ pub booked-after : (k : ℕ) (t : Bool) (p : Progress) (b : Books) (m n : List �
 booked-after k t p b m n h f buffer = ap (λ x. after (state (p .core) x) f (p .output) buffer) h
 
 -- numbers in range have one of the eight callers
-pub valid-caller : (s : State) → validState s ≡ true → callerIn (s .books) ≤ lastCaller
+pub valid-caller : (s : State) → isValidState s ≡ true → callerIn (s .books) ≤ lastCaller
 unfolding valid
 valid-caller s h = range-caller (s .books) (both-right (isValid (s .core)) _ h)
 

@@ -14,7 +14,7 @@ use Rattle.exchange.specs.Exchange.{Order, Event}
 use Rattle.exchange.specs.Steps.{exchangeAt, sendingPhase}
 use Rattle.protocol.specs.Calls.{ReaderCall, opening, reader, isPaddedMode}
 use Rattle.protocol.specs.Starts.{startOf, dataLimit}
-use Rattle.protocol.specs.Session.{Running, idle, lastCaller, seen, started, Entry, call, event, Effect, unchanged as unchangedOf, runs as runsOf, ends, effectOf, afterEffect as afterOf, given, fresh, step, bufferNeed}
+use Rattle.protocol.specs.Session.{Running, idle, lastCaller, seen, started, Entry, call, event, Effect, unchanged as unchangedOf, runs as runsOf, ends, effectOf, afterEffect, given, fresh, step, bufferNeed}
 use Rattle.protocol.specs.Session as Spec
 use Rattle.protocol.specs.Machine.{outputValues, Machine, Obeys, obeys, entries, givenOut, stateAfter}
 use Rattle.protocol.specs.Reference.{offEntry, Plain, Padded, referenceOf, MachineSame, machine-reference, machine-plain}
@@ -37,7 +37,7 @@ use Rattle.calls.specs.Kinds.{noCallKind}
 -- ---- what an entry leaves of a session, beside what the definitions say
 
 pub record EntryRefines (m : Spec.Session) (e : Entry) (a : After State) (o : Effect) : Type 0 where
-  pub represents : SessionRepresents ((steppedOf a) .session) (afterOf m e o)
+  pub represents : SessionRepresents ((steppedOf a) .session) (afterEffect m e o)
   pub output : outputOf (a .output) (a .buffer) ≡ outputValues (given o)
 
 module _ (m : Running) (b : Spec.Books) (bounds : Bounded b) where
@@ -162,7 +162,7 @@ free-refines v b bounds i = go i (in-range v noCall b bounds refl)
 -- ---- the theorem
 
 abbrev pub Simulated : Input → Session → Spec.Session → Type 0
-Simulated i s m = SessionRepresents ((act s i) .0) ((step m (entryOf i)) .0) × ((act s i) .1 ≡ outputValues ((step m (entryOf i)) .1))
+Simulated i s m = SessionRepresents ((act s i) .state) ((step m (entryOf i)) .state) × ((act s i) .output ≡ outputValues ((step m (entryOf i)) .output))
 
 by-input : (i : Input) (s : Session) (m : Spec.Session) → EntryRefines m (entryOf i) (afterInput (stateIn s) (arraysIn s) i) (effectOf (m .running) (m .books) (entryOf i)) → Simulated i s m
 by-input i s m h = (h .represents, h .output)

@@ -50,7 +50,7 @@ fn is_from(code: u8, idm: &[u8], reply: &[u8]) -> bool
 }
 
 // Flag 1 at 0; else 20, with both flags.
-fn by_status(flag1: u8, flag2: u8) -> Checked
+fn by_flags(flag1: u8, flag2: u8) -> Checked
     ensures { λ r. ⌜ r ≡ byFlags flag1 flag2 ⌝ }
 {
     if flag1 == 0 {
@@ -66,7 +66,7 @@ fn check_reply(code: u8, idm: &[u8], whole: bool, reply: &[u8]) -> Checked
 {
     if is_complete(whole, reply) {
         if is_from(code, idm, reply) {
-            by_status(byte_at(reply, FLAG1_OFFSET), byte_at(reply, FLAG2_OFFSET))
+            by_flags(byte_at(reply, FLAG1_OFFSET), byte_at(reply, FLAG2_OFFSET))
         } else {
             Checked::Faulty(Fault::OtherCard)
         }

@@ -6,7 +6,7 @@ ghost use mathlib.Core.Path.{_≡_};
 ghost use Prim.Native.Nat.{_≤_};
 ghost use Rattle.framing.specs.Names.{extendedStart};
 ghost use Rattle.framing.specs.Padded.{mostZeros, extraZeros, zerosIn, parsePadded};
-ghost use Rattle.framing.specs.Padded.{shiftedBy as behindOf};
+ghost use Rattle.framing.specs.Padded.{shiftedBy};
 ghost use Rattle.framing.specs.Unpadded.{extraAt};
 ghost use Rattle.framing.specs.PaddedAnswers.{payloadStart};
 
@@ -55,9 +55,9 @@ fn zeros_in(padded: bool, packet: &[u8]) -> usize
 }
 
 // The answer with its place counted from `zeros` bytes further in front.
-fn behind(zeros: usize, found: FrameType) -> FrameType
+fn shifted_by(zeros: usize, found: FrameType) -> FrameType
     requires { ⌜ (zeros ≤ mostZeros) × (payloadStart found ≤ extendedStart) ⌝ }
-    ensures { λ r. ⌜ r ≡ behindOf zeros found ⌝ }
+    ensures { λ r. ⌜ r ≡ shiftedBy zeros found ⌝ }
 {
     match found {
         FrameType::Ack(n) => FrameType::Ack(n),
@@ -79,6 +79,6 @@ pub fn parse_padded(format: FrameFormat, padded: bool, packet: &[u8]) -> Padded
     let found = super::parse(format, &packet[zeros..]);
     Padded {
         zeros,
-        found: behind(zeros, found),
+        found: shifted_by(zeros, found),
     }
 }

@@ -9,14 +9,14 @@ use Rattle.bench.specs.Numbers.{digitValue, allDecimal, numberFrom, isNumber, n
 use Rattle.bench.specs.Texts.{over, decimalUnder, decimalOf}
 use Rattle.bench.specs.Words.{ahead, wordsOf}
 use Rattle.presence_list.specs.Keyed.{supersede, supersedeAll, has, without}
-use Rattle.presence_list.specs.Memory.{pieces, concatenated as joinedRecords, laid, cardIn, keptRecord, keptRecords, aged}
+use Rattle.presence_list.specs.Memory.{pieces, concatenated, laid, cardIn, keptRecord, keptRecords, aged}
 use Rattle.presence_list.specs.Order.{before}
 use Rattle.presence_list.specs.Presence.{any, every}
 use Rattle.presence_list.specs.Steps.{listInRange, staleAt, readableIn, admissionOf, acceptOf, roundStep, roundOf, emptyList}
 use Rattle.presence_lines.specs.Lines.{kinds, bitrates, placeAmong, beforeColon, behindColon, isCard, recordWith, identified, recordOfWord, areCards, recordsOfWords, saidRound, saidOf, cardText, rateText, cardsText, listsText, refusedText, textOf, onSaid, answerOf}
 
 pub one-card : answerOf emptyList (ascii "round 1 A:04A1:106A") .text ≡ ascii "arrived A:04A1 departed present A:04A1:106A"
-unfolding pick inRange starts same indexAfter indexOf valueOf allHexDigits isHex pairsOf digitOf digitsOf hexOf over ahead wordsOf supersede supersedeAll has without pieces joinedRecords laid cardIn keptRecord keptRecords aged before any every listInRange staleAt readableIn admissionOf acceptOf roundStep roundOf digitValue allDecimal numberFrom isNumber numberOf kinds bitrates placeAmong beforeColon behindColon isCard recordWith identified recordOfWord areCards recordsOfWords saidRound saidOf cardText rateText cardsText listsText textOf onSaid answerOf
+unfolding pick inRange starts same indexAfter indexOf valueOf allHexDigits isHex pairsOf digitOf digitsOf hexOf over ahead wordsOf supersede supersedeAll has without pieces concatenated laid cardIn keptRecord keptRecords aged before any every listInRange staleAt readableIn admissionOf acceptOf roundStep roundOf digitValue allDecimal numberFrom isNumber numberOf kinds bitrates placeAmong beforeColon behindColon isCard recordWith identified recordOfWord areCards recordsOfWords saidRound saidOf cardText rateText cardsText listsText textOf onSaid answerOf
 one-card = refl
 
 pub seventeen-bytes : answerOf emptyList (ascii "round 1 A:0102030405060708090A0B0C0D0E0F1011:106A") .text ≡ ascii "refused 3"

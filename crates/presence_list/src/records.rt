@@ -5,7 +5,7 @@ ghost use mathlib.Core.List.{_++_};
 ghost use Prim.Native.Nat.{_+_, _≤_};
 ghost use lib.ListN.{length, take, drop};
 ghost use Rattle.presence_list.specs.Names.{recordSize, identifierLimit};
-ghost use Rattle.presence_list.specs.Memory.{lengthIn, cardIn, keptRecord as entryIn};
+ghost use Rattle.presence_list.specs.Memory.{lengthIn, cardIn, keptRecord};
 
 pub const RECORD: usize = 20;
 
@@ -36,7 +36,7 @@ pub(crate) fn put_at(text: &[u8], cards: &mut [u8], at: usize)
 // A lent record as the list keeps it: zeros behind its identifier, and not missed.
 pub(crate) fn entry_of(found: &[u8]) -> [u8; RECORD]
     requires { ⌜ (length (now found) ≡ recordSize) × (lengthIn (now found) ≤ identifierLimit) ⌝ }
-    ensures { λ r. ⌜ r ≡ entryIn (now (found .entry)) ⌝ }
+    ensures { λ r. ⌜ r ≡ keptRecord (now (found .entry)) ⌝ }
 {
     let card = card_at(found, 0);
     let mut entry = [0u8; RECORD];

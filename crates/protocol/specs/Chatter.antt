@@ -53,7 +53,7 @@ watching caller (busy c phase) = observed [] (note caller c none ∷ [])
 abbrev pub linesFrom : Session → ℕ → Call → ℕ → List EventAndRoom → List Item
 linesFrom s caller c room es =
     let is = callEntries caller c room es in
-    map (seenItem (((step s (call caller c room)) .0) .books .padded)) (linesOf 0 ((observe (watching (s .books .caller) (s .running)) is (outputs s is)) .lines))
+    map (seenItem (((step s (call caller c room)) .state) .books .padded)) (linesOf 0 ((observe (watching (s .books .caller) (s .running)) is (outputs s is)) .lines))
 
 -- ---- what is the same
 

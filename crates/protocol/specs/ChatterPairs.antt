@@ -16,11 +16,11 @@ use Rattle.exchange.specs.Packets.{ackLed}
 use Rattle.exchange.specs.Exchange.{write, read, Event, ok, bad, pkt, time, fail, late, slept, pending, sending, reading, waiting, cancelling, firstReadTime}
 use Rattle.protocol.specs.Scripts.{Byte}
 use Rattle.protocol.specs.Calls.{Call}
-use Rattle.protocol.specs.Session.{Rest, Phase, CallResult, exchange, progress, busy, Books, bookOrder, Session, packetLimit, seen, call, event, Output, orders, answers, rejects, bufferNeed}
+use Rattle.protocol.specs.Session.{Rest, Phase, CallResult, exchange, progress, busy, Books, bookOrder, Session, packetLimit, seen, call, event, Output, orders, answers, rejects, bufferNeed, stepResult}
 use Rattle.protocol.specs.Session.{runs, bufferNeed, packetLength, eventEffect, afterEffect, given, step, outputs, sessionAfter}
-use Rattle.protocol.specs.Record.{Item, ordered, accepted, Record, Note, Observed, observed, add, observe, isCommand, events, isAckLed, acked}
+use Rattle.protocol.specs.Record.{Item, ordered, accepted, Record, Note, Observed, observed, add, observe, isCommand, events, isAckLed, acked, line}
 use Rattle.protocol.specs.Claim.{allowedBetween}
-use Rattle.protocol.specs.PollList.{EventAndRoom, eventEntry, isIdle}
+use Rattle.protocol.specs.PollList.{EventAndRoom, eventEntry, isIdle, eventWith}
 use Rattle.protocol.specs.Chatter.{unanswered, waits, isFurther, eventsBut, Alike, callEntries, linesFrom}
 use Rattle.protocol.specs.ChatterLaws.{Proper, Trace, IsAsked, AskedBy, Acked, waits-now, waits-so, and-left, and-right, read-books, led-start, led-again}
 use Rattle.protocol.specs.ChatterSame.{seenOf, runningBy, idle-after, idle-seen, busyIn, seenBehind, Here, run-on, Begins, silent, going, begins}
@@ -54,10 +54,10 @@ module _ (n : ℕ) (mode : Bool) where
   abbrev BesideIn : Record → Record → Type 0
   BesideIn l k = Beside n (seenOf mode l) (seenOf mode k)
 
-  line-beside : (m : ℕ) (x : Item) (l k : Record) → BesideIn l k → BesideIn ((m, x) ∷ l) ((m, x) ∷ k)
+  line-beside : (m : ℕ) (x : Item) (l k : Record) → BesideIn l k → BesideIn (line m x ∷ l) (line m x ∷ k)
   line-beside m x l k h = go (eqb 0 m) refl
     where
-      go : (t : Bool) → eqb 0 m ≡ t → BesideIn ((m, x) ∷ l) ((m, x) ∷ k)
+      go : (t : Bool) → eqb 0 m ≡ t → BesideIn (line m x ∷ l) (line m x ∷ k)
       go true e = rw e (beside-more _ h)
       go false e = rw e h
 
@@ -68,8 +68,8 @@ module _ (n : ℕ) (mode : Bool) where
   run-beside (e ∷ es) (o ∷ outs) l k [] h = run-beside es outs l k [] h
   run-beside (e ∷ es) (orders x ∷ outs) l k (y ∷ ns) h =
       run-beside es outs _ _ (y ∷ ns)
-      (line-beside (length ns) (ordered x) ((length ns, accepted (e .0)) ∷ l) ((length ns, accepted (e .0)) ∷ k) (line-beside (length ns) (accepted (e .0)) l k h))
-  run-beside (e ∷ es) (answers a ∷ outs) l k (y ∷ ns) h = run-beside es outs _ _ _ (line-beside (length ns) (accepted (e .0)) l k h)
+      (line-beside (length ns) (ordered x) (line (length ns) (accepted (e .event)) ∷ l) (line (length ns) (accepted (e .event)) ∷ k) (line-beside (length ns) (accepted (e .event)) l k h))
+  run-beside (e ∷ es) (answers a ∷ outs) l k (y ∷ ns) h = run-beside es outs _ _ _ (line-beside (length ns) (accepted (e .event)) l k h)
   run-beside (e ∷ es) (rejects r ∷ outs) l k (y ∷ ns) h = run-beside es outs l k (y ∷ ns) h
 
 -- ---- further packets
@@ -78,11 +78,11 @@ module _ (n : ℕ) (mode : Bool) where
 abbrev pub Furthers : Bool → List EventAndRoom → Type 0
 Furthers mode [] = Unit {0}
 Furthers mode (e ∷ es) =
-    ((isFurther (seen mode (e .0)) ≡ true) × (ltb packetLimit (packetLength (seen mode (e .0))) ≡ false) × (ltb (e .1) bufferNeed ≡ false)) × Furthers mode es
+    ((isFurther (seen mode (e .event)) ≡ true) × (ltb packetLimit (packetLength (seen mode (e .event))) ≡ false) × (ltb (e .room) bufferNeed ≡ false)) × Furthers mode es
 
 -- n times the bare ACK
 abbrev pub acks : ℕ → List EventAndRoom
-acks n = replicate n (pkt ack, bufferNeed)
+acks n = replicate n (eventWith (pkt ack) bufferNeed)
 
 seen-ack : (mode : Bool) → seen mode (pkt ack) ≡ pkt ack
 unfolding starts
@@ -130,11 +130,11 @@ module _ (c : Call) (code clock : ℕ) (rest : Rest) (b : Books) (z : eqb clock 
       → eventEffect c e room (progress (exchange (waiting code clock) rest) e) ≡ runs c (read clock) (exchange (waiting code clock) rest)
   taken e room f p r = ap (eventEffect c e room) (led-again code clock rest e z f) ∙ rw (r, p) refl
 
-  taken-step : (e : EventAndRoom) → isFurther (seen (b .padded) (e .0)) ≡ true → ltb packetLimit (packetLength (seen (b .padded) (e .0))) ≡ false → ltb (e .1) bufferNeed ≡ false
-      → step waitingIn (eventEntry e) ≡ (waitingIn, orders (read clock))
+  taken-step : (e : EventAndRoom) → isFurther (seen (b .padded) (e .event)) ≡ true → ltb packetLimit (packetLength (seen (b .padded) (e .event))) ≡ false → ltb (e .room) bufferNeed ≡ false
+      → step waitingIn (eventEntry e) ≡ stepResult waitingIn (orders (read clock))
   taken-step e f p r =
-      ap (λ o. (afterEffect waitingIn (eventEntry e) o, given o)) (taken (seen (b .padded) (e .0)) (e .1) f p r)
-      ∙ ap (λ x. (busyIn c (exchange (waiting code clock) rest) x, orders (read clock))) (read-books clock b)
+      ap (λ o. stepResult (afterEffect waitingIn (eventEntry e) o) (given o)) (taken (seen (b .padded) (e .event)) (e .room) f p r)
+      ∙ ap (λ x. stepResult (busyIn c (exchange (waiting code clock) rest) x) (orders (read clock))) (read-books clock b)
 
   module _ (y : Note) (ds : List EventAndRoom) where
     abbrev linesOn : Record → List EventAndRoom → List Item
@@ -145,13 +145,13 @@ module _ (c : Call) (code clock : ℕ) (rest : Rest) (b : Books) (z : eqb clock 
     furthers-beside [] q n l k h w = rw (zero-add n) (run-beside n (b .padded) ds (outputs waitingIn (map eventEntry ds)) l k (y ∷ []) h)
     furthers-beside (e ∷ ps) q n l k h w =
         let f = q .0 .0 in
-        let d = seen (b .padded) (e .0) in
+        let d = seen (b .padded) (e .event) in
         let xs = seenOf (b .padded) l in
         let ys = seenOf (b .padded) k in
-        let on = furthers-beside ps (q .1) (suc n) l ((0, ordered (read clock)) ∷ (0, accepted (e .0)) ∷ k) (further-beside n clock d xs ys h w f) (further-waits clock d ys w f) in
+        let on = furthers-beside ps (q .1) (suc n) l (line 0 (ordered (read clock)) ∷ line 0 (accepted (e .event)) ∷ k) (further-beside n clock d xs ys h w f) (further-waits clock d ys w f) in
         let count : length ps + suc n ≡ length (e ∷ ps) + n = omega arith in
         subst (λ m. Beside m (linesOn l ds) (linesOn k ((e ∷ ps) ++ ds))) count
-        (subst (λ r. Beside (length ps + suc n) (linesOn l ds) (shown (b .padded) (add (observed k (y ∷ [])) (eventEntry e) (r .1)) (r .0) (ps ++ ds)))
+        (subst (λ r. Beside (length ps + suc n) (linesOn l ds) (shown (b .padded) (add (observed k (y ∷ [])) (eventEntry e) (r .output)) (r .state) (ps ++ ds)))
         (sym (taken-step e f (q .0 .1) (q .0 .2))) on)
 
 -- ---- any record that waits
@@ -159,7 +159,7 @@ module _ (c : Call) (code clock : ℕ) (rest : Rest) (b : Books) (z : eqb clock 
 -- events behind events
 seen-append : (es ds : List EventAndRoom) (w : Observed) (s : Session) → seenBehind w s (es ++ ds) ≡ seenBehind (seenBehind w s es) (sessionAfter s (map eventEntry es)) ds
 seen-append [] ds w s = refl
-seen-append (e ∷ es) ds w s = seen-append es ds (add w (eventEntry e) ((step s (eventEntry e)) .1)) ((step s (eventEntry e)) .0)
+seen-append (e ∷ es) ds w s = seen-append es ds (add w (eventEntry e) ((step s (eventEntry e)) .output)) ((step s (eventEntry e)) .state)
 
 acked-asked : (c : Call) (t : Trace) (r : CallResult) (xs : List Item) → Acked c t r → AskedBy c t r xs → IsAsked c t xs
 acked-asked c t r xs a h = go (eqb (a .clock) 0) refl
@@ -222,40 +222,40 @@ module _ (ps ds : List EventAndRoom) where
 
 -- behind any events es after which a command waits: further packets ps, and then any events ds
 pub further-pairs : (s : Session) (caller : ℕ) (c : Call) (room : ℕ) (es ps ds : List EventAndRoom) → waits (linesFrom s caller c room es) ≡ true
-    → Furthers (((step s (call caller c room)) .0) .books .padded) ps → Beside (length ps) (linesFrom s caller c room (es ++ ds)) (linesFrom s caller c room (es ++ (ps ++ ds)))
+    → Furthers (((step s (call caller c room)) .state) .books .padded) ps → Beside (length ps) (linesFrom s caller c room (es ++ ds)) (linesFrom s caller c room (es ++ (ps ++ ds)))
 further-pairs s caller c room es ps ds h f = begun-pairs ps ds es _ _ (begins caller c room s) f h
 
 -- with n bare ACKs
 pub any-length : (s : Session) (caller : ℕ) (c : Call) (room : ℕ) (es : List EventAndRoom) → waits (linesFrom s caller c room es) ≡ true
     → (n : ℕ) (ds : List EventAndRoom) → Beside n (linesFrom s caller c room (es ++ ds)) (linesFrom s caller c room (es ++ (acks n ++ ds)))
 any-length s caller c room es h n ds =
-    subst (λ m. Beside m (linesFrom s caller c room (es ++ ds)) (linesFrom s caller c room (es ++ (acks n ++ ds)))) (length-replicate n (pkt ack, bufferNeed))
+    subst (λ m. Beside m (linesFrom s caller c room (es ++ ds)) (linesFrom s caller c room (es ++ (acks n ++ ds)))) (length-replicate n (eventWith (pkt ack) bufferNeed))
     (further-pairs s caller c room es (acks n) ds h (bare-acks _ n))
 
 -- ---- a command that was ordered comes to wait
 
 -- its frame is written, and ACK comes
 abbrev pub acknowledged : List EventAndRoom
-acknowledged = (ok, bufferNeed) ∷ (pkt ack, bufferNeed) ∷ []
+acknowledged = eventWith ok bufferNeed ∷ eventWith (pkt ack) bufferNeed ∷ []
 
 seen-ok : (mode : Bool) → seen mode ok ≡ ok
 seen-ok false = refl
 seen-ok true = refl
 
 module _ (c : Call) (code clock : ℕ) (rest : Rest) (z : eqb clock 0 ≡ false) where
-  ok-step : (b : Books) → step (busyIn c (exchange (sending code clock) rest) b) (event ok bufferNeed) ≡ (busyIn c (exchange (reading code clock) rest) (bookOrder (read firstReadTime) b), orders (read firstReadTime))
+  ok-step : (b : Books) → step (busyIn c (exchange (sending code clock) rest) b) (event ok bufferNeed) ≡ stepResult (busyIn c (exchange (reading code clock) rest) (bookOrder (read firstReadTime) b)) (orders (read firstReadTime))
   ok-step b =
       let s : Session = busyIn c (exchange (sending code clock) rest) b in
-      ap (λ e. let o = eventEffect c e bufferNeed (progress (exchange (sending code clock) rest) e) in (afterEffect s (event ok bufferNeed) o, given o)) (seen-ok (b .padded))
+      ap (λ e. let o = eventEffect c e bufferNeed (progress (exchange (sending code clock) rest) e) in stepResult (afterEffect s (event ok bufferNeed) o) (given o)) (seen-ok (b .padded))
 
   ack-again : progress (exchange (reading code clock) rest) (pkt ack) ≡ pending (read clock) (exchange (waiting code clock) rest)
   ack-again = rw (led-start ack ack-led, ack-led, z) refl
 
-  ack-step : (b : Books) → step (busyIn c (exchange (reading code clock) rest) b) (event (pkt ack) bufferNeed) ≡ (busyIn c (exchange (waiting code clock) rest) (bookOrder (read clock) b), orders (read clock))
+  ack-step : (b : Books) → step (busyIn c (exchange (reading code clock) rest) b) (event (pkt ack) bufferNeed) ≡ stepResult (busyIn c (exchange (waiting code clock) rest) (bookOrder (read clock) b)) (orders (read clock))
   ack-step b =
       let s : Session = busyIn c (exchange (reading code clock) rest) b in
-      ap (λ e. let o = eventEffect c e bufferNeed (progress (exchange (reading code clock) rest) e) in (afterEffect s (event (pkt ack) bufferNeed) o, given o)) (seen-ack (b .padded))
-      ∙ ap (λ r. let o = eventEffect c (pkt ack) bufferNeed r in (afterEffect s (event (pkt ack) bufferNeed) o, given o)) ack-again
+      ap (λ e. let o = eventEffect c e bufferNeed (progress (exchange (reading code clock) rest) e) in stepResult (afterEffect s (event (pkt ack) bufferNeed) o) (given o)) (seen-ack (b .padded))
+      ∙ ap (λ r. let o = eventEffect c (pkt ack) bufferNeed r in stepResult (afterEffect s (event (pkt ack) bufferNeed) o) (given o)) ack-again
 
   reaches-wait : (b : Books) (l : Record) (y : Note) → unanswered (seenOf (b .padded) l) ≡ true
       → waits (shown (b .padded) (observed l (y ∷ [])) (busyIn c (exchange (sending code clock) rest) b) acknowledged) ≡ true
@@ -263,9 +263,9 @@ module _ (c : Call) (code clock : ℕ) (rest : Rest) (z : eqb clock 0 ≡ false)
       let first = ok-step b in
       let second = ack-step (bookOrder (read firstReadTime) b) in
       let w : Observed = observed l (y ∷ []) in
-      let r : Observed = observed ((0, ordered (read firstReadTime)) ∷ (0, accepted ok) ∷ l) (y ∷ []) in
-      ap (λ p. waits (shown (b .padded) (add w (event ok bufferNeed) (p .1)) (p .0) ((pkt ack, bufferNeed) ∷ []))) first
-      ∙ ap (λ p. waits (seenOf (b .padded) ((add r (event (pkt ack) bufferNeed) (p .1)) .lines))) second
+      let r : Observed = observed (line 0 (ordered (read firstReadTime)) ∷ line 0 (accepted ok) ∷ l) (y ∷ []) in
+      ap (λ p. waits (shown (b .padded) (add w (event ok bufferNeed) (p .output)) (p .state) (eventWith (pkt ack) bufferNeed ∷ []))) first
+      ∙ ap (λ p. waits (seenOf (b .padded) ((add r (event (pkt ack) bufferNeed) (p .output)) .lines))) second
       ∙ rw (seen-ack (b .padded), seen-ok (b .padded), ack-led, u) refl
 
 module _ (es : List EventAndRoom) (d : Call) (code clock : ℕ) (rest : Rest) (z : eqb clock 0 ≡ false) where

@@ -13,7 +13,7 @@ use Rattle.protocol.specs.Calls.{Call, isOpening}
 use Rattle.protocol.specs.Starts.{Start, refuses, starts, startOf}
 use Rattle.protocol.specs.Session.{Phase, CallResult, progress, begin, Running, idle, busy, Books, lastCaller, admits, booksFor, bookOrder, bookAnswer, Session, seen, packetLimit, Entry, call, event, Output, orders, answers, rejects}
 use Rattle.protocol.specs.Session.{Effect, unchanged, runs, ends, effect, bufferNeed, packetLength, admitted, eventEffect, started, callEffect, afterEffect, given, step, outputs, sessionAfter}
-use Rattle.protocol.specs.Record.{Item, ordered, accepted, Record, Note, note, Observed, observed, addCall, addEvent, add, observe, linesOf, seenItem}
+use Rattle.protocol.specs.Record.{Item, ordered, accepted, Record, Note, note, Observed, observed, addCall, addEvent, add, observe, linesOf, seenItem, line}
 use Rattle.protocol.specs.Laws.{split}
 use Rattle.protocol.specs.PollList.{EventAndRoom, eventEntry, idleWith}
 use Rattle.protocol.specs.Chatter.{waits, Alike, callEntries, watching, linesFrom, answersIn, writesIn, SameFor}
@@ -132,7 +132,7 @@ module _ (c : Call) (t : Trace) where
     runs-goal : (x : Order) (new : Phase) → progress phase d ≡ pending x new → Goal (runs c x new)
     runs-goal x new p =
         let is : next c d (reached c t (seenOf (b .padded) l)) ≡ resultTrace c (pending x new) b ws = event-next (pending x new) p in
-        let f = on ((0, ordered x) ∷ (0, accepted e) ∷ l) y new (bookOrder x b) (withWrite x ws) (record {
+        let f = on (line 0 (ordered x) ∷ line 0 (accepted e) ∷ l) y new (bookOrder x b) (withWrite x ws) (record {
           real = ((h .real, h .asked, fits (pending x new) p (λ u. false≢true (ap isUnfit u))), (new, ap (λ z. z .result) is));
           asked = tt;
           order = x;
@@ -146,7 +146,7 @@ module _ (c : Call) (t : Trace) where
         let s : Session = idleWith (bookAnswer c a b) in
         let outs : List (Output Byte) = answers a ∷ outputs s (map eventEntry es) in
         let none-more = idle-outs (bookAnswer c a b) es in
-        let w : Observed = observed ((0, accepted e) ∷ l) (note (y .caller) (y .call) (some a) ∷ []) in
+        let w : Observed = observed (line 0 (accepted e) ∷ l) (note (y .caller) (y .call) (some a) ∷ []) in
         let ended-here : MatchesTrace c t (b .padded) ws w s outs = record {
           real = (h .real, h .asked, fits (ended a) p (λ u. false≢true (ap isUnfit u)));
           asked = subst (λ r. AskedBy c t r (seenOf (b .padded) (w .lines))) (ap (λ z. z .result) (sym is)) tt;
@@ -182,7 +182,7 @@ module _ (c : Call) (t : Trace) where
     answered = ap (λ z. answersBy (z .result)) (sym (h .is));
     written = ap (λ z. z .writes) (sym (h .is));
   }
-  run-on ((e, room) ∷ es) l y phase b ws h = event-goal e room es (run-on es) l y phase b ws h (progress phase (seen (b .padded) e)) refl
+  run-on (e ∷ es) l y phase b ws h = event-goal (e .event) (e .room) es (run-on es) l y phase b ws h (progress phase (seen (b .padded) (e .event))) refl
 
 -- ---- a call's beginning
 
@@ -207,7 +207,7 @@ module _ (caller : ℕ) (c : Call) (room : ℕ) where
     result-begins unfit p = refused-begins OutOfTurn
     result-begins (pending x phase) p =
         let new : Books = bookOrder x (booksFor caller c b) in
-        going c (trace (pending x phase) new []) ((0, ordered x) ∷ []) (note caller c none) phase new p
+        going c (trace (pending x phase) new []) (line 0 (ordered x) ∷ []) (note caller c none) phase new p
         (record { real = (tt, (phase, refl)); asked = tt; order = x; is = refl }) refl refl
     result-begins (ended a) p = silent (bookAnswer c a (booksFor caller c b)) refl refl
 
@@ -224,7 +224,7 @@ module _ (caller : ℕ) (c : Call) (room : ℕ) where
 
   -- in any session: no call runs, or another one
   abbrev BeginsIn : Running → Books → Type 0
-  BeginsIn r b = Begins ((step (record { running = r; books = b }) entry) .0) (add (watching (b .caller) r) entry ((step (record { running = r; books = b }) entry) .1))
+  BeginsIn r b = Begins ((step (record { running = r; books = b }) entry) .state) (add (watching (b .caller) r) entry ((step (record { running = r; books = b }) entry) .output))
 
   begins-in : (r : Running) (b : Books) → BeginsIn r b
   begins-in idle b = call-begins b (admits b c)
@@ -232,7 +232,7 @@ module _ (caller : ℕ) (c : Call) (room : ℕ) where
       going d (trace (pending drain phase) b []) [] (note (b .caller) d none) phase b (λ h. absurd (false≢true h))
       (record { real = tt; asked = tt; order = drain; is = refl }) refl refl
 
-  pub begins : (s : Session) → Begins ((step s entry) .0) (add (watching (s .books .caller) (s .running)) entry ((step s entry) .1))
+  pub begins : (s : Session) → Begins ((step s entry) .state) (add (watching (s .books .caller) (s .running)) entry ((step s entry) .output))
   begins s = begins-in (s .running) (s .books)
 
 -- ---- two runs from one beginning
@@ -298,8 +298,8 @@ pub chatter-same : (s : Session) (caller : ℕ) (c : Call) (room : ℕ) (es ds :
     → Alike waits (linesFrom s caller c room es) (linesFrom s caller c room ds)
     → SameFor s (callEntries caller c room es) (callEntries caller c room ds)
 chatter-same s caller c room es ds a =
-    let o = (step s (call caller c room)) .1 in
-    let r = (step s (call caller c room)) .0 in
+    let o = (step s (call caller c room)) .output in
+    let r = (step s (call caller c room)) .state in
     let f = events-same es ds _ _ (begins caller c room s) a in
     record {
       result = more-answers o (outputs r (map eventEntry es)) (outputs r (map eventEntry ds)) (f .result);

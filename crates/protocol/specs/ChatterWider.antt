@@ -14,7 +14,7 @@ use Rattle.protocol.specs.Scripts.{refused}
 use Rattle.protocol.specs.Calls.{Call, reader, request, version, getFirmwareVersionCode}
 use Rattle.protocol.specs.Session.{noCounts, Session, Output, orders, answers, outputs, bufferNeed}
 use Rattle.protocol.specs.Machine.{outputValues}
-use Rattle.protocol.specs.PollList.{EventAndRoom, idleWith}
+use Rattle.protocol.specs.PollList.{EventAndRoom, idleWith, eventWith}
 use Rattle.protocol.specs.Chatter.{unanswered, Alike, callEntries, linesFrom, answersIn, SameFor}
 use Rattle.protocol.specs.Sample.{formats}
 use Rattle.protocol.specs.Names.{commandClock}
@@ -26,20 +26,20 @@ abbrev asksVersion : Call
 asksVersion = reader (request version)
 
 abbrev falseStart : EventAndRoom
-falseStart = (pkt (0x00 ∷ []), bufferNeed)
+falseStart = eventWith (pkt (0x00 ∷ [])) bufferNeed
 
 -- without ACK before it, and with ACK
 abbrev first : List EventAndRoom
-first = (ok, bufferNeed) ∷ falseStart ∷ []
+first = eventWith ok bufferNeed ∷ falseStart ∷ []
 
 abbrev second : List EventAndRoom
-second = (ok, bufferNeed) ∷ (pkt ack, bufferNeed) ∷ falseStart ∷ []
+second = eventWith ok bufferNeed ∷ eventWith (pkt ack) bufferNeed ∷ falseStart ∷ []
 
 abbrev givenFor : List EventAndRoom → List (Output ℕ)
 givenFor es = map outputValues (outputs openReader (callEntries 0 asksVersion bufferNeed es))
 
 -- the first writes ACK, drains and ends with 9; the second ends with 10
-first-run : givenFor (first ++ ((ok, bufferNeed) ∷ (time, bufferNeed) ∷ []))
+first-run : givenFor (first ++ (eventWith ok bufferNeed ∷ eventWith time bufferNeed ∷ []))
     ≡ orders (write (commandFrame getFirmwareVersionCode [])) ∷ orders (read firstReadTime) ∷ orders (write ack) ∷ orders drain ∷ answers (refused FalseStart) ∷ []
 unfolding formats
 first-run = refl

@@ -11,7 +11,7 @@ use Rattle.protocol.specs.Scripts.{Byte, card, Answer, done, type1, uidA
 use Rattle.protocol.specs.Calls.{Call, limit}
 use Rattle.protocol.specs.Own.{Formed, formOf}
 use Rattle.protocol.specs.Session.{Entry, Output, ceiling, lastCaller}
-use Rattle.protocol.specs.Record.{Item, ordered, accepted, Record, Note, recordOf, asSeen, linesOf, frames, events, allowed, framesBy}
+use Rattle.protocol.specs.Record.{Item, ordered, accepted, Record, Note, recordOf, asSeen, linesOf, frames, events, allowed, framesBy, line}
 
 -- what may stand between a command's write order and the packet that serves it: read orders, the write's `ok`, ACK-led packets
 abbrev pub allowedBetween : Item → Bool
@@ -29,7 +29,7 @@ allowedBetween (accepted slept) = false
 
 -- line i is a line of call n that may stand there
 abbrev pub Between : Record → ℕ → ℕ → Type 0
-Between l n i = (x : Item) × (getElem? l i ≡ some (n, x)) × (allowedBetween x ≡ true)
+Between l n i = (x : Item) × (getElem? l i ≡ some (line n x)) × (allowedBetween x ≡ true)
 
 -- An intact packet serves command k of call n, the first command being 0, and `bytes` is its response.
 pub record Serves (l : Record) (n k : ℕ) (bytes : List ℕ) : Type 0 where
@@ -38,9 +38,9 @@ pub record Serves (l : Record) (n k : ℕ) (bytes : List ℕ) : Type 0 where
   pub code : ℕ
   pub sent : List ℕ
   pub received : List ℕ
-  pub written : getElem? l orderLine ≡ some (n, ordered (write (commandFrame code sent)))
+  pub written : getElem? l orderLine ≡ some (line n (ordered (write (commandFrame code sent))))
   pub ordinal : frames (linesOf n (drop (suc orderLine) l)) ≡ k
-  pub arrived : getElem? l packetLine ≡ some (n, accepted (pkt received))
+  pub arrived : getElem? l packetLine ≡ some (line n (accepted (pkt received)))
   pub newer : packetLine < orderLine
   pub between : (i : ℕ) → packetLine < i → i < orderLine → Between l n i
   pub intact : replyOf code received ≡ response bytes

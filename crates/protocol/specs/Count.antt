@@ -16,7 +16,7 @@ use Rattle.protocol.specs.Calls.{Call, opening, reader, isOpening}
 use Rattle.protocol.specs.Starts.{Start, refuses, starts, startOf}
 use Rattle.protocol.specs.Session.{CallResult, begin, progress, Running, idle, busy, Books, lastCaller, noCounts, admits, booksFor, ceiling, addFrame, counted, countedFor, Session, fresh, Entry, call, event}
 use Rattle.protocol.specs.Session.{Effect, effect, bufferNeed, packetLimit, seen, packetLength, admitted, eventEffect, started, callEffect, effectOf, booksAfter, given, step, outputs, sessionAfter}
-use Rattle.protocol.specs.Record.{Item, ordered, accepted, Record, Note, note, Observed, observed, addCall, addEvent, add, observe, recordOf, linesOf, seenLines, oneIf, frames, framesBy}
+use Rattle.protocol.specs.Record.{Item, ordered, accepted, Record, Note, note, Observed, observed, addCall, addEvent, add, observe, recordOf, linesOf, seenLines, oneIf, frames, framesBy, line}
 use Rattle.protocol.specs.Laws.{split, lines-own, lines-other}
 use Rattle.protocol.specs.Theorem.{RunningAgrees, AgreesWith, unused, agrees, fresh-agrees}
 use Rattle.protocol.specs.Seen.{Unused, no-lines, callerAt}
@@ -81,7 +81,7 @@ mine-right false n xs x m e = e
 
 module _ (k : ℕ) (few : k ≤ lastCaller) where
   -- lines of a later call do not count
-  older : (l : Record) (n : ℕ) (x : Item) (ns : List Note) → length ns ≤ n → framesBy k ((n, x) ∷ l) ns ≡ framesBy k l ns
+  older : (l : Record) (n : ℕ) (x : Item) (ns : List Note) → length ns ≤ n → framesBy k (line n x ∷ l) ns ≡ framesBy k l ns
   older l n x [] h = refl
   older l n x (y ∷ ns) h = rw (lines-other (length ns) n l x (λ q. omega arith), older l n x ns (omega arith))
 
@@ -118,7 +118,7 @@ module _ (k : ℕ) (few : k ≤ lastCaller) where
     no-line = no-lines l n n u (omega arith)
 
     ordered-right : (x : Order) → getD (countedFor caller x ((booksFor caller c b) .counts)) k 0
-        ≡ min (framesBy k ((n, ordered x) ∷ l) (note caller c none ∷ ns)) ceiling
+        ≡ min (framesBy k (line n (ordered x) ∷ l) (note caller c none ∷ ns)) ceiling
     ordered-right x =
         count-of k caller x ((booksFor caller c b) .counts) (let e : length ((booksFor caller c b) .counts) ≡ 8 = eight c in omega arith)
         ∙ rw (lines-own n l (ordered x) [] no-line, older l n (ordered x) ns (omega arith))
@@ -150,7 +150,7 @@ module _ (k : ℕ) (few : k ≤ lastCaller) where
     abbrev Goes : Effect → Type 0
     Goes o = Right (booksAfter b (event e room) o) (addEvent e l (y ∷ ns) (given o))
 
-    accepted-right : (a : Option (Answer Byte)) → getD (b .counts) k 0 ≡ min (framesBy k ((length ns, accepted e) ∷ l) (note (y .caller) (y .call) a ∷ ns)) ceiling
+    accepted-right : (a : Option (Answer Byte)) → getD (b .counts) k 0 ≡ min (framesBy k (line (length ns) (accepted e) ∷ l) (note (y .caller) (y .call) a ∷ ns)) ceiling
     accepted-right a =
         rw (lines-own (length ns) l (accepted e) (linesOf (length ns) l) refl, older l (length ns) (accepted e) ns (omega arith), zero-add (frames (linesOf (length ns) l))) (right .1)
 
@@ -158,10 +158,10 @@ module _ (k : ℕ) (few : k ≤ lastCaller) where
     goes-right unfit = right
     goes-right (pending x new) =
         let n : ℕ = length ns in
-        let l₁ : Record = (n, accepted e) ∷ l in
-        let own : linesOf n ((n, ordered x) ∷ l₁) ≡ ordered x ∷ accepted e ∷ linesOf n l =
+        let l₁ : Record = line n (accepted e) ∷ l in
+        let own : linesOf n (line n (ordered x) ∷ l₁) ≡ ordered x ∷ accepted e ∷ linesOf n l =
         lines-own n l₁ (ordered x) (accepted e ∷ linesOf n l) (lines-own n l (accepted e) (linesOf n l) refl) in
-        let old : framesBy k ((n, ordered x) ∷ l₁) ns ≡ framesBy k l ns =
+        let old : framesBy k (line n (ordered x) ∷ l₁) ns ≡ framesBy k l ns =
         older l₁ n (ordered x) ns (omega arith) ∙ older l n (accepted e) ns (omega arith) in
         let before : getD (b .counts) k 0 ≡ min (cond (eqb k (y .caller)) (frames (accepted e ∷ linesOf n l)) 0 + cond (isOpening (y .call)) 0 (framesBy k l ns)) ceiling =
         rw (zero-add (frames (linesOf n l))) (right .1) in (
@@ -198,7 +198,7 @@ module _ (k : ℕ) (few : k ≤ lastCaller) where
       → Right ((sessionAfter s es) .books) (observe w es (outputs s es))
   right-after s w [] i r = r
   right-after s w (e ∷ es) i r =
-      right-after ((step s e) .0) (add w e ((step s e) .1)) es (agrees s w e i)
+      right-after ((step s e) .state) (add w e ((step s e) .output)) es (agrees s w e i)
       (entry-right (s .running) (s .books) (w .lines) (w .notes) e (i .running) (unused s w i) (i .caller) r)
 
   fresh-right : Right (fresh .books) (observed [] [])

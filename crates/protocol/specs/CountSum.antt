@@ -62,7 +62,7 @@ entry-known (busy d phase) b l ns (event e room) h = event-known e l ns _ h
 known-after : (s : Session) (w : Observed) (es : List Entry) → Known (w .notes) → Known ((observe w es (outputs s es)) .notes)
 known-after s w [] h = h
 known-after s w (e ∷ es) h =
-    known-after ((step s e) .0) (add w e ((step s e) .1)) es (entry-known (s .running) (s .books) (w .lines) (w .notes) e h)
+    known-after ((step s e) .state) (add w e ((step s e) .output)) es (entry-known (s .running) (s .books) (w .lines) (w .notes) e h)
 
 -- ---- the sum
 

@@ -18,7 +18,7 @@ use Rattle.protocol.specs.Scripts.{Byte, card, Answer, done, type1, uidA
 use Rattle.protocol.specs.Calls.{Call, limit, resetModeCode, resetModeData}
 use Rattle.protocol.specs.Session.{Rest, byReply, ofReset, Phase, exchange, resetAck, resetPause, fieldPausing, openingAck, openingReads}
 use Rattle.protocol.specs.Session.{CallResult, enter}
-use Rattle.protocol.specs.Record.{Item, ordered, accepted, Record, linesOf, oneIf, frames, events, pendingOrder, acked, allowed}
+use Rattle.protocol.specs.Record.{Item, ordered, accepted, Record, linesOf, oneIf, frames, events, pendingOrder, acked, allowed, line, RecordLine}
 use Rattle.protocol.specs.Claim.{allowedBetween, Between, CardByte, bytesOf, EndedCall}
 use Rattle.protocol.specs.Own.{Form, onlyCards, versionAndName, cardsAndFlag, cardAndRates, depAndCards, polledCodes, HasForm, Formed, formOf}
 use Rattle.protocol.specs.Sound.{Within, responseTo, responseIn, PlacedBytes, no-bytes, own-byte, card-byte, IsResponseByte, Final, OfExchange, Correct}
@@ -107,7 +107,7 @@ module _ (n : ℕ) (c : Call) where
   pub record Asked (l : Record) (k code : ℕ) : Type 0 where
     pub orderLine : ℕ
     pub sent : List ℕ
-    pub written : getElem? l orderLine ≡ some (n, ordered (write (commandFrame code sent)))
+    pub written : getElem? l orderLine ≡ some (line n (ordered (write (commandFrame code sent))))
     pub ordinal : frames (linesOf n (drop (suc orderLine) l)) ≡ k
     pub since : (i : ℕ) → i < orderLine → Between l n i
 
@@ -146,16 +146,16 @@ module _ (n : ℕ) (c : Call) where
   -- of what an event, or the call's beginning, leads to
   abbrev pub Preserved : Record → List Item → CallResult → Type 0
   Preserved l xs unfit = Unit {0}
-  Preserved l xs (pending x phase) = Invariant ((n, ordered x) ∷ l) (ordered x ∷ xs) phase
+  Preserved l xs (pending x phase) = Invariant (line n (ordered x) ∷ l) (ordered x ∷ xs) phase
   Preserved l xs (ended a) = EndedCall l n c a
 
   -- ---- a new line
 
-  later-between : (l : Record) (x : ℕ × Item) (m q w : ℕ) → ((i : ℕ) → q < i → i < w → Between l m i) → (i : ℕ) → suc q < i → i < suc w → Between (x ∷ l) m i
+  later-between : (l : Record) (x : RecordLine) (m q w : ℕ) → ((i : ℕ) → q < i → i < w → Between l m i) → (i : ℕ) → suc q < i → i < suc w → Between (x ∷ l) m i
   later-between l x m q w f zero g h = absurd (omega arith)
   later-between l x m q w f (suc i) g h = f i (omega arith) (omega arith)
 
-  pub later-card : {l : Record} {x : ℕ × Item} {m k p b : ℕ} → CardByte l m k p b → CardByte (x ∷ l) m k p b
+  pub later-card : {l : Record} {x : RecordLine} {m k p b : ℕ} → CardByte l m k p b → CardByte (x ∷ l) m k p b
   later-card {l} {x} {m} b =
       let s = b .serves in
       record {
@@ -176,14 +176,14 @@ module _ (n : ℕ) (c : Call) where
         there = b .there;
       }
 
-  pub later-sourced : {l : Record} {x : ℕ × Item} (rs : List (List ℕ)) → Sourced l rs → Sourced (x ∷ l) rs
+  pub later-sourced : {l : Record} {x : RecordLine} (rs : List (List ℕ)) → Sourced l rs → Sourced (x ∷ l) rs
   later-sourced rs f k p b e = later-card (f k p b e)
 
-  later-since : (l : Record) (w : ℕ) (x : Item) → allowedBetween x ≡ true → ((i : ℕ) → i < w → Between l n i) → (i : ℕ) → i < suc w → Between ((n, x) ∷ l) n i
+  later-since : (l : Record) (w : ℕ) (x : Item) → allowedBetween x ≡ true → ((i : ℕ) → i < w → Between l n i) → (i : ℕ) → i < suc w → Between (line n x ∷ l) n i
   later-since l w x q f zero h = (x, refl, q)
   later-since l w x q f (suc i) h = f i (omega arith)
 
-  pub asked-later : {l : Record} {k code : ℕ} (x : Item) → Asked l k code → allowedBetween x ≡ true → Asked ((n, x) ∷ l) k code
+  pub asked-later : {l : Record} {k code : ℕ} (x : Item) → Asked l k code → allowedBetween x ≡ true → Asked (line n x ∷ l) k code
   asked-later {l} x a q = record
       { orderLine = suc (a .orderLine); sent = a .sent; written = a .written; ordinal = a .ordinal; since = later-since l (a .orderLine) x q (a .since) }
 
@@ -285,11 +285,11 @@ module _ (n : ℕ) (c : Call) where
   pub nothing-brought : (l : Record) (k : ℕ) → Brought l k []
   nothing-brought l k p b e = absurd (let z : _≡_ {A = ℕ} 0 1 = cc in omega arith)
 
-  later-asked : (l : Record) (x : ℕ × Item) (w : ℕ) → ((i : ℕ) → i < w → Between l n i) → (i : ℕ) → 0 < i → i < suc w → Between (x ∷ l) n i
+  later-asked : (l : Record) (x : RecordLine) (w : ℕ) → ((i : ℕ) → i < w → Between l n i) → (i : ℕ) → 0 < i → i < suc w → Between (x ∷ l) n i
   later-asked l x w f zero g h = absurd (omega arith)
   later-asked l x w f (suc i) g h = f i (omega arith)
 
-  pub brought : (l : Record) (k code : ℕ) (packet : List ℕ) (r : Reply) → Asked l k code → replyOf code packet ≡ r → Brought ((n, accepted (pkt packet)) ∷ l) k (responseIn r)
+  pub brought : (l : Record) (k code : ℕ) (packet : List ℕ) (r : Reply) → Asked l k code → replyOf code packet ≡ r → Brought (line n (accepted (pkt packet)) ∷ l) k (responseIn r)
   brought l k code packet (response bs) a i p b e = record {
     bytes = bs;
     serves = record {
@@ -302,9 +302,9 @@ module _ (n : ℕ) (c : Call) where
       ordinal = a .ordinal;
       arrived = refl;
       newer = omega arith;
-      between = later-asked l (n, accepted (pkt packet)) (a .orderLine) (a .since);
+      between = later-asked l (line n (accepted (pkt packet))) (a .orderLine) (a .since);
       intact = i;
     };
     there = e;
   }
-  brought l k code packet (failed r) a i p b e = nothing-brought ((n, accepted (pkt packet)) ∷ l) k p b e
+  brought l k code packet (failed r) a i p b e = nothing-brought (line n (accepted (pkt packet)) ∷ l) k p b e

@@ -21,7 +21,7 @@ use Rattle.exchange.specs.Packets.{commandFrame, isAck, Reply, codeReply, paylo
 use Rattle.exchange.specs.Exchange.{Event, ok, bad, pkt, time, fail, late, slept, onWrite, onRead, onPause}
 use Rattle.protocol.specs.Scripts.{Byte, Answer, Script, ifElse, andThen}
 use Rattle.protocol.specs.Discovery.{byNoCard}
-use Rattle.protocol.specs.Record.{Item, Record, linesOf}
+use Rattle.protocol.specs.Record.{Item, Record, linesOf, line}
 use Rattle.protocol.specs.Sound.{OfExchange}
 use Rattle.framing.specs.Names.{controllerToHost}
 
@@ -131,8 +131,8 @@ unfolding isAck
 ack-is-ack = same-self ack
 
 -- lines of the call, and of another
-pub lines-own : (n : ℕ) (l : Record) (x : Item) (xs : List Item) → linesOf n l ≡ xs → linesOf n ((n, x) ∷ l) ≡ x ∷ xs
+pub lines-own : (n : ℕ) (l : Record) (x : Item) (xs : List Item) → linesOf n l ≡ xs → linesOf n (line n x ∷ l) ≡ x ∷ xs
 lines-own n l x xs e = rw (eq-eqb n n refl, e)
 
-pub lines-other : (m n : ℕ) (l : Record) (x : Item) → (m ≡ n → ⊥) → linesOf m ((n, x) ∷ l) ≡ linesOf m l
+pub lines-other : (m n : ℕ) (l : Record) (x : Item) → (m ≡ n → ⊥) → linesOf m (line n x ∷ l) ≡ linesOf m l
 lines-other m n l x h = rw (ne-eqb m n h)

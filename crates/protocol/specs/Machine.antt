@@ -3,7 +3,7 @@ use mathlib.Core.Path.{_≡_, refl, ap₂}
 use mathlib.Core.List.{List, [], _∷_, map}
 use Prim.Native.Nat.{ℕ}
 use Rattle.protocol.specs.Scripts.{Byte, value, Answer, done, type1, uidAndAts, nothing, refused, refusedAfter}
-use Rattle.protocol.specs.Session.{Session, fresh, Entry, Output, orders, answers, rejects, step, outputs, sessionAfter}
+use Rattle.protocol.specs.Session.{Session, fresh, Entry, Output, orders, answers, rejects, step, outputs, sessionAfter, StepResult}
 use Rattle.protocol.specs.Claim.{Demand3}
 use Rattle.protocol.specs.Demand3.{demand3}
 
@@ -28,22 +28,22 @@ pub record Machine : Type 1 where
   pub Input : Type 0
   pub entry : Input → Entry
   pub new : State
-  pub act : State → Input → State × Output ℕ
+  pub act : State → Input → StepResult State ℕ
   pub frames : State → List ℕ  -- the counts
   pub Represents : State → Session → Type 0
   pub begins : Represents new fresh
   pub counts : (s : State) (m : Session) → Represents s m → frames s ≡ m .books .counts
   pub simulates : (s : State) (m : Session) (i : Input) → Represents s m
-      → Represents ((act s i) .0) ((step m (entry i)) .0) × ((act s i) .1 ≡ outputValues ((step m (entry i)) .1))
+      → Represents ((act s i) .state) ((step m (entry i)) .state) × ((act s i) .output ≡ outputValues ((step m (entry i)) .output))
 
 module _ (M : Machine) where
   abbrev pub givenOut : M .State → List (M .Input) → List (Output ℕ)
   givenOut s [] = []
-  givenOut s (i ∷ is) = (M .act s i) .1 ∷ givenOut ((M .act s i) .0) is
+  givenOut s (i ∷ is) = (M .act s i) .output ∷ givenOut ((M .act s i) .state) is
 
   abbrev pub stateAfter : M .State → List (M .Input) → M .State
   stateAfter s [] = s
-  stateAfter s (i ∷ is) = stateAfter ((M .act s i) .0) is
+  stateAfter s (i ∷ is) = stateAfter ((M .act s i) .state) is
 
   abbrev pub entries : List (M .Input) → List Entry
   entries is = map (M .entry) is
@@ -57,11 +57,11 @@ module _ (M : Machine) where
   same-out s m h [] = refl
   same-out s m h (i ∷ is) =
       let f = M .simulates s m i h in
-      ap₂ (λ (x : Output ℕ) (xs : List (Output ℕ)). x ∷ xs) (f .1) (same-out ((M .act s i) .0) ((step m (M .entry i)) .0) (f .0) is)
+      ap₂ (λ (x : Output ℕ) (xs : List (Output ℕ)). x ∷ xs) (f .1) (same-out ((M .act s i) .state) ((step m (M .entry i)) .state) (f .0) is)
 
   pub still-represents : (s : M .State) (m : Session) → M .Represents s m → (is : List (M .Input)) → M .Represents (stateAfter s is) (sessionAfter m (entries is))
   still-represents s m h [] = h
-  still-represents s m h (i ∷ is) = still-represents ((M .act s i) .0) ((step m (M .entry i)) .0) ((M .simulates s m i h) .0) is
+  still-represents s m h (i ∷ is) = still-represents ((M .act s i) .state) ((step m (M .entry i)) .state) ((M .simulates s m i h) .0) is
 
   pub same-given : (is : List (M .Input)) → givenOut (M .new) is ≡ map outputValues (outputs fresh (entries is))
   same-given is = same-out (M .new) fresh (M .begins) is

@@ -26,7 +26,7 @@ use Rattle.protocol.specs.Starts.{Start, refuses, starts, onCode, withBi
 use Rattle.protocol.specs.Session.{Phase, seen, lastCaller}
 use Rattle.protocol.specs.Session.{CallResult, enter, progress, idle, busy, Books, Session, call}
 use Rattle.protocol.specs.Session.{Effect, unchanged, runs, ends, effect, bufferNeed, packetLimit, packetLength, admitted, eventEffect, bookOrder, effectOf, given, afterEffect}
-use Rattle.protocol.specs.Record.{Item, ordered, accepted, Record, Note, note, observed, addCall, addEvent, linesOf, oneIf, isCommand, frames}
+use Rattle.protocol.specs.Record.{Item, ordered, accepted, Record, Note, note, observed, addCall, addEvent, linesOf, oneIf, isCommand, frames, line}
 use Rattle.protocol.specs.Laws.{by-fault, frame-not-ack, lines-own}
 use Rattle.protocol.specs.Seen.{Unused, no-lines, more-unused}
 use Rattle.protocol.specs.PollSound.{words-count}
@@ -66,7 +66,7 @@ ask-counts = rw (frame-not-ack 0x06 (word ciuTxControl)) refl
 
 -- the record, with the event under the newest call's number
 abbrev withEvent : Record → List Note → EventAndRoom → Record
-withEvent m ns e = (length ns, accepted (e .0)) ∷ m
+withEvent m ns e = line (length ns) (accepted (e .event)) ∷ m
 
 abbrev busyWith : Call → Phase → Books → Session
 busyWith c p b = record { running = busy c p; books = b }
@@ -93,7 +93,7 @@ module _ (caller : ℕ) (known : leb caller lastCaller ≡ true) (text words : L
     pub firstIs : first ≡ framesOf m ns
     pub foundIs : found ≡ allBytes m ns
 
-  behind-later : {m : Record} {ns : List Note} {first : ℕ} {found : List Byte} (j : ℕ) (x : Item) → length ns ≤ j → Behind m ns first found → Behind ((j, x) ∷ m) ns first found
+  behind-later : {m : Record} {ns : List Note} {first : ℕ} {found : List Byte} (j : ℕ) (x : Item) → length ns ≤ j → Behind m ns first found → Behind (line j x ∷ m) ns first found
   behind-later {m} {ns} j x h g = record { firstIs = g .firstIs ∙ sym (frames-older m j x ns h); foundIs = g .foundIs ∙ sym (bytes-older m j x ns h) }
 
   -- both run, behind the single calls ns, after k commands; these codes are to come
@@ -120,7 +120,7 @@ module _ (caller : ℕ) (known : leb caller lastCaller ≡ true) (text words : L
   -- the first where the event e has this effect
   abbrev oneStep : Books → Record → Phase → List Refusal → List EventAndRoom → EventAndRoom → Effect → Run
   oneStep b l p x es e o =
-      from (addEvent (e .0) l (note caller listCall none ∷ []) (given o)) (addRefusal (given o) x) (afterEffect (busyWith listCall p (hers b)) (eventEntry e) o) (map eventEntry es)
+      from (addEvent (e .event) l (note caller listCall none ∷ []) (given o)) (addRefusal (given o) x) (afterEffect (busyWith listCall p (hers b)) (eventEntry e) o) (map eventEntry es)
 
   abbrev BusyEqual : List EventAndRoom → Type 0
   BusyEqual es = (b : Books) (l m : Record) (ns : List Note) (systemCode : ℕ) (codes : List ℕ) (p q : Phase) (x : List Refusal)
@@ -143,7 +143,7 @@ module _ (caller : ℕ) (known : leb caller lastCaller ≡ true) (text words : L
     none-later = more-unused (withEvent m ns e) (suc (length ns)) (omega arith, unused)
 
     -- the next code's first line
-    one-command : suc k ≡ k + frames (linesOf (suc (length ns)) ((suc (length ns), ordered askField) ∷ withEvent m ns e))
+    one-command : suc k ≡ k + frames (linesOf (suc (length ns)) (line (suc (length ns)) (ordered askField) ∷ withEvent m ns e))
     one-command =
         let f : frames (ordered askField ∷ []) ≡ 1 = ask-counts in
         rw (lines-own (suc (length ns)) (withEvent m ns e) (ordered askField) [] (no-lines (withEvent m ns e) (suc (length ns)) (suc (length ns)) (omega arith, unused) (omega arith))) (omega arith)
@@ -154,7 +154,7 @@ module _ (caller : ℕ) (known : leb caller lastCaller ≡ true) (text words : L
     goes-on [] total =
         let all : eqb (length ns₁) n ≡ true = eq-eqb (length ns₁) n (omega arith) in
         idle-equal n caller room es (hers b) _ _ x [] record {
-          lines = ap (λ (xs : List Item). accepted (e .0) ∷ xs) lines;
+          lines = ap (λ (xs : List Item). accepted (e .event) ∷ xs) lines;
           answer = rw (newest (allFinished n (withEvent m ns e) ns₁), all, before .foundIs) refl;
         }
     goes-on (y ∷ codes) total =
@@ -167,12 +167,12 @@ module _ (caller : ℕ) (known : leb caller lastCaller ≡ true) (text words : L
         (afterEffect (idleWith (hers b)) (call caller (single text y) room) o)
         (handOn caller room es (afterEffect (idleWith (hers b)) (call caller (single text y) room) o) (map (single text) codes))))
         (begun b isOpen y)
-        (ih (bookOrder askField (hers b)) ((0, ordered askField) ∷ (0, accepted (e .0)) ∷ l) ((suc (length ns), ordered askField) ∷ withEvent m ns e) ns₁ y codes _ _ x isOpen record {
+        (ih (bookOrder askField (hers b)) (line 0 (ordered askField) ∷ line 0 (accepted (e .event)) ∷ l) (line (suc (length ns)) (ordered askField) ∷ withEvent m ns e) ns₁ y codes _ _ x isOpen record {
           first = k;
           found = found;
           k = suc k;
           phases = (refl, detect-no-reset code (systemCodeReq y));
-          lines = ap (λ (xs : List Item). ordered askField ∷ accepted (e .0) ∷ xs) lines;
+          lines = ap (λ (xs : List Item). ordered askField ∷ accepted (e .event) ∷ xs) lines;
           before = behind-later (suc (length ns)) (ordered askField) (omega arith) before;
           commands = one-command;
           unused = (omega arith, none-later);
@@ -189,7 +189,7 @@ module _ (caller : ℕ) (known : leb caller lastCaller ≡ true) (text words : L
     manyAfter o =
         let s : Session = afterEffect (busyWith (single text systemCode) q (hers b)) (eventEntry e) o in
         let cs : List Call = map (single text) codes in
-        from (addEvent (e .0) m (note caller (single text systemCode) none ∷ ns) (given o)) (addRefusal (given o) x) s
+        from (addEvent (e .event) m (note caller (single text systemCode) none ∷ ns) (given o)) (addRefusal (given o) x) s
         (cond (endsCode (given o)) (withNext caller room cs s (handOn caller room es)) (handOn caller room es s cs))
 
     abbrev Both : Effect → Effect → Type 0
@@ -200,22 +200,22 @@ module _ (caller : ℕ) (known : leb caller lastCaller ≡ true) (text words : L
     both-unchanged r = ih b l m ns systemCode codes p q (r ∷ x) isOpen g
 
     -- the code goes on
-    more-commands : (y : Order) → oneIf (isCommand (ordered y)) + g .k ≡ g .first + frames (linesOf (length ns) ((length ns, ordered y) ∷ withEvent m ns e))
+    more-commands : (y : Order) → oneIf (isCommand (ordered y)) + g .k ≡ g .first + frames (linesOf (length ns) (line (length ns) (ordered y) ∷ withEvent m ns e))
     more-commands y =
-        let own-lines : linesOf (length ns) ((length ns, ordered y) ∷ withEvent m ns e) ≡ ordered y ∷ accepted (e .0) ∷ linesOf (length ns) m =
-        lines-own (length ns) (withEvent m ns e) (ordered y) _ (lines-own (length ns) m (accepted (e .0)) (linesOf (length ns) m) refl) in
+        let own-lines : linesOf (length ns) (line (length ns) (ordered y) ∷ withEvent m ns e) ≡ ordered y ∷ accepted (e .event) ∷ linesOf (length ns) m =
+        lines-own (length ns) (withEvent m ns e) (ordered y) _ (lines-own (length ns) m (accepted (e .event)) (linesOf (length ns) m) refl) in
         rw own-lines (omega (arith, g .commands))
 
     both-run : (y : Order) (p′ q′ : Phase) → Along (restOfList (g .first) (length ns) (g .found) codes) (oneIf (isCommand (ordered y)) + g .k) p′ q′
         → Both (runs listCall y p′) (runs (single text systemCode) y q′)
     both-run y p′ q′ i =
-        ih (bookOrder y (hers b)) ((0, ordered y) ∷ (0, accepted (e .0)) ∷ l) ((length ns, ordered y) ∷ withEvent m ns e) ns systemCode codes p′ q′ x isOpen record {
+        ih (bookOrder y (hers b)) (line 0 (ordered y) ∷ line 0 (accepted (e .event)) ∷ l) (line (length ns) (ordered y) ∷ withEvent m ns e) ns systemCode codes p′ q′ x isOpen record {
           first = g .first;
           found = g .found;
           k = oneIf (isCommand (ordered y)) + g .k;
           phases = i;
-          lines = ap (λ (xs : List Item). ordered y ∷ accepted (e .0) ∷ xs) (g .lines);
-          before = behind-later (length ns) (ordered y) (omega arith) (behind-later (length ns) (accepted (e .0)) (omega arith) (g .before));
+          lines = ap (λ (xs : List Item). ordered y ∷ accepted (e .event) ∷ xs) (g .lines);
+          before = behind-later (length ns) (ordered y) (omega arith) (behind-later (length ns) (accepted (e .event)) (omega arith) (g .before));
           commands = more-commands y;
           unused = (omega arith, (omega arith, g .unused));
           total = g .total;
@@ -225,9 +225,9 @@ module _ (caller : ℕ) (known : leb caller lastCaller ≡ true) (text words : L
     behind-more : (a : Answer Byte)
         → Behind (withEvent m ns e) (note caller (single text systemCode) (some a) ∷ ns) (g .k) (g .found ++ map (commandsLater (g .first)) (codeBytes (some a)))
     behind-more a =
-        let old : Behind (withEvent m ns e) ns (g .first) (g .found) = behind-later (length ns) (accepted (e .0)) (omega arith) (g .before) in
+        let old : Behind (withEvent m ns e) ns (g .first) (g .found) = behind-later (length ns) (accepted (e .event)) (omega arith) (g .before) in
         record {
-          firstIs = rw (lines-own (length ns) m (accepted (e .0)) (linesOf (length ns) m) refl) (omega (arith, g .commands, old .firstIs));
+          firstIs = rw (lines-own (length ns) m (accepted (e .event)) (linesOf (length ns) m) refl) (omega (arith, g .commands, old .firstIs));
           foundIs = ap₂ (λ (xs ys : List Byte). xs ++ ys) (old .foundIs) (ap (λ (j : ℕ). map (commandsLater j) (codeBytes (some a))) (old .firstIs));
         }
 
@@ -236,7 +236,7 @@ module _ (caller : ℕ) (known : leb caller lastCaller ≡ true) (text words : L
         (oneAfter (ends listCall (refusedAfter r (length ns))))
         (from (observed (withEvent m ns e) (note caller (single text systemCode) (some a) ∷ ns)) x (idleWith (hers b))
         (handOn caller room es (idleWith (hers b)) (map (single text) codes)))
-    both-stop a r newest = idle-equal n caller room es (hers b) _ _ x _ record { lines = ap (λ (xs : List Item). accepted (e .0) ∷ xs) (g .lines); answer = sym (newest _) }
+    both-stop a r newest = idle-equal n caller room es (hers b) _ _ x _ record { lines = ap (λ (xs : List Item). accepted (e .event) ∷ xs) (g .lines); answer = sym (newest _) }
 
     abbrev AfterCode : Answer Byte → Type 0
     AfterCode a = Both (effect listCall (enter (restOfList (g .first) (length ns) (g .found) codes (g .k) a))) (ends (single text systemCode) a)
@@ -260,17 +260,17 @@ module _ (caller : ℕ) (known : leb caller lastCaller ≡ true) (text words : L
 
     -- d: the event as the mode sees it
     by-result : (d : Event) (r s : CallResult) → Goes (restOfList (g .first) (length ns) (g .found) codes) (g .k) r s
-        → Both (eventEffect listCall d (e .1) r) (eventEffect (single text systemCode) d (e .1) s)
+        → Both (eventEffect listCall d (e .room) r) (eventEffect (single text systemCode) d (e .room) s)
     by-result d r unfit i = rw i (both-unchanged OutOfTurn)
-    by-result d r (pending y q′) (p′, i, h) = rw i (both-admitted Both d (e .1) _ _ both-unchanged (both-run y p′ q′ h))
+    by-result d r (pending y q′) (p′, i, h) = rw i (both-admitted Both d (e .room) _ _ both-unchanged (both-run y p′ q′ h))
     by-result d r (ended a) i =
-        rw (i, entered-admitted listCall d (e .1) (restOfList (g .first) (length ns) (g .found) codes (g .k) a))
-        (both-admitted Both d (e .1) _ _ both-unchanged (both-end a))
+        rw (i, entered-admitted listCall d (e .room) (restOfList (g .first) (length ns) (g .found) codes (g .k) a))
+        (both-admitted Both d (e .room) _ _ both-unchanged (both-end a))
 
   busy-equal : (es : List EventAndRoom) → BusyEqual es
   busy-equal [] b l m ns systemCode codes p q x isOpen g = record { lines = g .lines; refusals = refl; answer = refl; books = refl; free = refl }
   busy-equal (e ∷ es) b l m ns systemCode codes p q x isOpen g =
-      let d = seen (b .padded) (e .0) in
+      let d = seen (b .padded) (e .event) in
       by-result es (busy-equal es) b l m ns systemCode codes p q x isOpen g e d (progress p d) (progress q d)
       (along (restOfList (g .first) (length ns) (g .found) codes) (g .k) p q (g .phases) d)
 
@@ -311,7 +311,7 @@ module _ (caller : ℕ) (text words : List ℕ) (room : ℕ) (es : List EventAnd
       (effect theList (enter (pollCodes code 0 0 [] (y ∷ ys))))
       (effect (single text y) (enter (discovery.detectTypeF code (systemCodeReq y))))
   start-runs known code takes enough =
-      busy-equal caller known text words room code takes enough es (bookOrder askField (hers caller known text words room code takes enough b)) ((0, ordered askField) ∷ []) ((0, ordered askField) ∷ []) [] y ys _ _ [] isOpen record {
+      busy-equal caller known text words room code takes enough es (bookOrder askField (hers caller known text words room code takes enough b)) (line 0 (ordered askField) ∷ []) (line 0 (ordered askField) ∷ []) [] y ys _ _ [] isOpen record {
         first = 0;
         found = [];
         k = 1;

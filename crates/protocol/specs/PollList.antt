@@ -13,17 +13,21 @@ use Rattle.protocol.specs.Discovery.{byNoCard, cardMet, noCardMet}
 use Rattle.protocol.specs.Calls.{Call, reader, device, detectTypeF, pollTypeF}
 use Rattle.protocol.specs.Arguments.{wordsIn}
 use Rattle.protocol.specs.Session.{Running, idle, busy, Books, Session, Entry, call, event, Output, orders, answers, rejects, step, outputs, sessionAfter}
-use Rattle.protocol.specs.Record.{Item, Record, Note, Observed, recordOf, linesOf, frames}
+use Rattle.protocol.specs.Record.{Item, Record, Note, Observed, recordOf, linesOf, frames, RecordLine}
 use Rattle.protocol.specs.Names.{systemCodeRequest, oneTimeSlot}
 
 -- ---- the two lists of entries
 
 -- an event, and the length of the engine's buffer
-abbrev pub EventAndRoom : Type 0
-EventAndRoom = Event × ℕ
+pub record EventAndRoom : Type 0 where
+  pub event : Event
+  pub room : ℕ
+
+abbrev pub eventWith : Event → ℕ → EventAndRoom
+eventWith e room = record { event = e; room = room }
 
 abbrev pub eventEntry : EventAndRoom → Entry
-eventEntry e = event (e .0) (e .1)
+eventEntry e = event (e .event) (e .room)
 
 -- the one call, and the events
 abbrev pub oneCall : ℕ → List ℕ → List ℕ → ℕ → List EventAndRoom → List Entry
@@ -50,14 +54,14 @@ endsCode (rejects r) = false
 -- the next of the calls, if there is one, of the same caller, and then the rest
 abbrev pub withNext : ℕ → ℕ → List Call → Session → (Session → List Call → List Entry) → List Entry
 withNext caller room [] s rest = rest s []
-withNext caller room (c ∷ cs) s rest = call caller c room ∷ rest ((step s (call caller c room)) .0) cs
+withNext caller room (c ∷ cs) s rest = call caller c room ∷ rest ((step s (call caller c room)) .state) cs
 
 -- the events, and each of the calls as soon as the one before has ended so
 abbrev pub handOn : ℕ → ℕ → List EventAndRoom → Session → List Call → List Entry
 handOn caller room [] s cs = []
 handOn caller room (e ∷ es) s cs =
     eventEntry e
-    ∷ cond (endsCode ((step s (eventEntry e)) .1)) (withNext caller room cs ((step s (eventEntry e)) .0) (handOn caller room es)) (handOn caller room es ((step s (eventEntry e)) .0) cs)
+    ∷ cond (endsCode ((step s (eventEntry e)) .output)) (withNext caller room cs ((step s (eventEntry e)) .state) (handOn caller room es)) (handOn caller room es ((step s (eventEntry e)) .state) cs)
 
 -- the single calls in list order, and the events
 abbrev pub singleCalls : ℕ → List ℕ → List ℕ → ℕ → List EventAndRoom → Session → List Entry
@@ -133,7 +137,7 @@ answerIn (x ∷ ns) = x .answer
 
 -- orders and accepted events, the newest first, whichever call they belong to
 abbrev pub items : Record → List Item
-items l = map (λ (x : ℕ × Item). x .1) l
+items l = map (λ (x : RecordLine). x .item) l
 
 abbrev pub isIdle : Running → Bool
 isIdle idle = true

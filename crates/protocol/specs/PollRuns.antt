@@ -9,16 +9,16 @@ use Rattle.errors.specs.declared.Refusal.the-variants.{OutOfTurn}
 use Rattle.exchange.specs.Exchange.{Event}
 use Rattle.protocol.specs.Calls.{Call}
 use Rattle.protocol.specs.Session.{Books, Session, Entry, rejects, outputs, sessionAfter}
-use Rattle.protocol.specs.Record.{Item, Record, Note, Observed, observed, addEvent, observe}
+use Rattle.protocol.specs.Record.{Item, Record, Note, Observed, observed, addEvent, observe, line}
 use Rattle.protocol.specs.Laws.{lines-other}
 use Rattle.protocol.specs.PollList.{EventAndRoom, eventEntry, handOn, refusalsIn, Run, framesOf, allBytes, madeOf, answerIn, items, Equal, idleWith}
 
 -- a line of a later call
-pub frames-older : (l : Record) (j : ℕ) (x : Item) (ns : List Note) → length ns ≤ j → framesOf ((j, x) ∷ l) ns ≡ framesOf l ns
+pub frames-older : (l : Record) (j : ℕ) (x : Item) (ns : List Note) → length ns ≤ j → framesOf (line j x ∷ l) ns ≡ framesOf l ns
 frames-older l j x [] h = refl
 frames-older l j x (y ∷ ns) h = rw (frames-older l j x ns (omega arith), lines-other (length ns) j l x (λ e. omega arith)) refl
 
-pub bytes-older : (l : Record) (j : ℕ) (x : Item) (ns : List Note) → length ns ≤ j → allBytes ((j, x) ∷ l) ns ≡ allBytes l ns
+pub bytes-older : (l : Record) (j : ℕ) (x : Item) (ns : List Note) → length ns ≤ j → allBytes (line j x ∷ l) ns ≡ allBytes l ns
 bytes-older l j x [] h = refl
 bytes-older l j x (y ∷ ns) h = rw (bytes-older l j x ns (omega arith), frames-older l j x ns (omega arith)) refl
 
@@ -46,4 +46,4 @@ module _ (n caller room : ℕ) where
       → Equal n (from v x (idleWith b) (map eventEntry es)) (from w x (idleWith b) (handOn caller room es (idleWith b) cs))
   idle-equal [] b v w x cs o = record { lines = o .lines; refusals = refl; answer = o .answer; books = refl; free = refl }
   idle-equal (e ∷ es) b v w x cs o =
-      rw (not-added v (e .0) OutOfTurn, not-added w (e .0) OutOfTurn) (idle-equal es b v w (OutOfTurn ∷ x) cs o)
+      rw (not-added v (e .event) OutOfTurn, not-added w (e .event) OutOfTurn) (idle-equal es b v w (OutOfTurn ∷ x) cs o)

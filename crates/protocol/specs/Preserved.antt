@@ -18,7 +18,7 @@ use Rattle.protocol.specs.Scripts.{refused, Script}
 use Rattle.protocol.specs.Calls.{Call}
 use Rattle.protocol.specs.Session.{Rest, byReply, ofReset, Phase, exchange, resetAck, resetPause, fieldPausing, openingAck, openingReads}
 use Rattle.protocol.specs.Session.{CallResult, enter, afterExchange, progress}
-use Rattle.protocol.specs.Record.{Item, ordered, accepted, Record, linesOf, oneIf, frames, events, pendingOrder, idleUnder, allowed}
+use Rattle.protocol.specs.Record.{Item, ordered, accepted, Record, linesOf, oneIf, frames, events, pendingOrder, idleUnder, allowed, line}
 use Rattle.protocol.specs.Own.{formOf}
 use Rattle.protocol.specs.Sound.{responseIn, OfExchange}
 use Rattle.protocol.specs.Laws.{split, of-exchange, by-write, by-read, by-pause, lines-own}
@@ -30,14 +30,14 @@ use Rattle.protocol.specs.Names.{resetPauseTime, openingReadTime}
 module _ (n : ℕ) (c : Call) (l : Record) (xs : List Item) where
   -- of what the event leads to, and of what it does to the exchange
   abbrev pub PreservedBy : Event → CallResult → Type 0
-  PreservedBy e r = Preserved n c ((n, accepted e) ∷ l) (accepted e ∷ xs) r
+  PreservedBy e r = Preserved n c (line n (accepted e) ∷ l) (accepted e ∷ xs) r
 
   abbrev PreservedIn : Rest → Event → ExchangeResult → Type 0
   PreservedIn rest e r = PreservedBy e (afterExchange rest r)
 
   -- ---- ways on
 
-  own-lines : {phase : Phase} (e : Event) → Invariant n c l xs phase → linesOf n ((n, accepted e) ∷ l) ≡ accepted e ∷ xs
+  own-lines : {phase : Phase} (e : Event) → Invariant n c l xs phase → linesOf n (line n (accepted e) ∷ l) ≡ accepted e ∷ xs
   own-lines e g = lines-own n l (accepted e) xs (g .lines)
 
   -- an order follows that is no command frame
@@ -45,10 +45,10 @@ module _ (n : ℕ) (c : Call) (l : Record) (xs : List Item) where
       → events (ordered x ∷ accepted e ∷ xs) + due new ≤ allowed c (ordered x ∷ accepted e ∷ xs)
       → frames (ordered x ∷ accepted e ∷ xs) ≡ frames xs
       → PhaseSound (formOf c) new (g .left) (g .responses)
-      → At n c new ((n, ordered x) ∷ (n, accepted e) ∷ l) (ordered x ∷ accepted e ∷ xs) (length (g .responses))
+      → At n c new (line n (ordered x) ∷ line n (accepted e) ∷ l) (ordered x ∷ accepted e ∷ xs) (length (g .responses))
       → PreservedBy e (pending x new)
   goes-on new e x g b q w s = record {
-    lines = lines-own n ((n, accepted e) ∷ l) (ordered x) (accepted e ∷ xs) (own-lines e g);
+    lines = lines-own n (line n (accepted e) ∷ l) (ordered x) (accepted e ∷ xs) (own-lines e g);
     responses = g .responses;
     budget = b;
     left = g .left;
@@ -73,7 +73,7 @@ module _ (n : ℕ) (c : Call) (l : Record) (xs : List Item) where
 
   -- the exchange ends with a reply
   replies : {step : ExchangePhase} (rest : Rest) (e : Event) (r : Reply) (g : Invariant n c l xs (exchange step rest)) → OfExchange r
-      → Brought n c ((n, accepted e) ∷ l) (length (g .responses)) (responseIn r) → PreservedIn rest e (ended r)
+      → Brought n c (line n (accepted e) ∷ l) (length (g .responses)) (responseIn r) → PreservedIn rest e (ended r)
   replies {step} (byReply k) e r g q f =
       entered n c _ _ (responseIn r ∷ g .responses) (own-lines e g) (k r) (g .left) (omega (arith, step-due step)) (omega arith)
       (g .script .0 r, g .script .1 r q) (omega arith)
@@ -81,7 +81,7 @@ module _ (n : ℕ) (c : Call) (l : Record) (xs : List Item) where
   replies {step} (ofReset s) e r g q f =
       let h : frames (ordered (write ack) ∷ xs) ≡ frames xs = bare n c xs in
       record {
-        lines = lines-own n ((n, accepted e) ∷ l) (ordered (write ack)) (accepted e ∷ xs) (own-lines e g);
+        lines = lines-own n (line n (accepted e) ∷ l) (ordered (write ack)) (accepted e ∷ xs) (own-lines e g);
         responses = responseIn r ∷ g .responses;
         budget = omega (arith, step-due step);
         left = g .left;

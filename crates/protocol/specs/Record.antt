@@ -16,14 +16,22 @@ use Rattle.protocol.specs.Names.{fieldPauseTime}
 
 -- ---- the record
 
--- a line: an order, or an accepted event
+-- what a line says: an order, or an accepted event
 pub data Item : Type 0 where
   ordered : Order → Item
   accepted : Event → Item
 
--- the "record": every order and every accepted event, each under its call's number, the newest first
+-- a line, under its call's number
+pub record RecordLine : Type 0 where
+  pub number : ℕ
+  pub item : Item
+
+abbrev pub line : ℕ → Item → RecordLine
+line n i = record { number = n; item = i }
+
+-- the "record": every order and every accepted event, the newest first
 abbrev pub Record : Type 0
-Record = List (ℕ × Item)
+Record = List RecordLine
 
 -- of an accepted call: whose it is, which one it is, and its answer once it has ended
 pub record Note : Type 0 where
@@ -44,15 +52,15 @@ observed lines notes = record { lines = lines; notes = notes }
 
 -- a call that is refused at once leaves no trace
 abbrev pub addCall : ℕ → Call → Record → List Note → Output Byte → Observed
-addCall caller c l ns (orders x) = observed ((length ns, ordered x) ∷ l) (note caller c none ∷ ns)
+addCall caller c l ns (orders x) = observed (line (length ns) (ordered x) ∷ l) (note caller c none ∷ ns)
 addCall caller c l ns (answers a) = observed l (note caller c (some a) ∷ ns)
 addCall caller c l ns (rejects r) = observed l ns
 
 -- an event is accepted if it is not refused at once: of refusals at once an event gets 1, 2 and 3 alone
 abbrev pub addEvent : Event → Record → List Note → Output Byte → Observed
 addEvent e l [] out = observed l []
-addEvent e l (x ∷ ns) (orders o) = observed ((length ns, ordered o) ∷ (length ns, accepted e) ∷ l) (x ∷ ns)
-addEvent e l (x ∷ ns) (answers a) = observed ((length ns, accepted e) ∷ l) (note (x .caller) (x .call) (some a) ∷ ns)
+addEvent e l (x ∷ ns) (orders o) = observed (line (length ns) (ordered o) ∷ line (length ns) (accepted e) ∷ l) (x ∷ ns)
+addEvent e l (x ∷ ns) (answers a) = observed (line (length ns) (accepted e) ∷ l) (note (x .caller) (x .call) (some a) ∷ ns)
 addEvent e l (x ∷ ns) (rejects r) = observed l (x ∷ ns)
 
 abbrev pub add : Observed → Entry → Output Byte → Observed
@@ -70,7 +78,7 @@ recordOf es outs = observe (observed [] []) es outs
 -- the lines of call n
 abbrev pub linesOf : ℕ → Record → List Item
 linesOf n [] = []
-linesOf n (x ∷ l) = cond (eqb n (x .0)) (x .1 ∷ linesOf n l) (linesOf n l)
+linesOf n (x ∷ l) = cond (eqb n (x .number)) (x .item ∷ linesOf n l) (linesOf n l)
 
 -- ---- packets as the mode sees them
 
@@ -95,7 +103,7 @@ seenItem t (accepted e) = accepted (seen t e)
 -- the record, each packet as the mode of its call sees it: "ACK-led", "intact" and "idle reads" are said of this one
 abbrev pub seenLines : Record → List Note → Record
 seenLines [] ns = []
-seenLines (x ∷ l) ns = (x .0, seenItem (modeOf (x .0) ns) (x .1)) ∷ seenLines l ns
+seenLines (x ∷ l) ns = line (x .number) (seenItem (modeOf (x .number) ns) (x .item)) ∷ seenLines l ns
 
 abbrev pub asSeen : Observed → Observed
 asSeen w = observed (seenLines (w .lines) (w .notes)) (w .notes)

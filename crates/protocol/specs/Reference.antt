@@ -13,7 +13,7 @@ use Rattle.framing.specs.Unpadded.{unpadded-none}
 use Rattle.exchange.specs.Exchange.{Event, ok, bad, pkt, time, fail, late, slept, unfit, pending, ended}
 use Rattle.protocol.specs.Calls.{Call, opening, reader, isOpening}
 use Rattle.protocol.specs.Starts.{Start, refuses, starts, startOf, readerStart}
-use Rattle.protocol.specs.Session.{CallResult, enter, progress, Running, idle, busy, Books, lastCaller, admits, Session, fresh, packetLimit, seen, Entry, call, event, seenEntry}
+use Rattle.protocol.specs.Session.{CallResult, enter, progress, Running, idle, busy, Books, lastCaller, admits, Session, fresh, packetLimit, seen, Entry, call, event, seenEntry, stepResult}
 use Rattle.protocol.specs.Session.{Effect, unchanged, runs, ends, effect, bufferNeed, withRoom, withCaller, packetLength, admitted, eventEffect, started, callEffect, effectOf, runningAfter, booksAfter, afterEffect, given, step, outputs, sessionAfter}
 use Rattle.protocol.specs.Laws.{split}
 use Rattle.protocol.specs.Machine.{outputValues, Machine, givenOut, stateAfter, entries, same-given, same-counts}
@@ -119,12 +119,12 @@ off-given (unchanged r) = refl
 off-given (runs c x phase) = refl
 off-given (ends c a) = refl
 
-off-step : (s : Session) (e : Entry) → HasMode e → step (off s) (offSeen s e) ≡ (off ((step s e) .0), (step s e) .1)
+off-step : (s : Session) (e : Entry) → HasMode e → step (off s) (offSeen s e) ≡ stepResult (off ((step s e) .state)) ((step s e) .output)
 off-step s e h =
     let o : Effect = effectOf (s .running) (s .books) e in
     let is : effectOf (offRunning (s .running)) (offBooks (s .books)) (offSeen s e) ≡ offEffect o = off-effect-of (s .running) (s .books) e h in
-    ap (λ x. (afterEffect (off s) (offSeen s e) x, given x)) is
-    ∙ (λ i. (record { running = off-running (s .running) o i; books = off-books (s .books) (s .books .padded) e o i }, off-given o i))
+    ap (λ x. stepResult (afterEffect (off s) (offSeen s e) x) (given x)) is
+    ∙ (λ i. stepResult (record { running = off-running (s .running) o i; books = off-books (s .books) (s .books .padded) e o i }) (off-given o i))
 
 -- ---- any list
 
@@ -133,16 +133,16 @@ abbrev Off : Session → List Entry → List Entry → Type 0
 Off s [] [] = Unit {0}
 Off s [] (d ∷ ds) = ⊥
 Off s (e ∷ es) [] = ⊥
-Off s (e ∷ es) (d ∷ ds) = HasMode e × (step (off s) d ≡ step (off s) (offSeen s e)) × Off ((step s e) .0) es ds
+Off s (e ∷ es) (d ∷ ds) = HasMode e × (step (off s) d ≡ step (off s) (offSeen s e)) × Off ((step s e) .state) es ds
 
 off-list : (s : Session) (es ds : List Entry) → Off s es ds → (outputs (off s) ds ≡ outputs s es) × (sessionAfter (off s) ds ≡ off (sessionAfter s es))
 off-list s [] [] h = (refl, refl)
 off-list s [] (d ∷ ds) h = absurd h
 off-list s (e ∷ es) [] h = absurd h
 off-list s (e ∷ es) (d ∷ ds) h =
-    let is : step (off s) d ≡ (off ((step s e) .0), (step s e) .1) = h .1 ∙ off-step s e (h .0) in
-    let l = off-list ((step s e) .0) es ds (h .2) in
-    (ap (λ x. x .1 ∷ outputs (x .0) ds) is ∙ ap (λ os. (step s e) .1 ∷ os) (l .0), ap (λ x. sessionAfter (x .0) ds) is ∙ l .1)
+    let is : step (off s) d ≡ stepResult (off ((step s e) .state)) ((step s e) .output) = h .1 ∙ off-step s e (h .0) in
+    let l = off-list ((step s e) .state) es ds (h .2) in
+    (ap (λ x. x .output ∷ outputs (x .state) ds) is ∙ ap (λ os. (step s e) .output ∷ os) (l .0), ap (λ x. sessionAfter (x .state) ds) is ∙ l .1)
 
 -- two lists that give out the same from a fresh session, and count the same
 pub record Same (es ds : List Entry) : Type 0 where
@@ -184,9 +184,9 @@ seen-same true slept h = refl
 
 plain-off : (s : Session) (es : List Entry) → Plain es → Off s es (map offEntry es)
 plain-off s [] h = tt
-plain-off s (call k c room ∷ es) h = (h .0, refl, plain-off ((step s (call k c room)) .0) es (h .1))
+plain-off s (call k c room ∷ es) h = (h .0, refl, plain-off ((step s (call k c room)) .state) es (h .1))
 plain-off s (event e room ∷ es) h =
-    (tt, ap (λ d. step (off s) (event d room)) (sym (seen-same (s .books .padded) e (h .0))), plain-off ((step s (event e room)) .0) es (h .1))
+    (tt, ap (λ d. step (off s) (event d room)) (sym (seen-same (s .books .padded) e (h .0))), plain-off ((step s (event e room)) .state) es (h .1))
 
 -- a list with no padded packet gives the same in any mode
 pub plain-same : (es : List Entry) → Plain es → Same es (map offEntry es)
@@ -226,7 +226,7 @@ padded-off s [] p h = tt
 padded-off s (e ∷ es) p h = (
   padded-fits e (h .0),
   ap (λ t. step (off s) (offEntry (seenEntry t e))) (sym p),
-  padded-off ((step s e) .0) es (padded-after (s .books) e (effectOf (s .running) (s .books) e) p (h .0)) (h .1),
+  padded-off ((step s e) .state) es (padded-after (s .books) e (effectOf (s .running) (s .books) e) p (h .0)) (h .1),
 )
 
 -- before the first opening is accepted every event is out of turn
@@ -235,7 +235,7 @@ fresh-off [] h = tt
 fresh-off (call k (opening mode) room ∷ es) h = (
   padded-fits (call k (opening mode) room) (h .0),
   refl,
-  subst (λ m. Off ((step fresh (call k (opening m) room)) .0) es (map plainEntry es)) (sym (h .0))
+  subst (λ m. Off ((step fresh (call k (opening m) room)) .state) es (map plainEntry es)) (sym (h .0))
       (split (λ o. Off (afterEffect fresh (call k (opening 1) room) o) es (map plainEntry es)) (ltb room bufferNeed) _ _
       (λ _. fresh-off es (h .1))
       (λ _. split (λ o. Off (afterEffect fresh (call k (opening 1) room) o) es (map plainEntry es)) (leb k lastCaller) _ _
@@ -298,17 +298,17 @@ pub record LeavesOut (s : Session) (es : List Entry) : Type 0 where
 
 pub leaves-out : (s : Session) (es : List Entry) → LeavesOut s es
 leaves-out s [] = record { given = refl; after = refl }
-leaves-out s (e ∷ es) = go (isLong e) refl (leaves-out ((step s e) .0) es)
+leaves-out s (e ∷ es) = go (isLong e) refl (leaves-out ((step s e) .state) es)
   where
-    stays : isLong e ≡ true → (step s e) .0 ≡ s
+    stays : isLong e ≡ true → (step s e) .state ≡ s
     stays h = ap (afterEffect s e) ((long-effect (s .running) (s .books) e h) .1)
 
-    go : (t : Bool) → isLong e ≡ t → LeavesOut ((step s e) .0) es → LeavesOut s (e ∷ es)
+    go : (t : Bool) → isLong e ≡ t → LeavesOut ((step s e) .state) es → LeavesOut s (e ∷ es)
     go true h next = record {
       given = rw h (ap (λ r. outputs r (withoutLong es)) (sym (stays h)) ∙ next .given);
       after = rw h (ap (λ r. sessionAfter r (withoutLong es)) (sym (stays h)) ∙ next .after);
     }
-    go false h next = record { given = rw h (ap (λ os. (step s e) .1 ∷ os) (next .given)); after = rw h (next .after) }
+    go false h next = record { given = rw h (ap (λ os. (step s e) .output ∷ os) (next .given)); after = rw h (next .after) }
 
 padded-others : (es : List Entry) → Padded es → Padded (withoutLong es)
 padded-others [] h = tt

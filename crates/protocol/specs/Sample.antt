@@ -9,7 +9,7 @@ use Rattle.errors.specs.declared.Fault.the-variants.{Transport, TimeOut, Broken
 use Rattle.framing.specs.Frames.{ack, total, checksumOf, lengthBytes, normalFrame, extendedFrame, headOf, frameOf}
 use Rattle.errors.specs.Choice.{pick, same, inRange}
 use Rattle.targets.specs.Form.{allDigits}
-use Rattle.targets.specs.Bitrates.{isRate, sendLength, isBitrate, sendPartOf as parseText, codeOf, choiceOf}
+use Rattle.targets.specs.Bitrates.{isRate, sendLength, isBitrate, sendPartOf, codeOf, choiceOf}
 use Rattle.framing.specs.Lists.{starts}
 use Rattle.framing.specs.Padded.{isPadded, zerosUpTo, extraZeros, unpadded}
 use Rattle.framing.specs.Parse.{isError, extends, lengthAt, normalAt, extendedAt, normalOf, extendedOf, dataOf, parseOf, payloadOf}
@@ -195,7 +195,7 @@ secondCode =
 
 -- to unfold this is to unfold the bitrate's text and an answer's bytes
 texts : Unit {0}
-unfolding inRange allDigits isRate sendLength isBitrate parseText codeOf choiceOf same part rest
+unfolding inRange allDigits isRate sendLength isBitrate sendPartOf codeOf choiceOf same part rest
 texts = tt
 
 polled : Runs (openingRun 0 0 ++ (firstCode ++ secondCode))

@@ -11,17 +11,17 @@ use lib.ListN.{length}
 use Rattle.protocol.specs.Scripts.{Byte, Answer}
 use Rattle.protocol.specs.Calls.{Call, opening, reader, isPaddedMode}
 use Rattle.protocol.specs.Session.{Books, seenEntry, Entry, call, event, Output, orders, answers, rejects, Effect, unchanged, runs, ends, booksAfter, given}
-use Rattle.protocol.specs.Record.{Item, ordered, accepted, Record, Note, note, observed, add, linesOf, modeBy, modeAt, modeOf, seenItem, seenLines, asSeen}
+use Rattle.protocol.specs.Record.{Item, ordered, accepted, Record, Note, note, observed, add, linesOf, modeBy, modeAt, modeOf, seenItem, seenLines, asSeen, line}
 use Rattle.protocol.specs.Laws.{split, lines-other}
 
 -- from the number n on there are no lines
 abbrev pub Unused : Record → ℕ → Type 0
 Unused [] n = Unit {0}
-Unused (x ∷ l) n = (x .0 < n) × Unused l n
+Unused (x ∷ l) n = (x .number < n) × Unused l n
 
 pub no-lines : (l : Record) (n m : ℕ) → Unused l n → n ≤ m → linesOf m l ≡ []
 no-lines [] n m u h = refl
-no-lines (x ∷ l) n m u h = lines-other m (x .0) l (x .1) (λ e. omega (arith, u .0)) ∙ no-lines l n m (u .1) h
+no-lines (x ∷ l) n m u h = lines-other m (x .number) l (x .item) (λ e. omega (arith, u .0)) ∙ no-lines l n m (u .1) h
 
 pub more-unused : (l : Record) (n : ℕ) → Unused l n → Unused l (suc n)
 more-unused [] n u = tt
@@ -34,7 +34,7 @@ unused-seen (x ∷ l) ns n u = (u .0, unused-seen l ns n (u .1))
 -- a new call's note is about no line that is there; an answer changes no mode
 seen-fresh : (l : Record) (y : Note) (ns : List Note) → Unused l (length ns) → seenLines l (y ∷ ns) ≡ seenLines l ns
 seen-fresh [] y ns u = refl
-seen-fresh (x ∷ l) y ns u = rw (ne-eqb (x .0) (length ns) (λ e. omega (arith, u .0)), seen-fresh l y ns (u .1))
+seen-fresh (x ∷ l) y ns u = rw (ne-eqb (x .number) (length ns) (λ e. omega (arith, u .0)), seen-fresh l y ns (u .1))
 
 seen-answered : (l : Record) (x : Note) (a : Option (Answer Byte)) (ns : List Note) → seenLines l (note (x .caller) (x .call) a ∷ ns) ≡ seenLines l (x ∷ ns)
 seen-answered [] x a ns = refl
@@ -42,7 +42,7 @@ seen-answered (z ∷ l) x a ns = rw (seen-answered l x a ns)
 
 pub add-seen : (l : Record) (ns : List Note) (e : Entry) (out : Output Byte) → Unused l (length ns)
     → asSeen (add (observed l ns) e out) ≡ add (asSeen (observed l ns)) (seenEntry (modeAt ns) e) out
-add-seen l ns (call k c room) (orders x) u = ap (λ m. observed ((length ns, ordered x) ∷ m) (note k c none ∷ ns)) (seen-fresh l (note k c none) ns u)
+add-seen l ns (call k c room) (orders x) u = ap (λ m. observed (line (length ns) (ordered x) ∷ m) (note k c none ∷ ns)) (seen-fresh l (note k c none) ns u)
 add-seen l ns (call k c room) (answers a) u = ap (λ m. observed m (note k c (some a) ∷ ns)) (seen-fresh l (note k c (some a)) ns u)
 add-seen l ns (call k c room) (rejects r) u = refl
 add-seen l [] (event e room) out u = refl
@@ -101,4 +101,4 @@ item-off (accepted e) = refl
 
 pub seen-off : (l : Record) (ns : List Note) → AllOff ns → seenLines l ns ≡ l
 seen-off [] ns h = refl
-seen-off (x ∷ l) ns h = rw (modes-off (x .0) ns h, item-off (x .1), seen-off l ns h)
+seen-off (x ∷ l) ns h = rw (modes-off (x .number) ns h, item-off (x .item), seen-off l ns h)

@@ -257,14 +257,22 @@ given (unchanged r) = rejects r
 given (runs c x phase) = orders x
 given (ends c a) = answers a
 
-abbrev pub step : Session → Entry → Session × Output Byte
-step s e = (afterEffect s e (effectOf (s .running) (s .books) e), given (effectOf (s .running) (s .books) e))
+-- the state after a step, and what is given out
+pub record StepResult (S B : Type 0) : Type 0 where
+  pub state : S
+  pub output : Output B
+
+abbrev pub stepResult : {S B : Type 0} → S → Output B → StepResult S B
+stepResult s o = record { state = s; output = o }
+
+abbrev pub step : Session → Entry → StepResult Session Byte
+step s e = stepResult (afterEffect s e (effectOf (s .running) (s .books) e)) (given (effectOf (s .running) (s .books) e))
 
 -- what a list gives out, and the session after it
 abbrev pub outputs : Session → List Entry → List (Output Byte)
 outputs s [] = []
-outputs s (e ∷ es) = (step s e) .1 ∷ outputs ((step s e) .0) es
+outputs s (e ∷ es) = (step s e) .output ∷ outputs ((step s e) .state) es
 
 abbrev pub sessionAfter : Session → List Entry → Session
 sessionAfter s [] = s
-sessionAfter s (e ∷ es) = sessionAfter ((step s e) .0) es
+sessionAfter s (e ∷ es) = sessionAfter ((step s e) .state) es

@@ -14,8 +14,8 @@ use Rattle.protocol.specs.Calls.{Call, isOpening, limit}
 use Rattle.protocol.specs.Starts.{Start, refuses, starts, startOf}
 use Rattle.protocol.specs.Session.{Phase, CallResult, begin, progress, Running, idle, busy, Books, lastCaller, admits, Session, fresh, Entry, call, event}
 use Rattle.protocol.specs.Session.{Effect, effect, bufferNeed, packetLimit, seen, seenEntry, withRoom, packetLength, admitted, eventEffect, started, callEffect, effectOf, runningAfter, given, step, outputs}
-use Rattle.protocol.specs.Record.{Item, ordered, accepted, Record, Note, Observed, observed, addCall, addEvent, add, observe, recordOf, linesOf, modeAt, asSeen, frames, allowed}
-use Rattle.protocol.specs.Claim.{RunningCall as Claimed, CardByte, Claim, Claims}
+use Rattle.protocol.specs.Record.{Item, ordered, accepted, Record, Note, Observed, observed, addCall, addEvent, add, observe, recordOf, linesOf, modeAt, asSeen, frames, allowed, line}
+use Rattle.protocol.specs.Claim.{RunningCall, CardByte, Claim, Claims}
 use Rattle.protocol.specs.Own.{formOf}
 use Rattle.protocol.specs.Sound.{Sound}
 use Rattle.protocol.specs.CallsSound.{sound}
@@ -26,20 +26,20 @@ use Rattle.protocol.specs.Seen.{Unused, no-lines, more-unused, unused-se
 
 -- ---- lines of a later call
 
-claim-later : (l : Record) (m n : ℕ) (x : Item) (c : Call) (a : Option (Answer Byte)) → m < n → Claim l m c a → Claim ((n, x) ∷ l) m c a
+claim-later : (l : Record) (m n : ℕ) (x : Item) (c : Call) (a : Option (Answer Byte)) → m < n → Claim l m c a → Claim (line n x ∷ l) m c a
 claim-later l m n x c none h k =
-    let e : linesOf m ((n, x) ∷ l) ≡ linesOf m l = lines-other m n l x (λ q. omega arith) in
+    let e : linesOf m (line n x ∷ l) ≡ linesOf m l = lines-other m n l x (λ q. omega arith) in
     record { framesWithin = rw e (k .framesWithin); eventsBelow = rw e (k .eventsBelow) }
 claim-later l m n x c (some a) h k =
-    let e : linesOf m ((n, x) ∷ l) ≡ linesOf m l = lines-other m n l x (λ q. omega arith) in
+    let e : linesOf m (line n x ∷ l) ≡ linesOf m l = lines-other m n l x (λ q. omega arith) in
     record {
       framesWithin = rw e (k .framesWithin);
       eventsWithin = rw e (k .eventsWithin);
       cardBytes = λ i p b q. later-card n c (k .cardBytes i p b q);
-      form = form-by (CardByte l m) (CardByte ((n, x) ∷ l) m) (λ i p b q. later-card n c q) (formOf c) a (k .form);
+      form = form-by (CardByte l m) (CardByte (line n x ∷ l) m) (λ i p b q. later-card n c q) (formOf c) a (k .form);
     }
 
-claims-later : (l : Record) (n : ℕ) (x : Item) (ns : List Note) → length ns ≤ n → Claims l ns → Claims ((n, x) ∷ l) ns
+claims-later : (l : Record) (n : ℕ) (x : Item) (ns : List Note) → length ns ≤ n → Claims l ns → Claims (line n x ∷ l) ns
 claims-later l n x [] h k = tt
 claims-later l n x (y ∷ ns) h k =
     (claim-later l (length ns) n x (y .call) (y .answer) (omega arith) (k .0), claims-later l n x ns (omega arith) (k .1))
@@ -94,17 +94,17 @@ module _ (c : Call) (phase : Phase) (l : Record) (y : Note) (ns : List Note) (e 
   abbrev Agreed : Effect → Type 0
   Agreed o = AgreesAt (runningAfter (busy c phase) o) (addEvent e l (y ∷ ns) (given o))
 
-  one-later : Claims ((n, accepted e) ∷ l) ns
+  one-later : Claims (line n (accepted e) ∷ l) ns
   one-later = claims-later l n (accepted e) ns (omega arith) (i .1)
 
-  none-used : Unused ((n, accepted e) ∷ l) (suc n)
+  none-used : Unused (line n (accepted e) ∷ l) (suc n)
   none-used = (omega arith, i .2)
 
   result-agrees : (r : CallResult) → PreservedBy n c l (i .0 .ownLines) e r → Agreed (effect c r)
   result-agrees unfit q = i
   result-agrees (pending x new) q = (
     record { sameCall = i .0 .sameCall; unanswered = i .0 .unanswered; ownLines = ordered x ∷ accepted e ∷ i .0 .ownLines; invariant = q },
-    claims-later ((n, accepted e) ∷ l) n (ordered x) ns (omega arith) one-later,
+    claims-later (line n (accepted e) ∷ l) n (ordered x) ns (omega arith) one-later,
     (omega arith, none-used),
   )
   result-agrees (ended a) q = ((rw (i .0 .sameCall) q, one-later), none-used)
@@ -178,17 +178,17 @@ step-agrees idle b l (y ∷ ns) (event e room) i = i
 step-agrees (busy d phase) b l ns (call caller c room) i = i
 step-agrees (busy c phase) b l ns (event e room) i = event-agrees c phase l ns (seen (b .padded) e) room i
 
-pub agrees : (s : Session) (w : Observed) (e : Entry) → AgreesWith s w → AgreesWith ((step s e) .0) (add w e ((step s e) .1))
+pub agrees : (s : Session) (w : Observed) (e : Entry) → AgreesWith s w → AgreesWith ((step s e) .state) (add w e ((step s e) .output))
 agrees s w e i =
-    let out = (step s e) .1 in
-    let p = ((step s e) .0) .running in
+    let out = (step s e) .output in
+    let p = ((step s e) .state) .running in
     let seen-step : AgreesAt p (add (asSeen w) (seenEntry (s .books .padded) e) out) = step-agrees (s .running) (s .books) _ (w .notes) e (i .running) in
     let by-notes : AgreesAt p (add (asSeen w) (seenEntry (modeAt (w .notes)) e) out) = subst (λ t. AgreesAt p (add (asSeen w) (seenEntry t e) out)) (i .mode) seen-step in
     let books = books-after (s .books) (w .lines) (w .notes) e (effectOf (s .running) (s .books) e) (i .mode, i .caller) in
     record { running = subst (AgreesAt p) (sym (add-seen (w .lines) (w .notes) e out (unused s w i))) by-notes; mode = books .0; caller = books .1 }
 
 -- what the invariant says of the running call
-still-runs : (n : ℕ) (c : Call) (l : Record) (xs : List Item) (phase : Phase) → Invariant n c l xs phase → Claimed l n c
+still-runs : (n : ℕ) (c : Call) (l : Record) (xs : List Item) (phase : Phase) → Invariant n c l xs phase → RunningCall l n c
 still-runs n c l xs phase g =
     let e : linesOf n l ≡ xs = g .lines in
     record { framesWithin = rw e (omega arith); eventsBelow = rw e (omega (arith, phase-due phase)) }
@@ -197,14 +197,14 @@ claims : (p : Running) (l : Record) (ns : List Note) → RunningAgrees p l ns �
 claims idle l ns i = i .0
 claims (busy c phase) l [] i = absurd i
 claims (busy c phase) l (y ∷ ns) i =
-    let r : Claimed l (length ns) c = still-runs (length ns) c l (i .0 .ownLines) phase (i .0 .invariant) in
-    let s : Claimed l (length ns) (y .call) = rw (i .0 .sameCall) r in
+    let r : RunningCall l (length ns) c = still-runs (length ns) c l (i .0 .ownLines) phase (i .0 .invariant) in
+    let s : RunningCall l (length ns) (y .call) = rw (i .0 .sameCall) r in
     (rw (i .0 .unanswered) s, i .1)
 
 claims-after : (s : Session) (w : Observed) (es : List Entry) → AgreesWith s w
     → Claims ((asSeen (observe w es (outputs s es))) .lines) ((observe w es (outputs s es)) .notes)
 claims-after s w [] i = claims (s .running) _ (w .notes) (i .running)
-claims-after s w (e ∷ es) i = claims-after ((step s e) .0) (add w e ((step s e) .1)) es (agrees s w e i)
+claims-after s w (e ∷ es) i = claims-after ((step s e) .state) (add w e ((step s e) .output)) es (agrees s w e i)
 
 pub fresh-agrees : AgreesWith fresh (observed [] [])
 fresh-agrees = record { running = (tt, tt); mode = refl; caller = refl }

@@ -15,15 +15,15 @@ part-parse-start c =
     let a = c .before .before .args in
     omega (arith, c .zeros-in .ensures, zeros-fit (a .padded) (a .packet .now))
 
-behind-requires : tie.Need-behind-requires
-behind-requires c κs =
+shifted-by-requires : tie.Need-shifted-by-requires
+shifted-by-requires c κs =
     let a = c .before .before .before .before .args in
     (omega (arith, c .before .before .zeros-in .ensures, zeros-most (a .padded) (a .packet .now)), rw (c .parse .ensures) (start-low (a .format) _))
 
 returns : tie.Need-returns
 returns c =
     let a = c .before .before .before .before .before .args in
-    padded-known (a .format) (a .padded) (a .packet .now) _ _ _ (c .before .before .before .zeros-in .ensures) (c .before .parse .ensures) (c .behind .ensures)
+    padded-known (a .format) (a .padded) (a .packet .now) _ _ _ (c .before .before .before .zeros-in .ensures) (c .before .parse .ensures) (c .shifted-by .ensures)
 
 pub parse-padded-spec : {M : Type 1} → statement M
 parse-padded-spec =
@@ -34,5 +34,5 @@ parse-padded-spec =
     part-parse-start
     (λ c. search needs)
     (λ c κs. search needs)
-    behind-requires
+    shifted-by-requires
     returns)

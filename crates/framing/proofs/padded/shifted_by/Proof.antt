@@ -1,11 +1,11 @@
--- `framing::padded::behind` meets its contract.
+-- `framing::padded::shifted_by` meets its contract.
 use native.Mathlib.Omega.{arith}
 use borrow.Author.Needs.{needs}
-use Rattle.framing.proofs.padded.behind.Statement.{statement}
-use Rattle.framing.proofs.padded.behind.Tie as tie
+use Rattle.framing.proofs.padded.shifted_by.Statement.{statement}
+use Rattle.framing.proofs.padded.shifted_by.Tie as tie
 
-pub behind-spec : {M : Type 1} → statement M
-behind-spec =
+pub shifted-by-spec : {M : Type 1} → statement M
+shifted-by-spec =
     tie.close
     (tie.spec
     (λ c. search needs)

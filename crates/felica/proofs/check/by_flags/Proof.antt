@@ -1,13 +1,13 @@
--- `felica::check::by_status` meets its contract.
+-- `felica::check::by_flags` meets its contract.
 use Rattle.felica.specs.Checks.{byFlags}
 use Rattle.felica.specs.Rules.{tests}
 use borrow.Author.Needs.{needs}
-use Rattle.felica.proofs.check.by_status.Statement.{statement}
-use Rattle.felica.proofs.check.by_status.Tie as tie
+use Rattle.felica.proofs.check.by_flags.Statement.{statement}
+use Rattle.felica.proofs.check.by_flags.Tie as tie
 
-pub by-status-spec : {M : Type 1} → statement M
+pub by-flags-spec : {M : Type 1} → statement M
 unfolding byFlags
-by-status-spec =
+by-flags-spec =
     tie.close
     (tie.spec
     (λ c. search (tests, needs) depth 10)
