@@ -172,15 +172,15 @@ def placed(row, wanted, side):
 
 
 def middles(rows, edges, side):
-    """Rows are ordered and placed by what their nodes are tied to, mostly below, many times. What nothing needs goes outward."""
-    tied, needed = {}, {lower for _, lower in edges}
+    """Rows are ordered and placed by what their nodes are joined to, mostly below, many times. What nothing needs goes outward."""
+    neighbours, needed = {}, {lower for _, lower in edges}
     for upper, lower in edges:
-        tied.setdefault(upper, []).extend([lower] * 4)
-        tied.setdefault(lower, []).append(upper)
+        neighbours.setdefault(upper, []).extend([lower] * 4)
+        neighbours.setdefault(lower, []).append(upper)
     x = {node: 400.0 * side[node] + k for row in rows for k, node in enumerate(row)}
     for turn in range(400):
         for row in rows if turn % 2 else rows[::-1]:
-            wanted = {node: sum(x[on] for on in tied.get(node, [node])) / len(tied.get(node, [node])) for node in row}
+            wanted = {node: sum(x[on] for on in neighbours.get(node, [node])) / len(neighbours.get(node, [node])) for node in row}
             order = {node: wanted[node] + (0 if node in needed else 1000 * side[node]) for node in row}
             x.update(placed(sorted(row, key=order.get), wanted, side))
     return x
@@ -236,13 +236,13 @@ EXCHANGE_CARDS = {
     "OVERDUE": (2, 282, "write ACK", ["ok, bad: 8"]),
     "DRAINING": (1, 412, "drain", ["time, late, empty packet: 9"]),
 }
-EXCHANGE_MOVES = [
+EXCHANGE_TRANSITIONS = [
     ("SENDING", "READING", "ok"), ("SENDING", "UNSENT", "bad"), ("READING", "WAITING", "ACK-led packet"),
     ("READING", "REJECTING", "packet without 00 00 FF"), ("READING", "OVERDUE", "ACK-led, clock 0 ms"),
     ("WAITING", "WAITING", "ACK-led packet"), ("WAITING", "OVERDUE", "late"), ("REJECTING", "DRAINING", "ok, bad"),
     ("DRAINING", "DRAINING", "packet, fail"),
 ]
-# The same of a call. Kinds of calls and the last stage are constants too, and no phases.
+# The same of a call.
 CALL_CARDS = {
     "OPENING_ACK": (0, 592, "write ACK", ["bad: 7"]),
     "OPENING_READS": (0, 752, "read 10", []),
@@ -251,23 +251,19 @@ CALL_CARDS = {
     "RESET_ACK": (2, 592, "write ACK", ["bad: 7"]),
     "RESET_PAUSE": (2, 752, "pause 10000", ["slept: reset_mode is done"]),
 }
-CALL_MOVES = [
+CALL_TRANSITIONS = [
     ("OPENING_ACK", "OPENING_READS", "ok"), ("OPENING_READS", "OPENING_READS", "packet"),
     ("OPENING_READS", "EXCHANGE", "time, fail"), ("EXCHANGE", "PAUSE", "field now on"),
     ("PAUSE", "EXCHANGE", "slept"), ("EXCHANGE", "RESET_ACK", "end of a reset"), ("RESET_ACK", "RESET_PAUSE", "ok"),
     ("RESET_PAUSE", "EXCHANGE", "slept, opening"),
 ]
-CALL_KINDS = {"NO_CALL", "OPEN", "LAST", "LAST_STAGE"}
 
 
-def constants(path, wanted, others=frozenset(), within=""):
-    """The numbers of a source's constants, behind the line `within`; they are those wanted and the others, and no more."""
-    source = read(path)
-    if within not in source:
-        stop(f"no '{within}' in {path}")
-    found = dict(re.findall(r"^ *pub const ([A-Z_]+): u8 = (\d+);", source[source.index(within):], re.M))
-    for name in sorted((set(wanted) | set(others)) ^ set(found)):
-        stop(f"{name} is not both in {path} and in the tables here")
+def phase_numbers(path, wanted):
+    """The numbers of a source's phases, `SENDING_PHASE` and the like; they are those wanted, and no more."""
+    found = dict(re.findall(r"^ *pub const ([A-Z_]+)_PHASE: u8 = (\d+);", read(path), re.M))
+    for name in sorted(set(wanted) ^ set(found)):
+        stop(f"{name}_PHASE is not both in {path} and in the tables here")
     return found
 
 
@@ -276,8 +272,8 @@ def height_of(card):
 
 
 def both_ways(a, b):
-    moves = {(m, n) for m, n, _ in EXCHANGE_MOVES + CALL_MOVES}
-    return (a, b) in moves and (b, a) in moves
+    transitions = {(m, n) for m, n, _ in EXCHANGE_TRANSITIONS + CALL_TRANSITIONS}
+    return (a, b) in transitions and (b, a) in transitions
 
 
 def ends_of(a, b, cards):
@@ -314,7 +310,7 @@ def arrow(drawing, a, b, words, cards):
         drawing.labelled(x + 8, (y + v) / 2 + 4, words, "start")
 
 
-def draw_cards(drawing, cards, moves, numbers, fill):
+def draw_cards(drawing, cards, transitions, numbers, fill):
     for name, (column, y, order, ends) in cards.items():
         x = COLUMNS[column]
         drawing.box(x, y, CARD, height_of(cards[name]), fill)
@@ -322,7 +318,7 @@ def draw_cards(drawing, cards, moves, numbers, fill):
         drawing.text(x + CARD - 10, y + 20, numbers[name], 14, "end", fill=PALE)
         for k, words in enumerate([order, *ends]):
             drawing.text(x + 10, y + 20 + LINE * (k + 1), words, 12.5, "start")
-    for a, b, words in moves:
+    for a, b, words in transitions:
         if a == b:
             loop(drawing, a, words, cards)
         else:
@@ -330,17 +326,17 @@ def draw_cards(drawing, cards, moves, numbers, fill):
 
 
 def phases():
-    exchange = constants(EXCHANGE_SOURCE, EXCHANGE_CARDS, within="impl Exchange {")
-    call = constants(CALL_SOURCE, CALL_CARDS, CALL_KINDS)
+    exchange = phase_numbers(EXCHANGE_SOURCE, EXCHANGE_CARDS)
+    call = phase_numbers(CALL_SOURCE, CALL_CARDS)
     drawing = Drawing()
     drawing.text(18, 26, "The exchange of one command (steps 1 to 5)", 15, "start", "bold")
     drawing.text(18, 48, "A box is a phase: its number, its order, the events that end the exchange. An arrow is an event.", 13, "start")
     drawing.text(18, 66, "Behind a colon stands the refusal. Step 5 gives the response, or a refusal from 10 to 15.", 13, "start")
-    draw_cards(drawing, EXCHANGE_CARDS, EXCHANGE_MOVES, exchange, KINDS["code"])
+    draw_cards(drawing, EXCHANGE_CARDS, EXCHANGE_TRANSITIONS, exchange, KINDS["code"])
     drawing.text(18, 530, "The phases of a call", 15, "start", "bold")
     drawing.text(18, 552, "An opening begins with OPENING_ACK, any other call with EXCHANGE.", 13, "start")
     drawing.text(18, 570, "A reset goes on to RESET_ACK whatever its exchange came to; PAUSE is Type F's.", 13, "start")
-    draw_cards(drawing, CALL_CARDS, CALL_MOVES, call, KINDS["definitions and proofs"])
+    draw_cards(drawing, CALL_CARDS, CALL_TRANSITIONS, call, KINDS["definitions and proofs"])
     return drawing.svg(COLUMNS[2] + CARD + 146, 838)
 
 

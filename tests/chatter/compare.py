@@ -106,10 +106,10 @@ class Chip:
     """The reads that follow a command frame."""
 
     def __init__(self, rng, noise):
-        self.rng, self.noise, self.plan, self.padded, self.opening = rng, noise, [], False, False
+        self.rng, self.noise, self.packets, self.padded, self.opening = rng, noise, [], False, False
 
     def written(self, data):
-        self.plan = []
+        self.packets = []
         if data == ACK:
             return
         payload = data[8:-2] if data[3:5] == b"\xff\xff" else data[5:-2]
@@ -117,7 +117,7 @@ class Chip:
         acks = [ACK] * rng.choice((1, 1, 1, 1, 1, 0, 2))
         if rng.random() < (self.noise / 20 if self.opening else self.noise):
             answer = rng.choice(("time", "fail", "late", b"", b"\x00", answer[1:], answer + b"\x00", bytes.fromhex("0000FFFFFF00"), frame(b"\x7f"), frame(b"\xd5\x00")))
-        self.plan = acks + [answer]
+        self.packets = acks + [answer]
 
     def event(self, order):
         rng, kind = self.rng, order.split()[0]
@@ -127,9 +127,9 @@ class Chip:
             return "slept"
         if kind == "drain":
             return rng.choice(("time", "fail", "late", "pkt -", "pkt 00", f"pkt {hexa(ACK)}"))
-        if order == "read 10" and not self.plan:
+        if order == "read 10" and not self.packets:
             return rng.choice(("time", "time", "fail", f"pkt {hexa(ACK)}", "pkt -"))
-        answer = self.plan.pop(0) if self.plan else rng.choice(("time", "fail"))
+        answer = self.packets.pop(0) if self.packets else rng.choice(("time", "fail"))
         if isinstance(answer, str):
             return answer
         zeros = rng.choice((0, 1, 16)) if self.padded and answer else 0

@@ -3,7 +3,7 @@ pub mod Steps
 pub mod Claim
 pub mod OrderLaws
 pub mod LineLaws
-pub mod FillLaws
+pub mod PutLinesLaws
 pub mod OneToOne
 pub mod Runs
 pub mod Theorem

@@ -68,7 +68,7 @@ onEntry (Refused r) = 0
 abbrev pub longestLine : ℕ
 longestLine = 25
 
--- What `fill` hands out of the step s and leaves in a buffer that had the bytes b: at its start the lines of as many steps as it counts.
+-- What `put_lines` hands out of the step s and leaves in a buffer that had the bytes b: at its start the lines of as many steps as it counts.
 -- Each of them leads to an entry, and the next one has no room or is none.
 pub record Filled (s : Reached) (b : List ℕ) (r : Block) (after : List ℕ) : Type 0 where
   pub step : r .step ≡ runFrom (r .count) s

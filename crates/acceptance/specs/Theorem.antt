@@ -21,7 +21,7 @@ use Rattle.framing.specs.declared.LengthEncoding.{LengthEncoding}
 use Rattle.framing.specs.declared.settings.Setting.the-variants.{Format, Nothing}
 use Rattle.bench.specs.Texts.{over}
 use Rattle.acceptance.specs.Claim.{Short, InOrder, start, settingFrames, Listed, AllShortFrames, settingsFrames, WholeList, Prints, nothing, block}
-use Rattle.acceptance.specs.FillLaws.{lines-append}
+use Rattle.acceptance.specs.PutLinesLaws.{lines-append}
 use Rattle.acceptance.specs.LineLaws.{by-number, of-six, short-payload, short-built}
 use Rattle.acceptance.specs.OneToOne.{one-to-one}
 use Rattle.acceptance.specs.Order.{payloadBytes, BytesBefore, Before, payloads, entryCount, payloadNumberIn, payloadNumber, payloadAt, firstEntry}

@@ -77,7 +77,7 @@ fn build(format: FrameFormat, payload: Payload, buffer: &mut [u8]) -> Built
 
 impl Entry {
     // The list's first entry.
-    pub fn start() -> Entry
+    pub fn first() -> Entry
         ensures { λ r. ⌜ r ≡ firstEntry 0 ⌝ }
     {
         Entry {

@@ -10,9 +10,9 @@ ghost use Rattle.bench.specs.Texts.{over, placed, placedAt};
 ghost use Rattle.acceptance.specs.Steps.{frameAt, textLines, longestLine, Filled};
 
 // The longest frame of a short payload has 12 bytes, two digits each.
-const FRAME: usize = 12;
+const LONGEST_FRAME: usize = 12;
 
-const LINE: usize = 25;
+const LONGEST_LINE: usize = 25;
 
 const DIGITS: [u8; 16] = *b"0123456789ABCDEF";
 
@@ -56,7 +56,7 @@ fn put_line(entry: Entry, out: &mut [u8], at: usize) -> usize
     requires { ⌜ at + longestLine ≤ length (now out) ⌝ }
     ensures { λ r. ⌜ placed r (now (out .exit)) ≡ placedAt at (textLines (frameAt entry)) (now (out .entry)) ⌝ }
 {
-    let mut frame = [0u8; FRAME];
+    let mut frame = [0u8; LONGEST_FRAME];
     let Built::Frame(n) = entry.frame(&mut frame) else {
         return at;
     };
@@ -67,13 +67,13 @@ fn put_line(entry: Entry, out: &mut [u8], at: usize) -> usize
 }
 
 // Puts the lines from a step on into the buffer, as many as have room.
-pub fn fill(step: Reached, out: &mut [u8]) -> Block
+pub fn put_lines(step: Reached, out: &mut [u8]) -> Block
     ensures { λ r. ⌜ Filled step (now (out .entry)) r (now (out .exit)) ⌝ }
 {
     let mut len = 0;
     let mut count = 0;
     let mut step = step;
-    while LINE <= out.len() - len {
+    while LONGEST_LINE <= out.len() - len {
         let Reached::At(entry) = step else {
             return Block { len, count, step };
         };

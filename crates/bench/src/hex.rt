@@ -51,7 +51,7 @@ pub fn is_hex(word: &[u8]) -> bool
 }
 
 // Puts the bytes of the pairs at the buffer's start.
-fn put_bytes(word: &[u8], out: &mut [u8])
+fn decode(word: &[u8], out: &mut [u8])
     requires { ⌜ (isHex (now word) ≡ Bool.true) × (length (now word) / 2 ≤ length (now out)) ⌝ }
     ensures { λ _. ⌜ now (out .exit) ≡ over 0 (pairsOf (now (word .entry))) (now (out .entry)) ⌝ }
 {
@@ -72,7 +72,7 @@ pub fn read(word: &[u8], out: &mut [u8]) -> Put
         if out.len() < n {
             return Put::Refused(Refusal::ShortBuffer);
         }
-        put_bytes(word, out);
+        decode(word, out);
         Put::Bytes(n)
     } else {
         Put::Refused(Refusal::BadArgument)

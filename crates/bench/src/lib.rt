@@ -16,7 +16,7 @@ pub enum Put {
 }
 
 // The first n bytes; all of them where there are fewer.
-pub fn first(n: usize, bytes: &[u8]) -> &[u8]
+pub fn prefix(n: usize, bytes: &[u8]) -> &[u8]
     ensures { λ r. ⌜ now r ≡ take n (now (bytes .entry)) ⌝ }
 {
     if n < bytes.len() { &bytes[..n] } else { bytes }

@@ -7,10 +7,10 @@ pub enum Number {
     Unreadable,
 }
 
-const LIMIT: u64 = 4294967295;
+const NUMBER_LIMIT: u64 = 4294967295;
 
 // The value of a decimal digit; 10 where the byte is none.
-fn digit(byte: u8) -> u64
+fn digit_value(byte: u8) -> u64
     ensures { λ r. ⌜ r ≡ digitValue byte ⌝ }
 {
     match byte {
@@ -29,12 +29,12 @@ pub fn read(word: &[u8]) -> Number
     let mut n: u64 = 0;
     let mut i = 0;
     while i < word.len() {
-        let value = digit(word[i]);
+        let value = digit_value(word[i]);
         if 9 < value {
             return Number::Unreadable;
         }
         n = n * 10 + value;
-        if LIMIT < n {
+        if NUMBER_LIMIT < n {
             return Number::Unreadable;
         }
         i += 1;

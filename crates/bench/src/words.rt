@@ -21,7 +21,7 @@ pub fn count(line: &[u8]) -> usize
 }
 
 // Where the k-th word starts, counted from 0: behind the k-th space, or the line's end where it has fewer.
-fn start(line: &[u8], k: usize) -> usize
+fn word_start(line: &[u8], k: usize) -> usize
     ensures { λ r. ⌜ (r ≤ length (now (line .entry))) × (getD (wordsOf (drop r (now (line .entry)))) 0 [] ≡ getD (wordsOf (now (line .entry))) k []) ⌝ }
 {
     let mut left = k;
@@ -39,7 +39,7 @@ fn start(line: &[u8], k: usize) -> usize
 }
 
 // Where the word that starts at a place ends: before the next space, or at the line's end.
-fn end(line: &[u8], start: usize) -> usize
+fn word_end(line: &[u8], start: usize) -> usize
     requires { ⌜ start ≤ length (now line) ⌝ }
     ensures { λ r. ⌜ (start ≤ r) × (r ≤ length (now (line .entry))) × (take (r - start) (drop start (now (line .entry))) ≡ getD (wordsOf (drop start (now (line .entry)))) 0 []) ⌝ }
 {
@@ -57,7 +57,7 @@ fn end(line: &[u8], start: usize) -> usize
 pub fn word(line: &[u8], k: usize) -> &[u8]
     ensures { λ r. ⌜ now r ≡ getD (wordsOf (now (line .entry))) k [] ⌝ }
 {
-    let from = start(line, k);
-    let to = end(line, from);
+    let from = word_start(line, k);
+    let to = word_end(line, from);
     &line[from..to]
 }

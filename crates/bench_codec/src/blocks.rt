@@ -23,18 +23,18 @@ ghost use Rattle.bench.specs.Texts.{Appends};
 ghost use Rattle.bench_codec.specs.Codec.{lineLimit, wordText, blockFits, blockPacket, blockText, withBytes, withBlocks, withService, blockLine, askedText, requestText};
 
 // The packets that are built.
-pub(crate) const READ_REQUEST: u8 = 0;
+pub(crate) const READ_REQUEST_PACKET: u8 = 0;
 
-pub(crate) const WRITE_REQUEST: u8 = 1;
+pub(crate) const WRITE_REQUEST_PACKET: u8 = 1;
 
-pub(crate) const READ_REPLY: u8 = 2;
+pub(crate) const READ_REPLY_PACKET: u8 = 2;
 
-pub(crate) const WRITE_REPLY: u8 = 3;
+pub(crate) const WRITE_REPLY_PACKET: u8 = 3;
 
 // Room for a packet.
-const PACKET: usize = 128;
+const PACKET_ROOM: usize = 128;
 
-fn service_code(high: u8, low: u8) -> u16
+fn big_endian_word(high: u8, low: u8) -> u16
     ensures { λ r. ⌜ r ≡ 256 * high + low ⌝ }
 {
     256 * (high as u16) + low as u16
@@ -52,11 +52,11 @@ fn build(
 ) -> Built
     ensures { λ r. ⌜ left (returned r) (now (packet .exit)) ≡ builtOf (blockFits kind (now (idm .entry)) x (now (blocks .entry)) (now (bytes .entry))) (blockPacket kind (now (idm .entry)) x y (now (blocks .entry)) (now (bytes .entry))) (now (packet .entry)) ⌝ }
 {
-    let service = service_code(x, y);
+    let service = big_endian_word(x, y);
     match kind {
-        READ_REQUEST => build_read_request(idm, service, blocks, packet),
-        WRITE_REQUEST => build_write_request(idm, service, blocks, bytes, packet),
-        READ_REPLY => build_read_reply(idm, x, y, blocks, packet),
+        READ_REQUEST_PACKET => build_read_request(idm, service, blocks, packet),
+        WRITE_REQUEST_PACKET => build_write_request(idm, service, blocks, bytes, packet),
+        READ_REPLY_PACKET => build_read_reply(idm, x, y, blocks, packet),
         _ => build_write_reply(idm, x, y, packet),
     }
 }
@@ -64,7 +64,7 @@ fn build(
 fn print(kind: u8, idm: &[u8], x: u8, y: u8, blocks: &[u8], bytes: &[u8], out: &mut [u8]) -> usize
     ensures { λ r. ⌜ Appends 0 (blockText kind (now (idm .entry)) x y (now (blocks .entry)) (now (bytes .entry))) (now (out .entry)) r (now (out .exit)) ⌝ }
 {
-    let mut packet = [0u8; PACKET];
+    let mut packet = [0u8; PACKET_ROOM];
     let Built::Frame(n) = build(kind, idm, x, y, blocks, bytes, &mut packet) else {
         return unreadable(out);
     };

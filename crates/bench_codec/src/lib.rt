@@ -3,17 +3,17 @@ mod blocks;
 mod frames;
 
 use bench::Put;
-use bench::first;
 use bench::hex;
 use bench::lines;
 use bench::lines::Line;
 use bench::lines::Unread;
+use bench::prefix;
 use bench::text;
 use bench::words;
-use blocks::READ_REPLY;
-use blocks::READ_REQUEST;
-use blocks::WRITE_REPLY;
-use blocks::WRITE_REQUEST;
+use blocks::READ_REPLY_PACKET;
+use blocks::READ_REQUEST_PACKET;
+use blocks::WRITE_REPLY_PACKET;
+use blocks::WRITE_REQUEST_PACKET;
 use blocks::block_line;
 use framing::FrameFormat;
 use framing::settings::Setting;
@@ -26,17 +26,17 @@ ghost use Rattle.bench_codec.specs.Codec.{lineLimit, bytesRoom, frameRoo
 ghost use Rattle.bench_codec.specs.Codec.{unreadable as unreadableText};
 
 // The longest line, without its line feed, and room for the longest answer and a line feed.
-pub const LINE: usize = 262144;
+pub const LINE_LIMIT: usize = 262144;
 
-pub const OUT: usize = 262208;
+pub const ANSWER_ROOM: usize = 262208;
 
 // Room for a frame, or for a line's bytes with their CRC.
-const ROOM: usize = 131088;
+const FRAME_ROOM: usize = 131088;
 
-pub(crate) fn room() -> [u8; ROOM]
+pub(crate) fn room() -> [u8; FRAME_ROOM]
     ensures { λ r. ⌜ length r ≡ frameRoom ⌝ }
 {
-    [0u8; ROOM]
+    [0u8; FRAME_ROOM]
 }
 
 pub(crate) fn unreadable(out: &mut [u8]) -> usize
@@ -120,7 +120,7 @@ fn three_words(name: &[u8], number: &[u8], word: &[u8], out: &mut [u8]) -> usize
     ensures { λ r. ⌜ Appends 0 (threeWords (now (name .entry)) (now (number .entry)) (now (word .entry))) (now (out .entry)) r (now (out .exit)) ⌝ }
 {
     if framing::is_exactly(name, b"write_reply") {
-        return block_line(WRITE_REPLY, number, word, b"-", b"-", out);
+        return block_line(WRITE_REPLY_PACKET, number, word, b"-", b"-", out);
     }
     let Setting::Format(format) = setting(number) else {
         return unreadable(out);
@@ -137,10 +137,10 @@ fn four_words(name: &[u8], idm: &[u8], pair: &[u8], word: &[u8], out: &mut [u8])
     ensures { λ r. ⌜ Appends 0 (fourWords (now (name .entry)) (now (idm .entry)) (now (pair .entry)) (now (word .entry))) (now (out .entry)) r (now (out .exit)) ⌝ }
 {
     if framing::is_exactly(name, b"read_request") {
-        return block_line(READ_REQUEST, idm, pair, word, b"-", out);
+        return block_line(READ_REQUEST_PACKET, idm, pair, word, b"-", out);
     }
     if framing::is_exactly(name, b"read_reply") {
-        return block_line(READ_REPLY, idm, pair, word, b"-", out);
+        return block_line(READ_REPLY_PACKET, idm, pair, word, b"-", out);
     }
     unreadable(out)
 }
@@ -157,7 +157,7 @@ fn five_words(
     ensures { λ r. ⌜ Appends 0 (fiveWords (now (name .entry)) (now (idm .entry)) (now (pair .entry)) (now (word .entry)) (now (last .entry))) (now (out .entry)) r (now (out .exit)) ⌝ }
 {
     if framing::is_exactly(name, b"write_request") {
-        return block_line(WRITE_REQUEST, idm, pair, word, last, out);
+        return block_line(WRITE_REQUEST_PACKET, idm, pair, word, last, out);
     }
     unreadable(out)
 }
@@ -187,22 +187,22 @@ fn by_words(line: &[u8], out: &mut [u8]) -> usize
 }
 
 // Puts the text printed for the line at the buffer's start, and gives its length.
-pub fn answer(line: &[u8], out: &mut [u8; OUT]) -> usize
+pub fn answer(line: &[u8], out: &mut [u8; ANSWER_ROOM]) -> usize
     ensures { λ r. ⌜ (placed r (now (out .exit)) ≡ placedAt 0 (answerOf (now (line .entry))) (now (out .entry))) × (length (now (out .exit)) ≡ answerRoom) ⌝ }
 {
-    if LINE < line.len() {
+    if LINE_LIMIT < line.len() {
         return unreadable(out);
     }
     by_words(line, out)
 }
 
 // The answer to a line that stands at the start of `line`, with its line feed; nothing at the end of the input.
-pub fn reply(next: Line, line: &[u8], out: &mut [u8; OUT]) -> usize
+pub fn reply(next: Line, line: &[u8], out: &mut [u8; ANSWER_ROOM]) -> usize
     ensures { λ r. ⌜ placed r (now (out .exit)) ≡ placedAt 0 (lineReply next (now (line .entry))) (now (out .entry)) ⌝ }
 {
     match next {
         Line::Text(n) => {
-            let end = answer(first(n, line), out);
+            let end = answer(prefix(n, line), out);
             text::put(b"\n", out, end)
         }
         Line::OverLong => {
@@ -217,8 +217,8 @@ pub fn reply(next: Line, line: &[u8], out: &mut [u8; OUT]) -> usize
 // that of the text for it; free is what the operating system reads and writes.
 pub fn run() {
     let mut buffer = io::large_buffer();
-    let mut line = [0u8; LINE];
-    let mut out = [0u8; OUT];
+    let mut line = [0u8; LINE_LIMIT];
+    let mut out = [0u8; ANSWER_ROOM];
     let mut unread = Unread::nothing();
     let mut turns = u64::MAX;
     while turns > 0 {

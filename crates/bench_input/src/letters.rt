@@ -108,7 +108,7 @@ fn with_ms(numbers: Numbers, value: Number) -> ReadNumbers
 }
 
 // A number, by its letter.
-fn number(letter: u8, line: &[u8], k: usize, numbers: Numbers) -> ReadNumbers
+fn read_number(letter: u8, line: &[u8], k: usize, numbers: Numbers) -> ReadNumbers
     ensures { λ r. ⌜ ((f : Numbers → Read) → readNumbersIn r f ≡ numberArg letter (wordAt (now (line .entry)) k) numbers f) ⌝ }
 {
     match letter {
@@ -143,7 +143,7 @@ fn string(letter: u8, line: &[u8], k: usize, bytes: &mut [u8], at: usize) -> Put
 }
 
 // The ends with one more byte string behind so many.
-fn ended(ends: Ends, count: usize, end: usize) -> Ends
+fn with_end(ends: Ends, count: usize, end: usize) -> Ends
     ensures { λ r. ⌜ r ≡ endedAt ends count end ⌝ }
 {
     let mut next = ends;
@@ -178,7 +178,7 @@ fn with_string(letter: u8, line: &[u8], k: usize, taken: Taken, bytes: &mut [u8]
         return Next::Value(Taken {
             numbers,
             count: count + 1,
-            ends: ended(ends, count, end),
+            ends: with_end(ends, count, end),
         });
     }
     Next::Unreadable
@@ -190,7 +190,7 @@ fn with_number(letter: u8, line: &[u8], k: usize, taken: Taken) -> Next
     ensures { λ r. ⌜ ((b : List ℕ) → Takes letter (wordAt (now (line .entry)) k) taken b b r) ⌝ }
 {
     let ends = taken.ends;
-    let ReadNumbers::Value(numbers) = number(letter, line, k, taken.numbers) else {
+    let ReadNumbers::Value(numbers) = read_number(letter, line, k, taken.numbers) else {
         return Next::Unreadable;
     };
     Next::Value(Taken {

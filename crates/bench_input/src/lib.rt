@@ -9,8 +9,8 @@ use bench::words;
 use calls::start::Numbers;
 use letters::Next;
 use letters::Taken;
+use table::LINE_TABLE;
 use table::RowFound;
-use table::TABLE;
 ghost use mathlib.Core.Path.{_≡_};
 ghost use mathlib.Core.List.{List};
 ghost use Prim.Native.Nat.{ℕ, _≤_};
@@ -22,12 +22,12 @@ ghost use Rattle.bench_input.specs.Table.{table as tableOf, rowFor, said
 ghost use Rattle.bench_input.specs.Readings.{EndsFor, takenIn, texts, inputIn, EndsInOrder, Reads};
 
 // The longest line, without its line feed, and room for its bytes: a BITRATE has as many as its word.
-pub const LINE: usize = 8192;
+pub const LINE_LIMIT: usize = 8192;
 
-pub const BYTES: usize = 8192;
+pub const BYTES_ROOM: usize = 8192;
 
 // An event has its number behind this one in the table.
-const EVENTS: u8 = 128;
+const EVENTS_FROM: u8 = 128;
 // The places where four byte strings end: each begins where the one before ends, and the ends behind the last equal it.
 pub struct Ends {
     pub first: usize,
@@ -55,7 +55,7 @@ fn rest(bytes: &[u8], from: usize) -> &[u8]
 }
 
 // The bytes from one place up to another, as far as there are any.
-pub fn part(bytes: &[u8], from: usize, to: usize) -> &[u8]
+pub fn slice(bytes: &[u8], from: usize, to: usize) -> &[u8]
     ensures { λ r. ⌜ now r ≡ slice from to (now (bytes .entry)) ⌝ }
 {
     if to < bytes.len() {
@@ -66,20 +66,20 @@ pub fn part(bytes: &[u8], from: usize, to: usize) -> &[u8]
 }
 
 // What was taken, as the call or the event of a number.
-fn by_number(number: u8, taken: Taken) -> Input
+fn call_or_event(number: u8, taken: Taken) -> Input
     requires { ⌜ EndsFor (taken .count) (taken .ends) ⌝ }
     ensures { λ r. ⌜ ((b : List ℕ) → inputIn b r ≡ said number (takenIn b taken)) ⌝ }
     ensures { λ r. ⌜ ((b o : List ℕ) → (taken .ends .fourth ≤ bytesRoom) → drop (taken .ends .fourth) o ≡ drop (taken .ends .fourth) b → EndsInOrder r b o) ⌝ }
 {
     let ends = taken.ends;
     let numbers = taken.numbers;
-    if number < EVENTS {
+    if number < EVENTS_FROM {
         return Input::Call(number, numbers, ends);
     }
     if 1 < taken.count {
         return Input::Unreadable;
     }
-    Input::Event(number - EVENTS, ends.first)
+    Input::Event(number - EVENTS_FROM, ends.first)
 }
 
 // Reads a line by the table.
@@ -97,16 +97,16 @@ fn by_table(table: &[u8], line: &[u8], bytes: &mut [u8]) -> Input
     let Next::Value(taken) = letters::read(line, letters, bytes) else {
         return Input::Unreadable;
     };
-    by_number(number, taken)
+    call_or_event(number, taken)
 }
 
 // Reads a line. Where it can be read, the array is fixed: it holds the byte strings, and behind them what it held before.
 // Where it cannot be read, all bytes of the array are free.
-pub fn read(line: &[u8], bytes: &mut [u8; BYTES]) -> Input
+pub fn read(line: &[u8], bytes: &mut [u8; BYTES_ROOM]) -> Input
     ensures { λ r. ⌜ Reads (now (bytes .entry)) (now (bytes .exit)) r (inputOf (now (line .entry))) ⌝ }
 {
-    if LINE < line.len() {
+    if LINE_LIMIT < line.len() {
         return Input::Unreadable;
     }
-    by_table(&TABLE, line, bytes)
+    by_table(&LINE_TABLE, line, bytes)
 }

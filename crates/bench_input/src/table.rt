@@ -8,7 +8,7 @@ ghost use Rattle.bench_input.specs.Arguments.{wordAt};
 ghost use Rattle.bench_input.specs.Table.{table as tableOf, rowAt, isFor, rowFor};
 ghost use Rattle.bench_input.specs.Readings.{texts, rowFoundIn, RowWithin};
 
-pub(crate) const TABLE: [u8; 711] = *b"\
+pub(crate) const LINE_TABLE: [u8; 711] = *b"\
     open  00 \
     open z 00 \
     version  01 \

@@ -1,15 +1,15 @@
 // The lines of the program `session`: a call or an event in, an order or an answer out.
 pub mod output;
 
-use bench::first;
 use bench::lines;
 use bench::lines::Line;
 use bench::lines::Unread;
-use bench_input::BYTES;
+use bench::prefix;
+use bench_input::BYTES_ROOM;
 use bench_input::Ends;
 use bench_input::Input;
-use bench_input::LINE;
-use bench_input::part;
+use bench_input::LINE_LIMIT;
+use bench_input::slice;
 use calls::start::Numbers;
 use engine::by_number;
 use engine::by_number::Known;
@@ -27,9 +27,9 @@ ghost use Rattle.bench_session.specs.Answers.{saidStep, afterLine, answe
 ghost use Rattle.bench.specs.Lines.{feed};
 
 // Room for the engine's bytes, and for any answer and a line feed.
-pub const BUFFER: usize = 1024;
+pub const BUFFER_SIZE: usize = 1024;
 
-pub const OUT: usize = 2112;
+pub const OUT_ROOM: usize = 2112;
 
 // The session after a line, and the length of the text printed for it.
 pub struct Answered {
@@ -58,10 +58,10 @@ fn called(
 ) -> Step
     ensures { λ r. ⌜ stepped r (now (buffer .exit)) ≡ saidStep session (inputIn (now (bytes .entry)) (Input.Call number numbers ends)) (now (buffer .entry)) ⌝ }
 {
-    let first = part(bytes, 0, ends.first);
-    let second = part(bytes, ends.first, ends.second);
-    let third = part(bytes, ends.second, ends.third);
-    let fourth = part(bytes, ends.third, ends.fourth);
+    let first = slice(bytes, 0, ends.first);
+    let second = slice(bytes, ends.first, ends.second);
+    let third = slice(bytes, ends.second, ends.third);
+    let fourth = slice(bytes, ends.third, ends.fourth);
     session.call(number, numbers, first, second, third, fourth, buffer)
 }
 
@@ -72,11 +72,11 @@ fn on_event(session: Session, number: u8, n: usize, bytes: &[u8], buffer: &mut [
     let Known::Is(event) = by_number::event_by(number) else {
         return unreadable(session);
     };
-    session.event(event, part(bytes, 0, n), buffer)
+    session.event(event, slice(bytes, 0, n), buffer)
 }
 
 // What the engine does with what was read.
-fn step(session: Session, input: Input, bytes: &[u8; BYTES], buffer: &mut [u8]) -> Step
+fn step(session: Session, input: Input, bytes: &[u8; BYTES_ROOM], buffer: &mut [u8]) -> Step
     ensures { λ r. ⌜ stepped r (now (buffer .exit)) ≡ saidStep session (inputIn (now (bytes .entry)) input) (now (buffer .entry)) ⌝ }
 {
     match input {
@@ -92,12 +92,12 @@ fn step(session: Session, input: Input, bytes: &[u8; BYTES], buffer: &mut [u8]) 
 pub fn answer(
     session: Session,
     line: &[u8],
-    buffer: &mut [u8; BUFFER],
-    out: &mut [u8; OUT],
+    buffer: &mut [u8; BUFFER_SIZE],
+    out: &mut [u8; OUT_ROOM],
 ) -> Answered
     ensures { λ r. ⌜ (afterLine (r .session) (r .len) (now (buffer .exit)) (now (out .exit)) ≡ answerOf session (now (line .entry)) (now (buffer .entry)) (now (out .entry))) × (r .len ≤ textLimit) × (length (now (out .exit)) ≡ outRoom) ⌝ }
 {
-    let mut bytes = [0u8; BYTES];
+    let mut bytes = [0u8; BYTES_ROOM];
     let input = bench_input::read(line, &mut bytes);
     let stepped = step(session, input, &bytes, buffer);
     let output = stepped.output;
@@ -114,14 +114,14 @@ pub fn reply(
     session: Session,
     next: Line,
     line: &[u8],
-    buffer: &mut [u8; BUFFER],
-    out: &mut [u8; OUT],
+    buffer: &mut [u8; BUFFER_SIZE],
+    out: &mut [u8; OUT_ROOM],
 ) -> Answered
     ensures { λ r. ⌜ (afterLine (r .session) (r .len) (now (buffer .exit)) (now (out .exit)) ≡ lineReply session next (now (line .entry)) (now (buffer .entry)) (now (out .entry))) × (length (now (out .entry)) ≡ outRoom → length (now (out .exit)) ≡ outRoom) ⌝ }
 {
     match next {
         Line::Text(n) => {
-            let answered = answer(session, first(n, line), buffer, out);
+            let answered = answer(session, prefix(n, line), buffer, out);
             fed(answered, out)
         }
         Line::OverLong => {
@@ -133,7 +133,7 @@ pub fn reply(
 }
 
 // A line feed behind the text.
-fn fed(answer: Answered, out: &mut [u8; OUT]) -> Answered
+fn fed(answer: Answered, out: &mut [u8; OUT_ROOM]) -> Answered
     requires { ⌜ (answer .len ≤ textLimit) × (length (now out) ≡ outRoom) ⌝ }
     ensures { λ r. ⌜ (r .session ≡ answer .session) × (r .len ≡ answer .len + 1) × (now (out .exit) ≡ set (now (out .entry)) (answer .len) feed) × (length (now (out .exit)) ≡ outRoom) ⌝ }
 {
@@ -150,9 +150,9 @@ fn fed(answer: Answered, out: &mut [u8; OUT]) -> Answered
 // that of the text for it; free is what the operating system reads and writes.
 pub fn run() {
     let mut read = io::large_buffer();
-    let mut line = [0u8; LINE];
-    let mut buffer = [0u8; BUFFER];
-    let mut out = [0u8; OUT];
+    let mut line = [0u8; LINE_LIMIT];
+    let mut buffer = [0u8; BUFFER_SIZE];
+    let mut out = [0u8; OUT_ROOM];
     let mut session = Session::fresh();
     let mut unread = Unread::nothing();
     let mut turns = u64::MAX;

@@ -1,13 +1,13 @@
 // What is printed for an order or an answer.
-use super::BUFFER;
-use super::OUT;
-use bench::first;
+use super::BUFFER_SIZE;
+use super::OUT_ROOM;
 use bench::hex;
+use bench::prefix;
 use bench::text;
 use engine::core::Output;
-use errors::CARD_STATUS;
+use errors::CARD_STATUS_NUMBER;
 use errors::Numbered;
-use errors::STATUS;
+use errors::STATUS_NUMBER;
 use framing::ACK_SIZE;
 ghost use mathlib.Core.Path.{_≡_};
 ghost use mathlib.Core.List.{_++_};
@@ -17,7 +17,7 @@ ghost use Rattle.bench.specs.Texts.{placed, placedAt, decimalOf, Appends};
 ghost use Rattle.bench.specs.Hex.{hexOf};
 ghost use Rattle.bench_session.specs.Outputs.{outRoom, textLimit, doneText, type1Text, lengthsText, refusedText, listRefusedText, textOf};
 
-fn put_bytes(name: &[u8], bytes: &[u8], out: &mut [u8]) -> usize
+fn put_named(name: &[u8], bytes: &[u8], out: &mut [u8]) -> usize
     ensures { λ r. ⌜ Appends 0 (now (name .entry) ++ hexOf (now (bytes .entry))) (now (out .entry)) r (now (out .exit)) ⌝ }
 {
     let at = text::put(name, out, 0);
@@ -39,14 +39,14 @@ fn put_done(bytes: &[u8], out: &mut [u8]) -> usize
     if bytes.len() == 0 {
         return text::put(b"done", out, 0);
     }
-    put_bytes(b"done ", bytes, out)
+    put_named(b"done ", bytes, out)
 }
 
 // A Type 1 answer's bytes, of which there are always some.
 fn put_type1(bytes: &[u8], out: &mut [u8]) -> usize
     ensures { λ r. ⌜ Appends 0 (type1Text (now (bytes .entry))) (now (out .entry)) r (now (out .exit)) ⌝ }
 {
-    let at = put_bytes(b"done ", bytes, out);
+    let at = put_named(b"done ", bytes, out);
     text::put(b" type1", out, at)
 }
 
@@ -54,7 +54,7 @@ fn put_type1(bytes: &[u8], out: &mut [u8]) -> usize
 fn put_lengths(bytes: &[u8], uid: u8, ats: u8, out: &mut [u8]) -> usize
     ensures { λ r. ⌜ Appends 0 (lengthsText (now (bytes .entry)) uid ats) (now (out .entry)) r (now (out .exit)) ⌝ }
 {
-    let at = put_bytes(b"done ", bytes, out);
+    let at = put_named(b"done ", bytes, out);
     let behind = put_number(b" uid ", uid as u64, out, at);
     put_number(b" ats ", ats as u64, out, behind)
 }
@@ -64,12 +64,12 @@ fn put_refused(numbered: Numbered, out: &mut [u8]) -> usize
     ensures { λ r. ⌜ Appends 0 (refusedText numbered) (now (out .entry)) r (now (out .exit)) ⌝ }
 {
     let at = put_number(b"refused ", numbered.number as u64, out, 0);
-    if numbered.number == STATUS {
+    if numbered.number == STATUS_NUMBER {
         let status = [numbered.status];
         let next = text::put(b" ", out, at);
         return hex::put(&status, out, next);
     }
-    if numbered.number == CARD_STATUS {
+    if numbered.number == CARD_STATUS_NUMBER {
         let flags = [numbered.status, numbered.status2];
         let next = text::put(b" ", out, at);
         return hex::put(&flags, out, next);
@@ -89,14 +89,14 @@ fn put_output(output: Output, bytes: &[u8], out: &mut [u8]) -> usize
     ensures { λ r. ⌜ Appends 0 (textOf output (now (bytes .entry))) (now (out .entry)) r (now (out .exit)) ⌝ }
 {
     match output {
-        Output::Ack => put_bytes(b"write ", first(ACK_SIZE, bytes), out),
-        Output::Command(n) => put_bytes(b"write ", first(n, bytes), out),
+        Output::Ack => put_named(b"write ", prefix(ACK_SIZE, bytes), out),
+        Output::Command(n) => put_named(b"write ", prefix(n, bytes), out),
         Output::Read(ms) => put_number(b"read ", ms as u64, out, 0),
         Output::Drain => text::put(b"drain", out, 0),
         Output::Pause(us) => put_number(b"pause ", us as u64, out, 0),
-        Output::Done(n) => put_done(first(n, bytes), out),
-        Output::Type1(n) => put_type1(first(n, bytes), out),
-        Output::UidAndAts(n, uid, ats) => put_lengths(first(n, bytes), uid, ats, out),
+        Output::Done(n) => put_done(prefix(n, bytes), out),
+        Output::Type1(n) => put_type1(prefix(n, bytes), out),
+        Output::UidAndAts(n, uid, ats) => put_lengths(prefix(n, bytes), uid, ats, out),
         Output::Nothing => text::put(b"none", out, 0),
         Output::Failed(fault) => put_refused(fault.numbered(), out),
         Output::FailedAfter(fault, n) => put_list_refused(fault.numbered(), n, out),
@@ -105,7 +105,7 @@ fn put_output(output: Output, bytes: &[u8], out: &mut [u8]) -> usize
 }
 
 // Puts the text of an output, whose bytes stand at the start of `buffer`, at the start of `out`, and gives its length.
-pub fn print(output: Output, buffer: &[u8; BUFFER], out: &mut [u8; OUT]) -> usize
+pub fn print(output: Output, buffer: &[u8; BUFFER_SIZE], out: &mut [u8; OUT_ROOM]) -> usize
     ensures { λ r. ⌜ (placed r (now (out .exit)) ≡ placedAt 0 (textOf output (now (buffer .entry))) (now (out .entry))) × (r ≤ textLimit) × (length (now (out .exit)) ≡ outRoom) ⌝ }
 {
     put_output(output, buffer, out)

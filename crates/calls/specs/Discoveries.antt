@@ -1,6 +1,6 @@
 -- Each discovery: what is decided at each of its stages is what its script has.
 use mathlib.Core.Path.{refl, ap}
-use mathlib.Core.Bool.{_||_}
+use mathlib.Core.Bool.{_||_, true}
 use mathlib.Core.List.{List, [], _∷_, _++_}
 use Prim.Native.Nat.{ℕ, _/_, _%_, _+_}
 use native.Mathlib.Omega.{arith}
@@ -11,7 +11,7 @@ use Rattle.errors.specs.declared.Fault.the-variants.{Status, ShortResponse, NoC
 use Rattle.exchange.specs.Packets.{Reply}
 use Rattle.protocol.specs.Scripts.{own, done, nothing, refused, Script, finish, command, fieldPause, either, refuse, ifElse, rest}
 use Rattle.protocol.specs.Rules.{anyNonzero, statusByte}
-use Rattle.protocol.specs.Arguments.{jumpData, word, shortestAtrReq, nfcid3Size}
+use Rattle.protocol.specs.Arguments.{jumpData, word, shortestAtrReq, nfcid3Size, activeByte, nfcid3Offset}
 use Rattle.protocol.specs.Discovery.{detectTypeB, detectTypeF, detectDep, wakeUp, foundB, poll, noPartner as noPartnerScript}
 use Rattle.stages.specs.Stages.{send}
 use Rattle.chipset.specs.Responses.{foundWritten}
@@ -19,9 +19,9 @@ use Rattle.discovery.specs.Decisions.{typeBCommand, isoDep, listedB, wokenUp, t
 use Rattle.calls.specs.Tables.{commandOf, isResetOf, decidedOf, failedOf}
 use Rattle.calls.specs.Refines.{Refines, refines-keep, refines-put, refines-pause, Awaits, refines-if, refines-status, ending, none-found, refusal, by-length, go-on}
 use Rattle.protocol.specs.Values.{rest-values}
-use Rattle.protocol.specs.Names.{ciuMode, commandClock, inJumpForDepClock, inListPassiveTargetClock, registerWriteFailed, registersClock, rfNotActivated, timeoutStatus, typeBClock, listedIdmOffset, pmmEnd, protocolOffset, wupbCode, wupbParameter, noDetectSync, atrResCmd0, atrResCmd1}
+use Rattle.protocol.specs.Names.{ciuMode, commandClock, inJumpForDepClock, inListPassiveTargetClock, registerWriteFailed, registersClock, rfNotActivated, timeoutStatus, typeBClock, listedIdmOffset, pmmEnd, protocolOffset, wupbCode, wupbParameter, noDetectSync, atrResCmd0, atrResCmd1, oneTarget, txRfEn}
 use Rattle.protocol.specs.Calls.{inCommunicateThruCode, inJumpForDepCode, inListPassiveTargetCode, readRegisterCode, rfConfigurationCode, writeRegisterCode}
-use Rattle.discovery.specs.Kinds.{typeBKind, typeFKind, depKind, listStage, deselectStage, wakeUpStage, fieldStage, rfOnStage, pollStage, timeoutsStage, jumpStage, writeModeStage}
+use Rattle.discovery.specs.Kinds.{typeBKind, typeFKind, depKind, listStage, deselectStage, wakeUpStage, fieldStage, rfOnStage, pollStage, depTimeoutsStage, jumpStage, writeModeStage}
 
 -- ---- Type B
 
@@ -45,7 +45,7 @@ module _ (afi : ℕ) where
   }
 
   typeB-0 : (code : ℕ) (found : List ℕ)
-      → Awaits typeBKind listStage 0 (1 ∷ code ∷ afi ∷ []) found (either (λ list. ifElse (eqb (getD list 0 0) 0) (finish nothing) (ifElse (ltb (length list) 2) (refuse ShortResponse) (foundB afi list))) refuse)
+      → Awaits typeBKind listStage 0 (oneTarget ∷ code ∷ afi ∷ []) found (either (λ list. ifElse (eqb (getD list 0 0) 0) (finish nothing) (ifElse (ltb (length list) 2) (refuse ShortResponse) (foundB afi list))) refuse)
   unfolding decidedOf failedOf typeBDecision typeBFailure listedB isoDep commandOf isResetOf typeBCommand pick
   typeB-0 code found = record {
     answered = λ cs few.
@@ -64,7 +64,7 @@ module _ (afi : ℕ) where
 module _ (code : ℕ) (req : List ℕ) where
   -- the poll is command j of the call
   typeF-2 : (j : ℕ) (found : List ℕ)
-      → Awaits typeFKind pollStage 0 (1 ∷ code ∷ req) found (either (λ list. ifElse (eqb (getD list 0 0) 0) (refuse NoCard) (ifElse (ltb (length list) 2) (refuse ShortResponse) (ifElse (ltb (length list) pmmEnd) (refuse ShortResponse) (finish (done (rest j list listedIdmOffset)))))) refuse)
+      → Awaits typeFKind pollStage 0 (oneTarget ∷ code ∷ req) found (either (λ list. ifElse (eqb (getD list 0 0) 0) (refuse NoCard) (ifElse (ltb (length list) 2) (refuse ShortResponse) (ifElse (ltb (length list) pmmEnd) (refuse ShortResponse) (finish (done (rest j list listedIdmOffset)))))) refuse)
   unfolding decidedOf failedOf typeFDecision polled pick
   typeF-2 j found = record {
     answered = λ cs few.
@@ -73,7 +73,7 @@ module _ (code : ℕ) (req : List ℕ) where
     failing = λ r. refusal r;
   }
 
-  typeF-1 : (found : List ℕ) → Awaits typeFKind rfOnStage 0 (1 ∷ code ∷ req) found (either (λ _. fieldPause (poll 2 code req)) refuse)
+  typeF-1 : (found : List ℕ) → Awaits typeFKind rfOnStage 0 (oneTarget ∷ code ∷ req) found (either (λ _. fieldPause (poll 2 code req)) refuse)
   unfolding decidedOf failedOf typeFDecision commandOf isResetOf typeFCommand pick
   typeF-1 found = record {
     answered = λ cs few. refines-pause pollStage _ refl (go-on pollStage inListPassiveTargetCode inListPassiveTargetClock _ refl refl refl (typeF-2 2 found));
@@ -81,12 +81,12 @@ module _ (code : ℕ) (req : List ℕ) where
   }
 
   typeF-0 : (found : List ℕ)
-      → Awaits typeFKind fieldStage 0 (1 ∷ code ∷ req) found (either (λ bs. ifElse (ltb (length bs) 1) (refuse ShortResponse) (ifElse (eqb (getD bs 0 0 % 4) 0) (command rfConfigurationCode commandClock (0x01 ∷ 0x01 ∷ []) (either (λ _. fieldPause (poll 2 code req)) refuse)) (poll 1 code req))) refuse)
+      → Awaits typeFKind fieldStage 0 (oneTarget ∷ code ∷ req) found (either (λ bs. ifElse (ltb (length bs) 1) (refuse ShortResponse) (ifElse (eqb (getD bs 0 0 % txRfEn) 0) (command rfConfigurationCode commandClock (0x01 ∷ 0x01 ∷ []) (either (λ _. fieldPause (poll 2 code req)) refuse)) (poll 1 code req))) refuse)
   unfolding decidedOf failedOf typeFDecision txControlRead commandOf isResetOf typeFCommand pick
   typeF-0 found = record {
     answered = λ cs few.
         by-length cs 1
-        (λ _. refines-if (eqb (getD cs 0 0 % 4) 0) (λ _. go-on rfOnStage rfConfigurationCode commandClock _ refl refl refl (typeF-1 found)) (λ _. go-on pollStage inListPassiveTargetCode inListPassiveTargetClock _ refl refl refl (typeF-2 1 found)));
+        (λ _. refines-if (eqb (getD cs 0 0 % txRfEn) 0) (λ _. go-on rfOnStage rfConfigurationCode commandClock _ refl refl refl (typeF-1 found)) (λ _. go-on pollStage inListPassiveTargetCode inListPassiveTargetClock _ refl refl refl (typeF-2 1 found)));
     failing = λ r. refusal r;
   }
 
@@ -114,24 +114,24 @@ dep-1 pending found = record {
 }
 
 dep-0 : (code : ℕ) (nfcid3 gi found : List ℕ)
-    → Awaits depKind timeoutsStage 0 (jumpData 1 code [] nfcid3 gi) found (either (λ _. command inJumpForDepCode inJumpForDepClock (jumpData 1 code [] nfcid3 gi) (either (λ bs. ifElse (eqb (statusByte bs) 0) (ifElse (ltb (length bs) 2) (refuse ShortResponse) (command writeRegisterCode registersClock (word ciuMode ++ (noDetectSync ∷ [])) (modeWritten bs))) (noPartnerScript (Status (statusByte bs)))) noPartnerScript)) refuse)
+    → Awaits depKind depTimeoutsStage 0 (jumpData (activeByte true) code [] nfcid3 gi) found (either (λ _. command inJumpForDepCode inJumpForDepClock (jumpData (activeByte true) code [] nfcid3 gi) (either (λ bs. ifElse (eqb (statusByte bs) 0) (ifElse (ltb (length bs) 2) (refuse ShortResponse) (command writeRegisterCode registersClock (word ciuMode ++ (noDetectSync ∷ [])) (modeWritten bs))) (noPartnerScript (Status (statusByte bs)))) noPartnerScript)) refuse)
 unfolding decidedOf failedOf depDecision depFailure commandOf isResetOf depCommand pick
 dep-0 code nfcid3 gi found = record {
-  answered = λ cs few. go-on jumpStage inJumpForDepCode inJumpForDepClock _ refl refl refl (dep-1 (jumpData 1 code [] nfcid3 gi) found);
+  answered = λ cs few. go-on jumpStage inJumpForDepCode inJumpForDepClock _ refl refl refl (dep-1 (jumpData (activeByte true) code [] nfcid3 gi) found);
   failing = λ r. refusal r;
 }
 
 -- ---- each from its first command on
 
-pub typeB-refines : (code afi : ℕ) (found : List ℕ) → Refines typeBKind 0 (1 ∷ code ∷ afi ∷ []) found (send listStage) (detectTypeB code afi)
+pub typeB-refines : (code afi : ℕ) (found : List ℕ) → Refines typeBKind 0 (oneTarget ∷ code ∷ afi ∷ []) found (send listStage) (detectTypeB code afi)
 unfolding commandOf isResetOf typeBCommand pick
 typeB-refines code afi found = go-on listStage inListPassiveTargetCode inListPassiveTargetClock _ refl refl refl (typeB-0 afi code found)
 
-pub typeF-refines : (code : ℕ) (req found : List ℕ) → Refines typeFKind 0 (1 ∷ code ∷ req) found (send fieldStage) (detectTypeF code req)
+pub typeF-refines : (code : ℕ) (req found : List ℕ) → Refines typeFKind 0 (oneTarget ∷ code ∷ req) found (send fieldStage) (detectTypeF code req)
 unfolding commandOf isResetOf typeFCommand pick
 typeF-refines code req found = go-on fieldStage readRegisterCode registersClock _ refl refl refl (typeF-0 code req found)
 
 pub dep-refines : (code : ℕ) (req found : List ℕ)
-    → Refines depKind 0 (jumpData 1 code [] (take nfcid3Size (drop 2 req)) (drop shortestAtrReq req)) found (send timeoutsStage) (detectDep code req)
+    → Refines depKind 0 (jumpData (activeByte true) code [] (take nfcid3Size (drop nfcid3Offset req)) (drop shortestAtrReq req)) found (send depTimeoutsStage) (detectDep code req)
 unfolding commandOf isResetOf depCommand pick
-dep-refines code req found = go-on timeoutsStage rfConfigurationCode commandClock _ refl refl refl (dep-0 code (take nfcid3Size (drop 2 req)) (drop shortestAtrReq req) found)
+dep-refines code req found = go-on depTimeoutsStage rfConfigurationCode commandClock _ refl refl refl (dep-0 code (take nfcid3Size (drop nfcid3Offset req)) (drop shortestAtrReq req) found)

@@ -22,7 +22,7 @@ use Rattle.device.specs.Opening.{openingCommand, settingsCommand, isResetStage,
 use Rattle.stages.specs.Decided.{foundLimit}
 use Rattle.calls.specs.Tables.{commandOf, isResetOf, decidedOf, failedOf}
 use Rattle.calls.specs.Refines.{Refines, refines-reset, refines-keep, Awaits, refines-if, ending, refusal, by-length, go-on}
-use Rattle.protocol.specs.Names.{commandClock, registerWriteFailed, registersClock, rfCfgRam07, timeoutsItem, timeouts, maxRtyComItem, maxRtyCom, maxRetriesItem, maxRetries, analog106AItem, analog106A, openingParameters, openingRfCfg}
+use Rattle.protocol.specs.Names.{commandClock, registerWriteFailed, registersClock, rfCfgRam07, timeoutsItem, timeouts, maxRtyComItem, maxRtyCom, maxRetriesItem, maxRetries, analog106AItem, analog106A, openingParameters, openingRfCfg, versionNeed}
 use Rattle.protocol.specs.Calls.{getFirmwareVersionCode, rfConfigurationCode, setParametersCode, writeRegisterCode}
 use Rattle.chipset.specs.Kinds.{resetModeKind}
 use Rattle.device.specs.Kinds.{openingKind, resetStage, versionStage, fieldOffStage, timeoutsStage, maxRtyComStage, maxRetriesStage, analogStage, parametersStage, resetAgainStage, rfCfgStage}
@@ -124,7 +124,7 @@ module _ (pending : List ℕ) where
       go-on versionStage getFirmwareVersionCode commandClock _ refl refl refl
       record {
         answered = λ cs _.
-            by-length cs 4 (λ _. refines-keep fieldOffStage _ _ (opened-few (getD cs 0 0) (getD cs 1 0) (getD cs 2 0)) (stage-2 (getD cs 0 0) (getD cs 1 0) (getD cs 2 0)));
+            by-length cs versionNeed (λ _. refines-keep fieldOffStage _ _ (opened-few (getD cs 0 0) (getD cs 1 0) (getD cs 2 0)) (stage-2 (getD cs 0 0) (getD cs 1 0) (getD cs 2 0)));
         failing = λ r. refusal r;
       }
 

@@ -24,7 +24,7 @@ use Rattle.stages.specs.Decided.{foundLimit}
 use Rattle.calls.specs.Tables.{commandOf, isResetOf, decidedOf, failedOf}
 use Rattle.calls.specs.Refines.{Refines, refines-next, refines-pause, Awaits, ending, go-on}
 use Rattle.protocol.specs.Values.{rest-values}
-use Rattle.protocol.specs.Names.{commandClock, inListPassiveTargetClock, registersClock, idmAndPmm, listedIdmOffset, pmmEnd}
+use Rattle.protocol.specs.Names.{commandClock, inListPassiveTargetClock, registersClock, idmAndPmm, listedIdmOffset, pmmEnd, oneTarget, cardMark, txRfEn}
 use Rattle.protocol.specs.Calls.{inListPassiveTargetCode, readRegisterCode, rfConfigurationCode}
 use Rattle.discovery.specs.Kinds.{pollTypeFKind, fieldStage, rfOnStage, pollStage}
 
@@ -36,11 +36,11 @@ module _ (cursor : ℕ) (pending found : List ℕ) (f : ℕ → Answer Byte → 
 
   -- Type F's decision with the ends of a code
   abbrev ended : Decision → Decision
-  ended = onEnd (λ bytes. codeFinished cursor pending found (0x01 ∷ take idmAndPmm bytes)) (pollFailure cursor pending found)
+  ended = onEnd (λ bytes. codeFinished cursor pending found (cardMark ∷ take idmAndPmm bytes)) (pollFailure cursor pending found)
 
   -- f code-ends the ends of a code
   record CodeEnds : Type 0 where
-    met : (k : ℕ) (bytes : List Byte) → RefinesHere (codeFinished cursor pending found (0x01 ∷ take idmAndPmm (map value bytes))) (f k (done bytes))
+    met : (k : ℕ) (bytes : List Byte) → RefinesHere (codeFinished cursor pending found (cardMark ∷ take idmAndPmm (map value bytes))) (f k (done bytes))
     fails : (k : ℕ) (r : Fault) → RefinesHere (pollFailure cursor pending found r) (f k (refused r))
 
   then-if : (t : Bool) (k : ℕ) (x y : Decision) (s u : Script) → RefinesHere (ended x) (andThen s k f) → RefinesHere (ended y) (andThen u k f)
@@ -55,7 +55,7 @@ module _ (cursor : ℕ) (pending found : List ℕ) (f : ℕ → Answer Byte → 
     unfolding withLength
     then-long bs n k d s h = then-if (ltb (length bs) n) k _ d _ s (code-ends .fails k ShortResponse) h
 
-    module _ (code : ℕ) (req : List ℕ) (polls : pollOf cursor pending ≡ 1 ∷ code ∷ req) where
+    module _ (code : ℕ) (req : List ℕ) (polls : pollOf cursor pending ≡ oneTarget ∷ code ∷ req) where
       -- the poll is command j of the code, and k commands of the call are through behind it
       poll-2 : (j k : ℕ)
           → Awaits pollTypeFKind pollStage cursor pending found (λ r. andThen (either (λ list. ifElse (eqb (getD list 0 0) 0) (refuse NoCard) (ifElse (ltb (length list) 2) (refuse ShortResponse) (ifElse (ltb (length list) pmmEnd) (refuse ShortResponse) (finish (done (rest j list listedIdmOffset)))))) refuse r) k f)
@@ -70,17 +70,17 @@ module _ (cursor : ℕ) (pending found : List ℕ) (f : ℕ → Answer Byte → 
       poll-1 : (k : ℕ) → Awaits pollTypeFKind rfOnStage cursor pending found (λ r. andThen (either (λ _. fieldPause (poll 2 code req)) refuse r) k f)
       unfolding decidedOf failedOf pollDecision typeFDecision commandOf isResetOf pollCommand typeFCommand pick
       poll-1 k = record {
-        answered = λ cs few. refines-pause pollStage _ refl (go-on pollStage inListPassiveTargetCode inListPassiveTargetClock (1 ∷ code ∷ req) refl refl (ap (cmd inListPassiveTargetCode inListPassiveTargetClock) polls) (poll-2 2 (suc k)));
+        answered = λ cs few. refines-pause pollStage _ refl (go-on pollStage inListPassiveTargetCode inListPassiveTargetClock (oneTarget ∷ code ∷ req) refl refl (ap (cmd inListPassiveTargetCode inListPassiveTargetClock) polls) (poll-2 2 (suc k)));
         failing = λ r. code-ends .fails k r;
       }
 
       poll-0 : (k : ℕ)
-          → Awaits pollTypeFKind fieldStage cursor pending found (λ r. andThen (either (λ bs. ifElse (ltb (length bs) 1) (refuse ShortResponse) (ifElse (eqb (getD bs 0 0 % 4) 0) (command rfConfigurationCode commandClock (0x01 ∷ 0x01 ∷ []) (either (λ _. fieldPause (poll 2 code req)) refuse)) (poll 1 code req))) refuse r) k f)
+          → Awaits pollTypeFKind fieldStage cursor pending found (λ r. andThen (either (λ bs. ifElse (ltb (length bs) 1) (refuse ShortResponse) (ifElse (eqb (getD bs 0 0 % txRfEn) 0) (command rfConfigurationCode commandClock (0x01 ∷ 0x01 ∷ []) (either (λ _. fieldPause (poll 2 code req)) refuse)) (poll 1 code req))) refuse r) k f)
       unfolding decidedOf failedOf pollDecision typeFDecision txControlRead commandOf isResetOf pollCommand typeFCommand pick
       poll-0 k = record {
         answered = λ cs few.
             then-long cs 1 k _ _
-            (then-if (eqb (getD cs 0 0 % 4) 0) k (send rfOnStage) (send pollStage) _ _ (go-on rfOnStage rfConfigurationCode commandClock _ refl refl refl (poll-1 (suc k))) (go-on pollStage inListPassiveTargetCode inListPassiveTargetClock (1 ∷ code ∷ req) refl refl (ap (cmd inListPassiveTargetCode inListPassiveTargetClock) polls) (poll-2 1 (suc k))));
+            (then-if (eqb (getD cs 0 0 % txRfEn) 0) k (send rfOnStage) (send pollStage) _ _ (go-on rfOnStage rfConfigurationCode commandClock _ refl refl refl (poll-1 (suc k))) (go-on pollStage inListPassiveTargetCode inListPassiveTargetClock (oneTarget ∷ code ∷ req) refl refl (ap (cmd inListPassiveTargetCode inListPassiveTargetClock) polls) (poll-2 1 (suc k))));
         failing = λ r. code-ends .fails k r;
       }
 
@@ -132,13 +132,13 @@ module _ (cursor : ℕ) (pending : List ℕ) where
 
 -- the poll of a code with these two bytes
 polls-code : (code : ℕ) (words : List ℕ) (cursor high low : ℕ) (ws : List ℕ) → drop (2 * cursor) words ≡ high ∷ low ∷ ws
-    → pollOf cursor (code ∷ words) ≡ 1 ∷ code ∷ systemCodeReq (256 * high + low)
+    → pollOf cursor (code ∷ words) ≡ oneTarget ∷ code ∷ systemCodeReq (256 * high + low)
 polls-code code words cursor high low ws e =
     let one : 2 * cursor + 1 ≡ suc (2 * cursor + 0) = omega arith in
     let two : 2 * cursor + 2 ≡ suc (2 * cursor + 1) = omega arith in
     let h : getD (code ∷ words) (2 * cursor + 1) 0 ≡ high = ap (λ n. getD (code ∷ words) n 0) one ∙ sym (getD-drop (2 * cursor) words 0 0) ∙ ap (λ l. getD l 0 0) e in
     let l : getD (code ∷ words) (2 * cursor + 2) 0 ≡ low = ap (λ n. getD (code ∷ words) n 0) two ∙ sym (getD-drop (2 * cursor) words 1 0) ∙ ap (λ l. getD l 1 0) e in
-    ap₂ (λ x y. 1 ∷ code ∷ systemCodeReq (256 * x + y)) h l
+    ap₂ (λ x y. oneTarget ∷ code ∷ systemCodeReq (256 * x + y)) h l
 
 module _ (code : ℕ) (words : List ℕ) (few : length words ≤ 2 * systemCodes) where
   -- at a code with these two bytes, behind which ws are left; what the finished codes added is `bytes`

@@ -22,7 +22,7 @@ use Rattle.device.specs.Transceive.{type2Answer, type1Answer}
 use Rattle.stages.specs.Stages.{ends as endsWith}
 use Rattle.device.specs.Names.{first-three}
 use Rattle.calls.specs.Refines.{Refines, refines-end}
-use Rattle.protocol.specs.Names.{noData, registerWriteFailed}
+use Rattle.protocol.specs.Names.{noData, registerWriteFailed, versionNeed}
 
 -- the script ends with an answer, which is this one but for the places of its bytes
 pub record Interprets (s : Script) (a : Answer ℕ) : Type 0 where
@@ -63,7 +63,7 @@ empty = ends (done []) refl
 
 pub interprets-version : (bs : List ℕ) → Interprets (ruleScript version bs) (versionAnswer bs)
 unfolding versionAnswer
-interprets-version bs = by-length bs 4 (λ h. ends _ (ap done (sym (first-three bs (omega arith)))))
+interprets-version bs = by-length bs versionNeed (λ h. ends _ (ap done (sym (first-three bs (omega arith)))))
 
 pub interprets-write : (bs : List ℕ) → Interprets (ruleScript registersWritten bs) (writtenAnswer bs)
 unfolding writtenAnswer

@@ -14,7 +14,7 @@ use Rattle.errors.specs.declared.Refusal.the-variants.{OverLong, BadArgument, B
 use Rattle.errors.specs.declared.Fault.{Fault}
 use Rattle.framing.specs.Valid.{both-right}
 use Rattle.exchange.specs.Packets.{Reply}
-use Rattle.targets.specs.Bitrates.{Choice, chosen, noCode, choiceOf}
+use Rattle.targets.specs.Bitrates.{Choice, chosen, noCode, choiceOf, byBitrate, byCode}
 use Rattle.targets.specs.declared.Bitrate.{Bitrate}
 use Rattle.protocol.specs.Scripts.{Answer, Script, command, either, refuse, ifElse}
 use Rattle.protocol.specs.Rules.{Rule, version, noBytes, allBytes, registersWritten, firstByte, listedTarget, exchangedData, thru, jump, status, initiatorCommand, targetStatus, ruleScript}
@@ -24,11 +24,11 @@ use Rattle.protocol.specs.Calls.{Row, row, resets, rowOf, inCommunicateThruCode
 use Rattle.protocol.specs.Calls.{DeviceCall, detectTypeA, detectTypeASplit, detectTypeB, detectTypeF, pollTypeF, detectDep, transceive, readWithoutEncryption, writeWithoutEncryption}
 use Rattle.protocol.specs.Starts.{Start, starts, rowStart, deviceStart, readerStart, typeACode, typeBCode, typeFCode, depCode, is106A, type2SelRes, isSendable, clockOf, transceiveStart, dataLimit}
 use Rattle.protocol.specs.Arguments.{systemCodesFit, atrReqFits, shortestAtrReq, longestAtrReq}
-use Rattle.protocol.specs.Starts.{refuses as refusesStart, limited as limitedStart, asserted as assertedStart, onCode as codeStart, withBitrate as bitrateStart}
+use Rattle.protocol.specs.Starts.{refuses as refusesStart, limited as limitedStart, asserted as assertedStart}
 use Rattle.stages.specs.Stages.{Decision, cmd, send, ends, refuse as refuseWith}
 use Rattle.stages.specs.Starts.{refuses, sends, staged, limited, stagedLimited, asserted}
 use Rattle.stages.specs.Starts as stages
-use Rattle.stages.specs.Bitrates.{onCode, withBitrate, codeFor}
+use Rattle.stages.specs.Bitrates.{codeFor}
 use Rattle.chipset.specs.Commands.{rowFirst, firstOf}
 use Rattle.chipset.specs.Kinds.{kindOf, resetModeKind, thruKind}
 use Rattle.device.specs.Transceive.{type1First, thruFirst, transceiveFirst}
@@ -47,6 +47,7 @@ use Rattle.calls.specs.Polls.{poll-refines}
 use Rattle.device.specs.Kinds.{openingKind, type2Kind, type1Kind}
 use Rattle.discovery.specs.Kinds.{typeAKind, typeBKind, typeFKind, depKind, pollTypeFKind, typeASplitKind}
 use Rattle.calls.specs.Kinds.{noCallKind, lastKind, firstStage}
+use Rattle.protocol.specs.Names.{oneTarget, targetNumber}
 
 -- a kind of a call of an open reader
 pub record Kind (kind : ℕ) : Type 0 where
@@ -154,23 +155,23 @@ row-begins resets = fromStage resetModeKind [] _ (a-kind refl refl refl) (omega 
 -- ---- a discovery, or transceive
 
 by-code : (takes : Bitrate → Option ℕ) (text : List ℕ) (f : ℕ → Start) (g : ℕ → stages.Start) → ((code : ℕ) → Starting (f code) (g code))
-    → Starting (bitrateStart (choiceOf text) (λ b. codeStart (takes b) f)) (codeFor takes text g)
+    → Starting (byBitrate (refusesStart BadBitrate) (choiceOf text) (λ b. byCode (refusesStart BadBitrate) (takes b) f)) (codeFor takes text g)
 unfolding codeFor
 by-code takes text f g h = go (choiceOf text)
   where
-    on : (o : Option ℕ) → Starting (codeStart o f) (onCode o g)
+    on : (o : Option ℕ) → Starting (byCode (refusesStart BadBitrate) o f) (byCode (refuses BadBitrate) o g)
     on none = refusedNow BadBitrate
     on (some code) = h code
 
-    go : (c : Choice) → Starting (bitrateStart c (λ b. codeStart (takes b) f)) (withBitrate c (λ b. onCode (takes b) g))
+    go : (c : Choice) → Starting (byBitrate (refusesStart BadBitrate) c (λ b. byCode (refusesStart BadBitrate) (takes b) f)) (byBitrate (refuses BadBitrate) c (λ b. byCode (refuses BadBitrate) (takes b) g))
     go (chosen b) = on (takes b)
     go (noCode e) = refusedNow BadBitrate
 
 -- Type A's list, of a kind that has its stages
-list-begins : (kind : ℕ) → Kind kind → (uid : List ℕ) (code : ℕ) (s : Script) → ((found : List ℕ) → Refines kind 0 (1 ∷ code ∷ cascaded uid) found (send firstStage) s)
-    → Starting (limitedStart (1 ∷ code ∷ cascaded uid) s) (listFirst kind uid code)
+list-begins : (kind : ℕ) → Kind kind → (uid : List ℕ) (code : ℕ) (s : Script) → ((found : List ℕ) → Refines kind 0 (oneTarget ∷ code ∷ cascaded uid) found (send firstStage) s)
+    → Starting (limitedStart (oneTarget ∷ code ∷ cascaded uid) s) (listFirst kind uid code)
 unfolding listFirst stagedLimited
-list-begins kind h uid code s k = begins-limited (1 ∷ code ∷ cascaded uid) (λ few. fromStage kind _ _ h few k)
+list-begins kind h uid code s k = begins-limited (oneTarget ∷ code ∷ cascaded uid) (λ few. fromStage kind _ _ h few k)
 
 dep-begins : (req : List ℕ) → length req ≤ longestAtrReq → (code : ℕ) → Starting (starts (depScript code req)) (depFirst req code)
 unfolding depFirst
@@ -181,7 +182,7 @@ transceive-begins : (rate : Bitrate) (selRes : List ℕ) (ridRes : Bool) (bytes 
 unfolding type1First thruFirst decidedOf failedOf isResetOf pick
 transceive-begins rate selRes true bytes ms = go (isSendable bytes)
   where
-    go : (t : Bool) → Starting (cond t (limitedStart (0x01 ∷ bytes) (transceiveType1 bytes ms)) (refusesStart NotSendable)) (pick t (limited type1Kind (cmd inDataExchangeCode ms (0x01 ∷ bytes))) (refuses NotSendable))
+    go : (t : Bool) → Starting (cond t (limitedStart (targetNumber ∷ bytes) (transceiveType1 bytes ms)) (refusesStart NotSendable)) (pick t (limited type1Kind (cmd inDataExchangeCode ms (targetNumber ∷ bytes))) (refuses NotSendable))
     go true = single-limited inDataExchangeCode ms (reads refl interprets-type1)
     go false = refusedNow NotSendable
 transceive-begins rate selRes false bytes ms = go (is106A rate && type2SelRes selRes)
@@ -224,8 +225,8 @@ device-begins (detectDep text atrReq) =
 device-begins (transceive text selRes ridRes bytes ms) = go (choiceOf text)
   where
     go : (c : Choice)
-        → Starting (bitrateStart c (λ rate. transceiveStart rate selRes ridRes bytes (clockOf ms)))
-        (withBitrate c (λ rate. pick ridRes (type1First bytes (clockOf ms)) (thruFirst rate selRes bytes (clockOf ms))))
+        → Starting (byBitrate (refusesStart BadBitrate) c (λ rate. transceiveStart rate selRes ridRes bytes (clockOf ms)))
+        (byBitrate (refuses BadBitrate) c (λ rate. pick ridRes (type1First bytes (clockOf ms)) (thruFirst rate selRes bytes (clockOf ms))))
     go (chosen rate) = transceive-begins rate selRes ridRes bytes (clockOf ms)
     go (noCode e) = refusedNow BadBitrate
 device-begins (readWithoutEncryption idm service blocks ms) = read-begins idm service blocks (clockOf ms)

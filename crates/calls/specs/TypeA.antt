@@ -25,7 +25,7 @@ use Rattle.stages.specs.Decided.{foundLimit}
 use Rattle.calls.specs.Tables.{commandOf, isResetOf, decidedOf, failedOf}
 use Rattle.calls.specs.Refines.{Refines, refines-keep, refines-next, refines-put, Awaits, refines-if, refines-status, ending, none-found, refusal, by-length, go-on}
 use Rattle.calls.specs.Single.{empty-length}
-use Rattle.protocol.specs.Names.{ciuRxMode, inListPassiveTargetClock, registerWriteFailed, registersClock, ridClock, ridCode, selResOffset, sensReq, sensResOffset, targetOffset, uidOffset, rxCrcEn}
+use Rattle.protocol.specs.Names.{ciuRxMode, inListPassiveTargetClock, registerWriteFailed, registersClock, ridClock, ridCode, selResOffset, sensReq, sensResOffset, targetOffset, uidOffset, rxCrcEn, oneTarget, targetNumber, ridData}
 use Rattle.protocol.specs.Calls.{inDataExchangeCode, inListPassiveTargetCode, readRegisterCode, writeRegisterCode}
 use Rattle.discovery.specs.Kinds.{typeAKind, typeASplitKind, listStage, fifoStage, listType1Stage, ridStage, readRxModeStage, writeRxModeStage}
 
@@ -103,12 +103,12 @@ module _ (kind : ℕ) (like : LikeTypeA kind) where
   stage-4 cursor found a then pending = record {
     answered = λ cs few.
         rw (like .rxMode cursor pending found cs)
-        (by-length cs 1 (λ _. refines-put writeRxModeStage _ _ (omega arith) (go-on writeRxModeStage writeRegisterCode registersClock _ refl (like .noReset 5) (like .commands 5 cursor _) (then (word ciuRxMode ++ (getD cs 0 0 % rxCrcEn ∷ []))))));
-    failing = λ r. rw (like .fails 4 cursor pending found r) (refusal r);
+        (by-length cs 1 (λ _. refines-put writeRxModeStage _ _ (omega arith) (go-on writeRxModeStage writeRegisterCode registersClock _ refl (like .noReset writeRxModeStage) (like .commands writeRxModeStage cursor _) (then (word ciuRxMode ++ (getD cs 0 0 % rxCrcEn ∷ []))))));
+    failing = λ r. rw (like .fails readRxModeStage cursor pending found r) (refusal r);
   }
 
   stage-2 : (pending found : List ℕ)
-      → Awaits kind listType1Stage 0 pending found (either (λ list. ifElse (eqb (getD list 0 0) 0) (finish nothing) (ifElse (ltb (length list) 2) (refuse ShortResponse) (command inDataExchangeCode ridClock (0x01 ∷ ridCode ∷ 0x00 ∷ 0x00 ∷ 0x00 ∷ 0x00 ∷ 0x00 ∷ 0x00 ∷ []) (ridAnswered list)))) refuse)
+      → Awaits kind listType1Stage 0 pending found (either (λ list. ifElse (eqb (getD list 0 0) 0) (finish nothing) (ifElse (ltb (length list) 2) (refuse ShortResponse) (command inDataExchangeCode ridClock (targetNumber ∷ ridData) (ridAnswered list)))) refuse)
   unfolding typeAFailure listedType1 typeACommand pick
   stage-2 pending found = record {
     answered = λ cs few.
@@ -134,8 +134,8 @@ module _ (kind : ℕ) (like : LikeTypeA kind) where
   listed-else f pending found cs h =
       refines-if (eqb (getD cs 0 0) 0) (λ _. go-on fifoStage readRegisterCode registersClock _ refl (like .noReset 1) (like .commands 1 0 _) (stage-1 pending found)) (λ _. by-length cs 2 h)
 
-  from-list : (code : ℕ) (uid found : List ℕ) (f : List ℕ → Script) → Awaits kind listStage 0 (1 ∷ code ∷ cascaded uid) found (listAnswered f)
-      → Refines kind 0 (1 ∷ code ∷ cascaded uid) found (send listStage) (command inListPassiveTargetCode inListPassiveTargetClock (1 ∷ code ∷ cascaded uid) (listAnswered f))
+  from-list : (code : ℕ) (uid found : List ℕ) (f : List ℕ → Script) → Awaits kind listStage 0 (oneTarget ∷ code ∷ cascaded uid) found (listAnswered f)
+      → Refines kind 0 (oneTarget ∷ code ∷ cascaded uid) found (send listStage) (command inListPassiveTargetCode inListPassiveTargetClock (oneTarget ∷ code ∷ cascaded uid) (listAnswered f))
   unfolding typeACommand pick
   from-list code uid found f h = go-on listStage inListPassiveTargetCode inListPassiveTargetClock _ refl (like .noReset 0) (like .commands 0 0 _) h
 
@@ -170,7 +170,7 @@ typeA-0 pending found = record {
   failing = λ r. refusal r;
 }
 
-pub typeA-refines : (code : ℕ) (uid found : List ℕ) → Refines typeAKind 0 (1 ∷ code ∷ cascaded uid) found (send listStage) (detectTypeA code uid)
+pub typeA-refines : (code : ℕ) (uid found : List ℕ) → Refines typeAKind 0 (oneTarget ∷ code ∷ cascaded uid) found (send listStage) (detectTypeA code uid)
 typeA-refines code uid found = from-list typeAKind off code uid found foundA (typeA-0 _ found)
 
 -- ---- the mode on: the cursor is the UID's length behind the list
@@ -208,5 +208,5 @@ split-0 pending found = record {
   failing = λ r. refusal r;
 }
 
-pub split-refines : (code : ℕ) (uid found : List ℕ) → Refines typeASplitKind 0 (1 ∷ code ∷ cascaded uid) found (send listStage) (detectTypeASplit code uid)
+pub split-refines : (code : ℕ) (uid found : List ℕ) → Refines typeASplitKind 0 (oneTarget ∷ code ∷ cascaded uid) found (send listStage) (detectTypeASplit code uid)
 split-refines code uid found = from-list typeASplitKind on code uid found foundSplit (split-0 _ found)

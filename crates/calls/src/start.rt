@@ -40,63 +40,63 @@ pub struct Numbers {
 }
 
 // The numbers of the calls.
-pub const OPEN: u8 = 0;
+pub const OPEN_CALL: u8 = 0;
 
-pub const GET_FIRMWARE_VERSION: u8 = 1;
+pub const GET_FIRMWARE_VERSION_CALL: u8 = 1;
 
-pub const RESET_MODE: u8 = 2;
+pub const RESET_MODE_CALL: u8 = 2;
 
-pub const SET_PARAMETERS: u8 = 3;
+pub const SET_PARAMETERS_CALL: u8 = 3;
 
-pub const RF_CONFIGURATION: u8 = 4;
+pub const RF_CONFIGURATION_CALL: u8 = 4;
 
-pub const READ_REGISTER: u8 = 5;
+pub const READ_REGISTER_CALL: u8 = 5;
 
-pub const WRITE_REGISTER: u8 = 6;
+pub const WRITE_REGISTER_CALL: u8 = 6;
 
-pub const READ_SINGLE_REGISTER: u8 = 7;
+pub const READ_SINGLE_REGISTER_CALL: u8 = 7;
 
-pub const WRITE_SINGLE_REGISTER: u8 = 8;
+pub const WRITE_SINGLE_REGISTER_CALL: u8 = 8;
 
-pub const IN_LIST_PASSIVE_TARGET: u8 = 9;
+pub const IN_LIST_PASSIVE_TARGET_CALL: u8 = 9;
 
-pub const IN_DATA_EXCHANGE: u8 = 10;
+pub const IN_DATA_EXCHANGE_CALL: u8 = 10;
 
-pub const IN_COMMUNICATE_THRU: u8 = 11;
+pub const IN_COMMUNICATE_THRU_CALL: u8 = 11;
 
-pub const IN_JUMP_FOR_DEP: u8 = 12;
+pub const IN_JUMP_FOR_DEP_CALL: u8 = 12;
 
-pub const TG_INIT_TARGET: u8 = 13;
+pub const TG_INIT_TARGET_CALL: u8 = 13;
 
-pub const TG_SET_GENERAL_BYTES: u8 = 14;
+pub const TG_SET_GENERAL_BYTES_CALL: u8 = 14;
 
-pub const TG_GET_INITIATOR_COMMAND: u8 = 15;
+pub const TG_GET_INITIATOR_COMMAND_CALL: u8 = 15;
 
-pub const TG_RESPONSE_TO_INITIATOR: u8 = 16;
+pub const TG_RESPONSE_TO_INITIATOR_CALL: u8 = 16;
 
-pub const TG_GET_TARGET_STATUS: u8 = 17;
+pub const TG_GET_TARGET_STATUS_CALL: u8 = 17;
 
-pub const RF_FIELD_OFF: u8 = 18;
+pub const RF_FIELD_OFF_CALL: u8 = 18;
 
-pub const DETECT_TYPE_A: u8 = 19;
+pub const DETECT_TYPE_A_CALL: u8 = 19;
 
-pub const DETECT_TYPE_B: u8 = 20;
+pub const DETECT_TYPE_B_CALL: u8 = 20;
 
-pub const DETECT_TYPE_F: u8 = 21;
+pub const DETECT_TYPE_F_CALL: u8 = 21;
 
-pub const DETECT_DEP: u8 = 22;
+pub const DETECT_DEP_CALL: u8 = 22;
 
-pub const TRANSCEIVE: u8 = 23;
+pub const TRANSCEIVE_CALL: u8 = 23;
 
-pub const POLL_TYPE_F: u8 = 24;
+pub const POLL_TYPE_F_CALL: u8 = 24;
 
-pub const DETECT_TYPE_A_SPLIT: u8 = 25;
+pub const DETECT_TYPE_A_SPLIT_CALL: u8 = 25;
 
-pub const READ_WITHOUT_ENCRYPTION: u8 = 26;
+pub const READ_WITHOUT_ENCRYPTION_CALL: u8 = 26;
 
-pub const WRITE_WITHOUT_ENCRYPTION: u8 = 27;
+pub const WRITE_WITHOUT_ENCRYPTION_CALL: u8 = 27;
 
-pub const LAST: u8 = WRITE_WITHOUT_ENCRYPTION;
+pub const LAST_CALL: u8 = WRITE_WITHOUT_ENCRYPTION_CALL;
 
 // The most ms that are given to a read or a write of FeliCa blocks.
 const MOST_MS: u32 = 65535;
@@ -112,14 +112,14 @@ fn chip(number: u8, numbers: Numbers, first: &[u8], command: &mut [u8; DATA_LIMI
     let x = numbers.x;
     let word = numbers.word;
     match number {
-        GET_FIRMWARE_VERSION => general::get_firmware_version(command),
-        RESET_MODE => general::reset_mode(command),
-        SET_PARAMETERS => general::set_parameters(x, command),
-        RF_CONFIGURATION => general::rf_configuration(x, first, command),
-        READ_REGISTER => registers::read_register(first, command),
-        WRITE_REGISTER => registers::write_register(first, command),
-        READ_SINGLE_REGISTER => registers::read_single_register(word, command),
-        WRITE_SINGLE_REGISTER => registers::write_single_register(word, x, command),
+        GET_FIRMWARE_VERSION_CALL => general::get_firmware_version(command),
+        RESET_MODE_CALL => general::reset_mode(command),
+        SET_PARAMETERS_CALL => general::set_parameters(x, command),
+        RF_CONFIGURATION_CALL => general::rf_configuration(x, first, command),
+        READ_REGISTER_CALL => registers::read_register(first, command),
+        WRITE_REGISTER_CALL => registers::write_register(first, command),
+        READ_SINGLE_REGISTER_CALL => registers::read_single_register(word, command),
+        WRITE_SINGLE_REGISTER_CALL => registers::write_single_register(word, x, command),
         _ => start::refused(Refusal::BadArgument),
     }
 }
@@ -148,10 +148,17 @@ fn as_initiator(
     let x = numbers.x;
     let y = numbers.y;
     match number {
-        IN_LIST_PASSIVE_TARGET => initiator::in_list_passive_target(x, y, first, command),
-        IN_DATA_EXCHANGE => initiator::in_data_exchange(first, ms, command),
-        IN_COMMUNICATE_THRU => initiator::in_communicate_thru(first, ms, command),
-        IN_JUMP_FOR_DEP => initiator::in_jump_for_dep(is_set(x), y, first, second, third, command),
+        IN_LIST_PASSIVE_TARGET_CALL => initiator::in_list_passive_target(x, y, first, command),
+        IN_DATA_EXCHANGE_CALL => initiator::in_data_exchange(first, ms, command),
+        IN_COMMUNICATE_THRU_CALL => initiator::in_communicate_thru(first, ms, command),
+        IN_JUMP_FOR_DEP_CALL => initiator::in_jump_for_dep(
+            is_set(x),
+            y,
+            first,
+            second,
+            third,
+            command,
+        ),
         _ => target::tg_init_target(x, first, second, third, fourth, ms, command),
     }
 }
@@ -163,10 +170,10 @@ fn as_target(number: u8, numbers: Numbers, first: &[u8], command: &mut [u8; DATA
 {
     let ms = numbers.ms;
     match number {
-        TG_SET_GENERAL_BYTES => target::tg_set_general_bytes(first, command),
-        TG_GET_INITIATOR_COMMAND => target::tg_get_initiator_command(ms, command),
-        TG_RESPONSE_TO_INITIATOR => target::tg_response_to_initiator(first, command),
-        TG_GET_TARGET_STATUS => target::tg_get_target_status(command),
+        TG_SET_GENERAL_BYTES_CALL => target::tg_set_general_bytes(first, command),
+        TG_GET_INITIATOR_COMMAND_CALL => target::tg_get_initiator_command(ms, command),
+        TG_RESPONSE_TO_INITIATOR_CALL => target::tg_response_to_initiator(first, command),
+        TG_GET_TARGET_STATUS_CALL => target::tg_get_target_status(command),
         _ => general::rf_field_off(command),
     }
 }
@@ -241,8 +248,8 @@ fn later(
     ensures { λ r. ⌜ ((fourth : List ℕ) → Starts r (now (command .entry)) (now (command .exit)) (startBy (callOf number numbers (now (first .entry)) (now (second .entry)) (now (third .entry)) fourth))) ⌝ }
 {
     match number {
-        READ_WITHOUT_ENCRYPTION => read_blocks(numbers, first, second, command),
-        WRITE_WITHOUT_ENCRYPTION => write_blocks(numbers, first, second, third, command),
+        READ_WITHOUT_ENCRYPTION_CALL => read_blocks(numbers, first, second, command),
+        WRITE_WITHOUT_ENCRYPTION_CALL => write_blocks(numbers, first, second, third, command),
         _ => start::refused(Refusal::BadArgument),
     }
 }
@@ -263,16 +270,16 @@ fn on_device(
     let x = numbers.x;
     let y = numbers.y;
     match number {
-        DETECT_TYPE_A => detect_type_a(first, second, command),
-        DETECT_TYPE_B => detect_type_b(first, second, command),
-        DETECT_TYPE_F => detect_type_f(first, word, x, y, command),
-        DETECT_DEP => detect_dep(first, second, command),
-        TRANSCEIVE => {
+        DETECT_TYPE_A_CALL => detect_type_a(first, second, command),
+        DETECT_TYPE_B_CALL => detect_type_b(first, second, command),
+        DETECT_TYPE_F_CALL => detect_type_f(first, word, x, y, command),
+        DETECT_DEP_CALL => detect_dep(first, second, command),
+        TRANSCEIVE_CALL => {
             let ms = timeout(is_set(y), word);
             transceive(first, second, is_set(x), third, ms, command)
         }
-        POLL_TYPE_F => poll_type_f(first, second, command),
-        DETECT_TYPE_A_SPLIT => detect_type_a_split(first, second, command),
+        POLL_TYPE_F_CALL => poll_type_f(first, second, command),
+        DETECT_TYPE_A_SPLIT_CALL => detect_type_a_split(first, second, command),
         _ => later(number, numbers, first, second, third, command),
     }
 }
@@ -289,13 +296,13 @@ pub fn start(
 ) -> Start
     ensures { λ r. ⌜ Starts r (now (command .entry)) (now (command .exit)) (startBy (callOf number numbers (now (first .entry)) (now (second .entry)) (now (third .entry)) (now (fourth .entry)))) ⌝ }
 {
-    if number < IN_LIST_PASSIVE_TARGET {
+    if number < IN_LIST_PASSIVE_TARGET_CALL {
         return chip(number, numbers, first, command);
     }
-    if number < TG_SET_GENERAL_BYTES {
+    if number < TG_SET_GENERAL_BYTES_CALL {
         return as_initiator(number, numbers, first, second, third, fourth, command);
     }
-    if number < DETECT_TYPE_A {
+    if number < DETECT_TYPE_A_CALL {
         return as_target(number, numbers, first, command);
     }
     on_device(number, numbers, first, second, third, command)

@@ -9,7 +9,7 @@ use Rattle.protocol.specs.Scripts.{Answer, done, nothing, refused}
 use Rattle.stages.specs.Stages.{Decision, ends, refuse}
 use Rattle.protocol.specs.Rules.{anyNonzero, statusByte, maskedStatus, moreFlag, sendIndex, receiveIndex, rate}
 use Rattle.protocol.specs.Arguments.{word}
-use Rattle.protocol.specs.Names.{noData, registerWriteFailed}
+use Rattle.protocol.specs.Names.{noData, registerWriteFailed, versionNeed}
 
 -- at least n bytes, else 16; a status of 0, else 15
 unfoldable pub withLength : List ℕ → ℕ → Answer ℕ → Answer ℕ
@@ -19,7 +19,7 @@ unfoldable pub withStatus : List ℕ → Answer ℕ → Answer ℕ
 withStatus bs a = pick (eqb (statusByte bs) 0) a (refused (Status (statusByte bs)))
 
 unfoldable pub versionAnswer : List ℕ → Answer ℕ
-versionAnswer bs = withLength bs 4 (done (take 3 bs))
+versionAnswer bs = withLength bs versionNeed (done (take 3 bs))
 
 unfoldable pub writtenAnswer : List ℕ → Answer ℕ
 writtenAnswer bs = pick (anyNonzero bs) (refused (Status registerWriteFailed)) (done [])

@@ -1,5 +1,5 @@
 // Status bytes (`err` of chipset.rs).
-pub const TIMEOUT: u8 = 0x01;
+pub const TIMEOUT_STATUS: u8 = 0x01;
 
 pub const RF_NOT_ACTIVATED: u8 = 0x0A;
 

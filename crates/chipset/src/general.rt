@@ -1,7 +1,7 @@
 // get_firmware_version, reset_mode, parameters and RF configuration (chipset.rs): the data that each sends, and its response.
-use super::NO_BYTES;
-use super::RESET_MODE;
-use super::VERSION;
+use super::NO_BYTES_KIND;
+use super::RESET_MODE_KIND;
+use super::VERSION_KIND;
 use super::clock;
 use super::response::part;
 use errors::Fault;
@@ -19,35 +19,38 @@ ghost use Rattle.chipset.specs.Commands.{firstOf, resetCommand};
 ghost use Rattle.chipset.specs.Responses.{versionAnswer};
 
 // The command codes.
-pub const GET_FIRMWARE_VERSION: u8 = 0x02;
+pub const GET_FIRMWARE_VERSION_CODE: u8 = 0x02;
 
-pub const SET_PARAMETERS: u8 = 0x12;
+pub const SET_PARAMETERS_CODE: u8 = 0x12;
 
-const RESET: u8 = 0x18;
+const RESET_MODE_CODE: u8 = 0x18;
 
-pub const RF_CONFIGURATION: u8 = 0x32;
+pub const RF_CONFIGURATION_CODE: u8 = 0x32;
+
+// The fewest bytes of get_firmware_version's response.
+pub const VERSION_NEED: usize = 4;
 
 // What reset_mode clears.
-const CLEAR: u8 = 0x01;
+const RESET_MODE_DATA: u8 = 0x01;
 
 // RF configuration: items, and the field on or off.
-pub const RF_FIELD: u8 = 0x01;
+pub const RF_FIELD_ITEM: u8 = 0x01;
 
 pub const FIELD_ON: u8 = 0x01;
 
 pub const FIELD_OFF: u8 = 0x02;
 
-pub const TIMEOUTS: u8 = 0x02;
+pub const TIMEOUTS_ITEM: u8 = 0x02;
 
-pub const MAX_RTY_COM: u8 = 0x04;
+pub const MAX_RTY_COM_ITEM: u8 = 0x04;
 
-pub const MAX_RETRIES: u8 = 0x05;
+pub const MAX_RETRIES_ITEM: u8 = 0x05;
 
-pub const ANALOG_106A: u8 = 0x0A;
+pub const ANALOG_106A_ITEM: u8 = 0x0A;
 
 // The time-outs of ATR_RES and of the exchange, behind their item.
 pub const ATR_RES_TIMEOUTS: [u8; FIXED_LIMIT] = [
-    TIMEOUTS,
+    TIMEOUTS_ITEM,
     0x0B,
     0x0B,
     0x0A,
@@ -65,13 +68,18 @@ pub fn get_firmware_version(command: &mut [u8; DATA_LIMIT]) -> Start
     ensures { λ r. ⌜ Starts r (now (command .entry)) (now (command .exit)) (firstOf version) ⌝ }
 {
     let n = put_two(&[], &[], command);
-    start::command(VERSION, GET_FIRMWARE_VERSION, clock::COMMAND, n)
+    start::first_command(
+        VERSION_KIND,
+        GET_FIRMWARE_VERSION_CODE,
+        clock::COMMAND_CLOCK,
+        n,
+    )
 }
 
 pub fn get_firmware_version_response(response: &[u8]) -> Decision
     ensures { λ r. ⌜ AnswerRefines (now (response .entry)) r (versionAnswer (now (response .entry))) ⌝ }
 {
-    if response.len() < 4 {
+    if response.len() < VERSION_NEED {
         Decision::Refused(Fault::ShortResponse)
     } else {
         part(0, 3)
@@ -83,33 +91,43 @@ pub fn reset_mode(command: &mut [u8; DATA_LIMIT]) -> Start
     ensures { λ r. ⌜ Starts r (now (command .entry)) (now (command .exit)) (firstOf resetMode) ⌝ }
 {
     let n = put_two(&[], &[], command);
-    start::staged(RESET_MODE, n)
+    start::staged(RESET_MODE_KIND, n)
 }
 
 pub fn reset_mode_command() -> Command
     ensures { λ r. ⌜ Commands r resetCommand ⌝ }
 {
-    let bytes = [CLEAR, 0, 0, 0, 0, 0, 0, 0, 0, 0, 0, 0];
-    Command::with(RESET, clock::COMMAND, bytes, 1)
+    let bytes = [RESET_MODE_DATA, 0, 0, 0, 0, 0, 0, 0, 0, 0, 0, 0];
+    Command::fixed(RESET_MODE_CODE, clock::COMMAND_CLOCK, bytes, 1)
 }
 
 pub fn set_parameters(flags: u8, command: &mut [u8; DATA_LIMIT]) -> Start
     ensures { λ r. ⌜ Starts r (now (command .entry)) (now (command .exit)) (firstOf (setParameters flags)) ⌝ }
 {
     let n = put_two(&[flags], &[], command);
-    start::command(NO_BYTES, SET_PARAMETERS, clock::COMMAND, n)
+    start::first_command(NO_BYTES_KIND, SET_PARAMETERS_CODE, clock::COMMAND_CLOCK, n)
 }
 
 pub fn rf_configuration(item: u8, config: &[u8], command: &mut [u8; DATA_LIMIT]) -> Start
     ensures { λ r. ⌜ Starts r (now (command .entry)) (now (command .exit)) (firstOf (rfConfiguration item (now (config .entry)))) ⌝ }
 {
     let n = put_two(&[item], config, command);
-    start::command(NO_BYTES, RF_CONFIGURATION, clock::COMMAND, n)
+    start::first_command(
+        NO_BYTES_KIND,
+        RF_CONFIGURATION_CODE,
+        clock::COMMAND_CLOCK,
+        n,
+    )
 }
 
 pub fn rf_field_off(command: &mut [u8; DATA_LIMIT]) -> Start
     ensures { λ r. ⌜ Starts r (now (command .entry)) (now (command .exit)) (firstOf rfFieldOff) ⌝ }
 {
-    let n = put_two(&[RF_FIELD, FIELD_OFF], &[], command);
-    start::command(NO_BYTES, RF_CONFIGURATION, clock::COMMAND, n)
+    let n = put_two(&[RF_FIELD_ITEM, FIELD_OFF], &[], command);
+    start::first_command(
+        NO_BYTES_KIND,
+        RF_CONFIGURATION_CODE,
+        clock::COMMAND_CLOCK,
+        n,
+    )
 }

@@ -1,8 +1,8 @@
 // What an initiator does (chipset.rs): the data that each command sends, and its response.
-use super::EXCHANGED_DATA;
-use super::JUMP;
-use super::LISTED_TARGET;
-use super::THRU;
+use super::EXCHANGED_DATA_KIND;
+use super::JUMP_KIND;
+use super::LISTED_TARGET_KIND;
+use super::THRU_KIND;
 use super::clock;
 use super::err;
 use super::response::from;
@@ -28,19 +28,21 @@ ghost use Rattle.chipset.specs.Commands.{firstOf};
 ghost use Rattle.chipset.specs.Responses.{withStatus, listAnswer, exchangeAnswer, jumpAnswer};
 
 // The command codes.
-pub const IN_DATA_EXCHANGE: u8 = 0x40;
+pub const IN_DATA_EXCHANGE_CODE: u8 = 0x40;
 
-pub const IN_COMMUNICATE_THRU: u8 = 0x42;
+pub const IN_COMMUNICATE_THRU_CODE: u8 = 0x42;
 
-pub const IN_LIST_PASSIVE_TARGET: u8 = 0x4A;
+pub const IN_LIST_PASSIVE_TARGET_CODE: u8 = 0x4A;
 
-pub const IN_JUMP_FOR_DEP: u8 = 0x56;
+pub const IN_JUMP_FOR_DEP_CODE: u8 = 0x56;
 
 // InDataExchange: the status is a byte's low six bits, and the bit above them the more flag.
 pub const MORE_BIT: u8 = 64;
 
-// The number of the one target that the chip has listed.
-pub const TARGET: u8 = 0x01;
+// MaxTg: one target is listed at a time. This is its number.
+pub const ONE_TARGET: u8 = 1;
+
+pub const TARGET_NUMBER: u8 = 0x01;
 
 pub fn in_list_passive_target(
     max_tg: u8,
@@ -51,10 +53,10 @@ pub fn in_list_passive_target(
     ensures { λ r. ⌜ Starts r (now (command .entry)) (now (command .exit)) (firstOf (inListPassiveTarget «max_tg» bitrate (now (initiator .entry)))) ⌝ }
 {
     let n = put_two(&[max_tg, bitrate], initiator, command);
-    start::command(
-        LISTED_TARGET,
-        IN_LIST_PASSIVE_TARGET,
-        clock::IN_LIST_PASSIVE_TARGET,
+    start::first_command(
+        LISTED_TARGET_KIND,
+        IN_LIST_PASSIVE_TARGET_CODE,
+        clock::IN_LIST_PASSIVE_TARGET_CLOCK,
         n,
     )
 }
@@ -76,8 +78,8 @@ pub fn in_list_passive_target_response(response: &[u8]) -> Decision
 pub fn in_data_exchange(bytes: &[u8], ms: u32, command: &mut [u8; DATA_LIMIT]) -> Start
     ensures { λ r. ⌜ Starts r (now (command .entry)) (now (command .exit)) (firstOf (inDataExchange (now (bytes .entry)) ms)) ⌝ }
 {
-    let n = put_two(&[TARGET], bytes, command);
-    start::command(EXCHANGED_DATA, IN_DATA_EXCHANGE, ms, n)
+    let n = put_two(&[TARGET_NUMBER], bytes, command);
+    start::first_command(EXCHANGED_DATA_KIND, IN_DATA_EXCHANGE_CODE, ms, n)
 }
 
 // The status is masked, and the more flag stands behind the data.
@@ -101,7 +103,7 @@ pub fn in_communicate_thru(bytes: &[u8], ms: u32, command: &mut [u8; DATA_LIMIT]
     ensures { λ r. ⌜ Starts r (now (command .entry)) (now (command .exit)) (firstOf (inCommunicateThru (now (bytes .entry)) ms)) ⌝ }
 {
     let n = put_two(&[], bytes, command);
-    start::command(THRU, IN_COMMUNICATE_THRU, ms, n)
+    start::first_command(THRU_KIND, IN_COMMUNICATE_THRU_CODE, ms, n)
 }
 
 // The status is not masked.
@@ -142,7 +144,12 @@ pub fn in_jump_for_dep(
     let nf = bit(passive) + 2 * bit(nfcid3) + 4 * bit(gi);
     let head = [active_byte(active), br, nf];
     let n = put_all(&head, passive, nfcid3, gi, &[], command);
-    start::command(JUMP, IN_JUMP_FOR_DEP, clock::IN_JUMP_FOR_DEP, n)
+    start::first_command(
+        JUMP_KIND,
+        IN_JUMP_FOR_DEP_CODE,
+        clock::IN_JUMP_FOR_DEP_CLOCK,
+        n,
+    )
 }
 
 // Status and Tg are left out.

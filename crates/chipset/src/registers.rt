@@ -1,7 +1,7 @@
 // Registers (chipset.rs): the data that each command sends, and its response.
-use super::ALL_BYTES;
-use super::FIRST_BYTE;
-use super::REGISTERS_WRITTEN;
+use super::ALL_BYTES_KIND;
+use super::FIRST_BYTE_KIND;
+use super::REGISTERS_WRITTEN_KIND;
 use super::clock;
 use super::err;
 use super::response::part;
@@ -27,12 +27,12 @@ ghost use Rattle.chipset.specs.Commands.{firstOf, readCommand, writeComm
 ghost use Rattle.chipset.specs.Responses.{foundWritten, writtenAnswer, firstAnswer};
 
 // The command codes.
-pub const READ_REGISTER: u8 = 0x06;
+pub const READ_REGISTER_CODE: u8 = 0x06;
 
-pub const WRITE_REGISTER: u8 = 0x08;
+pub const WRITE_REGISTER_CODE: u8 = 0x08;
 
 // The most registers of one command.
-const REGISTERS: usize = 64;
+const REGISTER_LIMIT: usize = 64;
 
 // Whole words or triples, of so many registers at most.
 fn whole_registers(bytes: &[u8], size: usize) -> bool
@@ -40,7 +40,7 @@ fn whole_registers(bytes: &[u8], size: usize) -> bool
     ensures { λ r. ⌜ r ≡ registersOf size (now (bytes .entry)) ⌝ }
 {
     if bytes.len() % size == 0 {
-        bytes.len() / size <= REGISTERS
+        bytes.len() / size <= REGISTER_LIMIT
     } else {
         false
     }
@@ -59,7 +59,7 @@ fn of_registers(
 {
     if whole_registers(bytes, size) {
         let n = put_two(bytes, &[], command);
-        start::command(kind, code, clock::REGISTERS, n)
+        start::first_command(kind, code, clock::REGISTERS_CLOCK, n)
     } else {
         start::refused(Refusal::BadArgument)
     }
@@ -69,14 +69,20 @@ fn of_registers(
 pub fn read_register(addresses: &[u8], command: &mut [u8; DATA_LIMIT]) -> Start
     ensures { λ r. ⌜ Starts r (now (command .entry)) (now (command .exit)) (firstOf (readRegister (now (addresses .entry)))) ⌝ }
 {
-    of_registers(ALL_BYTES, READ_REGISTER, 2, addresses, command)
+    of_registers(ALL_BYTES_KIND, READ_REGISTER_CODE, 2, addresses, command)
 }
 
 // For each register its address, high byte first, and its value.
 pub fn write_register(registers: &[u8], command: &mut [u8; DATA_LIMIT]) -> Start
     ensures { λ r. ⌜ Starts r (now (command .entry)) (now (command .exit)) (firstOf (writeRegister (now (registers .entry)))) ⌝ }
 {
-    of_registers(REGISTERS_WRITTEN, WRITE_REGISTER, 3, registers, command)
+    of_registers(
+        REGISTERS_WRITTEN_KIND,
+        WRITE_REGISTER_CODE,
+        3,
+        registers,
+        command,
+    )
 }
 
 // Whether a byte is not 0.
@@ -120,7 +126,12 @@ pub fn read_single_register(address: u16, command: &mut [u8; DATA_LIMIT]) -> Sta
 {
     let word = [(address / 256) as u8, (address % 256) as u8];
     let n = put_two(&word, &[], command);
-    start::command(FIRST_BYTE, READ_REGISTER, clock::REGISTERS, n)
+    start::first_command(
+        FIRST_BYTE_KIND,
+        READ_REGISTER_CODE,
+        clock::REGISTERS_CLOCK,
+        n,
+    )
 }
 
 // The same as a stage's command.
@@ -130,7 +141,7 @@ pub fn read_single_register_command(address: u16) -> Command
     let high = (address / 256) as u8;
     let low = (address % 256) as u8;
     let bytes = [high, low, 0, 0, 0, 0, 0, 0, 0, 0, 0, 0];
-    Command::with(READ_REGISTER, clock::REGISTERS, bytes, 2)
+    Command::fixed(READ_REGISTER_CODE, clock::REGISTERS_CLOCK, bytes, 2)
 }
 
 pub fn read_single_register_response(response: &[u8]) -> Decision
@@ -148,7 +159,12 @@ pub fn write_single_register(address: u16, value: u8, command: &mut [u8; DATA_LI
 {
     let register = [(address / 256) as u8, (address % 256) as u8, value];
     let n = put_two(&register, &[], command);
-    start::command(REGISTERS_WRITTEN, WRITE_REGISTER, clock::REGISTERS, n)
+    start::first_command(
+        REGISTERS_WRITTEN_KIND,
+        WRITE_REGISTER_CODE,
+        clock::REGISTERS_CLOCK,
+        n,
+    )
 }
 
 pub fn write_single_register_command(address: u16, value: u8) -> Command
@@ -157,5 +173,5 @@ pub fn write_single_register_command(address: u16, value: u8) -> Command
     let high = (address / 256) as u8;
     let low = (address % 256) as u8;
     let bytes = [high, low, value, 0, 0, 0, 0, 0, 0, 0, 0, 0];
-    Command::with(WRITE_REGISTER, clock::REGISTERS, bytes, 3)
+    Command::fixed(WRITE_REGISTER_CODE, clock::REGISTERS_CLOCK, bytes, 3)
 }

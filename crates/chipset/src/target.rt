@@ -1,8 +1,8 @@
 // What a target does (chipset.rs): the data that each command sends, and its response.
-use super::ALL_BYTES;
-use super::INITIATOR_COMMAND;
-use super::STATUS;
-use super::TARGET_STATUS;
+use super::ALL_BYTES_KIND;
+use super::INITIATOR_COMMAND_KIND;
+use super::STATUS_KIND;
+use super::TARGET_STATUS_KIND;
 use super::clock;
 use super::err;
 use super::response::from;
@@ -34,15 +34,15 @@ ghost use Rattle.chipset.specs.Commands.{firstOf};
 ghost use Rattle.chipset.specs.Responses.{withStatus, initiatorAnswer, targetAnswer};
 
 // The command codes.
-const TG_GET_INITIATOR_COMMAND: u8 = 0x88;
+const TG_GET_INITIATOR_COMMAND_CODE: u8 = 0x88;
 
-const TG_GET_TARGET_STATUS: u8 = 0x8A;
+const TG_GET_TARGET_STATUS_CODE: u8 = 0x8A;
 
-const TG_INIT_TARGET: u8 = 0x8C;
+const TG_INIT_TARGET_CODE: u8 = 0x8C;
 
-const TG_RESPONSE_TO_INITIATOR: u8 = 0x90;
+const TG_RESPONSE_TO_INITIATOR_CODE: u8 = 0x90;
 
-const TG_SET_GENERAL_BYTES: u8 = 0x92;
+const TG_SET_GENERAL_BYTES_CODE: u8 = 0x92;
 
 // The mode is 0 or 2.
 fn is_mode(mode: u8) -> bool
@@ -89,7 +89,7 @@ pub fn tg_init_target(
 {
     if init_fits(mode, mifare, felica, nfcid3t) {
         let n = put_all(&[mode], mifare, felica, nfcid3t, gt, command);
-        start::command(ALL_BYTES, TG_INIT_TARGET, ms, n)
+        start::first_command(ALL_BYTES_KIND, TG_INIT_TARGET_CODE, ms, n)
     } else {
         start::refused(Refusal::BadArgument)
     }
@@ -99,14 +99,19 @@ pub fn tg_set_general_bytes(gb: &[u8], command: &mut [u8; DATA_LIMIT]) -> Start
     ensures { λ r. ⌜ Starts r (now (command .entry)) (now (command .exit)) (firstOf (tgSetGeneralBytes (now (gb .entry)))) ⌝ }
 {
     let n = put_two(&[], gb, command);
-    start::command(STATUS, TG_SET_GENERAL_BYTES, clock::COMMAND, n)
+    start::first_command(
+        STATUS_KIND,
+        TG_SET_GENERAL_BYTES_CODE,
+        clock::COMMAND_CLOCK,
+        n,
+    )
 }
 
 pub fn tg_get_initiator_command(ms: u32, command: &mut [u8; DATA_LIMIT]) -> Start
     ensures { λ r. ⌜ Starts r (now (command .entry)) (now (command .exit)) (firstOf (tgGetInitiatorCommand ms)) ⌝ }
 {
     let n = put_two(&[], &[], command);
-    start::command(INITIATOR_COMMAND, TG_GET_INITIATOR_COMMAND, ms, n)
+    start::first_command(INITIATOR_COMMAND_KIND, TG_GET_INITIATOR_COMMAND_CODE, ms, n)
 }
 
 // None on any other status.
@@ -124,10 +129,10 @@ pub fn tg_response_to_initiator(bytes: &[u8], command: &mut [u8; DATA_LIMIT]) ->
     ensures { λ r. ⌜ Starts r (now (command .entry)) (now (command .exit)) (firstOf (tgResponseToInitiator (now (bytes .entry)))) ⌝ }
 {
     let n = put_two(&[], bytes, command);
-    start::command(
-        STATUS,
-        TG_RESPONSE_TO_INITIATOR,
-        clock::TG_RESPONSE_TO_INITIATOR,
+    start::first_command(
+        STATUS_KIND,
+        TG_RESPONSE_TO_INITIATOR_CODE,
+        clock::TG_RESPONSE_TO_INITIATOR_CLOCK,
         n,
     )
 }
@@ -148,7 +153,12 @@ pub fn tg_get_target_status(command: &mut [u8; DATA_LIMIT]) -> Start
     ensures { λ r. ⌜ Starts r (now (command .entry)) (now (command .exit)) (firstOf tgGetTargetStatus) ⌝ }
 {
     let n = put_two(&[], &[], command);
-    start::command(TARGET_STATUS, TG_GET_TARGET_STATUS, clock::COMMAND, n)
+    start::first_command(
+        TARGET_STATUS_KIND,
+        TG_GET_TARGET_STATUS_CODE,
+        clock::COMMAND_CLOCK,
+        n,
+    )
 }
 
 // A rate by its index.

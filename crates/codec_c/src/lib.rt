@@ -20,7 +20,7 @@ struct Found {
 }
 
 // The refusal's number in document 01's table.
-fn number(refusal: Refusal) -> u8
+fn refusal_number(refusal: Refusal) -> u8
     ensures { λ r. ⌜ r ≡ numbered refusal .number ⌝ }
 {
     let numbered = refusal.numbered();
@@ -78,14 +78,14 @@ pub extern "C" fn rcs956_frame_build(
     ensures { λ r. ⌜ written r (now (buffer .exit)) (now (count .exit)) ≡ buildFor (settingOf setting) (now (payload .entry)) (now (buffer .entry)) (now (count .entry)) ⌝ }
 {
     let Setting::Format(format) = framing::settings::by_number(setting) else {
-        return number(Refusal::BadArgument);
+        return refusal_number(Refusal::BadArgument);
     };
     match framing::build(format, payload, buffer) {
         Built::Frame(n) => {
             *count = n;
             0
         }
-        Built::Refused(refusal) => number(refusal),
+        Built::Refused(refusal) => refusal_number(refusal),
     }
 }
 
@@ -102,7 +102,7 @@ pub extern "C" fn rcs956_frame_parse(
     ensures { λ r. ⌜ parseAnswer r (found (now (kind .exit)) (now (start .exit)) (now (len .exit)) (now (frame .exit))) ≡ parseFor (settingOf setting) (now (packet .entry)) (found (now (kind .entry)) (now (start .entry)) (now (len .entry)) (now (frame .entry))) ⌝ }
 {
     let Setting::Format(format) = framing::settings::by_number(setting) else {
-        return number(Refusal::BadArgument);
+        return refusal_number(Refusal::BadArgument);
     };
     let places = encode(framing::parse(format, packet));
     *kind = places.kind;
@@ -127,7 +127,7 @@ pub extern "C" fn rcs956_frame_parse_padded(
     ensures { λ r. ⌜ parsedPadded r (found (now (kind .exit)) (now (start .exit)) (now (len .exit)) (now (frame .exit))) (now (zeros .exit)) ≡ paddedFor (settingOf setting) (now (packet .entry)) (found (now (kind .entry)) (now (start .entry)) (now (len .entry)) (now (frame .entry))) (now (zeros .entry)) ⌝ }
 {
     let Setting::Format(format) = framing::settings::by_number(setting) else {
-        return number(Refusal::BadArgument);
+        return refusal_number(Refusal::BadArgument);
     };
     let padded = framing::padded::parse_padded(format, true, packet);
     let found = padded.found;
@@ -166,6 +166,6 @@ pub extern "C" fn rcs956_crc_b_append(bytes: &[u8], out: &mut [u8], count: &mut 
             *count = n;
             0
         }
-        Added::Refused(refusal) => number(refusal),
+        Added::Refused(refusal) => refusal_number(refusal),
     }
 }

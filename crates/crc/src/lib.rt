@@ -9,7 +9,7 @@ ghost use Rattle.crc.specs.Answers.{returned, added};
 mod table;
 
 use errors::Refusal;
-use table::TABLE;
+use table::CRC_TABLE;
 
 const CRC_A_INIT: u16 = 0x6363;
 
@@ -24,7 +24,7 @@ pub enum Added {
 fn calculate_crc(data: &[u8], initial: u16, inverted: bool) -> u16
     ensures { λ r. ⌜ r ≡ crcOf (crcKind initial inverted) (now («data» .entry)) ⌝ }
 {
-    let table = TABLE;
+    let table = CRC_TABLE;
     let mut register = initial;
     let mut i = 0;
     while i < data.len() {

@@ -1,5 +1,5 @@
 // What eight bits of 0 make of a register below 256.
-pub const TABLE: [u16; 256] = [
+pub const CRC_TABLE: [u16; 256] = [
     0x0000,
     0x1189,
     0x2312,

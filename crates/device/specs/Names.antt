@@ -11,6 +11,7 @@ use Rattle.errors.specs.Choice.{pick}
 use Rattle.stages.specs.Decided.{Lays}
 use Rattle.stages.specs.declared.Layout.{Layout}
 use Rattle.protocol.specs.Device.{hexDigit, hex, dotted, namePrefix, nameBytes}
+use Rattle.protocol.specs.Names.{versionNeed}
 
 -- the version bytes and the name
 abbrev pub openedBytes : ℕ → ℕ → ℕ → List ℕ
@@ -57,6 +58,6 @@ named-is ver rev n l h e =
     ap (λ r. take (length namePrefix + n) (namePrefix ++ r)) (five l h) ∙ take-append-add namePrefix l n ∙ ap (λ r. namePrefix ++ r) e
 
 -- the first three bytes of a response, and the name behind them
-pub lays-opened : (f b t : List ℕ) (r : Layout) → 4 ≤ length b → t ≡ nameBytes (getD b 1 0) (getD b 2 0) → Lays f b r (take 3 b ++ t)
+pub lays-opened : (f b t : List ℕ) (r : Layout) → versionNeed ≤ length b → t ≡ nameBytes (getD b 1 0) (getD b 2 0) → Lays f b r (take 3 b ++ t)
     → Lays f b r (openedBytes (getD b 0 0) (getD b 1 0) (getD b 2 0))
 lays-opened f b t r h e k = subst (λ l. Lays f b r l) (ap₂ (λ x y. x ++ y) (first-three b (omega arith)) e) k

@@ -9,7 +9,7 @@ use Rattle.stages.specs.Stages.{Command, cmd, Decision, send, keep, withLength}
 use Rattle.chipset.specs.Responses.{foundWritten}
 use Rattle.device.specs.Names.{openedBytes}
 use Rattle.protocol.specs.Arguments.{word}
-use Rattle.protocol.specs.Names.{commandClock, registersClock, rfCfgRam07, rfFieldItem, fieldOff, timeoutsItem, timeouts, maxRtyComItem, maxRtyCom, maxRetriesItem, maxRetries, analog106AItem, analog106A, openingParameters, openingRfCfg}
+use Rattle.protocol.specs.Names.{commandClock, registersClock, rfCfgRam07, rfFieldItem, fieldOff, timeoutsItem, timeouts, maxRtyComItem, maxRtyCom, maxRetriesItem, maxRetries, analog106AItem, analog106A, openingParameters, openingRfCfg, versionNeed}
 use Rattle.protocol.specs.Calls.{getFirmwareVersionCode, resetModeCode, rfConfigurationCode, setParametersCode, writeRegisterCode, resetModeData}
 use Rattle.device.specs.Kinds.{resetStage, versionStage, fieldOffStage, timeoutsStage, maxRtyComStage, maxRetriesStage, analogStage, parametersStage, resetAgainStage, rfCfgStage}
 
@@ -36,7 +36,7 @@ isResetStage stage = pick (eqb stage resetStage) true (eqb stage resetAgainStage
 
 -- get_firmware_version: its three bytes and the chip's name are kept
 unfoldable pub versionKept : List ℕ → Decision
-versionKept bs = withLength bs 4 (keep fieldOffStage (openedBytes (getD bs 0 0) (getD bs 1 0) (getD bs 2 0)))
+versionKept bs = withLength bs versionNeed (keep fieldOffStage (openedBytes (getD bs 0 0) (getD bs 1 0) (getD bs 2 0)))
 
 unfoldable pub openingDecision : ℕ → List ℕ → List ℕ → Decision
 openingDecision stage found bs = pick (eqb stage versionStage) (versionKept bs) (pick (ltb stage rfCfgStage) (send (stage + 1)) (foundWritten found bs))

@@ -10,9 +10,9 @@ use lib.ListN.{length, take, drop, getD, length-drop}
 use lib.Seq.{take-all}
 use Rattle.errors.specs.Choice.{pick}
 use Rattle.errors.specs.declared.Fault.the-variants.{Status, CrcA}
-use Rattle.errors.specs.declared.Refusal.the-variants.{NotSendable}
+use Rattle.errors.specs.declared.Refusal.the-variants.{NotSendable, Bitrate as BadBitrate}
 use Rattle.crc.specs.Crc.{typeA as crcA, checks}
-use Rattle.targets.specs.Bitrates.{choiceOf}
+use Rattle.targets.specs.Bitrates.{choiceOf, byBitrate}
 use Rattle.targets.specs.TypeA.{isType2}
 use Rattle.targets.specs.declared.Bitrate.{Bitrate}
 use Rattle.protocol.specs.Scripts.{Answer, done, refused}
@@ -20,13 +20,12 @@ use Rattle.protocol.specs.Rules.{maskedStatus}
 use Rattle.protocol.specs.Starts.{is106A, type2SelRes, isSendable}
 use Rattle.stages.specs.Stages.{Command, cmd}
 use Rattle.stages.specs.Starts.{Start, refuses, limited, Starts}
-use Rattle.stages.specs.Bitrates.{withBitrate}
 use Rattle.stages.specs.declared.start.Start as code
 use Rattle.chipset.specs.Responses.{withStatus}
 use Rattle.device.specs.declared.transceive.Timeout.{Timeout}
 use Rattle.device.specs.declared.transceive.Timeout.the-variants.{Standard, Ms}
 use Rattle.protocol.specs.Calls.{inCommunicateThruCode, inDataExchangeCode}
-use Rattle.protocol.specs.Names.{noData}
+use Rattle.protocol.specs.Names.{noData, targetNumber}
 use Rattle.chipset.specs.Kinds.{thruKind}
 use Rattle.device.specs.Kinds.{type2Kind, type1Kind}
 
@@ -36,13 +35,13 @@ timeoutOf (Ms ms) = some ms
 
 -- by the kind of target; any other is in_communicate_thru's
 unfoldable pub type1First : List ℕ → ℕ → Start
-type1First bytes ms = pick (isSendable bytes) (limited type1Kind (cmd inDataExchangeCode ms (0x01 ∷ bytes))) (refuses NotSendable)
+type1First bytes ms = pick (isSendable bytes) (limited type1Kind (cmd inDataExchangeCode ms (targetNumber ∷ bytes))) (refuses NotSendable)
 
 unfoldable pub thruFirst : Bitrate → List ℕ → List ℕ → ℕ → Start
 thruFirst rate selRes bytes ms = limited (pick (is106A rate && type2SelRes selRes) type2Kind thruKind) (cmd inCommunicateThruCode ms bytes)
 
 unfoldable pub transceiveFirst : List ℕ → List ℕ → Bool → List ℕ → ℕ → Start
-transceiveFirst text selRes ridRes bytes ms = withBitrate (choiceOf text) (λ rate. pick ridRes (type1First bytes ms) (thruFirst rate selRes bytes ms))
+transceiveFirst text selRes ridRes bytes ms = byBitrate (refuses BadBitrate) (choiceOf text) (λ rate. pick ridRes (type1First bytes ms) (thruFirst rate selRes bytes ms))
 
 -- the answers: of Type 2, whose reply over 2 bytes must pass CRC_A and loses two bytes, and of Type 1
 unfoldable pub type2Answer : List ℕ → Answer ℕ

@@ -33,19 +33,19 @@ ghost use Rattle.device.specs.Transceive.{timeoutOf};
 ghost use Rattle.device.specs.Blocks.{thruIf, readFirst, writeFirst, ifGood, readAnswer, writeAnswer};
 
 // The kinds of a read and of a write.
-pub const READ_BLOCKS: u8 = 23;
+pub const READ_BLOCKS_KIND: u8 = 23;
 
-pub const WRITE_BLOCKS: u8 = 24;
+pub const WRITE_BLOCKS_KIND: u8 = 24;
 
 // Where block data starts in a response: behind the status byte, in the card's reply.
 const RESPONSE_BLOCKS_OFFSET: usize = 1 + BLOCKS_OFFSET;
 
 // A request that was built in the pending command is sent through InCommunicateThru.
-fn sent(kind: u8, built: Built, ms: u32) -> Start
+fn start_built(kind: u8, built: Built, ms: u32) -> Start
     ensures { λ r. ⌜ ((fits : Bool) (p c₀ c₁ : List ℕ) → (fits ≡ Bool.true → (length p ≤ dataLimit) × (length p ≤ length c₀)) → left (returned built) c₁ ≡ builtOf fits p c₀ → Starts r c₀ c₁ (thruIf fits kind ms p)) ⌝ }
 {
     match built {
-        Built::Frame(n) => start::command(kind, initiator::IN_COMMUNICATE_THRU, ms, n),
+        Built::Frame(n) => start::first_command(kind, initiator::IN_COMMUNICATE_THRU_CODE, ms, n),
         Built::Refused(refusal) => start::refused(refusal),
     }
 }
@@ -61,7 +61,7 @@ pub fn read_without_encryption(
 {
     let ms = clock(timeout);
     let built = build_read_request(idm, service, blocks, command);
-    sent(READ_BLOCKS, built, ms)
+    start_built(READ_BLOCKS_KIND, built, ms)
 }
 
 pub fn write_without_encryption(
@@ -76,11 +76,11 @@ pub fn write_without_encryption(
 {
     let ms = clock(timeout);
     let built = build_write_request(idm, service, blocks, bytes, command);
-    sent(WRITE_BLOCKS, built, ms)
+    start_built(WRITE_BLOCKS_KIND, built, ms)
 }
 
 // The card's reply stands behind the status byte.
-fn reply(response: &[u8]) -> &[u8]
+fn card_reply(response: &[u8]) -> &[u8]
     ensures { λ r. ⌜ now r ≡ drop 1 (now (response .entry)) ⌝ }
 {
     let n = response.len();
@@ -109,7 +109,7 @@ pub fn read_response(pending: &[u8], response: &[u8]) -> Decision
     ensures { λ r. ⌜ AnswerRefines (now (response .entry)) r (readAnswer (now (pending .entry)) (now (response .entry))) ⌝ }
 {
     if_good(
-        check_read(pending, reply(response)),
+        check_read(pending, card_reply(response)),
         response,
         RESPONSE_BLOCKS_OFFSET,
     )
@@ -120,7 +120,7 @@ pub fn write_response(pending: &[u8], response: &[u8]) -> Decision
     ensures { λ r. ⌜ AnswerRefines (now (response .entry)) r (writeAnswer (now (pending .entry)) (now (response .entry))) ⌝ }
 {
     if_good(
-        check_write(pending, reply(response)),
+        check_write(pending, card_reply(response)),
         response,
         response.len(),
     )

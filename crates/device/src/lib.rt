@@ -7,12 +7,13 @@ use chipset::clock;
 use chipset::general;
 use chipset::registers;
 use errors::Fault;
-use general::ANALOG_106A;
+use general::ANALOG_106A_ITEM;
 use general::ATR_RES_TIMEOUTS;
 use general::FIELD_OFF;
-use general::MAX_RETRIES;
-use general::MAX_RTY_COM;
-use general::RF_FIELD;
+use general::MAX_RETRIES_ITEM;
+use general::MAX_RTY_COM_ITEM;
+use general::RF_FIELD_ITEM;
+use general::VERSION_NEED;
 use stages::Command;
 use stages::Decision;
 use stages::FIXED_LIMIT;
@@ -30,11 +31,11 @@ ghost use Rattle.device.specs.Opening.{openingCommand, settingsCommand, 
 ghost use Rattle.protocol.specs.Device.{hexDigit, dotted, nameBytes};
 
 // The kind of the opening; the other kinds are of chipset and discovery.
-pub const OPENING: u8 = 1;
+pub const OPENING_KIND: u8 = 1;
 
 // The RF settings for 106A, behind their item.
 const RF_106A: [u8; FIXED_LIMIT] = [
-    ANALOG_106A,
+    ANALOG_106A_ITEM,
     0x5A,
     0xF4,
     0x3F,
@@ -49,37 +50,42 @@ const RF_106A: [u8; FIXED_LIMIT] = [
 ];
 
 // The stages.
-const STAGE_RESET: u8 = 0;
+const RESET_STAGE: u8 = 0;
 
-const STAGE_VERSION: u8 = 1;
+const VERSION_STAGE: u8 = 1;
 
-const STAGE_FIELD_OFF: u8 = 2;
+const FIELD_OFF_STAGE: u8 = 2;
 
-const STAGE_TIMEOUTS: u8 = 3;
+const TIMEOUTS_STAGE: u8 = 3;
 
-const STAGE_MAX_RTY_COM: u8 = 4;
+const MAX_RTY_COM_STAGE: u8 = 4;
 
-const STAGE_MAX_RETRIES: u8 = 5;
+const MAX_RETRIES_STAGE: u8 = 5;
 
-const STAGE_ANALOG: u8 = 6;
+const ANALOG_STAGE: u8 = 6;
 
-const STAGE_PARAMETERS: u8 = 7;
+const PARAMETERS_STAGE: u8 = 7;
 
-const STAGE_RESET_AGAIN: u8 = 8;
+const RESET_AGAIN_STAGE: u8 = 8;
 
-pub const STAGE_RF_CFG: u8 = 9;
+pub const RF_CFG_STAGE: u8 = 9;
 
 // RFCfg of RAM-07 as the opening leaves it.
-const RF_CFG: u8 = 0x59;
+const OPENING_RF_CFG: u8 = 0x59;
 
 // The parameters that the opening sets.
-const PARAMETERS: u8 = 0x08;
+const OPENING_PARAMETERS: u8 = 0x08;
 
 // An RF configuration of an item, with the first `len` of the bytes.
 fn configured(bytes: [u8; FIXED_LIMIT], len: usize) -> Command
     ensures { λ r. ⌜ (len ≤ fixedLimit → Commands r (λ pending. cmd rfConfigurationCode commandClock (take len bytes))) ⌝ }
 {
-    Command::with(general::RF_CONFIGURATION, clock::COMMAND, bytes, len)
+    Command::fixed(
+        general::RF_CONFIGURATION_CODE,
+        clock::COMMAND_CLOCK,
+        bytes,
+        len,
+    )
 }
 
 // The commands of Device::new, one for each stage.
@@ -87,16 +93,16 @@ pub fn command(stage: u8) -> Command
     ensures { λ r. ⌜ Commands r (openingCommand stage) ⌝ }
 {
     match stage {
-        STAGE_RESET => general::reset_mode_command(),
-        STAGE_VERSION => Command::with(
-            general::GET_FIRMWARE_VERSION,
-            clock::COMMAND,
+        RESET_STAGE => general::reset_mode_command(),
+        VERSION_STAGE => Command::fixed(
+            general::GET_FIRMWARE_VERSION_CODE,
+            clock::COMMAND_CLOCK,
             [0; FIXED_LIMIT],
             0,
         ),
-        STAGE_FIELD_OFF => configured([RF_FIELD, FIELD_OFF, 0, 0, 0, 0, 0, 0, 0, 0, 0, 0], 2),
-        STAGE_TIMEOUTS => configured(ATR_RES_TIMEOUTS, 4),
-        STAGE_MAX_RTY_COM => configured([MAX_RTY_COM, 0x00, 0, 0, 0, 0, 0, 0, 0, 0, 0, 0], 2),
+        FIELD_OFF_STAGE => configured([RF_FIELD_ITEM, FIELD_OFF, 0, 0, 0, 0, 0, 0, 0, 0, 0, 0], 2),
+        TIMEOUTS_STAGE => configured(ATR_RES_TIMEOUTS, 4),
+        MAX_RTY_COM_STAGE => configured([MAX_RTY_COM_ITEM, 0x00, 0, 0, 0, 0, 0, 0, 0, 0, 0, 0], 2),
         _ => settings(stage),
     }
 }
@@ -106,16 +112,19 @@ fn settings(stage: u8) -> Command
     ensures { λ r. ⌜ Commands r (settingsCommand stage) ⌝ }
 {
     match stage {
-        STAGE_MAX_RETRIES => configured([MAX_RETRIES, 0x00, 0x00, 0x01, 0, 0, 0, 0, 0, 0, 0, 0], 4),
-        STAGE_ANALOG => configured(RF_106A, 12),
-        STAGE_PARAMETERS => Command::with(
-            general::SET_PARAMETERS,
-            clock::COMMAND,
-            [PARAMETERS, 0, 0, 0, 0, 0, 0, 0, 0, 0, 0, 0],
+        MAX_RETRIES_STAGE => configured(
+            [MAX_RETRIES_ITEM, 0x00, 0x00, 0x01, 0, 0, 0, 0, 0, 0, 0, 0],
+            4,
+        ),
+        ANALOG_STAGE => configured(RF_106A, 12),
+        PARAMETERS_STAGE => Command::fixed(
+            general::SET_PARAMETERS_CODE,
+            clock::COMMAND_CLOCK,
+            [OPENING_PARAMETERS, 0, 0, 0, 0, 0, 0, 0, 0, 0, 0, 0],
             1,
         ),
-        STAGE_RESET_AGAIN => general::reset_mode_command(),
-        _ => registers::write_single_register_command(ciu::RF_CFG_RAM07, RF_CFG),
+        RESET_AGAIN_STAGE => general::reset_mode_command(),
+        _ => registers::write_single_register_command(ciu::RF_CFG_RAM07, OPENING_RF_CFG),
     }
 }
 
@@ -123,10 +132,10 @@ fn settings(stage: u8) -> Command
 pub fn is_reset(stage: u8) -> bool
     ensures { λ r. ⌜ r ≡ isResetStage stage ⌝ }
 {
-    if stage == STAGE_RESET {
+    if stage == RESET_STAGE {
         true
     } else {
-        stage == STAGE_RESET_AGAIN
+        stage == RESET_AGAIN_STAGE
     }
 }
 
@@ -213,22 +222,22 @@ fn chipset_name(version: u8, revision: u8) -> Named
 fn version(response: &[u8]) -> Decision
     ensures { λ r. ⌜ ((f : List ℕ) → DecisionRefines f (now (response .entry)) r (versionKept (now (response .entry)))) ⌝ }
 {
-    if response.len() < 4 {
+    if response.len() < VERSION_NEED {
         return Decision::Refused(Fault::ShortResponse);
     }
     let name = chipset_name(response[1], response[2]);
     let tail = name.tail;
-    Decision::Keep(STAGE_FIELD_OFF, Layout::tailed(0, 3, tail, name.len))
+    Decision::Keep(FIELD_OFF_STAGE, Layout::tailed(0, 3, tail, name.len))
 }
 
 // What follows a response, or a reset; `found` is the answer once the version is known.
 pub fn decided(stage: u8, found: &[u8], response: &[u8]) -> Decision
     ensures { λ r. ⌜ DecisionRefines (now (found .entry)) (now (response .entry)) r (openingDecision stage (now (found .entry)) (now (response .entry))) ⌝ }
 {
-    if stage == STAGE_VERSION {
+    if stage == VERSION_STAGE {
         return version(response);
     }
-    if stage < STAGE_RF_CFG {
+    if stage < RF_CFG_STAGE {
         Decision::Send(stage + 1)
     } else {
         registers::found_written(found, response)

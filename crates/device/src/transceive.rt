@@ -1,8 +1,8 @@
 // transceive (device.rs): how it starts, and its responses. That of any other target is in_communicate_thru's.
-use chipset::THRU;
+use chipset::THRU_KIND;
 use chipset::err;
 use chipset::initiator;
-use chipset::initiator::TARGET;
+use chipset::initiator::TARGET_NUMBER;
 use chipset::response::from;
 use chipset::response::part;
 use errors::Fault;
@@ -24,9 +24,9 @@ ghost use Rattle.stages.specs.Starts.{Starts};
 ghost use Rattle.device.specs.Transceive.{timeoutOf, type1First, thruFirst, transceiveFirst, type2Answer, type1Answer};
 
 // The kinds of transceive of a Type 2 and of a Type 1 target.
-pub const TYPE_2: u8 = 15;
+pub const TYPE_2_KIND: u8 = 15;
 
-pub const TYPE_1: u8 = 16;
+pub const TYPE_1_KIND: u8 = 16;
 
 pub enum Timeout {
     Standard,
@@ -69,15 +69,15 @@ fn is_type2_106a(bitrate: Bitrate, sel_res: &[u8]) -> bool
 }
 
 // The commands of a Type 1 tag that the chip sends.
-const RALL: u8 = 0x00;
+const TYPE_1_RALL: u8 = 0x00;
 
-const READ: u8 = 0x01;
+const TYPE_1_READ: u8 = 0x01;
 
-const WRITE_NE: u8 = 0x1A;
+const TYPE_1_WRITE_NE: u8 = 0x1A;
 
-const WRITE_E: u8 = 0x53;
+const TYPE_1_WRITE_E: u8 = 0x53;
 
-const RID: u8 = 0x72;
+const TYPE_1_RID: u8 = 0x72;
 
 fn is_sendable(bytes: &[u8]) -> bool
     ensures { λ r. ⌜ r ≡ isSendable (now (bytes .entry)) ⌝ }
@@ -86,7 +86,7 @@ fn is_sendable(bytes: &[u8]) -> bool
         return false;
     }
     match bytes[0] {
-        RALL | READ | WRITE_NE | WRITE_E | RID => true,
+        TYPE_1_RALL | TYPE_1_READ | TYPE_1_WRITE_NE | TYPE_1_WRITE_E | TYPE_1_RID => true,
         _ => false,
     }
 }
@@ -95,8 +95,8 @@ fn type1(bytes: &[u8], ms: u32, command: &mut [u8; DATA_LIMIT]) -> Start
     ensures { λ r. ⌜ Starts r (now (command .entry)) (now (command .exit)) (type1First (now (bytes .entry)) ms) ⌝ }
 {
     if is_sendable(bytes) {
-        let n = put_two(&[TARGET], bytes, command);
-        start::command(TYPE_1, initiator::IN_DATA_EXCHANGE, ms, n)
+        let n = put_two(&[TARGET_NUMBER], bytes, command);
+        start::first_command(TYPE_1_KIND, initiator::IN_DATA_EXCHANGE_CODE, ms, n)
     } else {
         start::refused(Refusal::NotSendable)
     }
@@ -113,9 +113,9 @@ fn thru(
 {
     let n = put_two(&[], bytes, command);
     if is_type2_106a(bitrate, sel_res) {
-        start::command(TYPE_2, initiator::IN_COMMUNICATE_THRU, ms, n)
+        start::first_command(TYPE_2_KIND, initiator::IN_COMMUNICATE_THRU_CODE, ms, n)
     } else {
-        start::command(THRU, initiator::IN_COMMUNICATE_THRU, ms, n)
+        start::first_command(THRU_KIND, initiator::IN_COMMUNICATE_THRU_CODE, ms, n)
     }
 }
 

@@ -16,9 +16,9 @@ use Rattle.protocol.specs.Arguments.{word}
 use Rattle.protocol.specs.Discovery.{uidLength, atsLength, byNoCard, systemCodeReq}
 use Rattle.chipset.specs.Responses.{foundWritten}
 use Rattle.stages.specs.Stages.{Command, cmd, Decision, send, keep, next, put, pause, ends, refuse, withLength}
-use Rattle.protocol.specs.Names.{ciuFifoData, ciuMode, ciuRxMode, ciuTxControl, commandClock, fieldPauseTime, inJumpForDepClock, inListPassiveTargetClock, registerWriteFailed, registersClock, rfNotActivated, ridClock, timeoutStatus, typeBClock, deselectCode, idmAndPmm, listedIdmOffset, pmmEnd, protocolOffset, ridCode, selResOffset, sensReq, sensResOffset, targetOffset, uidOffset, wupbCode, wupbParameter, rfFieldItem, fieldOn, timeoutsItem, timeouts, rxCrcEn, noDetectSync, atrResCmd0, atrResCmd1}
+use Rattle.protocol.specs.Names.{ciuFifoData, ciuMode, ciuRxMode, ciuTxControl, commandClock, fieldPauseTime, inJumpForDepClock, inListPassiveTargetClock, registerWriteFailed, registersClock, rfNotActivated, ridClock, timeoutStatus, typeBClock, deselectCode, idmAndPmm, listedIdmOffset, pmmEnd, protocolOffset, ridCode, selResOffset, sensReq, sensResOffset, targetOffset, uidOffset, wupbCode, wupbParameter, rfFieldItem, fieldOn, timeoutsItem, timeouts, rxCrcEn, noDetectSync, atrResCmd0, atrResCmd1, oneTarget, targetNumber, codeType1, cardMark, noCardMark, ridData, txRfEn}
 use Rattle.protocol.specs.Calls.{inCommunicateThruCode, inDataExchangeCode, inJumpForDepCode, inListPassiveTargetCode, readRegisterCode, rfConfigurationCode, writeRegisterCode}
-use Rattle.discovery.specs.Kinds.{listStage, fifoStage, listType1Stage, ridStage, readRxModeStage, writeRxModeStage, deselectStage, wakeUpStage, fieldStage, rfOnStage, pollStage, timeoutsStage, jumpStage, writeModeStage}
+use Rattle.discovery.specs.Kinds.{listStage, fifoStage, listType1Stage, ridStage, readRxModeStage, writeRxModeStage, deselectStage, wakeUpStage, fieldStage, rfOnStage, pollStage, depTimeoutsStage, jumpStage, writeModeStage}
 
 -- ---- Type A
 
@@ -26,8 +26,8 @@ unfoldable pub typeACommand : ℕ → List ℕ → Command
 typeACommand stage pending =
     pick (eqb stage listStage) (cmd inListPassiveTargetCode inListPassiveTargetClock pending)
     (pick (eqb stage fifoStage) (cmd readRegisterCode registersClock (word ciuFifoData))
-    (pick (eqb stage listType1Stage) (cmd inListPassiveTargetCode inListPassiveTargetClock (0x01 ∷ 0x04 ∷ []))
-    (pick (eqb stage ridStage) (cmd inDataExchangeCode ridClock (0x01 ∷ ridCode ∷ 0x00 ∷ 0x00 ∷ 0x00 ∷ 0x00 ∷ 0x00 ∷ 0x00 ∷ []))
+    (pick (eqb stage listType1Stage) (cmd inListPassiveTargetCode inListPassiveTargetClock (oneTarget ∷ codeType1 ∷ []))
+    (pick (eqb stage ridStage) (cmd inDataExchangeCode ridClock (targetNumber ∷ ridData))
     (pick (eqb stage readRxModeStage) (cmd readRegisterCode registersClock (word ciuRxMode)) (cmd writeRegisterCode registersClock pending)))))
 
 -- SENS_RES in the other order, SEL_RES, SDD_RES
@@ -127,7 +127,7 @@ typeFCommand stage pending =
     pick (eqb stage fieldStage) (cmd readRegisterCode registersClock (word ciuTxControl)) (pick (eqb stage rfOnStage) (cmd rfConfigurationCode commandClock (rfFieldItem ∷ fieldOn ∷ [])) (cmd inListPassiveTargetCode inListPassiveTargetClock pending))
 
 unfoldable pub txControlRead : List ℕ → Decision
-txControlRead bs = withLength bs 1 (pick (eqb (getD bs 0 0 % 4) 0) (send rfOnStage) (send pollStage))
+txControlRead bs = withLength bs 1 (pick (eqb (getD bs 0 0 % txRfEn) 0) (send rfOnStage) (send pollStage))
 
 unfoldable pub polled : List ℕ → Decision
 polled bs = pick (eqb (getD bs 0 0) 0) (refuse NoCard) (withLength bs 2 (withLength bs pmmEnd (ends (done (drop listedIdmOffset bs)))))
@@ -140,7 +140,7 @@ typeFDecision stage bs = pick (eqb stage fieldStage) (txControlRead bs) (pick (e
 
 -- the poll of the cursor's code
 abbrev pub pollOf : ℕ → List ℕ → List ℕ
-pollOf cursor pending = 1 ∷ getD pending 0 0 ∷ systemCodeReq (256 * getD pending (2 * cursor + 1) 0 + getD pending (2 * cursor + 2) 0)
+pollOf cursor pending = oneTarget ∷ getD pending 0 0 ∷ systemCodeReq (256 * getD pending (2 * cursor + 1) 0 + getD pending (2 * cursor + 2) 0)
 
 unfoldable pub pollCommand : ℕ → ℕ → List ℕ → Command
 pollCommand stage cursor pending = typeFCommand stage (pollOf cursor pending)
@@ -167,7 +167,7 @@ codeFinished cursor pending found bytes =
 
 -- no card is the mark 00; any other fault ends the list
 unfoldable pub pollFailure : ℕ → List ℕ → List ℕ → Fault → Decision
-pollFailure cursor pending found fault = byNoCard (codeFinished cursor pending found (0x00 ∷ [])) (ends (refusedAfter fault cursor)) fault
+pollFailure cursor pending found fault = byNoCard (codeFinished cursor pending found (noCardMark ∷ [])) (ends (refusedAfter fault cursor)) fault
 
 -- a decision whose ends with bytes and with a fault are others
 abbrev pub onEnd : (List ℕ → Decision) → (Fault → Decision) → Decision → Decision
@@ -186,13 +186,13 @@ onEnd f g (ends (refusedAfter fault n)) = ends (refusedAfter fault n)
 -- Type F's; a card is the mark 01, IDm and PMm
 unfoldable pub pollDecision : ℕ → ℕ → List ℕ → List ℕ → List ℕ → Decision
 pollDecision stage cursor pending found bs =
-    onEnd (λ bytes. codeFinished cursor pending found (0x01 ∷ take idmAndPmm bytes)) (pollFailure cursor pending found) (typeFDecision stage bs)
+    onEnd (λ bytes. codeFinished cursor pending found (cardMark ∷ take idmAndPmm bytes)) (pollFailure cursor pending found) (typeFDecision stage bs)
 
 -- ---- DEP
 
 unfoldable pub depCommand : ℕ → List ℕ → Command
 depCommand stage pending =
-    pick (eqb stage timeoutsStage) (cmd rfConfigurationCode commandClock (timeoutsItem ∷ timeouts))
+    pick (eqb stage depTimeoutsStage) (cmd rfConfigurationCode commandClock (timeoutsItem ∷ timeouts))
     (pick (eqb stage jumpStage) (cmd inJumpForDepCode inJumpForDepClock pending) (cmd writeRegisterCode registersClock (word ciuMode ++ (noDetectSync ∷ []))))
 
 unfoldable pub noPartner : ℕ → Decision
@@ -202,7 +202,7 @@ unfoldable pub jumpedTo : List ℕ → Decision
 jumpedTo bs = pick (eqb (statusByte bs) 0) (withLength bs 2 (keep writeModeStage (atrResCmd0 ∷ atrResCmd1 ∷ drop 2 bs))) (noPartner (statusByte bs))
 
 unfoldable pub depDecision : ℕ → List ℕ → List ℕ → Decision
-depDecision stage found bs = pick (eqb stage timeoutsStage) (send jumpStage) (pick (eqb stage jumpStage) (jumpedTo bs) (foundWritten found bs))
+depDecision stage found bs = pick (eqb stage depTimeoutsStage) (send jumpStage) (pick (eqb stage jumpStage) (jumpedTo bs) (foundWritten found bs))
 
 unfoldable pub jumpFailure : Fault → Decision
 jumpFailure fault = byStatus noPartner (refuse fault) fault

@@ -13,18 +13,18 @@ use Rattle.errors.specs.declared.Refusal.{Refusal}
 use Rattle.errors.specs.declared.Refusal.the-variants.{Bitrate as BadBitrate}
 use Rattle.framing.specs.Lists.{both}
 use Rattle.framing.specs.Valid.{both-left, both-right}
-use Rattle.protocol.specs.Arguments.{bit, jumpData, systemCodesFit, shortestAtrReq, longestAtrReq, systemCodes, nfcid3Size}
+use Rattle.protocol.specs.Arguments.{bit, jumpData, systemCodesFit, shortestAtrReq, longestAtrReq, systemCodes, nfcid3Size, activeByte, nfcid3Offset}
 use Rattle.protocol.specs.Discovery.{cascaded}
 use Rattle.protocol.specs.Starts.{dataLimit}
 use Rattle.protocol.specs.Names.{cascadeTag}
 use Rattle.chipset.specs.Laws.{bit-none, bit-some}
 use Rattle.stages.specs.Starts.{Start, refuses, Starts}
-use Rattle.targets.specs.Bitrates.{choiceOf, coded}
+use Rattle.targets.specs.Bitrates.{choiceOf, coded, byCode}
 use Rattle.targets.specs.declared.Bitrate.{Bitrate}
 use Rattle.targets.specs.declared.Bitrate.the-variants.{Other}
 use Rattle.targets.specs.declared.Coded.{Coded}
 use Rattle.targets.specs.declared.Coded.the-variants as targets
-use Rattle.stages.specs.Bitrates.{onCode, codeFor}
+use Rattle.stages.specs.Bitrates.{codeFor}
 use Rattle.stages.specs.declared.start.Start as code
 use Rattle.discovery.specs.Firsts.{supportedIn, Rated, typeBFirst}
 use Rattle.discovery.specs.declared.rates.Supported.{Supported}
@@ -33,11 +33,11 @@ use Rattle.discovery.specs.declared.rates.Supported.the-variants.{Code, 
 -- ---- a bitrate: malformed, not taken by the call, or taken
 
 module _ (t : List ℕ) (takes : Bitrate → Option ℕ) (f : ℕ → Start) where
-  pub malformed : (c : Coded) (e : Refusal) → coded c ≡ choiceOf t → c ≡ targets.Refused e → takes Other ≡ none → onCode (takes Other) f ≡ codeFor takes t f
+  pub malformed : (c : Coded) (e : Refusal) → coded c ≡ choiceOf t → c ≡ targets.Refused e → takes Other ≡ none → byCode (refuses BadBitrate) (takes Other) f ≡ codeFor takes t f
   unfolding codeFor
   malformed c e read h n = rw (← read, h, n)
 
-  pub well-formed : (c : Coded) (b : Bitrate) → coded c ≡ choiceOf t → c ≡ targets.Code b → onCode (takes b) f ≡ codeFor takes t f
+  pub well-formed : (c : Coded) (b : Bitrate) → coded c ≡ choiceOf t → c ≡ targets.Code b → byCode (refuses BadBitrate) (takes b) f ≡ codeFor takes t f
   unfolding codeFor
   well-formed c b read h = rw (← read, h)
 
@@ -98,27 +98,27 @@ module _ (n : ℕ) where
   in-range g h = rw (le-leb shortestAtrReq n g, le-leb n longestAtrReq h)
 
 module _ (l : List ℕ) (long : shortestAtrReq ≤ length l) where
-  nfcid3-given : 1 ≡ bit (take nfcid3Size (drop 2 l))
+  nfcid3-given : 1 ≡ bit (take nfcid3Size (drop nfcid3Offset l))
   nfcid3-given =
-      let ten : length (take nfcid3Size (drop 2 l)) ≡ nfcid3Size = simp (length-take, length-drop) (omega arith) in
-      bit-some (take nfcid3Size (drop 2 l)) (λ e. omega arith)
+      let ten : length (take nfcid3Size (drop nfcid3Offset l)) ≡ nfcid3Size = simp (length-take, length-drop) (omega arith) in
+      bit-some (take nfcid3Size (drop nfcid3Offset l)) (λ e. omega arith)
 
-  pub given-alone : length l ≡ shortestAtrReq → 2 ≡ 2 * bit (take nfcid3Size (drop 2 l)) + 4 * bit (drop shortestAtrReq l)
+  pub given-alone : length l ≡ shortestAtrReq → 2 ≡ 2 * bit (take nfcid3Size (drop nfcid3Offset l)) + 4 * bit (drop shortestAtrReq l)
   given-alone h = rw (← nfcid3-given, ← bit-none (drop shortestAtrReq l) (length-drop shortestAtrReq l ∙ omega arith))
 
-  pub given-both : (length l ≡ shortestAtrReq → ⊥) → 6 ≡ 2 * bit (take nfcid3Size (drop 2 l)) + 4 * bit (drop shortestAtrReq l)
+  pub given-both : (length l ≡ shortestAtrReq → ⊥) → 6 ≡ 2 * bit (take nfcid3Size (drop nfcid3Offset l)) + 4 * bit (drop shortestAtrReq l)
   given-both h = rw (← nfcid3-given, ← bit-some (drop shortestAtrReq l) (λ e. omega (arith, length-drop shortestAtrReq l)))
 
 -- the jump's data: three bytes, and behind them two parts of ATR_REQ
-pub jump-data : (a : List ℕ) (code f : ℕ) → shortestAtrReq ≤ length a → f ≡ 2 * bit (take nfcid3Size (drop 2 a)) + 4 * bit (drop shortestAtrReq a)
-    → (1 ∷ code ∷ f ∷ []) ++ take nfcid3Size (drop 2 a) ++ take (length a - shortestAtrReq) (drop shortestAtrReq a) ++ [] ++ []
-    ≡ jumpData 1 code [] (take nfcid3Size (drop 2 a)) (drop shortestAtrReq a)
+pub jump-data : (a : List ℕ) (code f : ℕ) → shortestAtrReq ≤ length a → f ≡ 2 * bit (take nfcid3Size (drop nfcid3Offset a)) + 4 * bit (drop shortestAtrReq a)
+    → (activeByte true ∷ code ∷ f ∷ []) ++ take nfcid3Size (drop nfcid3Offset a) ++ take (length a - shortestAtrReq) (drop shortestAtrReq a) ++ [] ++ []
+    ≡ jumpData (activeByte true) code [] (take nfcid3Size (drop nfcid3Offset a)) (drop shortestAtrReq a)
 jump-data a code f long e =
-    let p : List ℕ = take nfcid3Size (drop 2 a) in
+    let p : List ℕ = take nfcid3Size (drop nfcid3Offset a) in
     let all : take (length a - shortestAtrReq) (drop shortestAtrReq a) ≡ drop shortestAtrReq a = take-all (length a - shortestAtrReq) (drop shortestAtrReq a) (rw (length-drop shortestAtrReq a) (omega arith)) in
     let flags : f ≡ bit [] + 2 * bit p + 4 * bit (drop shortestAtrReq a) = omega arith in
-    append-nil ((1 ∷ code ∷ f ∷ []) ++ p ++ take (length a - shortestAtrReq) (drop shortestAtrReq a) ++ [])
-    ∙ append-nil ((1 ∷ code ∷ f ∷ []) ++ p ++ take (length a - shortestAtrReq) (drop shortestAtrReq a)) ∙ ap₂ (λ x y. 1 ∷ code ∷ x ∷ p ++ y) flags all
+    append-nil ((activeByte true ∷ code ∷ f ∷ []) ++ p ++ take (length a - shortestAtrReq) (drop shortestAtrReq a) ++ [])
+    ∙ append-nil ((activeByte true ∷ code ∷ f ∷ []) ++ p ++ take (length a - shortestAtrReq) (drop shortestAtrReq a)) ∙ ap₂ (λ x y. activeByte true ∷ code ∷ x ∷ p ++ y) flags all
 
-pub jump-few : (a : List ℕ) (code : ℕ) → length a ≤ longestAtrReq → length (jumpData 1 code [] (take nfcid3Size (drop 2 a)) (drop shortestAtrReq a)) ≤ dataLimit
-jump-few a code h = omega (arith, length-append (take nfcid3Size (drop 2 a)) (drop shortestAtrReq a), length-take nfcid3Size (drop 2 a), length-drop shortestAtrReq a)
+pub jump-few : (a : List ℕ) (code : ℕ) → length a ≤ longestAtrReq → length (jumpData (activeByte true) code [] (take nfcid3Size (drop nfcid3Offset a)) (drop shortestAtrReq a)) ≤ dataLimit
+jump-few a code h = omega (arith, length-append (take nfcid3Size (drop nfcid3Offset a)) (drop shortestAtrReq a), length-take nfcid3Size (drop nfcid3Offset a), length-drop shortestAtrReq a)

@@ -60,8 +60,8 @@ pollStage = 2
 
 -- ---- DEP's
 
-abbrev pub timeoutsStage : ℕ
-timeoutsStage = 0
+abbrev pub depTimeoutsStage : ℕ
+depTimeoutsStage = 0
 
 abbrev pub jumpStage : ℕ
 jumpStage = 1

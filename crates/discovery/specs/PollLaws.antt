@@ -19,7 +19,7 @@ use Rattle.stages.specs.declared.Decision as code
 use Rattle.stages.specs.declared.Decision.the-variants.{Refused}
 use Rattle.stages.specs.declared.Layout.{Layout}
 use Rattle.discovery.specs.Decisions.{txControlRead, polled, typeFDecision, pollOf, soFarLimit, soFar, lastCode, hasNext, codeFinished, pollFailure, pollDecision}
-use Rattle.protocol.specs.Names.{fieldPauseTime, idmAndPmm, listedIdmOffset, pmmEnd}
+use Rattle.protocol.specs.Names.{fieldPauseTime, idmAndPmm, listedIdmOffset, pmmEnd, oneTarget, cardMark, sensfReqCode, systemCodeRequest, oneTimeSlot, txRfEn}
 use Rattle.discovery.specs.Kinds.{rfOnStage, pollStage}
 
 -- ---- what the finished codes add
@@ -49,13 +49,13 @@ next-within cursor pending h = ltb-true cursor lastCode (both-left (ltb cursor l
 -- the poll, of its bytes
 pub poll-bytes : (cursor : ℕ) (pending : List ℕ) (code high low : ℕ) → code ≡ getD pending 0 0 → high ≡ getD pending (2 * cursor + 1) 0
     → low ≡ getD pending (2 * cursor + 2) 0 → high < 256 → low < 256
-    → 1 ∷ code ∷ 0x00 ∷ high ∷ low ∷ 0x01 ∷ 0x00 ∷ [] ≡ pollOf cursor pending
+    → oneTarget ∷ code ∷ sensfReqCode ∷ high ∷ low ∷ systemCodeRequest ∷ oneTimeSlot ∷ [] ≡ pollOf cursor pending
 poll-bytes cursor pending code high low p q r h l =
     let n : ℕ = 256 * getD pending (2 * cursor + 1) 0 + getD pending (2 * cursor + 2) 0 in
     let is : n ≡ 256 * high + low = rw (← q, ← r) refl in
     let x : high ≡ n / 256 = rw is (omega arith) in
     let y : low ≡ n % 256 = rw is (omega arith) in
-    λ i. 1 ∷ p i ∷ 0x00 ∷ x i ∷ y i ∷ 0x01 ∷ 0x00 ∷ []
+    λ i. oneTarget ∷ p i ∷ sensfReqCode ∷ x i ∷ y i ∷ systemCodeRequest ∷ oneTimeSlot ∷ []
 
 -- ---- where Type F ends with bytes, they are those of the response from byte 4 on, and IDm and PMm are among them
 
@@ -90,7 +90,7 @@ type-f-done stage bs l = go (eqb stage 0) (eqb stage 1)
     met false false false e h = (h, ltb-false (length bs) pmmEnd e)
 
     go : (t u : Bool) → hasBytes (pick t (txControlRead bs) (pick u (pause fieldPauseTime pollStage) (polled bs))) l → (drop listedIdmOffset bs ≡ l) × (pmmEnd ≤ length bs)
-    go true u h = on (ltb (length bs) 1) (eqb (getD bs 0 0 % 4) 0) h
+    go true u h = on (ltb (length bs) 1) (eqb (getD bs 0 0 % txRfEn) 0) h
     go false true h = absurd h
     go false false h = met (eqb (getD bs 0 0) 0) (ltb (length bs) 2) (ltb (length bs) pmmEnd) refl h
 
@@ -99,7 +99,7 @@ with-bytes d l e = rw (← e) refl
 
 -- what the code decides, where d is what Type F's function gave
 module _ (f b pending : List ℕ) (r d : code.Decision) (stage cursor : ℕ) (given : DecisionRefines f b d (typeFDecision stage b)) where
-  pub poll-done : (bytes : List ℕ) → decisionIn f b d ≡ ends (done bytes) → (pmmEnd ≤ length b → DecisionRefines f b r (codeFinished cursor pending f (0x01 ∷ take idmAndPmm (drop 4 b))))
+  pub poll-done : (bytes : List ℕ) → decisionIn f b d ≡ ends (done bytes) → (pmmEnd ≤ length b → DecisionRefines f b r (codeFinished cursor pending f (cardMark ∷ take idmAndPmm (drop 4 b))))
       → DecisionRefines f b r (pollDecision stage cursor pending f b)
   unfolding pollDecision
   poll-done bytes e k =

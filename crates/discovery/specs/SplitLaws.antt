@@ -13,11 +13,12 @@ use Rattle.stages.specs.Decided.{Lays, DecisionRefines}
 use Rattle.stages.specs.Laws.{decision-uid-and-ats}
 use Rattle.stages.specs.declared.Decision.the-variants.{UidAndAts}
 use Rattle.stages.specs.declared.Layout.{Layout}
+use Rattle.protocol.specs.Names.{targetOffset}
 
 -- what a call answered of the list's data, its part from byte 2 on
-pub data-known : (l p : List ℕ) (r t : Bool) → p ≡ take (length l - 2) (drop 2 l) → r ≡ isTargetData p → r ≡ t → isTargetData (drop 2 l) ≡ t
+pub data-known : (l p : List ℕ) (r t : Bool) → p ≡ take (length l - targetOffset) (drop targetOffset l) → r ≡ isTargetData p → r ≡ t → isTargetData (drop targetOffset l) ≡ t
 data-known l p r t q e h =
-    let d : take (length l - 2) (drop 2 l) ≡ drop 2 l = take-all (length l - 2) (drop 2 l) (omega (arith, length-drop 2 l)) in
+    let d : take (length l - targetOffset) (drop targetOffset l) ≡ drop targetOffset l = take-all (length l - targetOffset) (drop targetOffset l) (omega (arith, length-drop targetOffset l)) in
     sym (ap isTargetData (q ∙ d)) ∙ (sym e ∙ h)
 
 -- the ATS's length as a call answered it

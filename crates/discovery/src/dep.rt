@@ -1,8 +1,8 @@
 // detect_dep: the command of each stage, and what follows each reply.
-use super::DEP;
+use super::DEP_KIND;
 use super::rates::Supported;
+use super::rates::bitrate_of;
 use super::rates::dep_code;
-use super::rates::rate;
 use chipset::ciu;
 use chipset::clock;
 use chipset::err;
@@ -29,7 +29,7 @@ ghost use mathlib.Core.Path.{_≡_};
 ghost use mathlib.Core.List.{[]};
 ghost use Prim.Native.Nat.{_+_, _*_, _≤_};
 ghost use lib.ListN.{length, take, drop};
-ghost use Rattle.protocol.specs.Arguments.{bit, shortestAtrReq, longestAtrReq, nfcid3Size};
+ghost use Rattle.protocol.specs.Arguments.{bit, shortestAtrReq, longestAtrReq, nfcid3Size, nfcid3Offset};
 ghost use Rattle.discovery.specs.Firsts.{depFirst, depAsserted};
 
 // An ATR_REQ without general bytes, and the longest.
@@ -38,14 +38,14 @@ const SHORTEST_ATR_REQ: usize = 16;
 const LONGEST_ATR_REQ: usize = 64;
 
 // NFCID3 in ATR_REQ.
-const NFCID3: usize = 2;
+const NFCID3_OFFSET: usize = 2;
 
 const NFCID3_END: usize = 12;
 
 // What InJumpForDEP is given: NFCID3, and the general bytes where ATR_REQ has some.
 fn given(atr_req: &[u8]) -> u8
     requires { ⌜ shortestAtrReq ≤ length (now «atr_req») ⌝ }
-    ensures { λ r. ⌜ r ≡ 2 * bit (take nfcid3Size (drop 2 (now («atr_req» .entry)))) + 4 * bit (drop shortestAtrReq (now («atr_req» .entry))) ⌝ }
+    ensures { λ r. ⌜ r ≡ 2 * bit (take nfcid3Size (drop nfcid3Offset (now («atr_req» .entry)))) + 4 * bit (drop shortestAtrReq (now («atr_req» .entry))) ⌝ }
 {
     if atr_req.len() == SHORTEST_ATR_REQ {
         2
@@ -54,21 +54,24 @@ fn given(atr_req: &[u8]) -> u8
     }
 }
 
+// The mode of the jump.
+const ACTIVE: u8 = 1;
+
 // The time-outs are set first; the jump is put by.
 fn jump(code: u8, atr_req: &[u8], command: &mut [u8; DATA_LIMIT]) -> Start
     requires { ⌜ (shortestAtrReq ≤ length (now «atr_req»)) × (length (now «atr_req») ≤ longestAtrReq) ⌝ }
     ensures { λ r. ⌜ Starts r (now (command .entry)) (now (command .exit)) (depFirst (now («atr_req» .entry)) code) ⌝ }
 {
-    let head = [1, code, given(atr_req)];
+    let head = [ACTIVE, code, given(atr_req)];
     let n = put_all(
         &head,
-        &atr_req[NFCID3..NFCID3_END],
+        &atr_req[NFCID3_OFFSET..NFCID3_END],
         &atr_req[SHORTEST_ATR_REQ..],
         &[],
         &[],
         command,
     );
-    start::staged(DEP, n)
+    start::staged(DEP_KIND, n)
 }
 
 pub fn detect_dep(bitrate: &[u8], atr_req: &[u8], command: &mut [u8; DATA_LIMIT]) -> Start
@@ -80,18 +83,18 @@ pub fn detect_dep(bitrate: &[u8], atr_req: &[u8], command: &mut [u8; DATA_LIMIT]
     if LONGEST_ATR_REQ < atr_req.len() {
         return start::refused(Refusal::BadArgument);
     }
-    let Supported::Code(code) = dep_code(rate(bitrate)) else {
+    let Supported::Code(code) = dep_code(bitrate_of(bitrate)) else {
         return start::refused(Refusal::Bitrate);
     };
     jump(code, atr_req, command)
 }
 
 // The stages.
-const STAGE_TIMEOUTS: u8 = 0;
+const DEP_TIMEOUTS_STAGE: u8 = 0;
 
-const STAGE_JUMP: u8 = 1;
+const JUMP_STAGE: u8 = 1;
 
-const STAGE_WRITE_MODE: u8 = 2;
+const WRITE_MODE_STAGE: u8 = 2;
 
 // CIU_Mode with the detect-sync bit off.
 const NO_DETECT_SYNC: u8 = 0x3B;
@@ -106,14 +109,17 @@ pub fn command(stage: u8) -> Command
     ensures { λ r. ⌜ Commands r (depCommand stage) ⌝ }
 {
     match stage {
-        STAGE_TIMEOUTS => Command::with(
-            general::RF_CONFIGURATION,
-            clock::COMMAND,
+        DEP_TIMEOUTS_STAGE => Command::fixed(
+            general::RF_CONFIGURATION_CODE,
+            clock::COMMAND_CLOCK,
             general::ATR_RES_TIMEOUTS,
             4,
         ),
-        STAGE_JUMP => Command::pending(initiator::IN_JUMP_FOR_DEP, clock::IN_JUMP_FOR_DEP),
-        _ => registers::write_single_register_command(ciu::MODE, NO_DETECT_SYNC),
+        JUMP_STAGE => Command::pending(
+            initiator::IN_JUMP_FOR_DEP_CODE,
+            clock::IN_JUMP_FOR_DEP_CLOCK,
+        ),
+        _ => registers::write_single_register_command(ciu::CIU_MODE, NO_DETECT_SYNC),
     }
 }
 
@@ -122,7 +128,7 @@ fn no_partner(status: u8) -> Decision
     ensures { λ r. ⌜ ((f b : List ℕ) → DecisionRefines f b r (noPartner status)) ⌝ }
 {
     match status {
-        err::TIMEOUT | err::RF_NOT_ACTIVATED => Decision::Nothing,
+        err::TIMEOUT_STATUS | err::RF_NOT_ACTIVATED => Decision::Nothing,
         _ => Decision::Refused(Fault::Status(status)),
     }
 }
@@ -137,7 +143,7 @@ fn jumped(response: &[u8]) -> Decision
             Decision::Refused(Fault::ShortResponse)
         } else {
             Decision::Keep(
-                STAGE_WRITE_MODE,
+                WRITE_MODE_STAGE,
                 Layout::headed(Head(ATR_RES_CMD0, ATR_RES_CMD1, 0), 2, response, 2),
             )
         }
@@ -151,8 +157,8 @@ pub fn decided(stage: u8, found: &[u8], response: &[u8]) -> Decision
     ensures { λ r. ⌜ DecisionRefines (now (found .entry)) (now (response .entry)) r (depDecision stage (now (found .entry)) (now (response .entry))) ⌝ }
 {
     match stage {
-        STAGE_TIMEOUTS => Decision::Send(STAGE_JUMP),
-        STAGE_JUMP => jumped(response),
+        DEP_TIMEOUTS_STAGE => Decision::Send(JUMP_STAGE),
+        JUMP_STAGE => jumped(response),
         _ => registers::found_written(found, response),
     }
 }
@@ -172,7 +178,7 @@ pub fn failed(stage: u8, fault: Fault) -> Decision
     ensures { λ r. ⌜ Always r (depFailure stage fault) ⌝ }
 {
     match stage {
-        STAGE_JUMP => jump_failed(fault),
+        JUMP_STAGE => jump_failed(fault),
         _ => Decision::Refused(fault),
     }
 }

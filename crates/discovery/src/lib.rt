@@ -8,14 +8,14 @@ pub mod type_b;
 pub mod type_f;
 
 // The discoveries, by the numbers that follow those of chipset's rules.
-pub const TYPE_A: u8 = 17;
+pub const TYPE_A_KIND: u8 = 17;
 
-pub const TYPE_B: u8 = 18;
+pub const TYPE_B_KIND: u8 = 18;
 
-pub const TYPE_F: u8 = 19;
+pub const TYPE_F_KIND: u8 = 19;
 
-pub const DEP: u8 = 20;
+pub const DEP_KIND: u8 = 20;
 
-pub const POLL_TYPE_F: u8 = 21;
+pub const POLL_TYPE_F_KIND: u8 = 21;
 
-pub const TYPE_A_SPLIT: u8 = 22;
+pub const TYPE_A_SPLIT_KIND: u8 = 22;

@@ -1,13 +1,14 @@
 // poll_type_f: detect_type_f for each system code of a list. The pending command is the bitrate's code and the system codes, two bytes
 // each; the cursor is the number of codes finished.
-use super::POLL_TYPE_F;
+use super::POLL_TYPE_F_KIND;
 use super::rates::Supported;
-use super::rates::rate;
+use super::rates::bitrate_of;
 use super::rates::type_f_code;
 use super::type_f;
-use super::type_f::IDM;
-use super::type_f::SENSF_REQ;
-use super::type_f::STAGE_FIELD;
+use super::type_f::FIELD_STAGE;
+use super::type_f::LISTED_IDM_OFFSET;
+use super::type_f::SENSF_REQ_CODE;
+use chipset::initiator::ONE_TARGET;
 use errors::Fault;
 use errors::Refusal;
 use stages::Command;
@@ -30,24 +31,24 @@ ghost use Rattle.discovery.specs.Decisions.{pollCommand, soFar, hasNext,
 ghost use Rattle.discovery.specs.Firsts.{pollAsserted};
 
 // The most system codes of a list.
-const CODES: usize = 16;
+const MOST_CODES: usize = 16;
 
 const LAST_CODE: u8 = 15;
 
 // Each is polled with this request code, in one time slot.
-const SYSTEM_CODE: u8 = 0x01;
+const SYSTEM_CODE_REQUEST: u8 = 0x01;
 
-const ONE_SLOT: u8 = 0x00;
+const ONE_TIME_SLOT: u8 = 0x00;
 
 // What a code adds to the answer: one of two marks, and behind the first IDm and PMm, which stand in the response from byte 4 on.
-const CARD: u8 = 0x01;
+const CARD_MARK: u8 = 0x01;
 
-const NO_CARD: u8 = 0x00;
+const NO_CARD_MARK: u8 = 0x00;
 
 const IDM_AND_PMM: usize = 16;
 
 // The most bytes that the codes before the last add: 17 for each of 15.
-const SO_FAR: usize = 255;
+const SO_FAR_LIMIT: usize = 255;
 
 // Whole system codes, 1 to 16.
 fn is_list(codes: &[u8]) -> bool
@@ -55,7 +56,7 @@ fn is_list(codes: &[u8]) -> bool
 {
     if codes.len() % 2 == 0 {
         if 1 <= codes.len() / 2 {
-            codes.len() / 2 <= CODES
+            codes.len() / 2 <= MOST_CODES
         } else {
             false
         }
@@ -69,12 +70,12 @@ pub fn poll_type_f(bitrate: &[u8], codes: &[u8], command: &mut [u8; DATA_LIMIT])
     ensures { λ r. ⌜ Starts r (now (command .entry)) (now (command .exit)) (pollAsserted (now (bitrate .entry)) (now (codes .entry))) ⌝ }
 {
     if is_list(codes) {
-        let Supported::Code(code) = type_f_code(rate(bitrate)) else {
+        let Supported::Code(code) = type_f_code(bitrate_of(bitrate)) else {
             return start::refused(Refusal::Bitrate);
         };
         let head = [code];
         let n = put_two(&head, codes, command);
-        start::staged(POLL_TYPE_F, n)
+        start::staged(POLL_TYPE_F_KIND, n)
     } else {
         start::refused(Refusal::BadArgument)
     }
@@ -95,13 +96,13 @@ pub fn command(stage: u8, cursor: u8, pending: &[u8]) -> Command
             clock: next.clock,
             is_pending: false,
             bytes: [
-                1,
+                ONE_TARGET,
                 code,
-                SENSF_REQ,
+                SENSF_REQ_CODE,
                 high,
                 low,
-                SYSTEM_CODE,
-                ONE_SLOT,
+                SYSTEM_CODE_REQUEST,
+                ONE_TIME_SLOT,
                 0,
                 0,
                 0,
@@ -116,16 +117,16 @@ pub fn command(stage: u8, cursor: u8, pending: &[u8]) -> Command
 }
 
 // How many found bytes the finished codes have added.
-fn kept(cursor: u8, found: &[u8]) -> usize
+fn so_far(cursor: u8, found: &[u8]) -> usize
     ensures { λ r. ⌜ (take r (now (found .entry)) ≡ soFar cursor (now (found .entry))) × (r ≤ length (now (found .entry))) × (r ≤ soFarLimit) ⌝ }
 {
     if cursor == 0 {
         return 0;
     }
-    if found.len() < SO_FAR {
+    if found.len() < SO_FAR_LIMIT {
         found.len()
     } else {
-        SO_FAR
+        SO_FAR_LIMIT
     }
 }
 
@@ -151,9 +152,9 @@ fn finished(
 ) -> Decision
     ensures { λ r. ⌜ ((b : List ℕ) → start + len ≤ length b → len ≤ idmAndPmm → DecisionRefines (now (found .entry)) b r (codeFinished cursor (now (pending .entry)) (now (found .entry)) (mark ∷ take len (drop start b)))) ⌝ }
 {
-    let layout = Layout::marked(kept(cursor, found), mark, start, len);
+    let layout = Layout::marked(so_far(cursor, found), mark, start, len);
     if has_next(cursor, pending) {
-        Decision::Next(STAGE_FIELD, cursor + 1, layout)
+        Decision::Next(FIELD_STAGE, cursor + 1, layout)
     } else {
         Decision::Done(layout)
     }
@@ -164,7 +165,7 @@ pub fn failed(cursor: u8, pending: &[u8], found: &[u8], fault: Fault) -> Decisio
     ensures { λ r. ⌜ ((b : List ℕ) → DecisionRefines (now (found .entry)) b r (pollFailure cursor (now (pending .entry)) (now (found .entry)) fault)) ⌝ }
 {
     match fault {
-        Fault::NoCard => finished(cursor, pending, found, NO_CARD, 0, 0),
+        Fault::NoCard => finished(cursor, pending, found, NO_CARD_MARK, 0, 0),
         _ => Decision::RefusedAfter(fault, cursor),
     }
 }
@@ -175,8 +176,22 @@ pub fn decided(stage: u8, cursor: u8, pending: &[u8], found: &[u8], response: &[
 {
     let decision = type_f::decided(stage, response);
     match decision {
-        Decision::Done(_) => finished(cursor, pending, found, CARD, IDM, IDM_AND_PMM),
-        Decision::Part(_, _) => finished(cursor, pending, found, CARD, IDM, IDM_AND_PMM),
+        Decision::Done(_) => finished(
+            cursor,
+            pending,
+            found,
+            CARD_MARK,
+            LISTED_IDM_OFFSET,
+            IDM_AND_PMM,
+        ),
+        Decision::Part(_, _) => finished(
+            cursor,
+            pending,
+            found,
+            CARD_MARK,
+            LISTED_IDM_OFFSET,
+            IDM_AND_PMM,
+        ),
         Decision::Refused(fault) => failed(cursor, pending, found, fault),
         _ => decision,
     }

@@ -5,14 +5,25 @@ ghost use mathlib.Core.Path.{_≡_};
 ghost use Rattle.protocol.specs.Starts.{typeACode, typeBCode, typeFCode, depCode};
 ghost use Rattle.discovery.specs.Firsts.{supportedIn, Rated};
 
-// The chip's code of a bitrate, where the call takes it.
+// The chip's codes, of which the last is for a list of Type 1 tags.
+const CODE_106A: u8 = 0;
+
+const CODE_212F: u8 = 1;
+
+const CODE_424F: u8 = 2;
+
+const CODE_106B: u8 = 3;
+
+pub(crate) const CODE_TYPE_1: u8 = 4;
+
+// The code of a bitrate, where the call takes it.
 pub enum Supported {
     Code(u8),
     Not,
 }
 
 // The bitrate of a text; a malformed one is refused as a bitrate is that no call takes.
-pub(crate) fn rate(text: &[u8]) -> Bitrate
+pub(crate) fn bitrate_of(text: &[u8]) -> Bitrate
     ensures { λ r. ⌜ Rated (now (text .entry)) r ⌝ }
 {
     let Coded::Code(bitrate) = targets::code(text) else {
@@ -25,10 +36,10 @@ pub(crate) fn type_a_code(bitrate: Bitrate) -> Supported
     ensures { λ r. ⌜ supportedIn r ≡ typeACode bitrate ⌝ }
 {
     match bitrate {
-        Bitrate::B106A => Supported::Code(0),
-        Bitrate::B212F => Supported::Code(1),
-        Bitrate::B424F => Supported::Code(2),
-        Bitrate::B106B => Supported::Code(3),
+        Bitrate::B106A => Supported::Code(CODE_106A),
+        Bitrate::B212F => Supported::Code(CODE_212F),
+        Bitrate::B424F => Supported::Code(CODE_424F),
+        Bitrate::B106B => Supported::Code(CODE_106B),
         _ => Supported::Not,
     }
 }
@@ -38,7 +49,7 @@ pub(crate) fn type_b_code(bitrate: Bitrate) -> Supported
     ensures { λ r. ⌜ supportedIn r ≡ typeBCode bitrate ⌝ }
 {
     match bitrate {
-        Bitrate::B106B => Supported::Code(3),
+        Bitrate::B106B => Supported::Code(CODE_106B),
         _ => Supported::Not,
     }
 }
@@ -47,8 +58,8 @@ pub(crate) fn type_f_code(bitrate: Bitrate) -> Supported
     ensures { λ r. ⌜ supportedIn r ≡ typeFCode bitrate ⌝ }
 {
     match bitrate {
-        Bitrate::B212F => Supported::Code(1),
-        Bitrate::B424F => Supported::Code(2),
+        Bitrate::B212F => Supported::Code(CODE_212F),
+        Bitrate::B424F => Supported::Code(CODE_424F),
         _ => Supported::Not,
     }
 }
@@ -57,9 +68,9 @@ pub(crate) fn dep_code(bitrate: Bitrate) -> Supported
     ensures { λ r. ⌜ supportedIn r ≡ depCode bitrate ⌝ }
 {
     match bitrate {
-        Bitrate::B106A => Supported::Code(0),
-        Bitrate::B212F => Supported::Code(1),
-        Bitrate::B424F => Supported::Code(2),
+        Bitrate::B106A => Supported::Code(CODE_106A),
+        Bitrate::B212F => Supported::Code(CODE_212F),
+        Bitrate::B424F => Supported::Code(CODE_424F),
         _ => Supported::Not,
     }
 }

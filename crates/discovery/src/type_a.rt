@@ -1,12 +1,14 @@
 // detect_type_a: the command of each stage, and what follows each reply.
-use super::TYPE_A;
+use super::TYPE_A_KIND;
+use super::rates::CODE_TYPE_1;
 use super::rates::Supported;
-use super::rates::rate;
+use super::rates::bitrate_of;
 use super::rates::type_a_code;
 use chipset::ciu;
 use chipset::clock;
 use chipset::initiator;
-use chipset::initiator::TARGET;
+use chipset::initiator::ONE_TARGET;
+use chipset::initiator::TARGET_NUMBER;
 use chipset::registers;
 use errors::Fault;
 use errors::Refusal;
@@ -33,17 +35,17 @@ ghost use Rattle.stages.specs.Bitrates.{codeFor};
 ghost use Rattle.discovery.specs.Firsts.{listFirst, typeAFirst};
 
 // The stages.
-pub(crate) const STAGE_LIST: u8 = 0;
+pub(crate) const LIST_STAGE: u8 = 0;
 
-pub(crate) const STAGE_FIFO: u8 = 1;
+pub(crate) const FIFO_STAGE: u8 = 1;
 
-const STAGE_LIST_TYPE_1: u8 = 2;
+const LIST_TYPE_1_STAGE: u8 = 2;
 
-const STAGE_RID: u8 = 3;
+const RID_STAGE: u8 = 3;
 
-pub(crate) const STAGE_READ_RX_MODE: u8 = 4;
+pub(crate) const READ_RX_MODE_STAGE: u8 = 4;
 
-pub(crate) const STAGE_WRITE_RX_MODE: u8 = 5;
+pub(crate) const WRITE_RX_MODE_STAGE: u8 = 5;
 
 // Stands in a UID where it goes on at the next cascade level.
 const CASCADE_TAG: u8 = 0x88;
@@ -52,15 +54,15 @@ const CASCADE_TAG: u8 = 0x88;
 const SENS_REQ: u8 = 0x26;
 
 // Where a list's response has the target's data, and in it SENS_RES, SEL_RES and the UID.
-pub(crate) const TARGET_DATA: usize = 2;
+pub(crate) const TARGET_OFFSET: usize = 2;
 
-const SENS_RES: usize = 2;
+const SENS_RES_OFFSET: usize = 2;
 
-const SENS_RES_SECOND: usize = SENS_RES + 1;
+const SENS_RES_SECOND: usize = SENS_RES_OFFSET + 1;
 
-pub(crate) const SEL_RES: usize = 4;
+pub(crate) const SEL_RES_OFFSET: usize = 4;
 
-pub(crate) const UID: usize = 6;
+pub(crate) const UID_OFFSET: usize = 6;
 
 // The clock of the RID exchange in ms.
 const RID_CLOCK: u32 = 100;
@@ -70,14 +72,22 @@ fn list(kind: u8, code: u8, uid: &[u8], command: &mut [u8; DATA_LIMIT]) -> Start
     ensures { λ r. ⌜ Starts r (now (command .entry)) (now (command .exit)) (listFirst kind (now (uid .entry)) code) ⌝ }
 {
     if uid.len() <= 4 {
-        let n = put_two(&[1, code], uid, command);
+        let n = put_two(&[ONE_TARGET, code], uid, command);
         return start::staged(kind, n);
     }
     if uid.len() <= 7 {
-        let n = put_two(&[1, code, CASCADE_TAG], uid, command);
+        let n = put_two(&[ONE_TARGET, code, CASCADE_TAG], uid, command);
         return start::staged(kind, n);
     }
-    let head = [1, code, CASCADE_TAG, uid[0], uid[1], uid[2], CASCADE_TAG];
+    let head = [
+        ONE_TARGET,
+        code,
+        CASCADE_TAG,
+        uid[0],
+        uid[1],
+        uid[2],
+        CASCADE_TAG,
+    ];
     let n = put_two(&head, &uid[3..], command);
     start::staged(kind, n)
 }
@@ -86,7 +96,7 @@ fn list(kind: u8, code: u8, uid: &[u8], command: &mut [u8; DATA_LIMIT]) -> Start
 pub(crate) fn detect(kind: u8, bitrate: &[u8], uid: &[u8], command: &mut [u8; DATA_LIMIT]) -> Start
     ensures { λ r. ⌜ Starts r (now (command .entry)) (now (command .exit)) (codeFor typeACode (now (bitrate .entry)) (listFirst kind (now (uid .entry)))) ⌝ }
 {
-    let Supported::Code(code) = type_a_code(rate(bitrate)) else {
+    let Supported::Code(code) = type_a_code(bitrate_of(bitrate)) else {
         return start::refused(Refusal::Bitrate);
     };
     list(kind, code, uid, command)
@@ -95,36 +105,39 @@ pub(crate) fn detect(kind: u8, bitrate: &[u8], uid: &[u8], command: &mut [u8; DA
 pub fn detect_type_a(bitrate: &[u8], uid: &[u8], command: &mut [u8; DATA_LIMIT]) -> Start
     ensures { λ r. ⌜ Starts r (now (command .entry)) (now (command .exit)) (codeFor typeACode (now (bitrate .entry)) (typeAFirst (now (uid .entry)))) ⌝ }
 {
-    detect(TYPE_A, bitrate, uid, command)
+    detect(TYPE_A_KIND, bitrate, uid, command)
 }
 
 // The list of a Type 1 tag: one target, at the chip's code for Type 1.
-const TYPE_1_LIST: [u8; FIXED_LIMIT] = [1, 4, 0, 0, 0, 0, 0, 0, 0, 0, 0, 0];
+const TYPE_1_LIST: [u8; FIXED_LIMIT] = [ONE_TARGET, CODE_TYPE_1, 0, 0, 0, 0, 0, 0, 0, 0, 0, 0];
+
+// RID's code.
+const RID_CODE: u8 = 0x78;
 
 // RID to the listed target, behind its code six bytes of 0.
-const RID: [u8; FIXED_LIMIT] = [TARGET, 0x78, 0, 0, 0, 0, 0, 0, 0, 0, 0, 0];
+const RID_DATA: [u8; FIXED_LIMIT] = [TARGET_NUMBER, RID_CODE, 0, 0, 0, 0, 0, 0, 0, 0, 0, 0];
 
 // The command of a stage.
 pub fn command(stage: u8) -> Command
     ensures { λ r. ⌜ Commands r (typeACommand stage) ⌝ }
 {
     match stage {
-        STAGE_LIST => Command::pending(
-            initiator::IN_LIST_PASSIVE_TARGET,
-            clock::IN_LIST_PASSIVE_TARGET,
+        LIST_STAGE => Command::pending(
+            initiator::IN_LIST_PASSIVE_TARGET_CODE,
+            clock::IN_LIST_PASSIVE_TARGET_CLOCK,
         ),
-        STAGE_FIFO => registers::read_single_register_command(ciu::FIFO_DATA),
-        STAGE_LIST_TYPE_1 => {
-            Command::with(
-                initiator::IN_LIST_PASSIVE_TARGET,
-                clock::IN_LIST_PASSIVE_TARGET,
+        FIFO_STAGE => registers::read_single_register_command(ciu::CIU_FIFO_DATA),
+        LIST_TYPE_1_STAGE => {
+            Command::fixed(
+                initiator::IN_LIST_PASSIVE_TARGET_CODE,
+                clock::IN_LIST_PASSIVE_TARGET_CLOCK,
                 TYPE_1_LIST,
                 2,
             )
         }
-        STAGE_RID => Command::with(initiator::IN_DATA_EXCHANGE, RID_CLOCK, RID, 8),
-        STAGE_READ_RX_MODE => registers::read_single_register_command(ciu::RX_MODE),
-        _ => Command::pending(registers::WRITE_REGISTER, clock::REGISTERS),
+        RID_STAGE => Command::fixed(initiator::IN_DATA_EXCHANGE_CODE, RID_CLOCK, RID_DATA, 8),
+        READ_RX_MODE_STAGE => registers::read_single_register_command(ciu::CIU_RX_MODE),
+        _ => Command::pending(registers::WRITE_REGISTER_CODE, clock::REGISTERS_CLOCK),
     }
 }
 
@@ -134,10 +147,14 @@ pub(crate) fn card(list: &[u8]) -> Layout
     ensures { λ r. ⌜ ((f : List ℕ) → Lays f (now (list .entry)) r (cardBytes (now (list .entry)))) ⌝ }
 {
     Layout::headed(
-        Head(list[SENS_RES_SECOND], list[SENS_RES], list[SEL_RES]),
+        Head(
+            list[SENS_RES_SECOND],
+            list[SENS_RES_OFFSET],
+            list[SEL_RES_OFFSET],
+        ),
         3,
         list,
-        UID,
+        UID_OFFSET,
     )
 }
 
@@ -146,16 +163,16 @@ fn listed_a(response: &[u8]) -> Decision
     ensures { λ r. ⌜ ((f : List ℕ) → DecisionRefines f (now (response .entry)) r (listedA (now (response .entry)))) ⌝ }
 {
     if byte_or(response, 0, 0) == 0 {
-        return Decision::Send(STAGE_FIFO);
+        return Decision::Send(FIFO_STAGE);
     }
     if response.len() < 2 {
         return Decision::Refused(Fault::ShortResponse);
     }
-    if response.len() < UID {
+    if response.len() < UID_OFFSET {
         return Decision::Nothing;
     }
-    if is_type2(response[SEL_RES]) {
-        Decision::Keep(STAGE_READ_RX_MODE, card(response))
+    if is_type2(response[SEL_RES_OFFSET]) {
+        Decision::Keep(READ_RX_MODE_STAGE, card(response))
     } else {
         Decision::Done(card(response))
     }
@@ -168,7 +185,7 @@ fn fifo(response: &[u8]) -> Decision
     if byte_or(response, 0, 0) == SENS_REQ {
         Decision::Nothing
     } else {
-        Decision::Send(STAGE_LIST_TYPE_1)
+        Decision::Send(LIST_TYPE_1_STAGE)
     }
 }
 
@@ -176,11 +193,11 @@ fn fifo(response: &[u8]) -> Decision
 fn sens_res(list: &[u8]) -> Layout
     ensures { λ r. ⌜ ((f : List ℕ) → Lays f (now (list .entry)) r (sensRes (now (list .entry)))) ⌝ }
 {
-    if list.len() < SEL_RES {
+    if list.len() < SEL_RES_OFFSET {
         Layout::part(0, 0)
     } else {
         Layout::headed(
-            Head(list[SENS_RES_SECOND], list[SENS_RES], 0),
+            Head(list[SENS_RES_SECOND], list[SENS_RES_OFFSET], 0),
             2,
             list,
             list.len(),
@@ -198,7 +215,7 @@ fn listed_type1(response: &[u8]) -> Decision
     if response.len() < 2 {
         Decision::Refused(Fault::ShortResponse)
     } else {
-        Decision::Keep(STAGE_RID, sens_res(response))
+        Decision::Keep(RID_STAGE, sens_res(response))
     }
 }
 
@@ -225,10 +242,10 @@ fn rx_mode(response: &[u8]) -> Decision
     if response.len() < 1 {
         Decision::Refused(Fault::ShortResponse)
     } else {
-        let high = (ciu::RX_MODE / 256) as u8;
-        let low = (ciu::RX_MODE % 256) as u8;
+        let high = (ciu::CIU_RX_MODE / 256) as u8;
+        let low = (ciu::CIU_RX_MODE % 256) as u8;
         Decision::Put(
-            STAGE_WRITE_RX_MODE,
+            WRITE_RX_MODE_STAGE,
             Head(high, low, response[0] % ciu::RX_CRC_EN),
         )
     }
@@ -239,11 +256,11 @@ pub fn decided(stage: u8, found: &[u8], response: &[u8]) -> Decision
     ensures { λ r. ⌜ DecisionRefines (now (found .entry)) (now (response .entry)) r (typeADecision stage (now (found .entry)) (now (response .entry))) ⌝ }
 {
     match stage {
-        STAGE_LIST => listed_a(response),
-        STAGE_FIFO => fifo(response),
-        STAGE_LIST_TYPE_1 => listed_type1(response),
-        STAGE_RID => rid(found, response),
-        STAGE_READ_RX_MODE => rx_mode(response),
+        LIST_STAGE => listed_a(response),
+        FIFO_STAGE => fifo(response),
+        LIST_TYPE_1_STAGE => listed_type1(response),
+        RID_STAGE => rid(found, response),
+        READ_RX_MODE_STAGE => rx_mode(response),
         _ => registers::found_written(found, response),
     }
 }
@@ -263,8 +280,8 @@ pub fn failed(stage: u8, fault: Fault) -> Decision
     ensures { λ r. ⌜ Always r (typeAFailure stage fault) ⌝ }
 {
     match stage {
-        STAGE_FIFO => Decision::Send(STAGE_LIST_TYPE_1),
-        STAGE_RID => rid_failed(fault),
+        FIFO_STAGE => Decision::Send(LIST_TYPE_1_STAGE),
+        RID_STAGE => rid_failed(fault),
         _ => Decision::Refused(fault),
     }
 }

@@ -1,11 +1,13 @@
 // detect_type_b: the command of each stage, and what follows each reply.
-use super::TYPE_B;
+use super::TYPE_B_KIND;
 use super::rates::Supported;
-use super::rates::rate;
+use super::rates::bitrate_of;
 use super::rates::type_b_code;
+use super::type_a::LIST_STAGE;
 use chipset::clock;
 use chipset::err;
 use chipset::initiator;
+use chipset::initiator::ONE_TARGET;
 use chipset::response::from;
 use errors::Fault;
 use errors::Refusal;
@@ -31,28 +33,28 @@ ghost use Rattle.discovery.specs.Firsts.{typeBFirst};
 pub fn detect_type_b(bitrate: &[u8], sensb_req: &[u8], command: &mut [u8; DATA_LIMIT]) -> Start
     ensures { λ r. ⌜ Starts r (now (command .entry)) (now (command .exit)) (codeFor typeBCode (now (bitrate .entry)) (typeBFirst (getD (now («sensb_req» .entry)) 0 0))) ⌝ }
 {
-    let Supported::Code(code) = type_b_code(rate(bitrate)) else {
+    let Supported::Code(code) = type_b_code(bitrate_of(bitrate)) else {
         return start::refused(Refusal::Bitrate);
     };
-    let n = put_two(&[1, code, byte_or(sensb_req, 0, 0)], &[], command);
-    start::staged(TYPE_B, n)
+    let n = put_two(&[ONE_TARGET, code, byte_or(sensb_req, 0, 0)], &[], command);
+    start::staged(TYPE_B_KIND, n)
 }
 
-// The stages.
-const STAGE_LIST: u8 = 0;
+// The stages behind the list.
+const DESELECT_STAGE: u8 = 1;
 
-const STAGE_DESELECT: u8 = 1;
-
-const STAGE_WAKE_UP: u8 = 2;
+const WAKE_UP_STAGE: u8 = 2;
 
 // The clock of deselect and wake-up in ms.
-const THRU_CLOCK: u32 = 500;
+const TYPE_B_CLOCK: u32 = 500;
 
 // S(DESELECT).
-const DESELECT: [u8; FIXED_LIMIT] = [0xC2, 0, 0, 0, 0, 0, 0, 0, 0, 0, 0, 0];
+const DESELECT_CODE: u8 = 0xC2;
+
+const DESELECT_DATA: [u8; FIXED_LIMIT] = [DESELECT_CODE, 0, 0, 0, 0, 0, 0, 0, 0, 0, 0, 0];
 
 // WUPB: its code and, behind the AFI, its parameter.
-const WUPB: u8 = 0x05;
+const WUPB_CODE: u8 = 0x05;
 
 const WUPB_PARAMETER: u8 = 0x08;
 
@@ -61,12 +63,17 @@ pub fn command(stage: u8) -> Command
     ensures { λ r. ⌜ Commands r (typeBCommand stage) ⌝ }
 {
     match stage {
-        STAGE_LIST => Command::pending(
-            initiator::IN_LIST_PASSIVE_TARGET,
-            clock::IN_LIST_PASSIVE_TARGET,
+        LIST_STAGE => Command::pending(
+            initiator::IN_LIST_PASSIVE_TARGET_CODE,
+            clock::IN_LIST_PASSIVE_TARGET_CLOCK,
         ),
-        STAGE_DESELECT => Command::with(initiator::IN_COMMUNICATE_THRU, THRU_CLOCK, DESELECT, 1),
-        _ => Command::pending(initiator::IN_COMMUNICATE_THRU, THRU_CLOCK),
+        DESELECT_STAGE => Command::fixed(
+            initiator::IN_COMMUNICATE_THRU_CODE,
+            TYPE_B_CLOCK,
+            DESELECT_DATA,
+            1,
+        ),
+        _ => Command::pending(initiator::IN_COMMUNICATE_THRU_CODE, TYPE_B_CLOCK),
     }
 }
 
@@ -76,7 +83,7 @@ fn iso_dep(protocol: u8, afi: u8) -> Decision
 {
     if protocol % 2 == 1 {
         if protocol / 8 % 2 == 0 {
-            Decision::Put(STAGE_DESELECT, Head(WUPB, afi, WUPB_PARAMETER))
+            Decision::Put(DESELECT_STAGE, Head(WUPB_CODE, afi, WUPB_PARAMETER))
         } else {
             Decision::Nothing
         }
@@ -86,9 +93,9 @@ fn iso_dep(protocol: u8, afi: u8) -> Decision
 }
 
 // Where a list's response has the protocol byte of ATQB.
-const PROTOCOL: usize = 12;
+const PROTOCOL_OFFSET: usize = 12;
 
-const PROTOCOL_END: usize = PROTOCOL + 1;
+const PROTOCOL_END: usize = PROTOCOL_OFFSET + 1;
 
 // detect_type_b: a target was listed, or none.
 fn listed_b(pending: &[u8], response: &[u8]) -> Decision
@@ -103,7 +110,7 @@ fn listed_b(pending: &[u8], response: &[u8]) -> Decision
     if response.len() < PROTOCOL_END {
         Decision::Nothing
     } else {
-        iso_dep(response[PROTOCOL], byte_or(pending, 2, 0))
+        iso_dep(response[PROTOCOL_OFFSET], byte_or(pending, 2, 0))
     }
 }
 
@@ -123,8 +130,8 @@ pub fn decided(stage: u8, pending: &[u8], response: &[u8]) -> Decision
     ensures { λ r. ⌜ ((f : List ℕ) → DecisionRefines f (now (response .entry)) r (typeBDecision stage (now (pending .entry)) (now (response .entry)))) ⌝ }
 {
     match stage {
-        STAGE_LIST => listed_b(pending, response),
-        STAGE_DESELECT => Decision::Send(STAGE_WAKE_UP),
+        LIST_STAGE => listed_b(pending, response),
+        DESELECT_STAGE => Decision::Send(WAKE_UP_STAGE),
         _ => woken(response),
     }
 }
@@ -134,8 +141,8 @@ pub fn failed(stage: u8, fault: Fault) -> Decision
     ensures { λ r. ⌜ Always r (typeBFailure stage fault) ⌝ }
 {
     match stage {
-        STAGE_DESELECT => Decision::Send(STAGE_WAKE_UP), // whatever came of it
-        STAGE_WAKE_UP => Decision::Nothing,
+        DESELECT_STAGE => Decision::Send(WAKE_UP_STAGE), // whatever came of it
+        WAKE_UP_STAGE => Decision::Nothing,
         _ => Decision::Refused(fault),
     }
 }

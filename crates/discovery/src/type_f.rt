@@ -1,12 +1,15 @@
 // detect_type_f: the command of each stage, and what follows each reply.
-use super::TYPE_F;
+use super::TYPE_F_KIND;
 use super::rates::Supported;
-use super::rates::rate;
+use super::rates::bitrate_of;
 use super::rates::type_f_code;
 use chipset::ciu;
 use chipset::clock;
 use chipset::general;
+use chipset::general::FIELD_ON;
+use chipset::general::RF_FIELD_ITEM;
 use chipset::initiator;
+use chipset::initiator::ONE_TARGET;
 use chipset::registers;
 use chipset::response::from;
 use errors::Fault;
@@ -39,42 +42,55 @@ pub fn detect_type_f(
 ) -> Start
     ensures { λ r. ⌜ Starts r (now (command .entry)) (now (command .exit)) (codeFor typeFCode (now (bitrate .entry)) (typeFFirst (sensfReq «system_code» «request_code» «time_slots»))) ⌝ }
 {
-    let Supported::Code(code) = type_f_code(rate(bitrate)) else {
+    let Supported::Code(code) = type_f_code(bitrate_of(bitrate)) else {
         return start::refused(Refusal::Bitrate);
     };
     let high = (system_code / 256) as u8;
     let low = (system_code % 256) as u8;
-    let head = [1, code, SENSF_REQ, high, low, request_code, time_slots];
+    let head = [
+        ONE_TARGET,
+        code,
+        SENSF_REQ_CODE,
+        high,
+        low,
+        request_code,
+        time_slots,
+    ];
     let n = put_two(&head, &[], command);
-    start::staged(TYPE_F, n)
+    start::staged(TYPE_F_KIND, n)
 }
 
 // SENSF_REQ's code.
-pub(crate) const SENSF_REQ: u8 = 0x00;
+pub(crate) const SENSF_REQ_CODE: u8 = 0x00;
 
 // The stages.
-pub(crate) const STAGE_FIELD: u8 = 0;
+pub(crate) const FIELD_STAGE: u8 = 0;
 
-const STAGE_RF_ON: u8 = 1;
+const RF_ON_STAGE: u8 = 1;
 
-const STAGE_POLL: u8 = 2;
+const POLL_STAGE: u8 = 2;
 
 // The field is on for so long before a card is polled.
-const FIELD_PAUSE: u32 = 20400;
+const FIELD_PAUSE_TIME: u32 = 20400;
 
-// RF configuration's item 01, RF field, on.
-const RF_ON: [u8; FIXED_LIMIT] = [0x01, 0x01, 0, 0, 0, 0, 0, 0, 0, 0, 0, 0];
+// RF configuration: the field on.
+const RF_ON_DATA: [u8; FIXED_LIMIT] = [RF_FIELD_ITEM, FIELD_ON, 0, 0, 0, 0, 0, 0, 0, 0, 0, 0];
 
 // The command of a stage.
 pub fn command(stage: u8) -> Command
     ensures { λ r. ⌜ Commands r (typeFCommand stage) ⌝ }
 {
     match stage {
-        STAGE_FIELD => registers::read_single_register_command(ciu::TX_CONTROL),
-        STAGE_RF_ON => Command::with(general::RF_CONFIGURATION, clock::COMMAND, RF_ON, 2),
+        FIELD_STAGE => registers::read_single_register_command(ciu::CIU_TX_CONTROL),
+        RF_ON_STAGE => Command::fixed(
+            general::RF_CONFIGURATION_CODE,
+            clock::COMMAND_CLOCK,
+            RF_ON_DATA,
+            2,
+        ),
         _ => Command::pending(
-            initiator::IN_LIST_PASSIVE_TARGET,
-            clock::IN_LIST_PASSIVE_TARGET,
+            initiator::IN_LIST_PASSIVE_TARGET_CODE,
+            clock::IN_LIST_PASSIVE_TARGET_CLOCK,
         ),
     }
 }
@@ -86,15 +102,15 @@ fn tx_control(response: &[u8]) -> Decision
     if response.len() < 1 {
         return Decision::Refused(Fault::ShortResponse);
     }
-    if response[0] % 4 == 0 {
-        Decision::Send(STAGE_RF_ON)
+    if response[0] % ciu::TX_RF_EN == 0 {
+        Decision::Send(RF_ON_STAGE)
     } else {
-        Decision::Send(STAGE_POLL)
+        Decision::Send(POLL_STAGE)
     }
 }
 
 // Where a list's response has IDm, and where PMm ends.
-pub(crate) const IDM: usize = 4;
+pub(crate) const LISTED_IDM_OFFSET: usize = 4;
 
 const PMM_END: usize = 20;
 
@@ -108,7 +124,7 @@ fn polled(response: &[u8]) -> Decision
     if response.len() < PMM_END {
         Decision::Refused(Fault::ShortResponse)
     } else {
-        from(response, IDM)
+        from(response, LISTED_IDM_OFFSET)
     }
 }
 
@@ -117,8 +133,8 @@ pub fn decided(stage: u8, response: &[u8]) -> Decision
     ensures { λ r. ⌜ ((f : List ℕ) → DecisionRefines f (now (response .entry)) r (typeFDecision stage (now (response .entry)))) ⌝ }
 {
     match stage {
-        STAGE_FIELD => tx_control(response),
-        STAGE_RF_ON => Decision::Pause(FIELD_PAUSE, STAGE_POLL),
+        FIELD_STAGE => tx_control(response),
+        RF_ON_STAGE => Decision::Pause(FIELD_PAUSE_TIME, POLL_STAGE),
         _ => polled(response),
     }
 }

@@ -15,7 +15,7 @@ use Rattle.exchange.specs.Exchange.{Order, write, read, drain, pause}
 use Rattle.protocol.specs.Scripts.{Byte, Answer}
 use Rattle.protocol.specs.Calls.{Call, isOpening, isPaddedMode}
 use Rattle.protocol.specs.Count.{length-counted}
-use Rattle.protocol.specs.Session.{lastCaller, addFrame, counted, countedFor, ceiling, succeeds, bookOrder, bookAnswer, Effect, unchanged, runs, ends, bookEffect}
+use Rattle.protocol.specs.Session.{lastCaller, addFrame, counted, countedFor, ceiling, succeeds, bookOrder, bookAnswer, Effect, unchanged, runs, ends, bookEffect, callerCount}
 use Rattle.protocol.specs.Session as Spec
 use Rattle.protocol.specs.Laws.{frame-not-ack, ack-is-ack}
 use Rattle.engine.specs.Books.{Books, books, booksOf, openedIn, modeIn, callerIn, noBooks, isInRange, oneMore, byCaller, ended, booked}
@@ -40,7 +40,7 @@ AllFew (n ∷ ns) = (n ≤ ceiling) × AllFew ns
 
 pub record Bounded (b : Spec.Books) : Type 0 where
   pub caller : b .caller ≤ lastCaller
-  pub eight : length (b .counts) ≡ 8
+  pub eight : length (b .counts) ≡ callerCount
   pub few : AllFew (b .counts)
 
 pub begun-bounded : (padded : Bool) (k : ℕ) → k ≤ lastCaller → Bounded (Spec.noBooks padded k)

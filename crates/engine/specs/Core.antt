@@ -24,7 +24,7 @@ use Rattle.stages.specs.Stages.{Command, Decision, send, keep, next, put as put
 use Rattle.stages.specs.Starts.{Start, staged, sends as sendsFirst, refuses as refusesAtOnce}
 use Rattle.calls.specs.Tables.{commandOf, decidedOf, failedOf}
 use Rattle.stages.specs.Decided.{foundLimit}
-use Rattle.engine.specs.Transitions.{openingAckPhase, noCall, firstCall, validCall, fits, at, toStage, toCursor, Transitioned, unfitting, orders, sends, resetDone, replies, refuses, transitionOf}
+use Rattle.engine.specs.Transitions.{openingAckPhase, noCall, firstCall, validCall, fits, at, toStage, toCursor, Transitioned, unfitting, orders, sends, resetDone, replies, refuses, transitionOf, pausePhase}
 use Rattle.engine.specs.declared.call.Call.{Call}
 use Rattle.engine.specs.declared.core.Core.{Core}
 use Rattle.engine.specs.declared.core.Progress.{Progress}
@@ -139,7 +139,7 @@ performsOf s f (send n) b = stageOf s f (toStage (s .call) n) b
 performsOf s f (keep n bytes) b = keepsOf s f (toStage (s .call) n) bytes b
 performsOf s f (next n cursor bytes) b = keepsOf s f (toCursor (s .call) n cursor) bytes b
 performsOf s f (putBy n bytes) b = stageOf (withCommand s (length bytes)) (putCommand bytes f) (toStage (s .call) n) b
-performsOf s f (pauseFor us n) b = ordersOf s f (pause us) (at (toStage (s .call) n) 5) (s .exchange) b
+performsOf s f (pauseFor us n) b = ordersOf s f (pause us) (at (toStage (s .call) n) pausePhase) (s .exchange) b
 performsOf s f (ends a) b = answersOf s f a b
 
 -- what is decided upon the response to the call's command, or its reset, and upon its failure

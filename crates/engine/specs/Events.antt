@@ -17,7 +17,7 @@ use Rattle.protocol.specs.Scripts.{Script, refused}
 use Rattle.protocol.specs.Device.{deviceNew}
 use Rattle.protocol.specs.Calls.{ReaderCall, opening, reader}
 use Rattle.protocol.specs.Starts.{Start, starts, readerStart}
-use Rattle.protocol.specs.Session.{byReply, ofReset, enter, afterReply, progress, idle, packetLength, admitted, eventEffect, started, packetLimit}
+use Rattle.protocol.specs.Session.{byReply, ofReset, startScript, afterReply, progress, idle, packetLength, admitted, eventEffect, started, packetLimit}
 use Rattle.protocol.specs.Session.{runs as runsOf}
 use Rattle.stages.specs.Stages.{Decision, send, refuse}
 use Rattle.stages.specs.Put.{take-put}
@@ -32,7 +32,7 @@ use Rattle.engine.specs.Transitions.{exchangePhase, resetAckPhase, pause
 use Rattle.engine.specs.Core.{stageOf, admittedOf, transitionedOf, performsOf, failsOf, repliesOf, eventCore, openCore, startOn}
 use Rattle.engine.specs.Relation.{Position, Wait, reply, resetReply, resetAck, resetPause, openingAck, openingReads, pausing, phaseNumber, callAt, phaseAt, Fields, coreWith, arraysAt, PositionAgrees, coreAt, free}
 use Rattle.engine.specs.Exchanges.{NoCommand, good, reply-short}
-use Rattle.engine.specs.Simulation.{Simulates, sim-unchanged, sim-orders, sim-sends, sim-answer, with-command, decision-sims, SimulatesHere, Advances, advances-none, advances, advances-enter, advances-exchange, two-write, two-read, two-pause}
+use Rattle.engine.specs.Simulation.{Simulates, sim-unchanged, sim-orders, sim-sends, sim-answer, with-command, decision-sims, SimulatesHere, Advances, advances-none, advances, advances-start, advances-exchange, two-write, two-read, two-pause}
 use Rattle.protocol.specs.Names.{openingReadTime, resetPauseTime}
 use Rattle.calls.specs.Kinds.{firstStage}
 use Rattle.device.specs.Kinds.{openingKind, resetStage}
@@ -52,13 +52,13 @@ module _ (p : Position) (w : Wait p) (v : Fields) (agrees : PositionAgrees p v) 
   -- what is decided leads to the script
   advances-decision : (mv : Transitioned) (d : Decision) (s : Script) → fits mv ≡ true
       → ((b : List ℕ) → transitionedOf (coreAt p w v) (arraysAt v) mv b ≡ performsOf (coreAt p w v) (arraysAt v) d b)
-      → (replyLength mv ≤ packetLimit → Refines (p .kind) (p .cursor) (p .pending) (p .found) d s) → Advances p w v agrees mv (enter s)
+      → (replyLength mv ≤ packetLimit → Refines (p .kind) (p .cursor) (p .pending) (p .found) d s) → Advances p w v agrees mv (startScript s)
   advances-decision mv d s h is l =
-      advances-enter p w v agrees mv s h (λ b few. rw (is b) (decision-sims p _ v (p .stage) _ d s b (agrees .pending) (agrees .found) (l few)))
+      advances-start p w v agrees mv s h (λ b few. rw (is b) (decision-sims p _ v (p .stage) _ d s b (agrees .pending) (agrees .found) (l few)))
 
   -- the command of the call's stage follows
   advances-send : (s : Script) → Refines (p .kind) (p .cursor) (p .pending) (p .found) (send (p .stage)) s
-      → Advances p w v agrees (sends (record { kind = p .kind; stage = p .stage; cursor = p .cursor; phase = exchangePhase })) (enter s)
+      → Advances p w v agrees (sends (record { kind = p .kind; stage = p .stage; cursor = p .cursor; phase = exchangePhase })) (startScript s)
   unfolding transitionedOf performsOf
   advances-send s l = advances-decision (sends _) (send (p .stage)) s refl (λ b. refl) (λ _. l)
 
@@ -182,9 +182,9 @@ start-sims : (v : Fields) (q : ReaderCall) (b : List ℕ) (x : Start) (y : stage
     → Simulates false idle (startOn (coreWith v noCall) (arraysAt v) y b) (started (reader q) x)
 unfolding startOn phaseIn performsOf stageOf
 start-sims v q b x y (refusedNow r) = sim-unchanged r b (free v refl refl refl)
-start-sims v q b x y (first kind code clock bytes k isKind noReset small stands) =
+start-sims v q b x y (first kind code clock bytes k isKind noReset small awaits) =
     sim-sends (with-command v bytes small) noCall false idle (first-position q kind bytes (take (v .kept) (v .found)) isKind)
-    (reply k noReset (stands (take (v .kept) (v .found)))) code clock bytes b record { pending = take-put bytes (v .command); found = refl }
+    (reply k noReset (awaits (take (v .kept) (v .found)))) code clock bytes b record { pending = take-put bytes (v .command); found = refl }
 start-sims v q b x y (fromStage kind later s isKind small l) =
     decision-sims (first-position q kind later (take (v .kept) (v .found)) isKind) idle (with-command v later small) 0 0 (send firstStage) s b (take-put later (v .command)) refl (l (take (v .kept) (v .found)))
 

@@ -15,10 +15,11 @@ use Rattle.engine.specs.SessionSteps.{openAfter as openedAt, startAfter}
 use Rattle.engine.specs.declared.core.Output.{Output}
 use Rattle.engine.specs.declared.core.Output.the-variants.{Ack, Command, Read, Drain, Pause, Done, Type1, UidAndAts, Nothing, Failed, FailedAfter, Refused}
 use Rattle.engine.specs.declared.session.Session.{Session}
+use Rattle.framing.specs.Names.{ackSize}
 
 -- what the host is given: an output with the buffer's bytes
 abbrev pub outputOf : Output → List ℕ → Given ℕ
-outputOf Ack b = orders (write (take 6 b))
+outputOf Ack b = orders (write (take ackSize b))
 outputOf (Command n) b = orders (write (take n b))
 outputOf (Read ms) b = orders (read ms)
 outputOf Drain b = orders drain

@@ -18,7 +18,7 @@ use Rattle.exchange.specs.Steps.{phaseIn, exchangeAt, drainingPhase, sendingPha
 use Rattle.exchange.specs.declared.Exchange.{Exchange}
 use Rattle.protocol.specs.Scripts.{Byte, value, Answer, done, type1, uidAndAts, nothing, refused, refusedAfter, Script, finish, command, reset, fieldPause}
 use Rattle.protocol.specs.Calls.{Call as CallOf, isOpening, resetModeCode, resetModeData}
-use Rattle.protocol.specs.Session.{exchange, Rest, CallResult, enter, afterReply, afterExchange, Running, busy, packetLength, admitted, eventEffect, Effect, effect, runningAfter, packetLimit, bufferNeed}
+use Rattle.protocol.specs.Session.{exchange, Rest, CallResult, startScript, afterReply, afterExchange, Running, busy, packetLength, admitted, eventEffect, Effect, effect, runningAfter, packetLimit, bufferNeed}
 use Rattle.protocol.specs.Session.{orders, answers, given, unchanged as unchangedOf, runs as runsOf, ends as endsIn}
 use Rattle.protocol.specs.Session as Spec
 use Rattle.protocol.specs.Machine.{outputValues, plainAnswer}
@@ -41,6 +41,7 @@ use Rattle.engine.specs.declared.core.Output.the-variants as out
 use Rattle.protocol.specs.Names.{fieldPauseTime, commandClock}
 use Rattle.protocol.specs.Starts.{dataLimit}
 use Rattle.calls.specs.Kinds.{lastStage}
+use Rattle.framing.specs.Names.{ackSize}
 
 -- What an entry leaves, beside what the definitions say; the running call is m before it. What is booked of the output, of the call of any
 -- caller k, is what the definitions book of the effect.
@@ -83,7 +84,7 @@ module _ (v : Fields) (c : Call) (t : Bool) (m : Running) where
       go : (o : Order) → NoCommand o → Simulates t m (ordersOf (coreWith v c) (arraysAt v) o (callAt p w) x b) (runsOf (p .call) o (phaseAt w x))
       go (write bytes) e = record {
         represents = here;
-        output = rw e (ap (λ l. orders (write l)) (take-append-seam ack (drop 6 b)));
+        output = rw e (ap (λ l. orders (write l)) (take-append-seam ack (drop ackSize b)));
         booked = λ k n h. rw e (quiet-booked k (write ack) n ack-counts);
       }
       go (read ms) e = record { represents = here; output = refl; booked = λ k n h. quiet-booked k (read ms) n (λ _. refl) }
@@ -202,7 +203,7 @@ module _ (p : Position) (m : Running) where
 
   pub decision-sims : {later found : List ℕ} {i : ℕ} (v : Fields) (stage phase : ℕ) (d : Decision) (s : Script) (b : List ℕ)
       → take (v .pending) (v .command) ≡ later → take (v .kept) (v .found) ≡ found → Refines (p .kind) i later found d s
-      → Simulates (isOpening (p .call)) m (performsOf (coreWith v (callOf p stage i phase)) (arraysAt v) d b) (effect (p .call) (enter s))
+      → Simulates (isOpening (p .call)) m (performsOf (coreWith v (callOf p stage i phase)) (arraysAt v) d b) (effect (p .call) (startScript s))
   unfolding performsOf phaseIn
   decision-sims v stage phase d s b e f (refines-end a c h) = sim-answer v (callOf p stage _ phase) (p .call) m c a b h
   decision-sims v stage phase d s b e f (refines-send n code clock bytes k h q is-command answered failing) =
@@ -210,7 +211,7 @@ module _ (p : Position) (m : Running) where
   decision-sims v stage phase d s b e f (refines-reset n r h q is-command l) = stage-sims v _ _ n _ h (resetReply r q l) (callOf p stage _ phase) resetModeCode commandClock resetModeData b e f is-command refl
   decision-sims v stage phase d s b e f (refines-keep n l s′ few k) = decision-sims (with-found v l few) stage phase (send n) s b e (take-put l (v .found)) k
   decision-sims v stage phase d s b e f (refines-next n j l s′ few k) =
-      subst (λ a. Simulates (isOpening (p .call)) m a (effect (p .call) (enter s))) (same-stage (with-found v l few) (callOf p stage j phase) (callOf p stage _ phase) (callOf p n j 0) b)
+      subst (λ a. Simulates (isOpening (p .call)) m a (effect (p .call) (startScript s))) (same-stage (with-found v l few) (callOf p stage j phase) (callOf p stage _ phase) (callOf p n j 0) b)
       (decision-sims (with-found v l few) stage phase (send n) s b e (take-put l (v .found)) k)
   decision-sims v stage phase d s b e f (refines-put n l s′ few k) = decision-sims (with-command v l few) stage phase (send n) s b (take-put l (v .command)) f k
   decision-sims v stage phase d s b e f (refines-pause n r h k) =
@@ -245,13 +246,13 @@ module _ (p : Position) (w : Wait p) (v : Fields) (agrees : PositionAgrees p v) 
       (sim-pick (ltb (length b) bufferNeed) (stays ShortBuffer b)
       (λ _. sim-pick (ltb packetLimit (packetLength e)) (stays OverLong b) (λ n. k b (omega (arith, l, ltb-false packetLimit (packetLength e) n)))))
 
-  -- a script is entered
-  pub advances-enter : (mv : Transitioned) (s : Script) → fits mv ≡ true → ((b : List ℕ) → replyLength mv ≤ packetLimit → SimulatesHere (transitionedOf (coreAt p w v) (arraysAt v) mv b) (effect (p .call) (enter s)))
-      → Advances mv (enter s)
-  advances-enter mv (finish a) h k = advances mv _ h k
-  advances-enter mv (command code clock bytes n) h k = advances mv _ h k
-  advances-enter mv (reset s) h k = advances mv _ h k
-  advances-enter mv (fieldPause s) h k = advances mv _ h k
+  -- a script starts
+  pub advances-start : (mv : Transitioned) (s : Script) → fits mv ≡ true → ((b : List ℕ) → replyLength mv ≤ packetLimit → SimulatesHere (transitionedOf (coreAt p w v) (arraysAt v) mv b) (effect (p .call) (startScript s)))
+      → Advances mv (startScript s)
+  advances-start mv (finish a) h k = advances mv _ h k
+  advances-start mv (command code clock bytes n) h k = advances mv _ h k
+  advances-start mv (reset s) h k = advances mv _ h k
+  advances-start mv (fieldPause s) h k = advances mv _ h k
 
   -- the exchange goes on or ends
   pub advances-exchange : (rest : Rest) → ((x : Exchange) → phaseAt w x ≡ exchange (phaseIn x) rest)

@@ -16,16 +16,16 @@ pub const MODE: usize = 1;
 
 pub const CALLER: usize = 2;
 
-pub const BOOKS: usize = 3;
+pub const BOOKS_SIZE: usize = 3;
 
 pub const CLOSED: u8 = 0;
 
 pub const OPEN: u8 = 1;
 
 // The modes: packets start with 00 00 FF, or up to 16 more zeros may stand before them.
-pub const OFF: u8 = 0;
+pub const OFF_MODE: u8 = 0;
 
-pub const PADDED: u8 = 1;
+pub const PADDED_MODE: u8 = 1;
 
 // Callers are numbered from 0 to 7.
 pub const CALLERS: usize = 8;
@@ -42,7 +42,7 @@ pub fn is_in_range(opened: u8, mode: u8, caller: u8) -> bool
     if opened > OPEN {
         return false;
     }
-    if mode > PADDED {
+    if mode > PADDED_MODE {
         return false;
     }
     caller <= LAST_CALLER
@@ -52,7 +52,7 @@ pub fn is_in_range(opened: u8, mode: u8, caller: u8) -> bool
 pub fn extra_zeros(mode: u8, packet: &[u8]) -> usize
     ensures { λ r. ⌜ r ≡ extraIn mode (now (packet .entry)) ⌝ }
 {
-    if mode == PADDED {
+    if mode == PADDED_MODE {
         if PACKET_LIMIT < packet.len() {
             return 0;
         }
@@ -63,7 +63,7 @@ pub fn extra_zeros(mode: u8, packet: &[u8]) -> usize
 }
 
 // Where an opening begins, in its mode. The books of a fresh session have it off.
-pub(crate) fn begin(frames: &mut [u32; CALLERS], books: &mut [u8; BOOKS], mode: u8)
+pub(crate) fn begin(frames: &mut [u32; CALLERS], books: &mut [u8; BOOKS_SIZE], mode: u8)
     ensures { λ _. ⌜ booksOf (now (books .exit)) (now (frames .exit)) ≡ noBooks mode ⌝ }
 {
     *books = [CLOSED, mode, 0];
@@ -78,7 +78,7 @@ fn one_more(frames: u32) -> u32
 }
 
 // A command frame counts for a caller.
-fn count(frames: &mut [u32; CALLERS], caller: u8)
+fn count_frame(frames: &mut [u32; CALLERS], caller: u8)
     requires { ⌜ caller ≤ lastCaller ⌝ }
     ensures { λ _. ⌜ now (frames .exit) ≡ countedIn caller (now (frames .entry)) ⌝ }
 {
@@ -88,7 +88,7 @@ fn count(frames: &mut [u32; CALLERS], caller: u8)
 }
 
 // A caller's call has ended: an opening leaves the reader open or not, any other call leaves it as it was.
-fn end(books: &mut [u8; BOOKS], caller: u8, opening: bool, opened: u8)
+fn end_call(books: &mut [u8; BOOKS_SIZE], caller: u8, opening: bool, opened: u8)
     ensures { λ _. ⌜ ((n : List ℕ) → booksOf (now (books .exit)) n ≡ ended (byCaller caller (booksOf (now (books .entry)) n)) opening opened) ⌝ }
 {
     books[CALLER] = caller;
@@ -100,7 +100,7 @@ fn end(books: &mut [u8; BOOKS], caller: u8, opening: bool, opened: u8)
 // What came out of a caller's call, an opening or not: a command frame counts, and an opening's end says whether the reader is open.
 pub(crate) fn book(
     frames: &mut [u32; CALLERS],
-    books: &mut [u8; BOOKS],
+    books: &mut [u8; BOOKS_SIZE],
     caller: u8,
     opening: bool,
     output: Output,
@@ -111,14 +111,14 @@ pub(crate) fn book(
     match output {
         Output::Command(_) => {
             books[CALLER] = caller;
-            count(frames, caller);
+            count_frame(frames, caller);
         }
-        Output::Done(_) => end(books, caller, opening, OPEN),
-        Output::Type1(_) => end(books, caller, opening, OPEN),
-        Output::UidAndAts(_, _, _) => end(books, caller, opening, OPEN),
-        Output::Nothing => end(books, caller, opening, CLOSED),
-        Output::Failed(_) => end(books, caller, opening, CLOSED),
-        Output::FailedAfter(_, _) => end(books, caller, opening, CLOSED),
+        Output::Done(_) => end_call(books, caller, opening, OPEN),
+        Output::Type1(_) => end_call(books, caller, opening, OPEN),
+        Output::UidAndAts(_, _, _) => end_call(books, caller, opening, OPEN),
+        Output::Nothing => end_call(books, caller, opening, CLOSED),
+        Output::Failed(_) => end_call(books, caller, opening, CLOSED),
+        Output::FailedAfter(_, _) => end_call(books, caller, opening, CLOSED),
         Output::Ack => books[CALLER] = caller,
         Output::Read(_) => books[CALLER] = caller,
         Output::Drain => books[CALLER] = caller,

@@ -1,5 +1,5 @@
 // Events by their numbers, for a host: the running call's numbers go by value, and the session's arrays are lent.
-use super::books::BOOKS;
+use super::books::BOOKS_SIZE;
 use super::books::CALLERS;
 use super::core::Core;
 use super::core::FOUND_LIMIT;
@@ -16,19 +16,19 @@ ghost use Rattle.engine.specs.SessionSteps.{stateOf, effected};
 ghost use Rattle.engine.specs.Numbers.{eventBy, knownIn, afterEventNumber};
 
 // The numbers of events.
-const OK: u8 = 0;
+const OK_EVENT: u8 = 0;
 
-const BAD: u8 = 1;
+const BAD_EVENT: u8 = 1;
 
-const PACKET: u8 = 2;
+const PACKET_EVENT: u8 = 2;
 
-const TIME: u8 = 3;
+const TIME_EVENT: u8 = 3;
 
-const FAIL: u8 = 4;
+const FAIL_EVENT: u8 = 4;
 
-const LATE: u8 = 5;
+const LATE_EVENT: u8 = 5;
 
-const SLEPT: u8 = 6;
+const SLEPT_EVENT: u8 = 6;
 
 // The event of a number, where it has one.
 pub enum Known {
@@ -40,13 +40,13 @@ pub fn event_by(number: u8) -> Known
     ensures { λ r. ⌜ ((packet : List ℕ) → knownIn r packet ≡ eventBy number packet) ⌝ }
 {
     match number {
-        OK => Known::Is(Event::Ok),
-        BAD => Known::Is(Event::Bad),
-        PACKET => Known::Is(Event::Packet),
-        TIME => Known::Is(Event::Time),
-        FAIL => Known::Is(Event::Fail),
-        LATE => Known::Is(Event::Late),
-        SLEPT => Known::Is(Event::Slept),
+        OK_EVENT => Known::Is(Event::Ok),
+        BAD_EVENT => Known::Is(Event::Bad),
+        PACKET_EVENT => Known::Is(Event::Packet),
+        TIME_EVENT => Known::Is(Event::Time),
+        FAIL_EVENT => Known::Is(Event::Fail),
+        LATE_EVENT => Known::Is(Event::Late),
+        SLEPT_EVENT => Known::Is(Event::Slept),
         _ => Known::Not,
     }
 }
@@ -57,7 +57,7 @@ pub fn event(
     command: &mut [u8; DATA_LIMIT],
     found: &mut [u8; FOUND_LIMIT],
     frames: &mut [u32; CALLERS],
-    books: &mut [u8; BOOKS],
+    books: &mut [u8; BOOKS_SIZE],
     number: u8,
     packet: &[u8],
     buffer: &mut [u8],

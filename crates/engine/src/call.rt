@@ -1,4 +1,5 @@
 // A running call, as a few numbers: what an event does to it, apart from buffer and session.
+use calls::NO_CALL_KIND;
 use errors::Fault;
 use exchange::Advanced;
 use exchange::Event;
@@ -12,28 +13,18 @@ ghost use Rattle.exchange.specs.Exchange.{onWrite, onPause};
 ghost use Rattle.exchange.specs.Steps.{eventOf};
 ghost use Rattle.engine.specs.Transitions.{noCall, firstCall, at, toStage, toCursor, transitionIn, transitionOf, resetAckTransition, resetPauseTransition, openingAckTransition, openingReadsTransition, pauseTransition, unfitting, refuses};
 
-// What runs: no call, the opening, a call of one command by the number of the rule for its response, or a discovery.
-pub const NO_CALL: u8 = 0;
-
-pub const OPEN: u8 = 1;
-
-pub const LAST: u8 = 24;
-
-// The last stage of the call that has most, the opening.
-pub const LAST_STAGE: u8 = 9;
-
 // What a call waits for: its command's exchange, a reset's ACK or pause, the opening's ACK or reads, a pause.
-pub const EXCHANGE: u8 = 0;
+pub const EXCHANGE_PHASE: u8 = 0;
 
-pub const RESET_ACK: u8 = 1;
+pub const RESET_ACK_PHASE: u8 = 1;
 
-pub const RESET_PAUSE: u8 = 2;
+pub const RESET_PAUSE_PHASE: u8 = 2;
 
-pub const OPENING_ACK: u8 = 3;
+pub const OPENING_ACK_PHASE: u8 = 3;
 
-pub const OPENING_READS: u8 = 4;
+pub const OPENING_READS_PHASE: u8 = 4;
 
-pub const PAUSE: u8 = 5;
+pub const PAUSE_PHASE: u8 = 5;
 
 // The pause behind a reset's ACK in µs, and the ms of an opening's reads.
 const RESET_PAUSE_TIME: u32 = 10000;
@@ -66,7 +57,7 @@ pub enum Transition {
 }
 
 // A write's event: what follows it, or the end with 7.
-fn written(event: Event, next: Transition) -> Transition
+fn after_write(event: Event, next: Transition) -> Transition
     ensures { λ r. ⌜ ((code : ℕ) (p : List ℕ) → transitionIn code p r ≡ onWrite unfitting (transitionIn code p next) (refuses Transport) (eventOf event p)) ⌝ }
 {
     match event {
@@ -81,7 +72,7 @@ fn written(event: Event, next: Transition) -> Transition
 }
 
 // A pause's event.
-fn slept(event: Event, next: Transition) -> Transition
+fn after_pause(event: Event, next: Transition) -> Transition
     ensures { λ r. ⌜ ((code : ℕ) (p : List ℕ) → transitionIn code p r ≡ onPause unfitting (transitionIn code p next) (eventOf event p)) ⌝ }
 {
     match event {
@@ -101,10 +92,10 @@ impl Call {
         ensures { λ r. ⌜ r ≡ noCall ⌝ }
     {
         Call {
-            kind: NO_CALL,
+            kind: NO_CALL_KIND,
             stage: 0,
             cursor: 0,
-            phase: EXCHANGE,
+            phase: EXCHANGE_PHASE,
         }
     }
 
@@ -116,7 +107,7 @@ impl Call {
             kind,
             stage: 0,
             cursor: 0,
-            phase: EXCHANGE,
+            phase: EXCHANGE_PHASE,
         }
     }
 
@@ -139,7 +130,7 @@ impl Call {
             kind: self.kind,
             stage,
             cursor: self.cursor,
-            phase: EXCHANGE,
+            phase: EXCHANGE_PHASE,
         }
     }
 
@@ -151,7 +142,7 @@ impl Call {
             kind: self.kind,
             stage,
             cursor,
-            phase: EXCHANGE,
+            phase: EXCHANGE_PHASE,
         }
     }
 
@@ -160,16 +151,16 @@ impl Call {
     {
         let next = Transition::Orders(
             Order::Pause(RESET_PAUSE_TIME),
-            self.at(RESET_PAUSE),
+            self.at(RESET_PAUSE_PHASE),
             exchange,
         );
-        written(event, next)
+        after_write(event, next)
     }
 
     fn on_reset_pause(self, event: Event) -> Transition
         ensures { λ r. ⌜ ((code : ℕ) (p : List ℕ) → transitionIn code p r ≡ resetPauseTransition (eventOf event p)) ⌝ }
     {
-        slept(event, Transition::Ends(End::ResetDone))
+        after_pause(event, Transition::Ends(End::ResetDone))
     }
 
     fn on_opening_ack(self, exchange: Exchange, event: Event) -> Transition
@@ -177,10 +168,10 @@ impl Call {
     {
         let next = Transition::Orders(
             Order::Read(OPENING_READ_TIME),
-            self.at(OPENING_READS),
+            self.at(OPENING_READS_PHASE),
             exchange,
         );
-        written(event, next)
+        after_write(event, next)
     }
 
     fn on_opening_reads(self, exchange: Exchange, event: Event) -> Transition
@@ -188,8 +179,8 @@ impl Call {
     {
         match event {
             Event::Packet => Transition::Orders(Order::Read(OPENING_READ_TIME), self, exchange),
-            Event::Time => Transition::Sends(self.at(EXCHANGE)),
-            Event::Fail => Transition::Sends(self.at(EXCHANGE)),
+            Event::Time => Transition::Sends(self.at(EXCHANGE_PHASE)),
+            Event::Fail => Transition::Sends(self.at(EXCHANGE_PHASE)),
             Event::Ok => Transition::Unfit,
             Event::Bad => Transition::Unfit,
             Event::Late => Transition::Unfit,
@@ -200,7 +191,7 @@ impl Call {
     fn on_pause(self, event: Event) -> Transition
         ensures { λ r. ⌜ ((code : ℕ) (p : List ℕ) → transitionIn code p r ≡ pauseTransition self (eventOf event p)) ⌝ }
     {
-        slept(event, Transition::Sends(self.at(EXCHANGE)))
+        after_pause(event, Transition::Sends(self.at(EXCHANGE_PHASE)))
     }
 
     // What an event does to the call.
@@ -209,12 +200,12 @@ impl Call {
     {
         let phase = self.phase;
         match phase {
-            EXCHANGE => {}
-            RESET_ACK => return self.on_reset_ack(exchange, event),
-            RESET_PAUSE => return self.on_reset_pause(event),
-            OPENING_ACK => return self.on_opening_ack(exchange, event),
-            OPENING_READS => return self.on_opening_reads(exchange, event),
-            PAUSE => return self.on_pause(event),
+            EXCHANGE_PHASE => {}
+            RESET_ACK_PHASE => return self.on_reset_ack(exchange, event),
+            RESET_PAUSE_PHASE => return self.on_reset_pause(event),
+            OPENING_ACK_PHASE => return self.on_opening_ack(exchange, event),
+            OPENING_READS_PHASE => return self.on_opening_reads(exchange, event),
+            PAUSE_PHASE => return self.on_pause(event),
             _ => return Transition::Unfit,
         }
         let end = match exchange.advance(event, packet) {
@@ -225,7 +216,7 @@ impl Call {
         };
         // Behind a reset's exchange follows ACK, whatever came of it.
         if calls::is_reset(self.kind, self.stage) {
-            return Transition::Orders(Order::Ack, self.at(RESET_ACK), exchange);
+            return Transition::Orders(Order::Ack, self.at(RESET_ACK_PHASE), exchange);
         }
         Transition::Ends(end)
     }

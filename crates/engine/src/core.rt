@@ -1,12 +1,12 @@
 // One running call: its numbers, and what a call or an event does to them, to the arrays and to the buffer.
 use super::call::Call;
-use super::call::LAST;
-use super::call::LAST_STAGE;
-use super::call::NO_CALL;
-use super::call::OPEN;
-use super::call::OPENING_ACK;
-use super::call::PAUSE;
+use super::call::OPENING_ACK_PHASE;
+use super::call::PAUSE_PHASE;
 use super::call::Transition;
+use calls::LAST_KIND;
+use calls::LAST_STAGE;
+use calls::NO_CALL_KIND;
+use device::OPENING_KIND;
 use errors::Fault;
 use errors::Refusal;
 use exchange::Event;
@@ -111,16 +111,16 @@ impl Core {
         if self.found > FOUND_LIMIT {
             return false;
         }
-        if exchange.phase > Exchange::DRAINING {
+        if exchange.phase > Exchange::DRAINING_PHASE {
             return false;
         }
-        if call.kind > LAST {
+        if call.kind > LAST_KIND {
             return false;
         }
         if call.stage > LAST_STAGE {
             return false;
         }
-        call.phase <= PAUSE
+        call.phase <= PAUSE_PHASE
     }
 
     fn running(self, call: Call, exchange: Exchange) -> Core
@@ -262,7 +262,7 @@ impl Core {
     {
         let call = self.call;
         let exchange = self.exchange;
-        if call.kind == NO_CALL {
+        if call.kind == NO_CALL_KIND {
             return self.refused(Refusal::OutOfTurn);
         }
         let transition = call.transition(exchange, event, packet);
@@ -293,10 +293,10 @@ impl Core {
     {
         let exchange = self.exchange;
         let call = Call {
-            kind: OPEN,
+            kind: OPENING_KIND,
             stage: 0,
             cursor: 0,
-            phase: OPENING_ACK,
+            phase: OPENING_ACK_PHASE,
         };
         self.with_found(0)
             .ordered(Order::Ack, call, exchange, buffer)

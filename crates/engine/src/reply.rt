@@ -1,7 +1,7 @@
 // What follows the packet that ends a command's exchange: the answer of a call, or its next command.
 use super::call::Call;
 use super::call::End;
-use super::call::PAUSE;
+use super::call::PAUSE_PHASE;
 use super::core::Core;
 use super::core::Output;
 use super::core::Progress;
@@ -42,7 +42,7 @@ fn lay(layout: Layout, response: &[u8], target: &mut [u8]) -> usize
 }
 
 // Puts a layout at the target's start.
-fn answer(layout: Layout, found: &[u8], response: &[u8], target: &mut [u8]) -> usize
+fn put_answer(layout: Layout, found: &[u8], response: &[u8], target: &mut [u8]) -> usize
     requires { ⌜ Fitting (now found) (now response) layout × (layout .kept + (layout .«head_len» + (layout .len + layout .«tail_len»)) ≤ length (now target)) ⌝ }
     ensures { λ r. ⌜ r ≡ length (layoutBytes (now (found .entry)) (now (response .entry)) layout) ⌝ }
     ensures { λ r. ⌜ now (target .exit) ≡ put (layoutBytes (now (found .entry)) (now (response .entry)) layout) (now (target .entry)) ⌝ }
@@ -54,7 +54,7 @@ fn answer(layout: Layout, found: &[u8], response: &[u8], target: &mut [u8]) -> u
 
 impl Core {
     // Bytes are kept, and the command of a call's stage follows.
-    fn kept(
+    fn keep(
         self,
         call: Call,
         layout: Layout,
@@ -71,7 +71,7 @@ impl Core {
     }
 
     // Three bytes become the pending command, and the command of a stage follows.
-    fn put_by(self, stage: u8, bytes: Head, command: &mut [u8], buffer: &mut [u8]) -> Progress
+    fn put_pending(self, stage: u8, bytes: Head, command: &mut [u8], buffer: &mut [u8]) -> Progress
         requires { ⌜ (length (now command) ≡ dataLimit) × (bufferNeed ≤ length (now buffer)) ⌝ }
         ensures { λ r. ⌜ ((f : List ℕ) → progressed r (arrays (now (command .exit)) f) (now (buffer .exit)) ≡ performsOf self (arrays (now (command .entry)) f) (putBy stage (headBytes bytes)) (now (buffer .entry))) ⌝ }
     {
@@ -100,15 +100,15 @@ impl Core {
             Decision::Send(stage) => self.send(call.to_stage(stage), command, buffer),
             Decision::Keep(stage, layout) => {
                 let next = call.to_stage(stage);
-                self.kept(next, layout, response, command, found, buffer)
+                self.keep(next, layout, response, command, found, buffer)
             }
             Decision::Next(stage, cursor, layout) => {
                 let next = call.to_cursor(stage, cursor);
-                self.kept(next, layout, response, command, found, buffer)
+                self.keep(next, layout, response, command, found, buffer)
             }
-            Decision::Put(stage, bytes) => self.put_by(stage, bytes, command, buffer),
+            Decision::Put(stage, bytes) => self.put_pending(stage, bytes, command, buffer),
             Decision::Pause(us, stage) => {
-                let next = call.to_stage(stage).at(PAUSE);
+                let next = call.to_stage(stage).at(PAUSE_PHASE);
                 self.ordered(Order::Pause(us), next, exchange, buffer)
             }
             _ => self.ended(Output::Nothing),
@@ -135,15 +135,15 @@ impl Core {
                 self.ended(Output::Done(len))
             }
             Decision::Done(layout) => {
-                let len = answer(layout, &found[..kept], response, buffer);
+                let len = put_answer(layout, &found[..kept], response, buffer);
                 self.ended(Output::Done(len))
             }
             Decision::Type1(layout) => {
-                let len = answer(layout, &found[..kept], response, buffer);
+                let len = put_answer(layout, &found[..kept], response, buffer);
                 self.ended(Output::Type1(len))
             }
             Decision::UidAndAts(layout, uid, ats) => {
-                let len = answer(layout, &found[..kept], response, buffer);
+                let len = put_answer(layout, &found[..kept], response, buffer);
                 self.ended(Output::UidAndAts(len, uid, ats))
             }
             Decision::Nothing => self.ended(Output::Nothing),

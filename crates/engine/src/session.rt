@@ -1,5 +1,5 @@
 // The session and its entries: a call or an event goes in with the buffer; the session comes back with an order or an answer.
-use super::books::BOOKS;
+use super::books::BOOKS_SIZE;
 use super::books::CALLERS;
 use super::core::Core;
 use super::core::FOUND_LIMIT;
@@ -20,7 +20,7 @@ pub struct Session {
     pub command: [u8; DATA_LIMIT],
     pub found: [u8; FOUND_LIMIT],
     pub frames: [u32; CALLERS],
-    pub books: [u8; BOOKS],
+    pub books: [u8; BOOKS_SIZE],
     pub core: Core,
 }
 
@@ -39,7 +39,7 @@ impl Session {
             command: [0; DATA_LIMIT],
             found: [0; FOUND_LIMIT],
             frames: [0; CALLERS],
-            books: [0; BOOKS],
+            books: [0; BOOKS_SIZE],
             core,
         }
     }
@@ -80,10 +80,8 @@ impl Session {
         self.frames = frames;
         self.books = books;
         self.core = after;
-        Step {
-            session: self,
-            output,
-        }
+        let session = self;
+        Step { session, output }
     }
 
     // What the host returns for an order. A packet's bytes are lent beside the event, and count with Packet alone.
@@ -112,9 +110,7 @@ impl Session {
         self.frames = frames;
         self.books = books;
         self.core = after;
-        Step {
-            session: self,
-            output,
-        }
+        let session = self;
+        Step { session, output }
     }
 }

@@ -1,17 +1,17 @@
 // A call and an event on what a session holds: the numbers of the running call go by value, the books and the arrays are lent. A call is
 // admitted and what comes out is booked here.
 use super::books;
-use super::books::BOOKS;
+use super::books::BOOKS_SIZE;
 use super::books::CALLERS;
 use super::books::LAST_CALLER;
-use super::books::PADDED;
-use super::call::NO_CALL;
-use super::call::OPEN;
+use super::books::PADDED_MODE;
 use super::core::BUFFER_NEED;
 use super::core::Core;
 use super::core::Progress;
+use calls::NO_CALL_KIND;
 use calls::start;
 use calls::start::Numbers;
+use device::OPENING_KIND;
 use errors::Refusal;
 use exchange::Event;
 use stages::put::DATA_LIMIT;
@@ -45,7 +45,7 @@ fn is_free(core: Core, opened: u8, mode: u8, caller: u8) -> bool
 {
     let call = core.call;
     if is_valid(core, opened, mode, caller) {
-        call.kind == NO_CALL
+        call.kind == NO_CALL_KIND
     } else {
         false
     }
@@ -68,7 +68,7 @@ pub(crate) fn event(
     command: &mut [u8],
     found: &mut [u8],
     frames: &mut [u32; CALLERS],
-    books: &mut [u8; BOOKS],
+    books: &mut [u8; BOOKS_SIZE],
     event: Event,
     packet: &[u8],
     buffer: &mut [u8],
@@ -83,7 +83,7 @@ pub(crate) fn event(
         let extra = books::extra_zeros(mode, packet);
         let progress = core.event(event, &packet[extra..], command, found, buffer);
         let output = progress.output;
-        books::book(frames, books, caller, call.kind == OPEN, output);
+        books::book(frames, books, caller, call.kind == OPENING_KIND, output);
         progress
     } else {
         core.refused(Refusal::OutOfTurn)
@@ -94,7 +94,7 @@ pub(crate) fn event(
 fn open(
     core: Core,
     frames: &mut [u32; CALLERS],
-    books: &mut [u8; BOOKS],
+    books: &mut [u8; BOOKS_SIZE],
     caller: u8,
     mode: u8,
     buffer: &mut [u8],
@@ -113,7 +113,7 @@ fn open(
         if caller > LAST_CALLER {
             return core.refused(Refusal::BadArgument);
         }
-        if mode > PADDED {
+        if mode > PADDED_MODE {
             return core.refused(Refusal::BadArgument);
         }
         let progress = core.open(buffer);
@@ -131,7 +131,7 @@ pub fn call(
     core: Core,
     command: &mut [u8; DATA_LIMIT],
     frames: &mut [u32; CALLERS],
-    books: &mut [u8; BOOKS],
+    books: &mut [u8; BOOKS_SIZE],
     number: u8,
     numbers: Numbers,
     first: &[u8],
@@ -142,7 +142,7 @@ pub fn call(
 ) -> Progress
     ensures { λ r. ⌜ ((f : List ℕ) → effected r (now (books .exit)) (now (frames .exit)) (arrays (now (command .exit)) f) (now (buffer .exit)) ≡ afterInput (stateOf core (now (books .entry)) (now (frames .entry))) (arrays (now (command .entry)) f) (callInput (numbers .caller) (callOf number numbers (now (first .entry)) (now (second .entry)) (now (third .entry)) (now (fourth .entry))) (now (buffer .entry)))) ⌝ }
 {
-    if number == start::OPEN {
+    if number == start::OPEN_CALL {
         return open(core, frames, books, numbers.caller, numbers.x, buffer);
     }
     if is_admitted(

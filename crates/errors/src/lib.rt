@@ -40,9 +40,9 @@ pub enum RoundRefusal {
 }
 
 // The two refusals that carry values.
-pub const STATUS: u8 = 15;
+pub const STATUS_NUMBER: u8 = 15;
 
-pub const CARD_STATUS: u8 = 20;
+pub const CARD_STATUS_NUMBER: u8 = 20;
 
 // A refusal's number in document 01's table, and what it carries: 15 a status byte, 20 the two status flags (0 where there is none).
 pub struct Numbered {
@@ -91,7 +91,7 @@ impl Fault {
             Fault::Identifier => plain(13),
             Fault::Code => plain(14),
             Fault::Status(status) => Numbered {
-                number: STATUS,
+                number: STATUS_NUMBER,
                 status,
                 status2: 0,
             },
@@ -100,7 +100,7 @@ impl Fault {
             Fault::CrcA => plain(18),
             Fault::Rate => plain(19),
             Fault::CardStatus(status, status2) => Numbered {
-                number: CARD_STATUS,
+                number: CARD_STATUS_NUMBER,
                 status,
                 status2,
             },

@@ -48,38 +48,38 @@ pub enum Advanced {
 }
 
 // The ms in which the first packet is due.
-const FIRST_READ: u32 = 100;
+const FIRST_READ_TIME: u32 = 100;
 
 const ERROR_IDENTIFIER: u8 = 0x7F;
 
 impl Exchange {
     // The frame is being written.
-    pub const SENDING: u8 = 0;
+    pub const SENDING_PHASE: u8 = 0;
 
     // The first packet is awaited.
-    pub const READING: u8 = 1;
+    pub const READING_PHASE: u8 = 1;
 
     // A packet is awaited under the clock.
-    pub const WAITING: u8 = 2;
+    pub const WAITING_PHASE: u8 = 2;
 
     // ACK is being written after a failed write.
-    pub const UNSENT: u8 = 3;
+    pub const UNSENT_PHASE: u8 = 3;
 
     // ACK is being written at the deadline.
-    pub const OVERDUE: u8 = 4;
+    pub const OVERDUE_PHASE: u8 = 4;
 
     // ACK is being written after a false start.
-    pub const REJECTING: u8 = 5;
+    pub const REJECTING_PHASE: u8 = 5;
 
     // The drain; any number above is taken for it.
-    pub const DRAINING: u8 = 6;
+    pub const DRAINING_PHASE: u8 = 6;
 
     // The exchange whose frame is being written.
     pub fn start(code: u8, clock: u32) -> Exchange
         ensures { λ r. ⌜ r ≡ exchangeAt sendingPhase code clock ⌝ }
     {
         Exchange {
-            phase: Self::SENDING,
+            phase: Self::SENDING_PHASE,
             code,
             clock,
         }
@@ -92,18 +92,18 @@ impl Exchange {
     {
         let phase = self.phase;
         match phase {
-            Self::SENDING => self.on_sent(event),
-            Self::READING => self.on_first_read(event, packet),
-            Self::WAITING => self.on_later_read(event, packet),
-            Self::UNSENT => on_cancelled(event, Fault::Transport),
-            Self::OVERDUE => on_cancelled(event, Fault::TimeOut),
-            Self::REJECTING => self.on_rejected(event),
+            Self::SENDING_PHASE => self.on_sent(event),
+            Self::READING_PHASE => self.on_first_read(event, packet),
+            Self::WAITING_PHASE => self.on_later_read(event, packet),
+            Self::UNSENT_PHASE => on_cancelled(event, Fault::Transport),
+            Self::OVERDUE_PHASE => on_cancelled(event, Fault::TimeOut),
+            Self::REJECTING_PHASE => self.on_rejected(event),
             _ => self.on_drain(event, packet),
         }
     }
 
     // An order follows, in a new phase.
-    fn pending(mut self, order: Order, phase: u8) -> Advanced
+    fn ordered(mut self, order: Order, phase: u8) -> Advanced
         ensures { λ r. ⌜ r ≡ Advanced.Pending order (exchangeAt phase (self .code) (self .clock)) ⌝ }
     {
         self.phase = phase;
@@ -115,8 +115,8 @@ impl Exchange {
         ensures { λ r. ⌜ ((p : List ℕ) → Handled self p (advanceOf (sending (self .code) (self .clock)) (eventOf event p)) r) ⌝ }
     {
         match event {
-            Event::Ok => self.pending(Order::Read(FIRST_READ), Self::READING),
-            Event::Bad => self.pending(Order::Ack, Self::UNSENT),
+            Event::Ok => self.ordered(Order::Read(FIRST_READ_TIME), Self::READING_PHASE),
+            Event::Bad => self.ordered(Order::Ack, Self::UNSENT_PHASE),
             _ => Advanced::Unfit,
         }
     }
@@ -133,7 +133,7 @@ impl Exchange {
                 if framing::has_sof(packet) {
                     self.on_packet(packet)
                 } else {
-                    self.pending(Order::Ack, Self::REJECTING)
+                    self.ordered(Order::Ack, Self::REJECTING_PHASE)
                 }
             }
             Event::Time => Advanced::Failed(Fault::TimeOut),
@@ -155,7 +155,7 @@ impl Exchange {
             }
             Event::Time => Advanced::Failed(Fault::TimeOut), // no ACK
             Event::Fail => Advanced::Failed(Fault::Transport), // no ACK
-            Event::Late => self.pending(Order::Ack, Self::OVERDUE),
+            Event::Late => self.ordered(Order::Ack, Self::OVERDUE_PHASE),
             _ => Advanced::Unfit,
         }
     }
@@ -166,9 +166,9 @@ impl Exchange {
     {
         if framing::starts_with(packet, &framing::ACK_BYTES) {
             if self.clock == 0 {
-                return self.pending(Order::Ack, Self::OVERDUE);
+                return self.ordered(Order::Ack, Self::OVERDUE_PHASE);
             }
-            self.pending(Order::Read(self.clock), Self::WAITING)
+            self.ordered(Order::Read(self.clock), Self::WAITING_PHASE)
         } else {
             Advanced::Arrived
         }
@@ -179,8 +179,8 @@ impl Exchange {
         ensures { λ r. ⌜ ((p : List ℕ) → Handled self p (advanceOf rejecting (eventOf event p)) r) ⌝ }
     {
         match event {
-            Event::Ok => self.pending(Order::Drain, Self::DRAINING),
-            Event::Bad => self.pending(Order::Drain, Self::DRAINING),
+            Event::Ok => self.ordered(Order::Drain, Self::DRAINING_PHASE),
+            Event::Bad => self.ordered(Order::Drain, Self::DRAINING_PHASE),
             _ => Advanced::Unfit,
         }
     }
@@ -194,10 +194,10 @@ impl Exchange {
                 if packet.len() == 0 {
                     return Advanced::Failed(Fault::FalseStart);
                 }
-                self.pending(Order::Drain, Self::DRAINING)
+                self.ordered(Order::Drain, Self::DRAINING_PHASE)
             }
             Event::Time => Advanced::Failed(Fault::FalseStart),
-            Event::Fail => self.pending(Order::Drain, Self::DRAINING),
+            Event::Fail => self.ordered(Order::Drain, Self::DRAINING_PHASE),
             Event::Late => Advanced::Failed(Fault::FalseStart),
             _ => Advanced::Unfit,
         }

@@ -11,12 +11,13 @@ use lib.Dec.{eqb, leb}
 use lib.ListN.{length, take, drop, getD, length-append}
 use lib.Seq.{drop-drop, take-at, drop-append-add}
 use Rattle.errors.specs.Choice.{pick}
-use Rattle.errors.specs.Refusals.{refused, answered, plain}
+use Rattle.errors.specs.Refusals.{refused, answered, plain, numbered}
 use Rattle.framing.specs.Build.{Left, left, putFrame}
 use Rattle.framing.specs.Valid.{both-left, both-right}
-use Rattle.felica.specs.Names.{idmSize, blockSize, mostBlocks, elementSize, requestHead, flagsEnd, blocksOffset}
+use Rattle.felica.specs.Names.{idmSize, blockSize, mostBlocks, elementSize, requestHead, flagsEnd, blocksOffset, oneService}
 use Rattle.felica.specs.Packets.{packet, blockList, request, replyPacket, readReply, readReplyCode, idmFits, requestFits, writeFits, areBlocks, readReplyFits, builtOf}
 use Rattle.felica.specs.Lists.{eight, list-length}
+use Rattle.errors.specs.declared.Refusal.the-variants.{BadArgument}
 
 -- a part put behind the bytes l that stand at the start of b, which is c otherwise
 pub put-behind : (b l part c : List ℕ) (n : ℕ) → n ≡ length l → b ≡ l ++ drop n c → take n b ++ (part ++ drop (n + length part) b) ≡ (l ++ part) ++ drop (n + length part) c
@@ -43,17 +44,17 @@ module _ (code service : ℕ) (idm blocks bytes : List ℕ) (h : length idm ≡ 
   pub request-length : length (request code idm service blocks bytes) ≡ requestHead + elementSize * length blocks + length bytes
   unfolding request packet
   request-length =
-      let rest : List ℕ = 0x01 ∷ service % 256 ∷ service / 256 ∷ length blocks ∷ blockList blocks ++ bytes in
+      let rest : List ℕ = oneService ∷ service % 256 ∷ service / 256 ∷ length blocks ∷ blockList blocks ++ bytes in
       omega (arith, length-append idm rest, length-append (blockList blocks) bytes, list-length blocks)
 
   -- head, block list and what follows
   request-laid : (len : ℕ) → len ≡ requestHead + elementSize * length blocks + length bytes
       → (len ∷ code ∷ getD idm 0 0 ∷ getD idm 1 0 ∷ getD idm 2 0 ∷ getD idm 3 0 ∷ getD idm 4 0 ∷ getD idm 5 0 ∷ getD idm 6 0 ∷ getD idm 7 0
-      ∷ 1 ∷ service % 256 ∷ service / 256 ∷ length blocks ∷ []) ++ blockList blocks ++ bytes
+      ∷ oneService ∷ service % 256 ∷ service / 256 ∷ length blocks ∷ []) ++ blockList blocks ++ bytes
       ≡ request code idm service blocks bytes
   unfolding request packet
   request-laid len k =
-      let rest : List ℕ = 0x01 ∷ service % 256 ∷ service / 256 ∷ length blocks ∷ blockList blocks ++ bytes in
+      let rest : List ℕ = oneService ∷ service % 256 ∷ service / 256 ∷ length blocks ∷ blockList blocks ++ bytes in
       let n : len ≡ suc (suc (length (idm ++ rest))) = omega (arith, length-append idm rest, length-append (blockList blocks) bytes, list-length blocks) in
       ap₂ (λ m l. m ∷ code ∷ l ++ rest) n (eight idm h)
 
@@ -64,7 +65,7 @@ module _ (code service : ℕ) (idm blocks bytes : List ℕ) (h : length idm ≡ 
   -- the three parts put one behind the other
   pub request-put : (b b₁ b₂ b₃ : List ℕ) → requestHead + elementSize * length blocks + length bytes ≤ length b
       → b₁ ≡ take 0 b ++ (((requestHead + elementSize * length blocks + length bytes) ∷ code ∷ getD idm 0 0 ∷ getD idm 1 0 ∷ getD idm 2 0 ∷ getD idm 3 0 ∷ getD idm 4 0 ∷ getD idm 5 0
-      ∷ getD idm 6 0 ∷ getD idm 7 0 ∷ 1 ∷ service % 256 ∷ service / 256 ∷ length blocks ∷ []) ++ drop requestHead b)
+      ∷ getD idm 6 0 ∷ getD idm 7 0 ∷ oneService ∷ service % 256 ∷ service / 256 ∷ length blocks ∷ []) ++ drop requestHead b)
       → b₂ ≡ take requestHead b₁ ++ (blockList blocks ++ drop (requestHead + elementSize * length blocks) b₁)
       → b₃ ≡ take (requestHead + elementSize * length blocks) b₂ ++ (bytes ++ drop (requestHead + elementSize * length blocks + length bytes) b₂)
       → left (answered (requestHead + elementSize * length blocks + length bytes)) b₃ ≡ putFrame (request code idm service blocks bytes) b
@@ -72,7 +73,7 @@ module _ (code service : ℕ) (idm blocks bytes : List ℕ) (h : length idm ≡ 
       let len : ℕ = requestHead + elementSize * length blocks + length bytes in
       let head : List ℕ =
       len ∷ code ∷ getD idm 0 0 ∷ getD idm 1 0 ∷ getD idm 2 0 ∷ getD idm 3 0 ∷ getD idm 4 0 ∷ getD idm 5 0 ∷ getD idm 6 0 ∷ getD idm 7 0
-      ∷ 1 ∷ service % 256 ∷ service / 256 ∷ length blocks ∷ [] in
+      ∷ oneService ∷ service % 256 ∷ service / 256 ∷ length blocks ∷ [] in
       let n : requestHead + length (blockList blocks) ≡ requestHead + elementSize * length blocks = ap (λ k. requestHead + k) (list-length blocks) in
       let two : b₂ ≡ (head ++ blockList blocks) ++ drop (requestHead + elementSize * length blocks) b =
       e₂ ∙ ap (λ k. take requestHead b₁ ++ (blockList blocks ++ drop k b₁)) (sym n) ∙ put-behind b₁ head (blockList blocks) b requestHead refl e₁
@@ -197,7 +198,7 @@ module _ (p b : List ℕ) (r t : Bool) (known : r ≡ t) where
   unfolding builtOf pick
   built x good e = rw (sym known ∙ good) e
 
-  pub not-built : r ≡ false → left (refused (plain 4)) b ≡ builtOf t p b
+  pub not-built : r ≡ false → left (refused (numbered BadArgument)) b ≡ builtOf t p b
   unfolding builtOf pick
   not-built bad = rw (sym known ∙ bad)
 
@@ -206,7 +207,7 @@ module _ (p b idm : List ℕ) where
   pub as-built : (x : Left) → length idm ≡ idmSize → x ≡ putFrame p b → x ≡ builtOf (idmFits idm) p b
   as-built x h e = built p b true (idmFits idm) (sym (eq-eqb (length idm) idmSize h)) x refl e
 
-  pub as-refused : (length idm ≡ idmSize → ⊥) → left (refused (plain 4)) b ≡ builtOf (idmFits idm) p b
+  pub as-refused : (length idm ≡ idmSize → ⊥) → left (refused (numbered BadArgument)) b ≡ builtOf (idmFits idm) p b
   as-refused h = not-built p b false (idmFits idm) (sym (ne-eqb (length idm) idmSize h)) refl
 
 module _ (idm blocks : List ℕ) (r : Bool) (known : r ≡ requestFits idm blocks) (good : r ≡ true) where

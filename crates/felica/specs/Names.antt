@@ -29,6 +29,10 @@ idmOffset = 2
 abbrev pub idmEnd : ℕ
 idmEnd = idmOffset + idmSize
 
+-- a request names one service
+abbrev pub oneService : ℕ
+oneService = 0x01
+
 -- of a request: the number of services, the service code, the number of blocks, and the bytes up to the block list
 abbrev pub servicesOffset : ℕ
 servicesOffset = idmEnd

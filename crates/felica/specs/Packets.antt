@@ -6,10 +6,11 @@ use Prim.Native.Nat.{ℕ, suc, _*_, _/_, _%_}
 use lib.Dec.{eqb, leb}
 use lib.ListN.{length}
 use Rattle.errors.specs.Choice.{pick}
-use Rattle.errors.specs.Refusals.{refused, plain}
+use Rattle.errors.specs.Refusals.{refused, plain, numbered}
 use Rattle.framing.specs.Build.{Left, left, putFrame}
 use Rattle.framing.specs.Lists.{both}
-use Rattle.felica.specs.Names.{idmSize, blockSize, mostBlocks, element}
+use Rattle.felica.specs.Names.{idmSize, blockSize, mostBlocks, element, oneService}
+use Rattle.errors.specs.declared.Refusal.the-variants.{BadArgument}
 
 -- the codes
 abbrev pub readCode : ℕ
@@ -36,7 +37,7 @@ blockList (number ∷ numbers) = element ∷ number ∷ blockList numbers
 -- code, IDm, one service, its code low byte first, the number of blocks, the block list, and what follows it
 unfoldable pub request : ℕ → List ℕ → ℕ → List ℕ → List ℕ → List ℕ
 request code idm service blocks bytes =
-    packet (code ∷ idm ++ (0x01 ∷ service % 256 ∷ service / 256 ∷ length blocks ∷ blockList blocks ++ bytes))
+    packet (code ∷ idm ++ (oneService ∷ service % 256 ∷ service / 256 ∷ length blocks ∷ blockList blocks ++ bytes))
 
 abbrev pub readRequest : List ℕ → ℕ → List ℕ → List ℕ
 readRequest idm service blocks = request readCode idm service blocks []
@@ -82,4 +83,4 @@ readReplyFits idm flag1 bytes = both (idmFits idm) (pick (eqb flag1 0) (areBlock
 
 -- what building answers and leaves in the buffer b: 4 where there is no such packet, then 2, nothing written; else the packet at the buffer's start
 unfoldable pub builtOf : Bool → List ℕ → List ℕ → Left
-builtOf fits p b = pick fits (putFrame p b) (left (refused (plain 4)) b)
+builtOf fits p b = pick fits (putFrame p b) (left (refused (numbered BadArgument)) b)

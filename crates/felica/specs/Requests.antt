@@ -11,7 +11,7 @@ use lib.Seq.{drop-cons, drop-drop, take-at, drop-at}
 use Rattle.errors.specs.Choice.{pick}
 use Rattle.framing.specs.Lists.{both, Bytes}
 use Rattle.framing.specs.Valid.{both-left, both-right}
-use Rattle.felica.specs.Names.{idmSize, blockSize, mostBlocks, elementSize, element, codeOffset, idmOffset, servicesOffset, serviceLowOffset, serviceHighOffset, countOffset, requestHead}
+use Rattle.felica.specs.Names.{idmSize, blockSize, mostBlocks, elementSize, element, codeOffset, idmOffset, servicesOffset, serviceLowOffset, serviceHighOffset, countOffset, requestHead, oneService}
 use Rattle.felica.specs.Packets.{packet, blockList, request, readRequest, writeRequest, readCode, writeCode, requestFits, writeFits}
 use Rattle.felica.specs.Fields.{idmIn, serviceIn, countIn, listIn, blockDataIn, numbersIn, isBlockList, asksBlocks, isRequest, reads, writes, noRequest, requestOf}
 use Rattle.felica.specs.Lists.{eight, list-length}
@@ -180,14 +180,14 @@ module _ (code s : ℕ) (p : List ℕ) (good : isRequest code s p ≡ true) wher
       let one : getD p servicesOffset 0 ≡ 1 = eqb-true (getD p servicesOffset 0) 1 (both-left (eqb (getD p servicesOffset 0) 1) _ behind-code) in
       let tail : drop requestHead p ≡ blockList (numbersIn (listIn p)) ++ blockDataIn (countIn p) p =
       sym (take-append-drop (elementSize * countIn p) (drop requestHead p)) ∙ ap₂ (λ x y. x ++ y) (sym list) (drop-drop (elementSize * countIn p) requestHead p) in
-      let from-services : drop servicesOffset p ≡ 0x01 ∷ serviceIn p % 256 ∷ serviceIn p / 256 ∷ length (numbersIn (listIn p)) ∷ blockList (numbersIn (listIn p)) ++ blockDataIn (countIn p) p =
+      let from-services : drop servicesOffset p ≡ oneService ∷ serviceIn p % 256 ∷ serviceIn p / 256 ∷ length (numbersIn (listIn p)) ∷ blockList (numbersIn (listIn p)) ++ blockDataIn (countIn p) p =
       drop-cons p servicesOffset 0 (omega (arith, room))
       ∙ ap₂ (λ x r. x ∷ r) one (drop-cons p serviceLowOffset 0 (omega (arith, room))
       ∙ ap₂ (λ x r. x ∷ r) low (drop-cons p serviceHighOffset 0 (omega (arith, room))
       ∙ ap₂ (λ x r. x ∷ r) high (drop-cons p countOffset 0 (omega (arith, room))
       ∙ ap₂ (λ x r. x ∷ r) number tail))) in
       let from-idm : drop idmOffset p ≡ idmIn p ++ drop servicesOffset p = sym (take-append-drop idmSize (drop idmOffset p)) ∙ ap (λ r. idmIn p ++ r) (drop-drop idmSize idmOffset p) in
-      let from-code : drop codeOffset p ≡ code ∷ idmIn p ++ (0x01 ∷ serviceIn p % 256 ∷ serviceIn p / 256 ∷ length (numbersIn (listIn p)) ∷ blockList (numbersIn (listIn p)) ++ blockDataIn (countIn p) p) =
+      let from-code : drop codeOffset p ≡ code ∷ idmIn p ++ (oneService ∷ serviceIn p % 256 ∷ serviceIn p / 256 ∷ length (numbersIn (listIn p)) ∷ blockList (numbersIn (listIn p)) ++ blockDataIn (countIn p) p) =
       drop-cons p codeOffset 0 (omega (arith, room)) ∙ ap₂ (λ x r. x ∷ r) first (from-idm ∙ ap (λ r. idmIn p ++ r) from-services) in
       let n : getD p 0 0 ≡ suc (length (drop codeOffset p)) = omega (arith, len, length-drop codeOffset p, room) in
       drop-cons p 0 0 (omega (arith, room)) ∙ ap (λ x. x ∷ drop codeOffset p) n ∙ ap (λ r. suc (length r) ∷ r) from-code

@@ -1,7 +1,7 @@
 // What a reply says to the one who sent the request (document 02, N5).
 use super::CODE_OFFSET;
-use super::READ_REPLY;
-use super::WRITE_REPLY;
+use super::READ_REPLY_CODE;
+use super::WRITE_REPLY_CODE;
 use super::byte_at;
 use super::idm;
 use super::number_at;
@@ -80,12 +80,17 @@ pub fn check_read(request: &[u8], reply: &[u8]) -> Checked
     ensures { λ r. ⌜ r ≡ readCheck (idmIn (now (request .entry))) (countIn (now (request .entry))) (now (reply .entry)) ⌝ }
 {
     let n = byte_at(request, COUNT_OFFSET);
-    check_reply(READ_REPLY, idm(request), has_blocks(n, reply), reply)
+    check_reply(READ_REPLY_CODE, idm(request), has_blocks(n, reply), reply)
 }
 
 // The reply to a write request.
 pub fn check_write(request: &[u8], reply: &[u8]) -> Checked
     ensures { λ r. ⌜ r ≡ writeCheck (idmIn (now (request .entry))) (now (reply .entry)) ⌝ }
 {
-    check_reply(WRITE_REPLY, idm(request), reply.len() == FLAGS_END, reply)
+    check_reply(
+        WRITE_REPLY_CODE,
+        idm(request),
+        reply.len() == FLAGS_END,
+        reply,
+    )
 }

@@ -10,13 +10,13 @@ ghost use lib.ListN.{length, take, drop, getD};
 ghost use Rattle.felica.specs.Fields.{idmIn};
 
 // The codes.
-pub const READ_WITHOUT_ENCRYPTION: u8 = 0x06;
+pub const READ_CODE: u8 = 0x06;
 
-pub const READ_REPLY: u8 = 0x07;
+pub const READ_REPLY_CODE: u8 = 0x07;
 
-pub const WRITE_WITHOUT_ENCRYPTION: u8 = 0x08;
+pub const WRITE_CODE: u8 = 0x08;
 
-pub const WRITE_REPLY: u8 = 0x09;
+pub const WRITE_REPLY_CODE: u8 = 0x09;
 
 // The bytes of an IDm and of a block, and the most blocks of a request.
 pub const IDM_SIZE: usize = 8;
@@ -54,7 +54,7 @@ fn wide(byte: u8) -> usize
 }
 
 // Copies bytes into the buffer from a place on.
-fn put(part: &[u8], buffer: &mut [u8], at: usize)
+fn put_part(part: &[u8], buffer: &mut [u8], at: usize)
     requires { ⌜ at + length (now part) ≤ length (now buffer) ⌝ }
     ensures { λ _. ⌜ now (buffer .exit) ≡ take at (now (buffer .entry)) ++ (now (part .entry) ++ drop (at + length (now (part .entry))) (now (buffer .entry))) ⌝ }
 {

@@ -3,11 +3,11 @@ use super::BLOCK_SIZE;
 use super::CODE_OFFSET;
 use super::IDM_SIZE;
 use super::MOST_BLOCKS;
-use super::READ_REPLY;
-use super::WRITE_REPLY;
+use super::READ_REPLY_CODE;
+use super::WRITE_REPLY_CODE;
 use super::byte_at;
 use super::number_at;
-use super::put;
+use super::put_part;
 use errors::Refusal;
 use framing::Built;
 ghost use mathlib.Core.Path.{_≡_};
@@ -92,7 +92,7 @@ fn put_flags(code: u8, idm: &[u8], flag1: u8, flag2: u8, buffer: &mut [u8]) -> B
         return Built::Refused(Refusal::ShortBuffer);
     }
     let bytes = head(FLAGS_END as u8, code, idm, flag1, flag2);
-    put(&bytes, buffer, 0);
+    put_part(&bytes, buffer, 0);
     Built::Frame(FLAGS_END)
 }
 
@@ -106,9 +106,9 @@ fn put_blocks(code: u8, idm: &[u8], flag1: u8, flag2: u8, bytes: &[u8], buffer: 
         return Built::Refused(Refusal::ShortBuffer);
     }
     let start = head(len as u8, code, idm, flag1, flag2);
-    put(&start, buffer, 0);
-    put(&[(bytes.len() / BLOCK_SIZE) as u8], buffer, FLAGS_END);
-    put(bytes, buffer, BLOCKS_OFFSET);
+    put_part(&start, buffer, 0);
+    put_part(&[(bytes.len() / BLOCK_SIZE) as u8], buffer, FLAGS_END);
+    put_part(bytes, buffer, BLOCKS_OFFSET);
     Built::Frame(len)
 }
 
@@ -119,9 +119,9 @@ pub fn build_read_reply(idm: &[u8], flag1: u8, flag2: u8, bytes: &[u8], buffer: 
 {
     if read_fits(idm, flag1, bytes) {
         if flag1 == 0 {
-            put_blocks(READ_REPLY, idm, flag1, flag2, bytes, buffer)
+            put_blocks(READ_REPLY_CODE, idm, flag1, flag2, bytes, buffer)
         } else {
-            put_flags(READ_REPLY, idm, flag1, flag2, buffer)
+            put_flags(READ_REPLY_CODE, idm, flag1, flag2, buffer)
         }
     } else {
         Built::Refused(Refusal::BadArgument)
@@ -133,7 +133,7 @@ pub fn build_write_reply(idm: &[u8], flag1: u8, flag2: u8, buffer: &mut [u8]) ->
     ensures { λ r. ⌜ left (returned r) (now (buffer .exit)) ≡ builtOf (idmFits (now (idm .entry))) (writeReply (now (idm .entry)) flag1 flag2) (now (buffer .entry)) ⌝ }
 {
     if idm.len() == IDM_SIZE {
-        put_flags(WRITE_REPLY, idm, flag1, flag2, buffer)
+        put_flags(WRITE_REPLY_CODE, idm, flag1, flag2, buffer)
     } else {
         Built::Refused(Refusal::BadArgument)
     }
@@ -183,7 +183,7 @@ fn reads_blocks(packet: &[u8]) -> bool
 fn is_read_reply(packet: &[u8]) -> bool
     ensures { λ r. ⌜ r ≡ isReadReply (now (packet .entry)) ⌝ }
 {
-    if is_reply(READ_REPLY, packet) {
+    if is_reply(READ_REPLY_CODE, packet) {
         reads_blocks(packet)
     } else {
         false
@@ -193,7 +193,7 @@ fn is_read_reply(packet: &[u8]) -> bool
 fn is_write_reply(packet: &[u8]) -> bool
     ensures { λ r. ⌜ r ≡ isWriteReply (now (packet .entry)) ⌝ }
 {
-    if is_reply(WRITE_REPLY, packet) {
+    if is_reply(WRITE_REPLY_CODE, packet) {
         packet.len() == FLAGS_END
     } else {
         false

@@ -4,11 +4,11 @@ use super::BlockNumbers;
 use super::CODE_OFFSET;
 use super::IDM_SIZE;
 use super::MOST_BLOCKS;
-use super::READ_WITHOUT_ENCRYPTION;
-use super::WRITE_WITHOUT_ENCRYPTION;
+use super::READ_CODE;
+use super::WRITE_CODE;
 use super::byte_at;
 use super::number_at;
-use super::put;
+use super::put_part;
 use super::wide;
 use errors::Refusal;
 use framing::Built;
@@ -28,6 +28,8 @@ const ELEMENT: u8 = 0x80;
 
 // Where the number of services, the service code and the number of blocks stand, and the bytes of a request up to its block list.
 const SERVICES_OFFSET: usize = 10;
+
+const ONE_SERVICE: u8 = 0x01;
 
 const SERVICE_LOW_OFFSET: usize = 11;
 
@@ -92,8 +94,6 @@ fn put_request(
     if buffer.len() < len {
         return Built::Refused(Refusal::ShortBuffer);
     }
-    let low = (service % 256) as u8;
-    let high = (service / 256) as u8;
     let head = [
         len as u8,
         code,
@@ -105,14 +105,14 @@ fn put_request(
         idm[5],
         idm[6],
         idm[7],
-        1,
-        low,
-        high,
+        ONE_SERVICE,
+        (service % 256) as u8,
+        (service / 256) as u8,
         n as u8,
     ];
-    put(&head, buffer, 0);
+    put_part(&head, buffer, 0);
     put_list(blocks, buffer);
-    put(bytes, buffer, at);
+    put_part(bytes, buffer, at);
     Built::Frame(len)
 }
 
@@ -131,7 +131,7 @@ fn put_list(blocks: &[u8], buffer: &mut [u8])
         ELEMENT,
         byte_at(blocks, 3),
     ];
-    put(&list[..ELEMENT_SIZE * blocks.len()], buffer, REQUEST_HEAD);
+    put_part(&list[..ELEMENT_SIZE * blocks.len()], buffer, REQUEST_HEAD);
 }
 
 // Read Without Encryption of these blocks; 4 where the IDm has not 8 bytes or there are not 1 to 4 blocks, then 2, and nothing is written.
@@ -139,7 +139,7 @@ pub fn build_read_request(idm: &[u8], service: u16, blocks: &[u8], buffer: &mut 
     ensures { λ r. ⌜ left (returned r) (now (buffer .exit)) ≡ builtOf (requestFits (now (idm .entry)) (now (blocks .entry))) (readRequest (now (idm .entry)) service (now (blocks .entry))) (now (buffer .entry)) ⌝ }
 {
     if fits(idm, blocks) {
-        put_request(READ_WITHOUT_ENCRYPTION, idm, service, blocks, &[], buffer)
+        put_request(READ_CODE, idm, service, blocks, &[], buffer)
     } else {
         Built::Refused(Refusal::BadArgument)
     }
@@ -156,14 +156,7 @@ pub fn build_write_request(
     ensures { λ r. ⌜ left (returned r) (now (buffer .exit)) ≡ builtOf (writeFits (now (idm .entry)) (now (blocks .entry)) (now (bytes .entry))) (writeRequest (now (idm .entry)) service (now (blocks .entry)) (now (bytes .entry))) (now (buffer .entry)) ⌝ }
 {
     if write_fits(idm, blocks, bytes) {
-        put_request(
-            WRITE_WITHOUT_ENCRYPTION,
-            idm,
-            service,
-            blocks,
-            bytes,
-            buffer,
-        )
+        put_request(WRITE_CODE, idm, service, blocks, bytes, buffer)
     } else {
         Built::Refused(Refusal::BadArgument)
     }
@@ -212,7 +205,7 @@ fn is_request(code: u8, size: usize, packet: &[u8]) -> bool
     if byte_at(packet, CODE_OFFSET) != code {
         return false;
     }
-    if byte_at(packet, SERVICES_OFFSET) != 1 {
+    if byte_at(packet, SERVICES_OFFSET) != ONE_SERVICE {
         return false;
     }
     asks_blocks(size, packet)
@@ -258,10 +251,10 @@ fn asked_for(packet: &[u8]) -> Asked
 pub fn parse_request(packet: &[u8]) -> Request
     ensures { λ r. ⌜ requestIn r (now (packet .entry)) ≡ requestOf (now (packet .entry)) ⌝ }
 {
-    if is_request(READ_WITHOUT_ENCRYPTION, 0, packet) {
+    if is_request(READ_CODE, 0, packet) {
         return Request::Read(asked_for(packet));
     }
-    if is_request(WRITE_WITHOUT_ENCRYPTION, BLOCK_SIZE, packet) {
+    if is_request(WRITE_CODE, BLOCK_SIZE, packet) {
         return Request::Write(asked_for(packet));
     }
     Request::Nothing

@@ -2,10 +2,10 @@
 mod print;
 mod read;
 
-use bench::first;
 use bench::lines;
 use bench::lines::Line;
 use bench::lines::Unread;
+use bench::prefix;
 use bench::text;
 use errors::Refusal;
 use errors::RoundRefusal;
@@ -22,12 +22,12 @@ ghost use Rattle.presence_lines.specs.Lines.{recordsRoom, unreadable as 
 ghost use Rattle.bench.specs.Lines.{feed};
 
 // The longest line, without its line feed, and room for any answer and a line feed.
-pub const LINE: usize = 65536;
+pub const LINE_LIMIT: usize = 65536;
 
-pub const OUT: usize = 8192;
+pub const ANSWER_ROOM: usize = 8192;
 
 // Room for the records of the longest line: the shortest card has 8 bytes, and a space stands before it.
-const RECORDS: usize = 145660;
+const RECORDS_ROOM: usize = 145660;
 
 // The list after a line, and the length of the text printed for it.
 pub struct Answered {
@@ -35,10 +35,10 @@ pub struct Answered {
     pub len: usize,
 }
 
-fn room() -> [u8; RECORDS]
+fn room() -> [u8; RECORDS_ROOM]
     ensures { λ r. ⌜ length r ≡ recordsRoom ⌝ }
 {
-    [0u8; RECORDS]
+    [0u8; RECORDS_ROOM]
 }
 
 // A line that cannot be read: the list stays as it was.
@@ -76,7 +76,7 @@ fn report(round: Round, out: &mut [u8]) -> Answered
 fn answer(list: Presence, line: &[u8], out: &mut [u8]) -> Answered
     ensures { λ r. ⌜ (r .list ≡ answerOf list (now (line .entry)) .list) × Appends 0 (answerOf list (now (line .entry)) .text) (now (out .entry)) (r .len) (now (out .exit)) ⌝ }
 {
-    if LINE < line.len() {
+    if LINE_LIMIT < line.len() {
         return unreadable(list, out);
     }
     let mut records = room();
@@ -97,12 +97,12 @@ fn fed(answer: Answered, out: &mut [u8]) -> Answered
 }
 
 // The answer to a line that stands at the start of `line`, with its line feed; nothing at the end of the input.
-pub fn reply(list: Presence, next: Line, line: &[u8], out: &mut [u8; OUT]) -> Answered
+pub fn reply(list: Presence, next: Line, line: &[u8], out: &mut [u8; ANSWER_ROOM]) -> Answered
     ensures { λ r. ⌜ afterLine (r .list) (r .len) (now (out .exit)) ≡ lineReply list next (now (line .entry)) (now (out .entry)) ⌝ }
 {
     match next {
         Line::Text(n) => {
-            let answered = answer(list, first(n, line), out);
+            let answered = answer(list, prefix(n, line), out);
             fed(answered, out)
         }
         Line::OverLong => {
@@ -117,8 +117,8 @@ pub fn reply(list: Presence, next: Line, line: &[u8], out: &mut [u8; OUT]) -> An
 // that of the text for it; free is what the operating system reads and writes.
 pub fn run() {
     let mut buffer = io::large_buffer();
-    let mut line = [0u8; LINE];
-    let mut out = [0u8; OUT];
+    let mut line = [0u8; LINE_LIMIT];
+    let mut out = [0u8; ANSWER_ROOM];
     let mut list = Presence::empty();
     let mut unread = Unread::nothing();
     let mut turns = u64::MAX;

@@ -1,14 +1,14 @@
 // What is printed for a round. Each function gives the place behind its text; a text that has no room is not put.
 use super::read::HELD;
-use bench::first;
 use bench::hex;
+use bench::prefix;
 use bench::text;
 use bench::words;
 use errors::RoundRefusal;
-use presence_list::BITRATE;
-use presence_list::LENGTH;
-use presence_list::RECORD;
-use presence_list::list::CARDS;
+use presence_list::BITRATE_OFFSET;
+use presence_list::LENGTH_OFFSET;
+use presence_list::RECORD_SIZE;
+use presence_list::list::CARDS_SIZE;
 ghost use Prim.Native.Nat.{_*_, _≤_, _<_};
 ghost use lib.ListN.{length, take, drop};
 ghost use Rattle.bench.specs.Texts.{Appends};
@@ -21,15 +21,15 @@ fn put_card(cards: &[u8], i: usize, out: &mut [u8], at: usize) -> usize
     requires { ⌜ (i < cardLimit) × (cardsSize ≤ length (now cards)) ⌝ }
     ensures { λ r. ⌜ Appends at (cardText (take recordSize (drop (recordSize * i) (now (cards .entry))))) (now (out .entry)) r (now (out .exit)) ⌝ }
 {
-    let start = RECORD * i;
+    let start = RECORD_SIZE * i;
     let from = start + 1;
     let to = from + HELD;
-    let length = cards[start + LENGTH] as usize;
+    let length = cards[start + LENGTH_OFFSET] as usize;
     let kind = cards[start] as usize;
     let second = text::put(b" ", out, at);
     let third = text::put(words::word(b"A T1 B F DEP", kind), out, second);
     let fourth = text::put(b":", out, third);
-    hex::put(first(length, &cards[from..to]), out, fourth)
+    hex::put(prefix(length, &cards[from..to]), out, fourth)
 }
 
 // Its bitrate, where it is shown.
@@ -38,7 +38,7 @@ fn put_bitrate(cards: &[u8], i: usize, shown: bool, out: &mut [u8], at: usize) -
     ensures { λ r. ⌜ Appends at (rateText shown (take recordSize (drop (recordSize * i) (now (cards .entry))))) (now (out .entry)) r (now (out .exit)) ⌝ }
 {
     if shown {
-        let bitrate = cards[RECORD * i + BITRATE] as usize;
+        let bitrate = cards[RECORD_SIZE * i + BITRATE_OFFSET] as usize;
         let next = text::put(b":", out, at);
         return text::put(
             words::word(b"106A 212F 424F 106B 212B 424B 848B", bitrate),
@@ -74,11 +74,11 @@ pub(crate) fn put_refused(refusal: RoundRefusal, out: &mut [u8]) -> usize
 
 // The arrivals, the departures and the list.
 pub(crate) fn put_report(
-    arrived: &[u8; CARDS],
+    arrived: &[u8; CARDS_SIZE],
     came: usize,
-    departed: &[u8; CARDS],
+    departed: &[u8; CARDS_SIZE],
     left: usize,
-    cards: &[u8; CARDS],
+    cards: &[u8; CARDS_SIZE],
     count: usize,
     out: &mut [u8],
 ) -> usize

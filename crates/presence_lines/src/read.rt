@@ -1,12 +1,12 @@
 // A line taken apart: `round`, the number, and the cards.
 use bench::Put;
-use bench::first;
 use bench::hex;
 use bench::number;
 use bench::number::Number;
+use bench::prefix;
 use bench::text;
 use bench::words;
-use presence_list::IDENTIFIER;
+use presence_list::IDENTIFIER_LIMIT;
 use presence_list::LAST_BITRATE;
 use presence_list::LAST_CARD_KIND;
 ghost use mathlib.Core.Path.{_≡_};
@@ -22,12 +22,12 @@ ghost use Rattle.presence_lines.specs.Readings.{PutsRecord, readIn, read
 ghost use Rattle.presence_list.specs.Names.{identifierLimit};
 
 // How many bytes an identifier has at most that can be read, and that a record holds.
-const READABLE: usize = 1024;
+const HEX_LIMIT: usize = 1024;
 
-pub const HELD: usize = IDENTIFIER as usize;
+pub const HELD: usize = IDENTIFIER_LIMIT as usize;
 
 // The length in the record of a longer identifier.
-const OVER_LENGTH: u8 = IDENTIFIER + 1;
+const OVER_LENGTH: u8 = IDENTIFIER_LIMIT + 1;
 
 // The places of the last kind and of the last bitrate among their names.
 const KIND_LIMIT: usize = LAST_CARD_KIND as usize;
@@ -46,7 +46,7 @@ pub(crate) enum Cards {
 }
 
 // The place of the word among the words of a text; how many they are where it is none of them.
-fn place(word: &[u8], text: &[u8]) -> usize
+fn index_among(word: &[u8], text: &[u8]) -> usize
     ensures { λ r. ⌜ r ≡ placeAmong (now (word .entry)) (wordsOf (now (text .entry))) ⌝ }
 {
     let n = words::count(text);
@@ -83,7 +83,7 @@ fn is_identifier(word: &[u8]) -> bool
     ensures { λ r. ⌜ r ≡ isIdentifier (now (word .entry)) ⌝ }
 {
     if hex::is_hex(word) {
-        return word.len() / 2 <= READABLE;
+        return word.len() / 2 <= HEX_LIMIT;
     }
     false
 }
@@ -104,7 +104,7 @@ fn put_record(
     let last = [len, bitrate, 0];
     let second = text::put(&head, records, at);
     let third = text::put(identifier, records, second);
-    let fourth = text::put(first(HELD - identifier.len(), &zeros), records, third);
+    let fourth = text::put(prefix(HELD - identifier.len(), &zeros), records, third);
     text::put(&last, records, fourth)
 }
 
@@ -116,24 +116,24 @@ fn put_identified(kind: u8, word: &[u8], bitrate: u8, records: &mut [u8], at: us
     let mut identifier = [0u8; HELD];
     let n = word.len() / 2;
     if HELD < n {
-        return put_record(kind, first(0, word), OVER_LENGTH, bitrate, records, at);
+        return put_record(kind, prefix(0, word), OVER_LENGTH, bitrate, records, at);
     }
     let Put::Bytes(k) = hex::read(word, &mut identifier) else {
         return at;
     };
-    put_record(kind, first(k, &identifier), n as u8, bitrate, records, at)
+    put_record(kind, prefix(k, &identifier), n as u8, bitrate, records, at)
 }
 
 // Puts the record of a card, `KIND:HEX:BITRATE`, into the buffer from a place on.
-fn put_card(word: &[u8], records: &mut [u8], at: usize) -> Cards
+fn read_card(word: &[u8], records: &mut [u8], at: usize) -> Cards
     ensures { λ r. ⌜ PutsRecord r (isCard (now (word .entry))) at (recordOfWord (now (word .entry))) (now (records .entry)) (now (records .exit)) ⌝ }
 {
     let rest = behind_colon(word);
-    let kind = place(before_colon(word), b"A T1 B F DEP");
+    let kind = index_among(before_colon(word), b"A T1 B F DEP");
     if KIND_LIMIT < kind {
         return Cards::Unreadable;
     }
-    let bitrate = place(behind_colon(rest), b"106A 212F 424F 106B 212B 424B 848B");
+    let bitrate = index_among(behind_colon(rest), b"106A 212F 424F 106B 212B 424B 848B");
     if BITRATE_LIMIT < bitrate {
         return Cards::Unreadable;
     }
@@ -145,7 +145,7 @@ fn put_card(word: &[u8], records: &mut [u8], at: usize) -> Cards
 }
 
 // Puts the records of the cards behind a place of the line into the buffer, each behind the other.
-fn put_cards(line: &[u8], from: usize, records: &mut [u8]) -> Cards
+fn read_cards(line: &[u8], from: usize, records: &mut [u8]) -> Cards
     requires { ⌜ from ≤ length (now line) ⌝ }
     ensures { λ r. ⌜ PutsRecord r (areCards (wordsBehind (drop from (now (line .entry))))) 0 (recordsOfWords (wordsBehind (drop from (now (line .entry))))) (now (records .entry)) (now (records .exit)) ⌝ }
 {
@@ -154,7 +154,7 @@ fn put_cards(line: &[u8], from: usize, records: &mut [u8]) -> Cards
     let mut len = 0;
     while at < n {
         let end = bytes::scan::find(line, at + 1, n, b' ');
-        let Cards::Bytes(next) = put_card(&line[at + 1..end], records, len) else {
+        let Cards::Bytes(next) = read_card(&line[at + 1..end], records, len) else {
             return Cards::Unreadable;
         };
         len = next;
@@ -178,7 +178,7 @@ pub(crate) fn read_line(line: &[u8], records: &mut [u8]) -> Read
         let Number::Value(number) = number::read(&line[end + 1..second]) else {
             return Read::Unreadable;
         };
-        let Cards::Bytes(len) = put_cards(line, second, records) else {
+        let Cards::Bytes(len) = read_cards(line, second, records) else {
             return Read::Unreadable;
         };
         return Read::Round(number, len);

@@ -9,18 +9,18 @@ use Rattle.presence_list.specs.Names.{recordSize}
 use Rattle.presence_list.specs.Turns.{rest-at}
 
 -- from place i on to the end they are moved
-abbrev pub Moved : List ℕ → ℕ → ℕ → List ℕ → Type 0
-Moved b end i b′ = (length b′ ≡ length b) × (take (i + recordSize) b′ ≡ take (i + recordSize) b) × (drop (i + recordSize) b′ ≡ take (end - i) (drop i b) ++ drop (end + recordSize) b)
+abbrev pub Shifted : List ℕ → ℕ → ℕ → List ℕ → Type 0
+Shifted b end i b′ = (length b′ ≡ length b) × (take (i + recordSize) b′ ≡ take (i + recordSize) b) × (drop (i + recordSize) b′ ≡ take (end - i) (drop i b) ++ drop (end + recordSize) b)
 
 module _ (b : List ℕ) (end : ℕ) (room : end + recordSize ≤ length b) where
-  pub moved-none : Moved b end end b
-  moved-none = (refl, refl, ap (λ (k : ℕ). take k (drop end b) ++ drop (end + recordSize) b) (sym none))
+  pub shifted-none : Shifted b end end b
+  shifted-none = (refl, refl, ap (λ (k : ℕ). take k (drop end b) ++ drop (end + recordSize) b) (sym none))
     where
       none : end - end ≡ 0
       none = omega arith
 
-  pub moved-more : (i : ℕ) (b′ : List ℕ) → 0 < i → i ≤ end → Moved b end i b′ → Moved b end (i - 1) (set b′ (i - 1 + recordSize) (getD b′ (i - 1) 0))
-  moved-more i b′ p h m =
+  pub shifted-more : (i : ℕ) (b′ : List ℕ) → 0 < i → i ≤ end → Shifted b end i b′ → Shifted b end (i - 1) (set b′ (i - 1 + recordSize) (getD b′ (i - 1) 0))
+  shifted-more i b′ p h m =
       let j : ℕ = i - 1 in
       let v : ℕ = getD b′ j 0 in
       let n : length b′ ≡ length b = m .0 in
@@ -43,8 +43,8 @@ module _ (b : List ℕ) (end : ℕ) (room : end + recordSize ≤ length b) where
             ∙ ap (λ (l : List ℕ). l ++ drop (end + recordSize) b) (sym two),
       )
 
-  pub moved-all : (i at : ℕ) (b′ : List ℕ) → i ≤ at → at ≤ i → Moved b end i b′ → (take at b′ ≡ take at b) × (drop (at + recordSize) b′ ≡ take (end - at) (drop at b) ++ drop (end + recordSize) b)
-  moved-all i at b′ p q m =
+  pub shifted-all : (i at : ℕ) (b′ : List ℕ) → i ≤ at → at ≤ i → Shifted b end i b′ → (take at b′ ≡ take at b) × (drop (at + recordSize) b′ ≡ take (end - at) (drop at b) ++ drop (end + recordSize) b)
+  shifted-all i at b′ p q m =
       let e : i ≡ at = omega arith in (
         sym (take-take at (i + recordSize) b′ (omega arith)) ∙ ap (take at) (m .1) ∙ take-take at (i + recordSize) b (omega arith),
         ap (λ (k : ℕ). drop (k + recordSize) b′) (sym e) ∙ m .2 ∙ ap (λ (k : ℕ). take (end - k) (drop k b) ++ drop (end + recordSize) b) e,

@@ -6,9 +6,9 @@ mod put;
 mod range;
 mod records;
 
-pub use range::IDENTIFIER;
+pub use range::IDENTIFIER_LIMIT;
 pub use range::LAST_BITRATE;
 pub use range::LAST_CARD_KIND;
-pub use records::BITRATE;
-pub use records::LENGTH;
-pub use records::RECORD;
+pub use records::BITRATE_OFFSET;
+pub use records::LENGTH_OFFSET;
+pub use records::RECORD_SIZE;

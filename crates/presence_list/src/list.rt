@@ -1,13 +1,13 @@
 // The list of present cards: a round's number and records go in, and the list, the arrivals and the departures come out.
 use super::lists::age;
 use super::lists::without;
-use super::put::ROOM;
-use super::put::put_all;
+use super::put::CARD_LIMIT;
+use super::put::supersede_all;
 use super::range::any_over_long;
 use super::range::are_ascending;
 use super::range::are_in_range;
 use super::range::are_known;
-use super::records::RECORD;
+use super::records::RECORD_SIZE;
 use errors::Refusal;
 use errors::RoundRefusal;
 ghost use mathlib.Core.Path.{_≡_};
@@ -17,7 +17,7 @@ ghost use Rattle.presence_list.specs.Presence.{any};
 ghost use Rattle.presence_list.specs.Steps.{listInRange, staleAt, recordsOf, readableIn, admissionOf, afterRound, acceptOf, roundStep, roundOf, emptyList};
 
 // The bytes of the records of a full list.
-pub const CARDS: usize = ROOM * RECORD;
+pub const CARDS_SIZE: usize = CARD_LIMIT * RECORD_SIZE;
 
 // Whether a round was accepted (0 or 1), the last one's number, and how many cards the list has.
 #[repr(C)]
@@ -30,9 +30,9 @@ pub struct State {
 // The list: its cards in order, and the arrivals and departures of the last accepted round, as records one behind the other.
 #[repr(C)]
 pub struct Presence {
-    pub cards: [u8; CARDS],
-    pub arrived: [u8; CARDS],
-    pub departed: [u8; CARDS],
+    pub cards: [u8; CARDS_SIZE],
+    pub arrived: [u8; CARDS_SIZE],
+    pub departed: [u8; CARDS_SIZE],
     pub state: State,
 }
 
@@ -60,7 +60,7 @@ pub enum Admission {
 
 impl State {
     // Whether the list is one that can be: each field in its range, and the cards in order.
-    fn is_in_range(self, cards: &[u8; CARDS]) -> bool
+    fn is_in_range(self, cards: &[u8; CARDS_SIZE]) -> bool
         ensures { λ r. ⌜ r ≡ listInRange self (now (cards .entry)) ⌝ }
     {
         let count = self.count as usize;
@@ -68,7 +68,7 @@ impl State {
             return count == 0;
         }
         if self.begun == 1 {
-            if count <= ROOM {
+            if count <= CARD_LIMIT {
                 if are_in_range(cards, count) {
                     return are_ascending(cards, count);
                 }
@@ -88,7 +88,7 @@ impl State {
     }
 
     // Refusals in their order: 3, 1, 4, 27.
-    fn admit(self, cards: &[u8; CARDS], number: u32, records: &[u8]) -> Admission
+    fn admit(self, cards: &[u8; CARDS_SIZE], number: u32, records: &[u8]) -> Admission
         ensures { λ r. ⌜ r ≡ admissionOf self (now (cards .entry)) number (now (records .entry)) ⌝ }
     {
         if any_over_long(records) {
@@ -118,9 +118,9 @@ impl State {
     // An admitted round: who was missed twice leaves, and the records are put into the list, if it takes them.
     fn accept(
         self,
-        cards: &mut [u8; CARDS],
-        arrived: &mut [u8; CARDS],
-        departed: &mut [u8; CARDS],
+        cards: &mut [u8; CARDS_SIZE],
+        arrived: &mut [u8; CARDS_SIZE],
+        departed: &mut [u8; CARDS_SIZE],
         number: u32,
         records: &[u8],
     ) -> RoundEffect
@@ -128,10 +128,10 @@ impl State {
         ensures { λ r. ⌜ afterRound (r .state) (now (cards .exit)) (now (arrived .exit)) (now (departed .exit)) (r .answer) ≡ acceptOf self (now (cards .entry)) (now (arrived .entry)) (now (departed .entry)) number (now (records .entry)) ⌝ }
     {
         let count = self.count as usize;
-        let mut list = [0u8; CARDS];
+        let mut list = [0u8; CARDS_SIZE];
         let aged = age(cards, count, &mut list);
-        let n = put_all(records, &mut list, aged);
-        if ROOM < n {
+        let n = supersede_all(records, &mut list, aged);
+        if CARD_LIMIT < n {
             return self.refused(RoundRefusal::ListFull);
         }
         let came = without(cards, count, &list, n, arrived);
@@ -150,9 +150,9 @@ impl State {
     // A round, on a list's numbers and on its cards, arrivals and departures where they lie.
     pub fn round(
         self,
-        cards: &mut [u8; CARDS],
-        arrived: &mut [u8; CARDS],
-        departed: &mut [u8; CARDS],
+        cards: &mut [u8; CARDS_SIZE],
+        arrived: &mut [u8; CARDS_SIZE],
+        departed: &mut [u8; CARDS_SIZE],
         number: u32,
         records: &[u8],
     ) -> RoundEffect
@@ -169,7 +169,7 @@ impl State {
 fn are_readable(records: &[u8]) -> bool
     ensures { λ r. ⌜ r ≡ readableIn (now (records .entry)) ⌝ }
 {
-    if records.len() % RECORD == 0 {
+    if records.len() % RECORD_SIZE == 0 {
         return are_known(records);
     }
     false
@@ -181,9 +181,9 @@ impl Presence {
         ensures { λ r. ⌜ r ≡ emptyList ⌝ }
     {
         Presence {
-            cards: [0; CARDS],
-            arrived: [0; CARDS],
-            departed: [0; CARDS],
+            cards: [0; CARDS_SIZE],
+            arrived: [0; CARDS_SIZE],
+            departed: [0; CARDS_SIZE],
             state: State {
                 number: 0,
                 begun: 0,

@@ -1,7 +1,7 @@
 // Lists of records in the order of their cards: a card's place, who is in the one and not in the other, and the list before a round.
 use super::order::before;
-use super::records::MISSED;
-use super::records::RECORD;
+use super::records::MISSED_OFFSET;
+use super::records::RECORD_SIZE;
 use super::records::card_at;
 use super::records::put_at;
 ghost use mathlib.Core.Path.{_≡_};
@@ -22,7 +22,7 @@ pub(crate) fn place(cards: &[u8], count: usize, card: &[u8]) -> usize
     let mut high = count;
     while low < high {
         let middle = low + (high - low) / 2;
-        if before(card_at(cards, RECORD * middle), card) {
+        if before(card_at(cards, RECORD_SIZE * middle), card) {
             low = middle + 1;
         } else {
             high = middle;
@@ -37,7 +37,7 @@ pub(crate) fn is_at(cards: &[u8], count: usize, place: usize, card: &[u8]) -> bo
     ensures { λ r. ⌜ r ≡ has cardIn (now (card .entry)) (pieces count (now (cards .entry))) ⌝ }
 {
     if place < count {
-        return !before(card, card_at(cards, RECORD * place));
+        return !before(card, card_at(cards, RECORD_SIZE * place));
     }
     false
 }
@@ -59,7 +59,7 @@ fn put_missing(
     if is_at(other, size, p, card) {
         return n;
     }
-    put_at(&cards[at..at + RECORD], out, RECORD * n);
+    put_at(&cards[at..at + RECORD_SIZE], out, RECORD_SIZE * n);
     n + 1
 }
 
@@ -77,7 +77,7 @@ pub(crate) fn without(
     let mut n = 0;
     let mut i = 0;
     while i < count {
-        n = put_missing(other, size, cards, RECORD * i, out, n);
+        n = put_missing(other, size, cards, RECORD_SIZE * i, out, n);
         i += 1;
     }
     n
@@ -88,11 +88,11 @@ fn put_aged(cards: &[u8], at: usize, out: &mut [u8], n: usize) -> usize
     requires { ⌜ (at + recordSize ≤ length (now cards)) × (recordSize * n + recordSize ≤ length (now out)) ⌝ }
     ensures { λ r. ⌜ (r ≡ n + length (aged (take recordSize (drop at (now (cards .entry))) ∷ []))) × (now (out .exit) ≡ putBehind n (aged (take recordSize (drop at (now (cards .entry))) ∷ [])) (now (out .entry))) ⌝ }
 {
-    if cards[at + MISSED] != 0 {
+    if cards[at + MISSED_OFFSET] != 0 {
         return n;
     }
-    put_at(&cards[at..at + RECORD], out, RECORD * n);
-    out[RECORD * n + MISSED] = 1;
+    put_at(&cards[at..at + RECORD_SIZE], out, RECORD_SIZE * n);
+    out[RECORD_SIZE * n + MISSED_OFFSET] = 1;
     n + 1
 }
 
@@ -105,7 +105,7 @@ pub(crate) fn age(cards: &[u8], count: usize, out: &mut [u8]) -> usize
     let mut n = 0;
     let mut i = 0;
     while i < count {
-        n = put_aged(cards, RECORD * i, out, n);
+        n = put_aged(cards, RECORD_SIZE * i, out, n);
         i += 1;
     }
     n

@@ -1,9 +1,9 @@
 // What is looked at before a round is taken: the lent records, and the list.
 use super::order::before;
-use super::records::BITRATE;
-use super::records::LENGTH;
-use super::records::MISSED;
-use super::records::RECORD;
+use super::records::BITRATE_OFFSET;
+use super::records::LENGTH_OFFSET;
+use super::records::MISSED_OFFSET;
+use super::records::RECORD_SIZE;
 use super::records::card_at;
 ghost use mathlib.Core.Path.{_≡_};
 ghost use mathlib.Core.Bool.{Bool};
@@ -14,7 +14,7 @@ ghost use Rattle.presence_list.specs.Memory.{pieces, longIn, isKnownIn, 
 ghost use Rattle.presence_list.specs.Presence.{any, every};
 
 // How many bytes an identifier has at most.
-pub const IDENTIFIER: u8 = 16;
+pub const IDENTIFIER_LIMIT: u8 = 16;
 
 // The last kind, DEP, and the last bitrate, 848B.
 pub const LAST_CARD_KIND: u8 = 4;
@@ -25,10 +25,10 @@ pub const LAST_BITRATE: u8 = 6;
 pub(crate) fn any_over_long(records: &[u8]) -> bool
     ensures { λ r. ⌜ r ≡ any longIn (pieces (length (now (records .entry)) / recordSize) (now (records .entry))) ⌝ }
 {
-    let size = records.len() / RECORD;
+    let size = records.len() / RECORD_SIZE;
     let mut i = 0;
     while i < size {
-        if IDENTIFIER < records[RECORD * i + LENGTH] {
+        if IDENTIFIER_LIMIT < records[RECORD_SIZE * i + LENGTH_OFFSET] {
             return true;
         }
         i += 1;
@@ -42,7 +42,7 @@ fn is_known(records: &[u8], at: usize) -> bool
     ensures { λ r. ⌜ r ≡ isKnownIn (take recordSize (drop at (now (records .entry)))) ⌝ }
 {
     if records[at] <= LAST_CARD_KIND {
-        return records[at + BITRATE] <= LAST_BITRATE;
+        return records[at + BITRATE_OFFSET] <= LAST_BITRATE;
     }
     false
 }
@@ -51,10 +51,10 @@ fn is_known(records: &[u8], at: usize) -> bool
 pub(crate) fn are_known(records: &[u8]) -> bool
     ensures { λ r. ⌜ r ≡ every isKnownIn (pieces (length (now (records .entry)) / recordSize) (now (records .entry))) ⌝ }
 {
-    let size = records.len() / RECORD;
+    let size = records.len() / RECORD_SIZE;
     let mut i = 0;
     while i < size {
-        if !is_known(records, RECORD * i) {
+        if !is_known(records, RECORD_SIZE * i) {
             return false;
         }
         i += 1;
@@ -67,8 +67,8 @@ fn is_in_range(cards: &[u8], at: usize) -> bool
     requires { ⌜ at + recordSize ≤ length (now cards) ⌝ }
     ensures { λ r. ⌜ r ≡ inRangeIn (take recordSize (drop at (now (cards .entry)))) ⌝ }
 {
-    if cards[at + LENGTH] <= IDENTIFIER {
-        if cards[at + MISSED] <= 1 {
+    if cards[at + LENGTH_OFFSET] <= IDENTIFIER_LIMIT {
+        if cards[at + MISSED_OFFSET] <= 1 {
             return is_known(cards, at);
         }
     }
@@ -82,7 +82,7 @@ pub(crate) fn are_in_range(cards: &[u8], count: usize) -> bool
 {
     let mut i = 0;
     while i < count {
-        if !is_in_range(cards, RECORD * i) {
+        if !is_in_range(cards, RECORD_SIZE * i) {
             return false;
         }
         i += 1;
@@ -97,8 +97,8 @@ pub(crate) fn are_ascending(cards: &[u8], count: usize) -> bool
 {
     let mut i = 1;
     while i < count {
-        let at = RECORD * i;
-        if !before(card_at(cards, at - RECORD), card_at(cards, at)) {
+        let at = RECORD_SIZE * i;
+        if !before(card_at(cards, at - RECORD_SIZE), card_at(cards, at)) {
             return false;
         }
         i += 1;

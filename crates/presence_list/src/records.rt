@@ -7,20 +7,20 @@ ghost use lib.ListN.{length, take, drop};
 ghost use Rattle.presence_list.specs.Names.{recordSize, identifierLimit};
 ghost use Rattle.presence_list.specs.Memory.{lengthIn, cardIn, keptRecord};
 
-pub const RECORD: usize = 20;
+pub const RECORD_SIZE: usize = 20;
 
-pub const LENGTH: usize = 17;
+pub const LENGTH_OFFSET: usize = 17;
 
-pub const BITRATE: usize = 18;
+pub const BITRATE_OFFSET: usize = 18;
 
-pub const MISSED: usize = 19;
+pub const MISSED_OFFSET: usize = 19;
 
 // Kind and identifier of the record that starts at a place.
 pub(crate) fn card_at(cards: &[u8], at: usize) -> &[u8]
     requires { ⌜ (at + recordSize ≤ length (now cards)) × (lengthIn (take recordSize (drop at (now cards))) ≤ identifierLimit) ⌝ }
     ensures { λ r. ⌜ now r ≡ cardIn (take recordSize (drop at (now (cards .entry)))) ⌝ }
 {
-    let n = cards[at + LENGTH] as usize;
+    let n = cards[at + LENGTH_OFFSET] as usize;
     let end = at + 1 + n;
     &cards[at..end]
 }
@@ -34,14 +34,14 @@ pub(crate) fn put_at(text: &[u8], cards: &mut [u8], at: usize)
 }
 
 // A lent record as the list keeps it: zeros behind its identifier, and not missed.
-pub(crate) fn entry_of(found: &[u8]) -> [u8; RECORD]
+pub(crate) fn entry_of(found: &[u8]) -> [u8; RECORD_SIZE]
     requires { ⌜ (length (now found) ≡ recordSize) × (lengthIn (now found) ≤ identifierLimit) ⌝ }
     ensures { λ r. ⌜ r ≡ keptRecord (now (found .entry)) ⌝ }
 {
     let card = card_at(found, 0);
-    let mut entry = [0u8; RECORD];
+    let mut entry = [0u8; RECORD_SIZE];
     bytes::copy(card, &mut entry);
-    entry[LENGTH] = found[LENGTH];
-    entry[BITRATE] = found[BITRATE];
+    entry[LENGTH_OFFSET] = found[LENGTH_OFFSET];
+    entry[BITRATE_OFFSET] = found[BITRATE_OFFSET];
     entry
 }

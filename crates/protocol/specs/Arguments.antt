@@ -53,6 +53,10 @@ felicaSize = 18
 abbrev pub nfcid3Size : ℕ
 nfcid3Size = 10
 
+-- where ATR_REQ has it
+abbrev pub nfcid3Offset : ℕ
+nfcid3Offset = 2
+
 -- the lengths that tg_init_target asserts, and a mode of 0 or 2
 abbrev pub initFits : ℕ → List ℕ → List ℕ → List ℕ → Bool
 initFits mode mifare felica nfcid3t =

@@ -6,7 +6,7 @@ use mathlib.Core.Option.{Option}
 use Prim.Native.Nat.{ℕ, _*_, _/_}
 use lib.Dec.{eqb}
 use lib.ListN.{length}
-use Rattle.protocol.specs.Names.{commandClock, registersClock, inListPassiveTargetClock, inJumpForDepClock, tgResponseToInitiatorClock, rfFieldItem, fieldOff}
+use Rattle.protocol.specs.Names.{commandClock, registersClock, inListPassiveTargetClock, inJumpForDepClock, tgResponseToInitiatorClock, rfFieldItem, fieldOff, targetNumber}
 use Rattle.protocol.specs.Arguments.{word, activeByte, jumpData, initData, registers, initFits, flag, msOf, isLongWait}
 use Rattle.protocol.specs.Rules.{Rule, noBytes, allBytes, registersWritten, firstByte, listedTarget, exchangedData, thru, jump, status, initiatorCommand, targetStatus}
 use Rattle.protocol.specs.Rules as rules
@@ -124,7 +124,7 @@ rowOf (writeRegister values) = row (registers 3 values) writeRegisterCode regist
 rowOf (readSingleRegister address) = row true readRegisterCode registersClock (word address) firstByte
 rowOf (writeSingleRegister address value) = row true writeRegisterCode registersClock (word address ++ (value ∷ [])) registersWritten
 rowOf (inListPassiveTarget maxTg bitrate bytes) = row true inListPassiveTargetCode inListPassiveTargetClock (maxTg ∷ bitrate ∷ bytes) listedTarget
-rowOf (inDataExchange bytes ms) = row true inDataExchangeCode ms (0x01 ∷ bytes) exchangedData
+rowOf (inDataExchange bytes ms) = row true inDataExchangeCode ms (targetNumber ∷ bytes) exchangedData
 rowOf (inCommunicateThru bytes ms) = row true inCommunicateThruCode ms bytes thru
 rowOf (inJumpForDep active br passive nfcid3 gi) = row true inJumpForDepCode inJumpForDepClock (jumpData (activeByte active) br passive nfcid3 gi) jump
 rowOf (tgInitTarget mode mifare felica nfcid3t gt ms) =
@@ -188,19 +188,28 @@ isOpening (opening mode) = true
 isOpening (reader c) = false
 
 -- the most command frames that the call orders: three for each system code, of other calls four, ten of an opening
+abbrev pub codeFrames : ℕ
+codeFrames = 3
+
+abbrev pub callFrames : ℕ
+callFrames = 4
+
+abbrev pub openingFrames : ℕ
+openingFrames = 10
+
 abbrev pub deviceLimit : DeviceCall → ℕ
-deviceLimit (detectTypeA text uid) = 4
-deviceLimit (detectTypeASplit text uid) = 4
-deviceLimit (detectTypeB text sensbReq) = 4
-deviceLimit (detectTypeF text systemCode requestCode timeSlots) = 4
-deviceLimit (pollTypeF text words) = 3 * (length words / 2)
-deviceLimit (detectDep text atrReq) = 4
-deviceLimit (transceive text selRes ridRes bytes ms) = 4
-deviceLimit (readWithoutEncryption idm service blocks ms) = 4
-deviceLimit (writeWithoutEncryption idm service blocks bytes ms) = 4
+deviceLimit (detectTypeA text uid) = callFrames
+deviceLimit (detectTypeASplit text uid) = callFrames
+deviceLimit (detectTypeB text sensbReq) = callFrames
+deviceLimit (detectTypeF text systemCode requestCode timeSlots) = callFrames
+deviceLimit (pollTypeF text words) = codeFrames * (length words / 2)
+deviceLimit (detectDep text atrReq) = callFrames
+deviceLimit (transceive text selRes ridRes bytes ms) = callFrames
+deviceLimit (readWithoutEncryption idm service blocks ms) = callFrames
+deviceLimit (writeWithoutEncryption idm service blocks bytes ms) = callFrames
 
 abbrev pub limit : Call → ℕ
-limit (opening mode) = 10
-limit (reader (request r)) = 4
+limit (opening mode) = openingFrames
+limit (reader (request r)) = callFrames
 limit (reader (device d)) = deviceLimit d
-limit (reader unknown) = 4
+limit (reader unknown) = callFrames

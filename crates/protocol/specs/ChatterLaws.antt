@@ -15,7 +15,7 @@ use Rattle.exchange.specs.Exchange.{sending, reading, waiting, cancelling, Exch
 use Rattle.protocol.specs.Scripts.{Script, finish, command, reset, fieldPause}
 use Rattle.protocol.specs.Calls.{Call, resetModeCode}
 use Rattle.protocol.specs.Session.{Rest, byReply, ofReset, Phase, exchange, resetAck, resetPause, fieldPausing, openingAck, openingReads}
-use Rattle.protocol.specs.Session.{CallResult, enter, afterReply, afterExchange, progress, begin, Books, countedFor, bookOrder, bookAnswer}
+use Rattle.protocol.specs.Session.{CallResult, startScript, afterReply, afterExchange, progress, begin, Books, countedFor, bookOrder, bookAnswer}
 use Rattle.protocol.specs.Record.{Item, ordered, accepted, isCommand, acked}
 use Rattle.protocol.specs.Claim.{allowedBetween}
 use Rattle.protocol.specs.Laws.{split, by-write, by-read, by-pause, ack-is-ack}
@@ -42,14 +42,14 @@ not-both p q = absurd (false≢true (sym p ∙ q))
 proper-ack : (phase : Phase) → Proper (pending (write ack) phase)
 proper-ack phase h = not-both (rw ack-is-ack refl) h
 
-proper-enter : (s : Script) → Proper (enter s)
-proper-enter (finish a) = tt
-proper-enter (command code clock bytes k) = λ _. record { code = code; clock = clock; rest = byReply k; is = refl }
-proper-enter (reset s) = λ _. record { code = resetModeCode; clock = commandClock; rest = ofReset s; is = refl }
-proper-enter (fieldPause s) = not-both refl
+proper-start : (s : Script) → Proper (startScript s)
+proper-start (finish a) = tt
+proper-start (command code clock bytes k) = λ _. record { code = code; clock = clock; rest = byReply k; is = refl }
+proper-start (reset s) = λ _. record { code = resetModeCode; clock = commandClock; rest = ofReset s; is = refl }
+proper-start (fieldPause s) = not-both refl
 
 proper-reply : (rest : Rest) (r : Reply) → Proper (afterReply rest r)
-proper-reply (byReply k) r = proper-enter (k r)
+proper-reply (byReply k) r = proper-start (k r)
 proper-reply (ofReset s) r = proper-ack _
 
 proper-exchange : (rest : Rest) (r : ExchangeResult) → Bare r → Proper (afterExchange rest r)
@@ -63,14 +63,14 @@ Any e r = Proper r
 pub proper-progress : (phase : Phase) (e : Event) → Proper (progress phase e)
 proper-progress (exchange step rest) e = proper-exchange rest (advance step e) (bare step e)
 proper-progress (resetAck s) e = by-write Any unfit (λ _. tt) _ _ (not-both refl) tt e
-proper-progress (resetPause s) e = by-pause Any unfit (λ _. tt) _ (proper-enter s) e
-proper-progress (fieldPausing s) e = by-pause Any unfit (λ _. tt) _ (proper-enter s) e
+proper-progress (resetPause s) e = by-pause Any unfit (λ _. tt) _ (proper-start s) e
+proper-progress (fieldPausing s) e = by-pause Any unfit (λ _. tt) _ (proper-start s) e
 proper-progress (openingAck s) e = by-write Any unfit (λ _. tt) _ _ (not-both refl) tt e
-proper-progress (openingReads s) e = by-read Any unfit (λ _. tt) _ _ _ _ (λ _. (not-both refl)) (proper-enter s) (proper-enter s) tt e
+proper-progress (openingReads s) e = by-read Any unfit (λ _. tt) _ _ _ _ (λ _. (not-both refl)) (proper-start s) (proper-start s) tt e
 
 pub proper-begin : (b : Bool) (s : Script) → Proper (begin b s)
 proper-begin true s = proper-ack _
-proper-begin false s = proper-enter s
+proper-begin false s = proper-start s
 
 -- an ACK-led packet is not empty, and has the start bytes
 pub led-start : (packet : List ℕ) → ackLed packet ≡ true → hasStart packet ≡ true

@@ -3,7 +3,7 @@ use mathlib.Core.List.{List, [], _∷_, _++_}
 use Prim.Native.Nat.{ℕ}
 use Rattle.errors.specs.declared.Fault.{Fault}
 use Rattle.protocol.specs.Scripts.{Script, command, either, refuse, ask}
-use Rattle.protocol.specs.Names.{commandClock, inJumpForDepClock, inListPassiveTargetClock, registersClock, rfFieldItem, fieldOff}
+use Rattle.protocol.specs.Names.{commandClock, inJumpForDepClock, inListPassiveTargetClock, registersClock, rfFieldItem, fieldOff, targetNumber}
 use Rattle.protocol.specs.Rules.{onVersion, onWritten, onFirstByte, onListed, onExchanged, onJump, withStatusElse}
 use Rattle.protocol.specs.Arguments.{word, jumpData}
 use Rattle.protocol.specs.Calls.{getFirmwareVersionCode, inCommunicateThruCode, inDataExchangeCode, inJumpForDepCode, inListPassiveTargetCode, readRegisterCode, rfConfigurationCode, setParametersCode, writeRegisterCode}
@@ -43,7 +43,7 @@ inListPassiveTarget maxTg bitrate initiator none f =
 
 -- in_data_exchange
 abbrev pub inDataExchangeElse : List ℕ → ℕ → (List ℕ → Script) → (Fault → Script) → Script
-inDataExchangeElse bytes ms f g = command inDataExchangeCode ms (0x01 ∷ bytes) (either (λ bs. onExchanged bs f g) g)
+inDataExchangeElse bytes ms f g = command inDataExchangeCode ms (targetNumber ∷ bytes) (either (λ bs. onExchanged bs f g) g)
 
 abbrev pub inDataExchange : List ℕ → ℕ → (List ℕ → Script) → Script
 inDataExchange bytes ms f = inDataExchangeElse bytes ms f refuse

@@ -10,7 +10,7 @@ use Rattle.exchange.specs.Exchange.{write, read, drain, pause, ok, bad, pkt, ti
 use Rattle.protocol.specs.Scripts.{Byte, card, Answer, done, type1, uidAndAts, nothing, refused, refusedAfter}
 use Rattle.protocol.specs.Calls.{Call, limit}
 use Rattle.protocol.specs.Own.{Formed, formOf}
-use Rattle.protocol.specs.Session.{Entry, Output, ceiling, lastCaller}
+use Rattle.protocol.specs.Session.{Entry, Output, ceiling, lastCaller, callerCount}
 use Rattle.protocol.specs.Record.{Item, ordered, accepted, Record, Note, recordOf, asSeen, linesOf, frames, events, allowed, framesBy, line}
 
 -- what may stand between a command's write order and the packet that serves it: read orders, the write's `ok`, ACK-led packets
@@ -89,5 +89,5 @@ Once l = (n m j k : ℕ) (bs cs : List ℕ) (s : Serves l n j bs) (t : Serves l 
 pub record Demand3 (es : List Entry) (outs : List (Output Byte)) (counts : List ℕ) : Type 0 where
   pub calls : Claims ((asSeen (recordOf es outs)) .lines) ((recordOf es outs) .notes)
   pub once : Once ((asSeen (recordOf es outs)) .lines)
-  pub eight : length counts ≡ 8
+  pub eight : length counts ≡ callerCount
   pub counted : (k : ℕ) → k ≤ lastCaller → getD counts k 0 ≡ min (framesBy k ((recordOf es outs) .lines) ((recordOf es outs) .notes)) ceiling

@@ -14,7 +14,7 @@ use Rattle.exchange.specs.Exchange.{Order, write, read, drain, pause, Event, un
 use Rattle.protocol.specs.Scripts.{Byte, Answer}
 use Rattle.protocol.specs.Calls.{Call, opening, reader, isOpening}
 use Rattle.protocol.specs.Starts.{Start, refuses, starts, startOf}
-use Rattle.protocol.specs.Session.{CallResult, begin, progress, Running, idle, busy, Books, lastCaller, noCounts, admits, booksFor, ceiling, addFrame, counted, countedFor, Session, fresh, Entry, call, event}
+use Rattle.protocol.specs.Session.{CallResult, begin, progress, Running, idle, busy, Books, lastCaller, noCounts, admits, booksFor, ceiling, addFrame, counted, countedFor, Session, fresh, Entry, call, event, callerCount}
 use Rattle.protocol.specs.Session.{Effect, effect, bufferNeed, packetLimit, seen, packetLength, admitted, eventEffect, started, callEffect, effectOf, booksAfter, given, step, outputs, sessionAfter}
 use Rattle.protocol.specs.Record.{Item, ordered, accepted, Record, Note, note, Observed, observed, addCall, addEvent, add, observe, recordOf, linesOf, seenLines, oneIf, frames, framesBy, line}
 use Rattle.protocol.specs.Laws.{split, lines-own, lines-other}
@@ -87,7 +87,7 @@ module _ (k : ℕ) (few : k ≤ lastCaller) where
 
   -- the count of k is the record's
   abbrev Right : Books → Observed → Type 0
-  Right b w = (length (b .counts) ≡ 8) × (getD (b .counts) k 0 ≡ min (framesBy k (w .lines) (w .notes)) ceiling)
+  Right b w = (length (b .counts) ≡ callerCount) × (getD (b .counts) k 0 ≡ min (framesBy k (w .lines) (w .notes)) ceiling)
 
   -- ---- a call
 
@@ -106,7 +106,7 @@ module _ (k : ℕ) (few : k ≤ lastCaller) where
     none-yet true m = omega arith
     none-yet false m = omega arith
 
-    eight : (d : Call) → length ((booksFor caller d b) .counts) ≡ 8
+    eight : (d : Call) → length ((booksFor caller d b) .counts) ≡ callerCount
     eight (opening mode) = refl
     eight (reader d) = right .0
 
@@ -120,7 +120,7 @@ module _ (k : ℕ) (few : k ≤ lastCaller) where
     ordered-right : (x : Order) → getD (countedFor caller x ((booksFor caller c b) .counts)) k 0
         ≡ min (framesBy k (line n (ordered x) ∷ l) (note caller c none ∷ ns)) ceiling
     ordered-right x =
-        count-of k caller x ((booksFor caller c b) .counts) (let e : length ((booksFor caller c b) .counts) ≡ 8 = eight c in omega arith)
+        count-of k caller x ((booksFor caller c b) .counts) (let e : length ((booksFor caller c b) .counts) ≡ callerCount = eight c in omega arith)
         ∙ rw (lines-own n l (ordered x) [] no-line, older l n (ordered x) ns (omega arith))
         (mine-right mine (getD ((booksFor caller c b) .counts) k 0) [] x (cond (isOpening c) 0 (framesBy k l ns)) (base c))
 
@@ -204,7 +204,7 @@ module _ (k : ℕ) (few : k ≤ lastCaller) where
   fresh-right : Right (fresh .books) (observed [] [])
   fresh-right = (refl, no-counts k noCounts all-zero)
 
-pub eight-counts : (es : List Entry) → length ((sessionAfter fresh es) .books .counts) ≡ 8
+pub eight-counts : (es : List Entry) → length ((sessionAfter fresh es) .books .counts) ≡ callerCount
 eight-counts es = (right-after 0 (omega arith) fresh (observed [] []) es fresh-agrees (fresh-right 0 (omega arith))) .0
 
 pub counts-right : (es : List Entry) (k : ℕ) → k ≤ lastCaller

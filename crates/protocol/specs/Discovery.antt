@@ -1,5 +1,5 @@
 -- discovery.rs, and `transceive` of device.rs, as scripts. Where a list's data is meant, it stands from position 2 of the response on.
-use mathlib.Core.Bool.{Bool, cond, _||_}
+use mathlib.Core.Bool.{Bool, true, cond, _||_}
 use mathlib.Core.List.{List, [], _∷_, _++_, map}
 use Prim.Native.Nat.{ℕ, suc, _+_, _-_, _/_, _%_}
 use lib.Dec.{eqb, ltb}
@@ -11,9 +11,9 @@ use Rattle.targets.specs.TypeA.{isTargetData, isType2}
 use Rattle.crc.specs.Crc.{typeA as crcA, checks}
 use Rattle.protocol.specs.Scripts.{Byte, own, commandsLater, Answer, done, type1, uidAndAts, nothing, refused, refusedAfter}
 use Rattle.protocol.specs.Scripts.{Script, finish, command, fieldPause, refuse, either, ifElse, andThen, byteAt, part, rest}
-use Rattle.protocol.specs.Arguments.{word, shortestAtrReq, nfcid3Size}
+use Rattle.protocol.specs.Arguments.{word, shortestAtrReq, nfcid3Size, activeByte, nfcid3Offset}
 use Rattle.protocol.specs.Chipset.{readSingleRegister, writeSingleRegister, rfConfiguration, inListPassiveTarget, inDataExchange, inDataExchangeElse, inCommunicateThru, inCommunicateThruElse, inJumpForDepElse}
-use Rattle.protocol.specs.Names.{ciuFifoData, ciuMode, ciuRxMode, ciuTxControl, registersClock, rfNotActivated, timeoutStatus, typeBClock, ridClock, cascadeTag, deselectCode, idmAndPmm, listedIdmOffset, pmmEnd, protocolOffset, ridCode, selResOffset, sensReq, sensResOffset, targetOffset, uidLengthOffset, uidOffset, wupbCode, wupbParameter, timeoutsItem, timeouts, rxCrcEn, rfFieldItem, fieldOn, noDetectSync, atrResCmd0, atrResCmd1, systemCodeRequest, oneTimeSlot, sensfReqCode}
+use Rattle.protocol.specs.Names.{ciuFifoData, ciuMode, ciuRxMode, ciuTxControl, registersClock, rfNotActivated, timeoutStatus, typeBClock, ridClock, cascadeTag, deselectCode, idmAndPmm, listedIdmOffset, pmmEnd, protocolOffset, selResOffset, sensReq, sensResOffset, targetOffset, uidLengthOffset, uidOffset, wupbCode, wupbParameter, timeoutsItem, timeouts, rxCrcEn, rfFieldItem, fieldOn, noDetectSync, atrResCmd0, atrResCmd1, systemCodeRequest, oneTimeSlot, sensfReqCode, oneTarget, codeType1, cardMark, noCardMark, ridData, txRfEn}
 use Rattle.protocol.specs.Calls.{inCommunicateThruCode, readRegisterCode}
 
 -- ---- detect_type_a
@@ -49,15 +49,15 @@ cardType1 list rid = ifElse (ltb (length list) 4) (refuse ShortResponse) (finish
 
 abbrev pub tryType1 : Script
 tryType1 =
-    inListPassiveTarget 1 4 [] (finish nothing)
-    (λ list. inDataExchangeElse (ridCode ∷ 0x00 ∷ 0x00 ∷ 0x00 ∷ 0x00 ∷ 0x00 ∷ 0x00 ∷ []) ridClock (cardType1 list) noneOnStatus)
+    inListPassiveTarget oneTarget codeType1 [] (finish nothing)
+    (λ list. inDataExchangeElse ridData ridClock (cardType1 list) noneOnStatus)
 
 -- no target: FIFO 0x26 is none; any other value, or a refused read, leads to the Type 1 try
 abbrev pub noTarget : Script
 noTarget = command readRegisterCode registersClock (word ciuFifoData) (either (λ bs. ifElse (eqb (getD bs 0 0) sensReq) (finish nothing) tryType1) (λ _. tryType1))
 
 abbrev pub detectTypeA : ℕ → List ℕ → Script
-detectTypeA code uid = inListPassiveTarget 1 code (cascaded uid) noTarget foundA
+detectTypeA code uid = inListPassiveTarget oneTarget code (cascaded uid) noTarget foundA
 
 -- ---- detect_type_a in the mode in which UID and ATS are told apart (document 02, N6). The UID's length stands in the data at 3, the
 -- ATS's is its first byte. List data that is no target data of Type A is refused at once.
@@ -74,7 +74,7 @@ foundSplit list =
     (ifElse (isTargetData (drop targetOffset list)) (byType2 list (uidAndAts (cardA list) (uidLength list) (atsLength list))) (refuse UidLayout))
 
 abbrev pub detectTypeASplit : ℕ → List ℕ → Script
-detectTypeASplit code uid = inListPassiveTarget 1 code (cascaded uid) noTarget foundSplit
+detectTypeASplit code uid = inListPassiveTarget oneTarget code (cascaded uid) noTarget foundSplit
 
 -- ---- detect_type_b
 
@@ -93,7 +93,7 @@ foundB afi list =
     (ifElse (eqb (getD list protocolOffset 0 % 2) 1) (ifElse (eqb (getD list protocolOffset 0 / 8 % 2) 0) (deselect afi) (finish nothing)) (finish nothing))
 
 abbrev pub detectTypeB : ℕ → ℕ → Script
-detectTypeB code afi = inListPassiveTarget 1 code (afi ∷ []) (finish nothing) (foundB afi)
+detectTypeB code afi = inListPassiveTarget oneTarget code (afi ∷ []) (finish nothing) (foundB afi)
 
 -- ---- detect_type_f, whose poll is command k
 
@@ -102,13 +102,13 @@ sensfReq systemCode requestCode timeSlots = sensfReqCode ∷ word systemCode ++ 
 
 abbrev pub poll : ℕ → ℕ → List ℕ → Script
 poll k code req =
-    inListPassiveTarget 1 code req (refuse NoCard)
+    inListPassiveTarget oneTarget code req (refuse NoCard)
     (λ list. ifElse (ltb (length list) pmmEnd) (refuse ShortResponse) (finish (done (rest k list listedIdmOffset))))
 
 abbrev pub detectTypeF : ℕ → List ℕ → Script
 detectTypeF code req =
     readSingleRegister ciuTxControl
-    (λ bs. ifElse (eqb (getD bs 0 0 % 4) 0) (rfConfiguration rfFieldItem (fieldOn ∷ []) (fieldPause (poll 2 code req))) (poll 1 code req))
+    (λ bs. ifElse (eqb (getD bs 0 0 % txRfEn) 0) (rfConfiguration rfFieldItem (fieldOn ∷ []) (fieldPause (poll 2 code req))) (poll 1 code req))
 
 -- ---- several system codes: detect_type_f for each
 
@@ -137,10 +137,10 @@ byNoCard x a UidLayout = a
 
 -- what a code adds to the answer: 01, IDm and PMm of an answer that has the optional bytes behind them; 00 where no card was met
 abbrev pub cardMet : List Byte → List Byte
-cardMet bytes = own 0x01 ∷ take idmAndPmm bytes
+cardMet bytes = own cardMark ∷ take idmAndPmm bytes
 
 abbrev pub noCardMet : List Byte
-noCardMet = own 0x00 ∷ []
+noCardMet = own noCardMark ∷ []
 
 -- the end of a code: the list goes on with what the code adds, or ends with the code's fault. detect_type_f has no other ends.
 abbrev pub codeEnd : (List Byte → Script) → (Fault → Script) → Answer Byte → Script
@@ -172,7 +172,7 @@ noPartner r = byStatus (λ status. ifElse (eqb status timeoutStatus || eqb statu
 abbrev pub detectDep : ℕ → List ℕ → Script
 detectDep code atrReq =
     rfConfiguration timeoutsItem timeouts
-    (inJumpForDepElse 1 code [] (take nfcid3Size (drop 2 atrReq)) (drop shortestAtrReq atrReq)
+    (inJumpForDepElse (activeByte true) code [] (take nfcid3Size (drop nfcid3Offset atrReq)) (drop shortestAtrReq atrReq)
     (λ bs. writeSingleRegister ciuMode noDetectSync (finish (done (own atrResCmd0 ∷ own atrResCmd1 ∷ rest 1 bs 2)))) noPartner)
 
 -- ---- transceive

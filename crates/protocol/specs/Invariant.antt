@@ -1,4 +1,4 @@
--- The invariant of a running call: that a script which is entered has it, and that a reply to a command stands in the record.
+-- The invariant of a running call: that a script which starts has it, and that a reply to a command stands in the record.
 use mathlib.Core.Path.{_≡_, refl, ap, _∙_}
 use mathlib.Core.Bool.{Bool, true, false, cond}
 use mathlib.Core.Logic.{inl, inr}
@@ -17,13 +17,13 @@ use Rattle.exchange.specs.Exchange.{unfit, pending, ended, ExchangePhase, sendi
 use Rattle.protocol.specs.Scripts.{Byte, card, Answer, done, type1, uidAndAts, nothing, refused, refusedAfter, Script, finish, command, reset, fieldPause}
 use Rattle.protocol.specs.Calls.{Call, limit, resetModeCode, resetModeData}
 use Rattle.protocol.specs.Session.{Rest, byReply, ofReset, Phase, exchange, resetAck, resetPause, fieldPausing, openingAck, openingReads}
-use Rattle.protocol.specs.Session.{CallResult, enter}
+use Rattle.protocol.specs.Session.{CallResult, startScript}
 use Rattle.protocol.specs.Record.{Item, ordered, accepted, Record, linesOf, oneIf, frames, events, pendingOrder, acked, allowed, line, RecordLine}
 use Rattle.protocol.specs.Claim.{allowedBetween, Between, CardByte, bytesOf, EndedCall}
 use Rattle.protocol.specs.Own.{Form, onlyCards, versionAndName, cardsAndFlag, cardAndRates, depAndCards, polledCodes, HasForm, Formed, formOf}
 use Rattle.protocol.specs.Sound.{Within, responseTo, responseIn, PlacedBytes, no-bytes, own-byte, card-byte, IsResponseByte, Final, OfExchange, Correct}
 use Rattle.protocol.specs.Laws.{frame-not-ack, ack-is-ack, lines-own}
-use Rattle.protocol.specs.Names.{commandClock, openingReadTime, fieldPauseTime}
+use Rattle.protocol.specs.Names.{commandClock, openingReadTime, fieldPauseTime, uidLengthOffset}
 
 -- ---- the invariant
 
@@ -96,7 +96,7 @@ module _ (P Q : ℕ → ℕ → ℕ → Type 0) (f : (k p b : ℕ) → P k p b �
   form-by o (type1 bytes) h = has-form-by o bytes h
   form-by o (uidAndAts bytes uid ats) h =
       let u = h .1 in
-      (h .0, record { list = u .list; uid = u .uid; ats = u .ats; form = u .form; target = u .target; uidIs = u .uidIs; atsIs = u .atsIs; source = f 0 5 uid (u .source) })
+      (h .0, record { list = u .list; uid = u .uid; ats = u .ats; form = u .form; target = u .target; uidIs = u .uidIs; atsIs = u .atsIs; source = f 0 uidLengthOffset uid (u .source) })
   form-by o nothing h = tt
   form-by o (refused r) h = tt
   form-by o (refusedAfter r m) h = tt
@@ -215,7 +215,7 @@ module _ (n : ℕ) (c : Call) where
       → Final (formOf c) rs a → Sourced l rs → Preserved l xs (ended a)
   closed l xs rs a e f g h s = record { framesWithin = rw e f; eventsWithin = rw e g; cardBytes = final-cards l rs s a h; form = final-form l rs s a h }
 
-  -- ---- a script is entered after the responses rs
+  -- ---- a script starts after the responses rs
 
   module _ (l : Record) (xs : List Item) (rs : List (List ℕ)) (own-lines : linesOf n l ≡ xs) where
     counts : (code : ℕ) (bytes : List ℕ) → frames (ordered (write (commandFrame code bytes)) ∷ xs) ≡ suc (frames xs)
@@ -242,19 +242,19 @@ module _ (n : ℕ) (c : Call) where
           source = later-sourced rs f;
         }
 
-    pub entered : (s : Script) (m : ℕ) → events xs ≤ allowed c xs → frames xs + m ≤ limit c → RestSound (formOf c) s m rs → frames xs ≡ length rs → Sourced l rs
-        → Preserved l xs (enter s)
-    entered (finish a) m b q w e f = closed l xs rs a own-lines (omega arith) b (w .1) f
-    entered (command code clock bytes k) zero b q w e f = absurd (w .0)
-    entered (command code clock bytes k) (suc m) b q w e f =
+    pub script-started : (s : Script) (m : ℕ) → events xs ≤ allowed c xs → frames xs + m ≤ limit c → RestSound (formOf c) s m rs → frames xs ≡ length rs → Sourced l rs
+        → Preserved l xs (startScript s)
+    script-started (finish a) m b q w e f = closed l xs rs a own-lines (omega arith) b (w .1) f
+    script-started (command code clock bytes k) zero b q w e f = absurd (w .0)
+    script-started (command code clock bytes k) (suc m) b q w e f =
         let h : frames (ordered (write (commandFrame code bytes)) ∷ xs) ≡ suc (frames xs) = counts code bytes in
         sent code clock bytes (byReply k) m (omega arith) q w e f
-    entered (reset s) zero b q w e f = absurd (w .0)
-    entered (reset s) (suc m) b q w e f =
+    script-started (reset s) zero b q w e f = absurd (w .0)
+    script-started (reset s) (suc m) b q w e f =
         let h : frames (ordered (write (commandFrame resetModeCode resetModeData)) ∷ xs) ≡ suc (frames xs) = counts resetModeCode resetModeData in
         let g : oneIf (same (commandFrame resetModeCode resetModeData) (commandFrame resetModeCode resetModeData)) ≡ 1 = rw (same-self (commandFrame resetModeCode resetModeData)) in
         sent resetModeCode commandClock resetModeData (ofReset s) m (omega arith) q w e f
-    entered (fieldPause s) m b q w e f = record {
+    script-started (fieldPause s) m b q w e f = record {
       lines = lines-own n l (ordered (pause fieldPauseTime)) xs own-lines;
       responses = rs;
       budget = omega arith;

@@ -108,6 +108,36 @@ moreBit = 64
 abbrev pub rxCrcEn : ℕ
 rxCrcEn = 128
 
+-- the field is on where one of CIU_TxControl's two lowest bits is 1: the number is not a multiple of this one
+abbrev pub txRfEn : ℕ
+txRfEn = 4
+
+-- the fewest bytes of GetFirmwareVersion's response
+abbrev pub versionNeed : ℕ
+versionNeed = 4
+
+-- InListPassiveTarget: MaxTg, and its codes for a bitrate, of which the last lists Type 1 tags. The target that is listed has this number.
+abbrev pub oneTarget : ℕ
+oneTarget = 1
+
+abbrev pub targetNumber : ℕ
+targetNumber = 0x01
+
+abbrev pub code106A : ℕ
+code106A = 0
+
+abbrev pub code212F : ℕ
+code212F = 1
+
+abbrev pub code424F : ℕ
+code424F = 2
+
+abbrev pub code106B : ℕ
+code106B = 3
+
+abbrev pub codeType1 : ℕ
+codeType1 = 4
+
 -- DEP: CIU_Mode with the detect-sync bit off, and the first two bytes of ATR_RES
 abbrev pub noDetectSync : ℕ
 noDetectSync = 0x3B
@@ -146,6 +176,33 @@ wupbCode = 0x05
 
 abbrev pub wupbParameter : ℕ
 wupbParameter = 0x08
+
+-- RID to a Type 1 tag: behind its code six bytes of 0
+abbrev pub ridData : List ℕ
+ridData = ridCode ∷ 0x00 ∷ 0x00 ∷ 0x00 ∷ 0x00 ∷ 0x00 ∷ 0x00 ∷ []
+
+-- the commands of a Type 1 tag that the chip sends
+abbrev pub type1Rall : ℕ
+type1Rall = 0x00
+
+abbrev pub type1Read : ℕ
+type1Read = 0x01
+
+abbrev pub type1WriteNe : ℕ
+type1WriteNe = 0x1A
+
+abbrev pub type1WriteE : ℕ
+type1WriteE = 0x53
+
+abbrev pub type1Rid : ℕ
+type1Rid = 0x72
+
+-- a list of system codes (N1): the marks of a code that met a card, and of one that met none
+abbrev pub cardMark : ℕ
+cardMark = 0x01
+
+abbrev pub noCardMark : ℕ
+noCardMark = 0x00
 
 -- InListPassiveTarget's response: the number of targets and of the first, and behind them its data. Of Type A SENS_RES, SEL_RES, the UID's length and the UID;
 -- of Type B a byte for the protocol; of Type F IDm and PMm behind two bytes.

@@ -13,7 +13,7 @@ use Rattle.protocol.specs.Rules.{Rule, version, noBytes, allBytes, regis
 use Rattle.protocol.specs.Device.{chipsetName}
 use Rattle.protocol.specs.Calls.{Request, Row, row, resets, rowOf, Call, opening, reader, request, device, unknown}
 use Rattle.protocol.specs.Calls.{DeviceCall, detectTypeA, detectTypeASplit, detectTypeB, detectTypeF, pollTypeF, detectDep, transceive, readWithoutEncryption, writeWithoutEncryption}
-use Rattle.protocol.specs.Names.{idmAndPmm, listedIdmOffset, selResOffset, sensResOffset, targetOffset, uidLengthOffset, uidOffset, moreBit, atrResCmd0, atrResCmd1}
+use Rattle.protocol.specs.Names.{idmAndPmm, listedIdmOffset, selResOffset, sensResOffset, targetOffset, uidLengthOffset, uidOffset, moreBit, atrResCmd0, atrResCmd1, cardMark, noCardMark}
 
 -- ---- the forms of an answer
 
@@ -49,8 +49,8 @@ pub record DepAndCards (bytes : List Byte) : Type 0 where
 pub data Polled : ℕ → ℕ → List Byte → Type 0 where
   no-codes : Polled 0 0 []
   met : (n k more : ℕ) (bytes : List Byte) (response : List ℕ) → Polled n k bytes → more ≤ 1
-      → Polled (suc n) (k + (more + 2)) (bytes ++ (own 0x01 ∷ part (k + (more + 1)) response listedIdmOffset idmAndPmm))
-  not-met : (n k more : ℕ) (bytes : List Byte) → Polled n k bytes → more ≤ 1 → Polled (suc n) (k + (more + 2)) (bytes ++ (own 0x00 ∷ []))
+      → Polled (suc n) (k + (more + 2)) (bytes ++ (own cardMark ∷ part (k + (more + 1)) response listedIdmOffset idmAndPmm))
+  not-met : (n k more : ℕ) (bytes : List Byte) → Polled n k bytes → more ≤ 1 → Polled (suc n) (k + (more + 2)) (bytes ++ (own noCardMark ∷ []))
 
 pub record PolledCodes (n : ℕ) (bytes : List Byte) : Type 0 where
   pub commands : ℕ

@@ -14,7 +14,7 @@ use Rattle.exchange.specs.Exchange.{ExchangeResult, afterAck, onPacket, onFirst
 use Rattle.protocol.specs.Scripts.{Byte, Answer, Script, finish, command, reset, fieldPause, either, ifElse, andThen}
 use Rattle.protocol.specs.Discovery.{detectTypeF}
 use Rattle.protocol.specs.Session.{byReply, ofReset, Phase, exchange, resetAck, resetPause, fieldPausing, openingAck, openingReads}
-use Rattle.protocol.specs.Session.{CallResult, enter, afterExchange, progress}
+use Rattle.protocol.specs.Session.{CallResult, startScript, afterExchange, progress}
 use Rattle.protocol.specs.Record.{ordered, oneIf, isCommand}
 use Rattle.protocol.specs.Laws.{split, by-write, by-read, frame-not-ack, ack-is-ack}
 
@@ -87,25 +87,25 @@ module _ (f : ℕ → Answer Byte → Script) where
   Along k p (openingAck s) = ⊥
   Along k p (openingReads s) = ⊥
 
-  -- of what the two lead to; where the second ends, f is entered
+  -- of what the two lead to; where the second ends, f starts
   abbrev pub Goes : ℕ → CallResult → CallResult → Type 0
   Goes k r unfit = r ≡ unfit
   Goes k r (pending x q) = (p : Phase) × (r ≡ pending x p) × Along (oneIf (isCommand (ordered x)) + k) p q
-  Goes k r (ended a) = r ≡ enter (f k a)
+  Goes k r (ended a) = r ≡ startScript (f k a)
 
-  along-enter : (s : Script) (k : ℕ) → NoReset s → Goes k (enter (andThen s k f)) (enter s)
-  along-enter (finish a) k h = refl
-  along-enter (command code clock bytes g) k h =
+  along-start : (s : Script) (k : ℕ) → NoReset s → Goes k (startScript (andThen s k f)) (startScript s)
+  along-start (finish a) k h = refl
+  along-start (command code clock bytes g) k h =
       let e : oneIf (isCommand (ordered (write (commandFrame code bytes)))) + k ≡ suc k = rw (frame-not-ack code bytes) (omega arith) in
       (_, refl, (rw e refl, h))
-  along-enter (reset s) k h = absurd h
-  along-enter (fieldPause s) k h = let e : 0 + k ≡ k = omega arith in (_, refl, (rw e refl, h))
+  along-start (reset s) k h = absurd h
+  along-start (fieldPause s) k h = let e : 0 + k ≡ k = omega arith in (_, refl, (rw e refl, h))
 
   along-exchange : (g : Reply → Script) (k : ℕ) → ((r : Reply) → NoReset (g r)) → (r : ExchangeResult) → Bare r
       → Goes k (afterExchange (byReply (λ r. andThen (g r) k f)) r) (afterExchange (byReply g) r)
   along-exchange g k h unfit i = refl
   along-exchange g k h (pending x step) i = let e : oneIf (isCommand (ordered x)) + k ≡ k = rw i (omega arith) in (_, refl, (rw e refl, h))
-  along-exchange g k h (ended r) i = along-enter (g r) k (h r)
+  along-exchange g k h (ended r) i = along-start (g r) k (h r)
 
   along-pause : (s : Script) (k : ℕ) → NoReset s → (e : Event) → Goes k (progress (fieldPausing (andThen s k f)) e) (progress (fieldPausing s) e)
   along-pause s k h ok = refl
@@ -114,7 +114,7 @@ module _ (f : ℕ → Answer Byte → Script) where
   along-pause s k h time = refl
   along-pause s k h fail = refl
   along-pause s k h late = refl
-  along-pause s k h slept = along-enter s k h
+  along-pause s k h slept = along-start s k h
 
   pub along : (k : ℕ) (p q : Phase) → Along k p q → (e : Event) → Goes k (progress p e) (progress q e)
   along k p (exchange step (byReply g)) (i, h) e = rw i (along-exchange g k h (advance step e) (bare step e))

@@ -20,11 +20,11 @@ use Rattle.protocol.specs.Scripts.{Script, finish, command, reset, field
 use Rattle.protocol.specs.Arguments.{word, systemCodesFit, wordsIn}
 use Rattle.protocol.specs.Discovery.{codeEnd, systemCodeReq, pollCodes}
 use Rattle.protocol.specs.Discovery as discovery
-use Rattle.targets.specs.Bitrates.{Choice, chosen, noCode, choiceOf}
-use Rattle.protocol.specs.Calls.{Call, reader, device, pollTypeF}
-use Rattle.protocol.specs.Starts.{Start, refuses, starts, onCode, withBitrate, codeFor, typeFCode}
+use Rattle.targets.specs.Bitrates.{Choice, chosen, noCode, choiceOf, byBitrate, byCode}
+use Rattle.protocol.specs.Calls.{Call, reader, device, pollTypeF, readRegisterCode}
+use Rattle.protocol.specs.Starts.{Start, refuses, starts, codeFor, typeFCode}
 use Rattle.protocol.specs.Session.{Phase, seen, lastCaller}
-use Rattle.protocol.specs.Session.{CallResult, enter, progress, idle, busy, Books, Session, call}
+use Rattle.protocol.specs.Session.{CallResult, startScript, progress, idle, busy, Books, Session, call}
 use Rattle.protocol.specs.Session.{Effect, unchanged, runs, ends, effect, bufferNeed, packetLimit, packetLength, admitted, eventEffect, bookOrder, effectOf, given, afterEffect}
 use Rattle.protocol.specs.Record.{Item, ordered, accepted, Record, Note, note, observed, addCall, addEvent, linesOf, oneIf, isCommand, frames, line}
 use Rattle.protocol.specs.Laws.{by-fault, frame-not-ack, lines-own}
@@ -50,19 +50,19 @@ both-admitted P e room o u h k = first (ltb room bufferNeed)
     first true = h ShortBuffer
     first false = second (ltb packetLimit (packetLength e))
 
--- a script that is entered fits every event
-entered-admitted : (c : Call) (e : Event) (room : ℕ) (s : Script) → eventEffect c e room (enter s) ≡ admitted e room (effect c (enter s))
-entered-admitted c e room (finish a) = refl
-entered-admitted c e room (command code clock bytes g) = refl
-entered-admitted c e room (reset s) = refl
-entered-admitted c e room (fieldPause s) = refl
+-- a script that starts fits every event
+start-admitted : (c : Call) (e : Event) (room : ℕ) (s : Script) → eventEffect c e room (startScript s) ≡ admitted e room (effect c (startScript s))
+start-admitted c e room (finish a) = refl
+start-admitted c e room (command code clock bytes g) = refl
+start-admitted c e room (reset s) = refl
+start-admitted c e room (fieldPause s) = refl
 
 -- a code's first order: the field check
 abbrev askField : Order
-askField = write (commandFrame 0x06 (word ciuTxControl))
+askField = write (commandFrame readRegisterCode (word ciuTxControl))
 
 ask-counts : frames (ordered askField ∷ []) ≡ 1
-ask-counts = rw (frame-not-ack 0x06 (word ciuTxControl)) refl
+ask-counts = rw (frame-not-ack readRegisterCode (word ciuTxControl)) refl
 
 -- the record, with the event under the newest call's number
 abbrev withEvent : Record → List Note → EventAndRoom → Record
@@ -128,7 +128,7 @@ module _ (caller : ℕ) (known : leb caller lastCaller ≡ true) (text words : L
 
   -- the next single call is begun
   begun : (b : Books) → b .opened ≡ true → (systemCode : ℕ)
-      → effectOf idle (hers b) (call caller (single text systemCode) room) ≡ effect (single text systemCode) (enter (discovery.detectTypeF code (systemCodeReq systemCode)))
+      → effectOf idle (hers b) (call caller (single text systemCode) room) ≡ effect (single text systemCode) (startScript (discovery.detectTypeF code (systemCodeReq systemCode)))
   begun b o systemCode = rw (o, enough, known, takes (λ code. starts (discovery.detectTypeF code (systemCodeReq systemCode)))) refl
 
   -- an event e ends a code, and the list goes on, after k commands; a: the single call's answer
@@ -149,7 +149,7 @@ module _ (caller : ℕ) (known : leb caller lastCaller ≡ true) (text words : L
         rw (lines-own (suc (length ns)) (withEvent m ns e) (ordered askField) [] (no-lines (withEvent m ns e) (suc (length ns)) (suc (length ns)) (omega arith, unused) (omega arith))) (omega arith)
 
     goes-on : (codes : List ℕ) → suc (length ns) + length codes ≡ n → Equal n
-        (oneStep b l p x es e (effect listCall (enter (pollCodes code k (suc (length ns)) found codes))))
+        (oneStep b l p x es e (effect listCall (startScript (pollCodes code k (suc (length ns)) found codes))))
         (from (observed (withEvent m ns e) ns₁) x (idleWith (hers b)) (withNext caller room (map (single text) codes) (idleWith (hers b)) (handOn caller room es)))
     goes-on [] total =
         let all : eqb (length ns₁) n ≡ true = eq-eqb (length ns₁) n (omega arith) in
@@ -160,7 +160,7 @@ module _ (caller : ℕ) (known : leb caller lastCaller ≡ true) (text words : L
     goes-on (y ∷ codes) total =
         subst⁻¹
         (λ o. Equal n
-        (oneStep b l p x es e (effect listCall (enter (pollCodes code k (suc (length ns)) found (y ∷ codes)))))
+        (oneStep b l p x es e (effect listCall (startScript (pollCodes code k (suc (length ns)) found (y ∷ codes)))))
         (from
         (addCall caller (single text y) (withEvent m ns e) ns₁ (given o))
         (addRefusal (given o) x)
@@ -239,10 +239,10 @@ module _ (caller : ℕ) (known : leb caller lastCaller ≡ true) (text words : L
     both-stop a r newest = idle-equal n caller room es (hers b) _ _ x _ record { lines = ap (λ (xs : List Item). accepted (e .event) ∷ xs) (g .lines); answer = sym (newest _) }
 
     abbrev AfterCode : Answer Byte → Type 0
-    AfterCode a = Both (effect listCall (enter (restOfList (g .first) (length ns) (g .found) codes (g .k) a))) (ends (single text systemCode) a)
+    AfterCode a = Both (effect listCall (startScript (restOfList (g .first) (length ns) (g .found) codes (g .k) a))) (ends (single text systemCode) a)
 
     both-go-on : (a : Answer Byte) → ((o : Option (Answer Byte)) → byNewest o (length ns) (some a) ≡ o) → Equal n
-        (oneAfter (effect listCall (enter (pollCodes code (g .k) (suc (length ns)) (g .found ++ map (commandsLater (g .first)) (codeBytes (some a))) codes))))
+        (oneAfter (effect listCall (startScript (pollCodes code (g .k) (suc (length ns)) (g .found ++ map (commandsLater (g .first)) (codeBytes (some a))) codes))))
         (from (observed (withEvent m ns e) (note caller (single text systemCode) (some a) ∷ ns)) x (idleWith (hers b))
         (withNext caller room (map (single text) codes) (idleWith (hers b)) (handOn caller room es)))
     both-go-on a newest = goes-on es ih b isOpen l m ns systemCode p x e a (g .k) _ (g .lines) (g .unused) (behind-more a) newest codes (g .total)
@@ -264,7 +264,7 @@ module _ (caller : ℕ) (known : leb caller lastCaller ≡ true) (text words : L
     by-result d r unfit i = rw i (both-unchanged OutOfTurn)
     by-result d r (pending y q′) (p′, i, h) = rw i (both-admitted Both d (e .room) _ _ both-unchanged (both-run y p′ q′ h))
     by-result d r (ended a) i =
-        rw (i, entered-admitted listCall d (e .room) (restOfList (g .first) (length ns) (g .found) codes (g .k) a))
+        rw (i, start-admitted listCall d (e .room) (restOfList (g .first) (length ns) (g .found) codes (g .k) a))
         (both-admitted Both d (e .room) _ _ both-unchanged (both-end a))
 
   busy-equal : (es : List EventAndRoom) → BusyEqual es
@@ -278,12 +278,12 @@ module _ (caller : ℕ) (known : leb caller lastCaller ≡ true) (text words : L
 
 -- the bitrate has a code, or the call is refused with 5
 module _ (P : Type 0) where
-  by-code : (o : Option ℕ) → (((f : ℕ → Start) → onCode o f ≡ refuses BadBitrate) → P) → ((code : ℕ) → ((f : ℕ → Start) → onCode o f ≡ f code) → P) → P
+  by-code : (o : Option ℕ) → (((f : ℕ → Start) → byCode (refuses BadBitrate) o f ≡ refuses BadBitrate) → P) → ((code : ℕ) → ((f : ℕ → Start) → byCode (refuses BadBitrate) o f ≡ f code) → P) → P
   by-code none h k = h (λ f. refl)
   by-code (some code) h k = k code (λ f. refl)
 
-  by-bitrate : (c : Choice) → (((f : ℕ → Start) → withBitrate c (λ b. onCode (typeFCode b) f) ≡ refuses BadBitrate) → P)
-      → ((code : ℕ) → ((f : ℕ → Start) → withBitrate c (λ b. onCode (typeFCode b) f) ≡ f code) → P) → P
+  by-bitrate : (c : Choice) → (((f : ℕ → Start) → byBitrate (refuses BadBitrate) c (λ b. byCode (refuses BadBitrate) (typeFCode b) f) ≡ refuses BadBitrate) → P)
+      → ((code : ℕ) → ((f : ℕ → Start) → byBitrate (refuses BadBitrate) c (λ b. byCode (refuses BadBitrate) (typeFCode b) f) ≡ f code) → P) → P
   by-bitrate (chosen b) h k = by-code (typeFCode b) h k
   by-bitrate (noCode e) h k = h (λ f. refl)
 
@@ -308,8 +308,8 @@ module _ (caller : ℕ) (text words : List ℕ) (room : ℕ) (es : List EventAnd
   start-refused r = idle-equal size caller room es b (observed [] []) (observed [] []) (r ∷ []) (map (single text) ys) record { lines = refl; answer = refl }
 
   start-runs : leb caller lastCaller ≡ true → (code : ℕ) → ((f : ℕ → Start) → codeFor typeFCode text f ≡ f code) → ltb room bufferNeed ≡ false → Started
-      (effect theList (enter (pollCodes code 0 0 [] (y ∷ ys))))
-      (effect (single text y) (enter (discovery.detectTypeF code (systemCodeReq y))))
+      (effect theList (startScript (pollCodes code 0 0 [] (y ∷ ys))))
+      (effect (single text y) (startScript (discovery.detectTypeF code (systemCodeReq y))))
   start-runs known code takes enough =
       busy-equal caller known text words room code takes enough es (bookOrder askField (hers caller known text words room code takes enough b)) (line 0 (ordered askField) ∷ []) (line 0 (ordered askField) ∷ []) [] y ys _ _ [] isOpen record {
         first = 0;
@@ -347,8 +347,8 @@ module _ (caller : ℕ) (text words : List ℕ) (room : ℕ) (es : List EventAnd
               (let e : unchanged BadBitrate ≡ effectOf idle b (call caller (single text y) room) = rw (isOpen, h, known, none-taken (λ code. starts (discovery.detectTypeF code (systemCodeReq y)))) refl in e)
               (start-refused BadBitrate))
               (λ code takes. subst₂ Started
-              (let e : effect theList (enter (pollCodes code 0 0 [] (y ∷ ys))) ≡ effectOf idle b (call caller theList room) = rw (isOpen, h, known, fits, takes (λ code. starts (discovery.pollTypeF code (wordsIn words))), codes) refl in e)
-              (let e : effect (single text y) (enter (discovery.detectTypeF code (systemCodeReq y))) ≡ effectOf idle b (call caller (single text y) room) =
+              (let e : effect theList (startScript (pollCodes code 0 0 [] (y ∷ ys))) ≡ effectOf idle b (call caller theList room) = rw (isOpen, h, known, fits, takes (λ code. starts (discovery.pollTypeF code (wordsIn words))), codes) refl in e)
+              (let e : effect (single text y) (startScript (discovery.detectTypeF code (systemCodeReq y))) ≡ effectOf idle b (call caller (single text y) room) =
               rw (isOpen, h, known, takes (λ code. starts (discovery.detectTypeF code (systemCodeReq y)))) refl in e)
               (start-runs known code takes h))
 

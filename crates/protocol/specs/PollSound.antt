@@ -17,7 +17,7 @@ use Rattle.protocol.specs.Own.{Form, Polled, met, not-met, polledCodes}
 use Rattle.protocol.specs.Laws.{by-fault}
 use Rattle.protocol.specs.Sound.{Within, responseTo, responseIn, PlacedBytes, no-bytes, own-byte, card-byte, IsResponseByte, Final, Ends, Correct}
 use Rattle.protocol.specs.Sound.{ends-either, ends-if, ends-short, placed-part, placed-append, sound-rules}
-use Rattle.protocol.specs.Names.{idmAndPmm, listedIdmOffset, pmmEnd}
+use Rattle.protocol.specs.Names.{idmAndPmm, listedIdmOffset, pmmEnd, cardMark}
 
 -- ---- at most three frames a code
 
@@ -205,8 +205,8 @@ pub record SoFar (rs : List (List ℕ)) (finished : ℕ) (found : List Byte) : T
 module _ (rs rs′ : List (List ℕ)) (finished : ℕ) (found : List Byte) (so : SoFar rs finished found) (w : (xs : List Byte) → PlacedBytes rs xs → PlacedBytes rs′ xs) where
   card-found : (bytes : List Byte) → FoundSoFar rs rs′ bytes → SoFar rs′ (suc finished) (found ++ map (commandsLater (length rs)) (cardMet bytes))
   card-found bytes f =
-      let e : map (commandsLater (length rs)) (cardMet bytes) ≡ own 0x01 ∷ part (length rs + (f .more + 1)) (f .list) listedIdmOffset idmAndPmm =
-      rw (f .form) (ap (λ (xs : List Byte). own 0x01 ∷ xs) (first-16 (length rs) (f .more + 1) (f .list) (f .enough))) in
+      let e : map (commandsLater (length rs)) (cardMet bytes) ≡ own cardMark ∷ part (length rs + (f .more + 1)) (f .list) listedIdmOffset idmAndPmm =
+      rw (f .form) (ap (λ (xs : List Byte). own cardMark ∷ xs) (first-16 (length rs) (f .more + 1) (f .list) (f .enough))) in
       rw e record {
         placed = placed-append rs′ found _ (w found (so .placed)) (own-byte (placed-part rs′ _ (f .list) listedIdmOffset idmAndPmm pmmEnd (f .source) (f .enough) tt));
         polled = rw (f .took) (met finished (length rs) (f .more) found (f .list) (so .polled) (f .few));

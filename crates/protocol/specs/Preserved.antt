@@ -17,13 +17,13 @@ use Rattle.exchange.specs.Exchange.{ExchangeResult, afterAck, onFirstPacket, on
 use Rattle.protocol.specs.Scripts.{refused, Script}
 use Rattle.protocol.specs.Calls.{Call}
 use Rattle.protocol.specs.Session.{Rest, byReply, ofReset, Phase, exchange, resetAck, resetPause, fieldPausing, openingAck, openingReads}
-use Rattle.protocol.specs.Session.{CallResult, enter, afterExchange, progress}
+use Rattle.protocol.specs.Session.{CallResult, startScript, afterExchange, progress}
 use Rattle.protocol.specs.Record.{Item, ordered, accepted, Record, linesOf, oneIf, frames, events, pendingOrder, idleUnder, allowed, line}
 use Rattle.protocol.specs.Own.{formOf}
 use Rattle.protocol.specs.Sound.{responseIn, OfExchange}
 use Rattle.protocol.specs.Laws.{split, of-exchange, by-write, by-read, by-pause, lines-own}
 use Rattle.protocol.specs.Invariant.{dueStep, step-due, due, phase-due, RestSound, PhaseSound, Asked, At, Invariant, Preserved}
-use Rattle.protocol.specs.Invariant.{later-sourced, asked-later, closed, entered, bare, Brought, sourced-more, nothing-brought, brought}
+use Rattle.protocol.specs.Invariant.{later-sourced, asked-later, closed, script-started, bare, Brought, sourced-more, nothing-brought, brought}
 use Rattle.protocol.specs.Names.{resetPauseTime, openingReadTime}
 
 -- n: the call's number. c: the call. l: the record before the event. xs: the call's lines in it.
@@ -66,16 +66,16 @@ module _ (n : ℕ) (c : Call) (l : Record) (xs : List Item) where
 
   -- the script goes on
   resumes : {phase : Phase} (s : Script) (e : Event) (g : Invariant n c l xs phase) → RestSound (formOf c) s (g .left) (g .responses) → frames xs ≡ length (g .responses)
-      → PreservedBy e (enter s)
+      → PreservedBy e (startScript s)
   resumes {phase} s e g w q =
-      entered n c _ _ (g .responses) (own-lines e g) s (g .left) (omega (arith, phase-due phase)) (omega arith) w (omega arith)
+      script-started n c _ _ (g .responses) (own-lines e g) s (g .left) (omega (arith, phase-due phase)) (omega arith) w (omega arith)
       (later-sourced n c (g .responses) (g .source))
 
   -- the exchange ends with a reply
   replies : {step : ExchangePhase} (rest : Rest) (e : Event) (r : Reply) (g : Invariant n c l xs (exchange step rest)) → OfExchange r
       → Brought n c (line n (accepted e) ∷ l) (length (g .responses)) (responseIn r) → PreservedIn rest e (ended r)
   replies {step} (byReply k) e r g q f =
-      entered n c _ _ (responseIn r ∷ g .responses) (own-lines e g) (k r) (g .left) (omega (arith, step-due step)) (omega arith)
+      script-started n c _ _ (responseIn r ∷ g .responses) (own-lines e g) (k r) (g .left) (omega (arith, step-due step)) (omega arith)
       (g .script .0 r, g .script .1 r q) (omega arith)
       (sourced-more n c _ (g .responses) (responseIn r) (later-sourced n c (g .responses) (g .source)) f)
   replies {step} (ofReset s) e r g q f =

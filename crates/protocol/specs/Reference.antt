@@ -13,7 +13,7 @@ use Rattle.framing.specs.Unpadded.{unpadded-none}
 use Rattle.exchange.specs.Exchange.{Event, ok, bad, pkt, time, fail, late, slept, unfit, pending, ended}
 use Rattle.protocol.specs.Calls.{Call, opening, reader, isOpening}
 use Rattle.protocol.specs.Starts.{Start, refuses, starts, startOf, readerStart}
-use Rattle.protocol.specs.Session.{CallResult, enter, progress, Running, idle, busy, Books, lastCaller, admits, Session, fresh, packetLimit, seen, Entry, call, event, seenEntry, stepResult}
+use Rattle.protocol.specs.Session.{CallResult, startScript, progress, Running, idle, busy, Books, lastCaller, admits, Session, fresh, packetLimit, seen, Entry, call, event, seenEntry, stepResult}
 use Rattle.protocol.specs.Session.{Effect, unchanged, runs, ends, effect, bufferNeed, withRoom, withCaller, packetLength, admitted, eventEffect, started, callEffect, effectOf, runningAfter, booksAfter, afterEffect, given, step, outputs, sessionAfter}
 use Rattle.protocol.specs.Laws.{split}
 use Rattle.protocol.specs.Machine.{outputValues, Machine, givenOut, stateAfter, entries, same-given, same-counts}
@@ -78,7 +78,7 @@ off-started k (reader c) room h = go (readerStart c)
   where
     go : (s : Start) → started (reader c) s ≡ offEffect (started (reader c) s)
     go (refuses r) = refl
-    go (starts s) = off-effect (reader c) (enter s)
+    go (starts s) = off-effect (reader c) (startScript s)
 
 off-call : (t : Bool) (k : ℕ) (c : Call) (room : ℕ) → HasMode (call k c room) → callEffect t k (offCall c) room ≡ offEffect (callEffect t k c room)
 off-call t k c room h =

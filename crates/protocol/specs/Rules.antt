@@ -9,7 +9,7 @@ use Rattle.errors.specs.declared.Fault.{Fault}
 use Rattle.errors.specs.declared.Fault.the-variants.{Status, ShortResponse, Rate}
 use Rattle.exchange.specs.Packets.{isEmpty}
 use Rattle.protocol.specs.Scripts.{Script, finish, refuse, ifElse, done, nothing, Byte, own, card, byteAt, rest}
-use Rattle.protocol.specs.Names.{noData, registerWriteFailed, moreBit}
+use Rattle.protocol.specs.Names.{noData, registerWriteFailed, moreBit, versionNeed}
 
 -- ---- status and length; g says what a refusal leads to
 
@@ -35,7 +35,7 @@ withLength bytes n s = withLengthElse bytes n s refuse
 
 -- get_firmware_version: IC, version, revision
 abbrev pub onVersion : List ℕ → (ℕ → ℕ → ℕ → Script) → Script
-onVersion bytes f = withLength bytes 4 (f (getD bytes 0 0) (getD bytes 1 0) (getD bytes 2 0))
+onVersion bytes f = withLength bytes versionNeed (f (getD bytes 0 0) (getD bytes 1 0) (getD bytes 2 0))
 
 -- the three bytes as card bytes, where that was command k of the call
 abbrev pub versionBytes : ℕ → ℕ → ℕ → ℕ → List Byte

@@ -36,15 +36,15 @@ abbrev pub CallResult : Type 0
 CallResult = Result Phase (Answer Byte)
 
 -- what a script does first
-abbrev pub enter : Script → CallResult
-enter (finish a) = ended a
-enter (command code clock bytes k) = pending (write (commandFrame code bytes)) (exchange (sending code clock) (byReply k))
-enter (reset s) = pending (write (commandFrame resetModeCode resetModeData)) (exchange (sending resetModeCode commandClock) (ofReset s))
-enter (fieldPause s) = pending (pause fieldPauseTime) (fieldPausing s)
+abbrev pub startScript : Script → CallResult
+startScript (finish a) = ended a
+startScript (command code clock bytes k) = pending (write (commandFrame code bytes)) (exchange (sending code clock) (byReply k))
+startScript (reset s) = pending (write (commandFrame resetModeCode resetModeData)) (exchange (sending resetModeCode commandClock) (ofReset s))
+startScript (fieldPause s) = pending (pause fieldPauseTime) (fieldPausing s)
 
 -- what a reply leads to
 abbrev pub afterReply : Rest → Reply → CallResult
-afterReply (byReply k) r = enter (k r)
+afterReply (byReply k) r = startScript (k r)
 afterReply (ofReset s) r = pending (write ack) (resetAck s)
 
 abbrev pub afterExchange : Rest → ExchangeResult → CallResult
@@ -56,15 +56,15 @@ afterExchange rest (ended r) = afterReply rest r
 abbrev pub progress : Phase → Event → CallResult
 progress (exchange step rest) e = afterExchange rest (advance step e)
 progress (resetAck s) e = onWrite unfit (pending (pause resetPauseTime) (resetPause s)) (ended (refused Transport)) e
-progress (resetPause s) e = onPause unfit (enter s) e
-progress (fieldPausing s) e = onPause unfit (enter s) e
+progress (resetPause s) e = onPause unfit (startScript s) e
+progress (fieldPausing s) e = onPause unfit (startScript s) e
 progress (openingAck s) e = onWrite unfit (pending (read openingReadTime) (openingReads s)) (ended (refused Transport)) e
-progress (openingReads s) e = onRead unfit (λ _. pending (read openingReadTime) (openingReads s)) (enter s) (enter s) unfit e
+progress (openingReads s) e = onRead unfit (λ _. pending (read openingReadTime) (openingReads s)) (startScript s) (startScript s) unfit e
 
 -- a call begins, an opening by `Chipset::new`
 abbrev pub begin : Bool → Script → CallResult
 begin true s = pending (write ack) (openingAck s)
-begin false s = enter s
+begin false s = startScript s
 
 -- no call, or one in its phase
 pub data Running : Type 0 where
@@ -84,6 +84,9 @@ pub record Books : Type 0 where
 -- callers are 0 to 7
 abbrev pub lastCaller : ℕ
 lastCaller = 7
+
+abbrev pub callerCount : ℕ
+callerCount = 8
 
 abbrev pub noCounts : List ℕ
 noCounts = 0 ∷ 0 ∷ 0 ∷ 0 ∷ 0 ∷ 0 ∷ 0 ∷ 0 ∷ []

@@ -14,13 +14,14 @@ use lib.Seq.{getD-drop}
 use Rattle.errors.specs.Refusals.{byStatus}
 use Rattle.errors.specs.declared.Fault.{Fault}
 use Rattle.errors.specs.declared.Fault.the-variants.{Transport, TimeOut, FalseStart, BrokenFrame, Length, FrameKind, Identifier, Code, Status, ShortResponse, NoCard, CrcA, Rate, CardStatus, OtherCard, UidLayout}
-use Rattle.targets.specs.Bitrates.{Choice, chosen, noCode}
+use Rattle.errors.specs.declared.Refusal.the-variants.{Bitrate as BadBitrate}
+use Rattle.targets.specs.Bitrates.{Choice, chosen, noCode, byBitrate, byCode}
 use Rattle.targets.specs.TypeA.{isTargetData, target-only, uid-length-at, ats-length-at}
 use Rattle.targets.specs.declared.Bitrate.{Bitrate}
 use Rattle.exchange.specs.Packets.{isEmpty, Reply, response, failed}
 use Rattle.protocol.specs.Scripts.{Byte, own, card, Answer, done, type1, uidAndAts, nothing, refused, refusedAfter}
 use Rattle.protocol.specs.Scripts.{Script, finish, command, reset, fieldPause, either, ifElse, byteAt, part, rest}
-use Rattle.protocol.specs.Starts.{Start, refuses, starts, onCode, withBitrate}
+use Rattle.protocol.specs.Starts.{Start, refuses, starts}
 use Rattle.protocol.specs.Rules.{rateBytes, versionBytes, rate, sendIndex, receiveIndex}
 use Rattle.protocol.specs.Device.{chipsetName, nameBytes}
 use Rattle.protocol.specs.Discovery.{byNoCard, cardA, uidLength, atsLength}
@@ -94,11 +95,11 @@ sound-if o false x y n h k = k
 pub holds : Unit {0}
 holds = tt
 
-pub sound-bitrate : (o : Form) (c : Choice) (f : Bitrate → Start) (n : ℕ) → ((b : Bitrate) → Sound o (f b) n) → Sound o (withBitrate c f) n
+pub sound-bitrate : (o : Form) (c : Choice) (f : Bitrate → Start) (n : ℕ) → ((b : Bitrate) → Sound o (f b) n) → Sound o (byBitrate (refuses BadBitrate) c f) n
 sound-bitrate o (chosen b) f n h = h b
 sound-bitrate o (noCode e) f n h = tt
 
-pub sound-code : (o : Form) (code : Option ℕ) (f : ℕ → Start) (n : ℕ) → ((k : ℕ) → Sound o (f k) n) → Sound o (onCode code f) n
+pub sound-code : (o : Form) (code : Option ℕ) (f : ℕ → Start) (n : ℕ) → ((k : ℕ) → Sound o (f k) n) → Sound o (byCode (refuses BadBitrate) code f) n
 sound-code o none f n h = tt
 sound-code o (some k) f n h = h k
 

@@ -8,7 +8,7 @@ use lib.ListN.{length, getD}
 use Rattle.errors.specs.declared.Refusal.{Refusal}
 use Rattle.errors.specs.declared.Refusal.the-variants.{OverLong, BadArgument, NotSendable, Bitrate as BadBitrate}
 use Rattle.felica.specs.Packets.{requestFits, writeFits}
-use Rattle.targets.specs.Bitrates.{Choice, chosen, noCode, choiceOf}
+use Rattle.targets.specs.Bitrates.{choiceOf, byBitrate, codeOr}
 use Rattle.targets.specs.TypeA.{isType2}
 use Rattle.targets.specs.declared.Bitrate.{Bitrate}
 use Rattle.targets.specs.declared.Bitrate.the-variants.{B106A, B212F, B424F, B106B, B212B, B424B, B848B, Other}
@@ -21,6 +21,7 @@ use Rattle.protocol.specs.Device.{deviceNew}
 use Rattle.protocol.specs.Discovery.{cascaded, sensfReq}
 use Rattle.protocol.specs.Blocks.{readBlocks, writeBlocks}
 use Rattle.protocol.specs.Discovery as discovery
+use Rattle.protocol.specs.Names.{oneTarget, targetNumber, code106A, code212F, code424F, code106B, type1Rall, type1Read, type1WriteNe, type1WriteE, type1Rid}
 
 -- what becomes of a call's arguments: a refusal at once (4, 5, 6, 3 in this order), or a script
 pub data Start : Type 0 where
@@ -40,23 +41,15 @@ asserted holds s = cond holds s (refuses BadArgument)
 
 -- ---- bitrates: malformed, or not supported by the call, gives 5
 
-abbrev pub onCode : Option ℕ → (ℕ → Start) → Start
-onCode none f = refuses BadBitrate
-onCode (some code) f = f code
-
-abbrev pub withBitrate : Choice → (Bitrate → Start) → Start
-withBitrate (chosen b) f = f b
-withBitrate (noCode e) f = refuses BadBitrate
-
 -- the code by which a call names the bitrate to the chip; 5 where it takes none
 abbrev pub codeFor : (Bitrate → Option ℕ) → List ℕ → (ℕ → Start) → Start
-codeFor takes text f = withBitrate (choiceOf text) (λ b. onCode (takes b) f)
+codeFor takes text f = codeOr (refuses BadBitrate) takes text f
 
 abbrev pub typeACode : Bitrate → Option ℕ
-typeACode B106A = some 0
-typeACode B212F = some 1
-typeACode B424F = some 2
-typeACode B106B = some 3
+typeACode B106A = some code106A
+typeACode B212F = some code212F
+typeACode B424F = some code424F
+typeACode B106B = some code106B
 typeACode B212B = none
 typeACode B424B = none
 typeACode B848B = none
@@ -67,7 +60,7 @@ abbrev pub typeBCode : Bitrate → Option ℕ
 typeBCode B106A = none
 typeBCode B212F = none
 typeBCode B424F = none
-typeBCode B106B = some 3
+typeBCode B106B = some code106B
 typeBCode B212B = none
 typeBCode B424B = none
 typeBCode B848B = none
@@ -75,8 +68,8 @@ typeBCode Other = none
 
 abbrev pub typeFCode : Bitrate → Option ℕ
 typeFCode B106A = none
-typeFCode B212F = some 1
-typeFCode B424F = some 2
+typeFCode B212F = some code212F
+typeFCode B424F = some code424F
 typeFCode B106B = none
 typeFCode B212B = none
 typeFCode B424B = none
@@ -84,9 +77,9 @@ typeFCode B848B = none
 typeFCode Other = none
 
 abbrev pub depCode : Bitrate → Option ℕ
-depCode B106A = some 0
-depCode B212F = some 1
-depCode B424F = some 2
+depCode B106A = some code106A
+depCode B212F = some code212F
+depCode B424F = some code424F
 depCode B106B = none
 depCode B212B = none
 depCode B424B = none
@@ -113,7 +106,7 @@ type2SelRes (b ∷ bs) = isType2 b
 -- Type 1 sends what starts with one of five bytes, else 6
 abbrev pub isSendable : List ℕ → Bool
 isSendable [] = false
-isSendable (b ∷ bs) = eqb b 0x00 || eqb b 0x01 || eqb b 0x1A || eqb b 0x53 || eqb b 0x72
+isSendable (b ∷ bs) = eqb b type1Rall || eqb b type1Read || eqb b type1WriteNe || eqb b type1WriteE || eqb b type1Rid
 
 -- what transceive waits for a card where no time is given, and what the chip gets beside it
 abbrev pub standardMs : ℕ
@@ -130,7 +123,7 @@ clockOf (some ms) = ms + marginMs
 abbrev pub transceiveStart : Bitrate → List ℕ → Bool → List ℕ → ℕ → Start
 transceiveStart rate selRes ridRes bytes ms =
     cond ridRes
-    (cond (isSendable bytes) (limited (0x01 ∷ bytes) (discovery.transceiveType1 bytes ms)) (refuses NotSendable))
+    (cond (isSendable bytes) (limited (targetNumber ∷ bytes) (discovery.transceiveType1 bytes ms)) (refuses NotSendable))
     (limited bytes (ifElse (is106A rate && type2SelRes selRes) (discovery.transceiveType2 bytes ms) (discovery.transceiveThru bytes ms)))
 
 -- ---- each call
@@ -144,8 +137,8 @@ abbrev pub requestStart : Request → Start
 requestStart r = rowStart (rowOf r)
 
 abbrev pub deviceStart : DeviceCall → Start
-deviceStart (detectTypeA text uid) = codeFor typeACode text (λ code. limited (1 ∷ code ∷ cascaded uid) (discovery.detectTypeA code uid))
-deviceStart (detectTypeASplit text uid) = codeFor typeACode text (λ code. limited (1 ∷ code ∷ cascaded uid) (discovery.detectTypeASplit code uid))
+deviceStart (detectTypeA text uid) = codeFor typeACode text (λ code. limited (oneTarget ∷ code ∷ cascaded uid) (discovery.detectTypeA code uid))
+deviceStart (detectTypeASplit text uid) = codeFor typeACode text (λ code. limited (oneTarget ∷ code ∷ cascaded uid) (discovery.detectTypeASplit code uid))
 deviceStart (detectTypeB text sensbReq) = codeFor typeBCode text (λ code. starts (discovery.detectTypeB code (getD sensbReq 0 0)))
 deviceStart (detectTypeF text systemCode requestCode timeSlots) =
     codeFor typeFCode text (λ code. starts (discovery.detectTypeF code (sensfReq systemCode requestCode timeSlots)))
@@ -153,7 +146,7 @@ deviceStart (pollTypeF text words) =
     asserted (systemCodesFit words) (codeFor typeFCode text (λ code. starts (discovery.pollTypeF code (wordsIn words))))
 deviceStart (detectDep text atrReq) =
     asserted (atrReqFits atrReq) (codeFor depCode text (λ code. starts (discovery.detectDep code atrReq)))
-deviceStart (transceive text selRes ridRes bytes ms) = withBitrate (choiceOf text) (λ rate. transceiveStart rate selRes ridRes bytes (clockOf ms))
+deviceStart (transceive text selRes ridRes bytes ms) = byBitrate (refuses BadBitrate) (choiceOf text) (λ rate. transceiveStart rate selRes ridRes bytes (clockOf ms))
 deviceStart (readWithoutEncryption idm service blocks ms) = asserted (requestFits idm blocks) (starts (readBlocks idm service blocks (clockOf ms)))
 deviceStart (writeWithoutEncryption idm service blocks bytes ms) =
     asserted (writeFits idm blocks bytes) (starts (writeBlocks idm service blocks bytes (clockOf ms)))

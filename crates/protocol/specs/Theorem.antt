@@ -20,7 +20,7 @@ use Rattle.protocol.specs.Own.{formOf}
 use Rattle.protocol.specs.Sound.{Sound}
 use Rattle.protocol.specs.CallsSound.{sound}
 use Rattle.protocol.specs.Laws.{split, lines-own, lines-other}
-use Rattle.protocol.specs.Invariant.{phase-due, RestSound, Sourced, Invariant, Preserved, later-card, later-sourced, form-by, bare, entered}
+use Rattle.protocol.specs.Invariant.{phase-due, RestSound, Sourced, Invariant, Preserved, later-card, later-sourced, form-by, bare, script-started}
 use Rattle.protocol.specs.Preserved.{PreservedBy, preserved}
 use Rattle.protocol.specs.Seen.{Unused, no-lines, more-unused, unused-seen, add-seen, callerAt, books-after}
 
@@ -156,7 +156,7 @@ module _ (caller : ℕ) (l : Record) (ns : List Note) (c : Call) (i : RunningAgr
         source = later-sourced (length ns) c [] no-source;
       }
   begin-preserved false s e h =
-      entered (length ns) c l [] [] no-line s (limit c) (omega arith) (omega arith) h refl no-source
+      script-started (length ns) c l [] [] no-line s (limit c) (omega arith) (omega arith) h refl no-source
 
   started-agrees : (s : Start) → Sound (formOf c) s (limit c) → Starts (started c s)
   started-agrees (refuses r) h = i

@@ -6,25 +6,25 @@ use framing::ACK_SIZE;
 ghost use mathlib.Core.Path.{_≡_};
 ghost use Rattle.session_c.specs.Outcomes.{bytesOutcome, timeOutcome, lengthsOutcome, refusalOutcome, outcomeOf};
 
-pub const WRITE: u8 = 0;
+pub const WRITE_OUTCOME: u8 = 0;
 
-pub const READ: u8 = 1;
+pub const READ_OUTCOME: u8 = 1;
 
-pub const DRAIN: u8 = 2;
+pub const DRAIN_OUTCOME: u8 = 2;
 
-pub const PAUSE: u8 = 3;
+pub const PAUSE_OUTCOME: u8 = 3;
 
-pub const DONE: u8 = 4;
+pub const DONE_OUTCOME: u8 = 4;
 
-pub const TYPE1: u8 = 5;
+pub const TYPE1_OUTCOME: u8 = 5;
 
-pub const NONE: u8 = 6;
+pub const NONE_OUTCOME: u8 = 6;
 
-pub const REFUSED: u8 = 7;
+pub const REFUSED_OUTCOME: u8 = 7;
 
-pub const LIST_REFUSED: u8 = 8;
+pub const LIST_REFUSED_OUTCOME: u8 = 8;
 
-pub const UID_AND_ATS: u8 = 9;
+pub const UID_AND_ATS_OUTCOME: u8 = 9;
 
 // The kind of an order or an answer. With a refusal its number, the status byte of 15 or the two status flags of 20, and with that
 // of a list how many of its codes were finished; with a read its ms, with a pause its µs; with a write order and an answer the number
@@ -70,7 +70,7 @@ impl Outcome {
         ensures { λ r. ⌜ r ≡ lengthsOutcome len uid ats ⌝ }
     {
         Outcome {
-            kind: UID_AND_ATS,
+            kind: UID_AND_ATS_OUTCOME,
             refusal: 0,
             status: 0,
             status2: 0,
@@ -118,23 +118,27 @@ impl Outcome {
         ensures { λ r. ⌜ r ≡ outcomeOf output ⌝ }
     {
         let failure = match output {
-            Output::Ack => return Outcome::bytes(WRITE, ACK_SIZE),
-            Output::Command(len) => return Outcome::bytes(WRITE, len),
-            Output::Read(ms) => return Outcome::timed(READ, ms),
-            Output::Drain => return Outcome::bytes(DRAIN, 0),
-            Output::Pause(us) => return Outcome::timed(PAUSE, us),
-            Output::Done(len) => return Outcome::bytes(DONE, len),
-            Output::Type1(len) => return Outcome::bytes(TYPE1, len),
+            Output::Ack => return Outcome::bytes(WRITE_OUTCOME, ACK_SIZE),
+            Output::Command(len) => return Outcome::bytes(WRITE_OUTCOME, len),
+            Output::Read(ms) => return Outcome::timed(READ_OUTCOME, ms),
+            Output::Drain => return Outcome::bytes(DRAIN_OUTCOME, 0),
+            Output::Pause(us) => return Outcome::timed(PAUSE_OUTCOME, us),
+            Output::Done(len) => return Outcome::bytes(DONE_OUTCOME, len),
+            Output::Type1(len) => return Outcome::bytes(TYPE1_OUTCOME, len),
             Output::UidAndAts(len, uid, ats) => return Outcome::uid_and_ats(len, uid, ats),
-            Output::Nothing => return Outcome::bytes(NONE, 0),
-            Output::Refused(refusal) => return Outcome::refused(REFUSED, refusal.numbered(), 0),
+            Output::Nothing => return Outcome::bytes(NONE_OUTCOME, 0),
+            Output::Refused(refusal) => return Outcome::refused(
+                REFUSED_OUTCOME,
+                refusal.numbered(),
+                0,
+            ),
             Output::Failed(fault) => Failure {
-                kind: REFUSED,
+                kind: REFUSED_OUTCOME,
                 fault,
                 finished: 0,
             },
             Output::FailedAfter(fault, finished) => Failure {
-                kind: LIST_REFUSED,
+                kind: LIST_REFUSED_OUTCOME,
                 fault,
                 finished,
             },

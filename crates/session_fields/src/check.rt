@@ -1,10 +1,18 @@
 // The outcomes counted, and what an outcome must not be.
-use engine::books::BOOKS;
+use calls::LAST_KIND;
+use calls::LAST_STAGE;
+use engine::books;
+use engine::books::BOOKS_SIZE;
 use engine::books::CALLERS;
+use engine::call::PAUSE_PHASE;
+use engine::core::BUFFER_NEED;
 use engine::core::Core;
+use engine::core::FOUND_LIMIT;
 use engine::core::Output;
 use engine::session::Session;
 use errors::Numbered;
+use exchange::Exchange;
+use stages::put::DATA_LIMIT;
 
 const OUTCOMES: usize = 272;
 
@@ -19,12 +27,12 @@ pub struct Tally {
     long: u64,
 }
 
-fn number(numbered: Numbered) -> usize {
+fn refusal_number(numbered: Numbered) -> usize {
     numbered.number as usize
 }
 
 // An outcome's number: a refusal's is its number in document 01, others come behind them.
-fn kind(output: Output) -> usize {
+fn outcome_number(output: Output) -> usize {
     match output {
         Output::Ack => 256,
         Output::Command(_) => 256,
@@ -35,9 +43,9 @@ fn kind(output: Output) -> usize {
         Output::Type1(_) => 261,
         Output::Nothing => 262,
         Output::UidAndAts(_, _, _) => 263,
-        Output::Failed(fault) => number(fault.numbered()),
-        Output::FailedAfter(fault, _) => number(fault.numbered()),
-        Output::Refused(refusal) => number(refusal.numbered()),
+        Output::Failed(fault) => refusal_number(fault.numbered()),
+        Output::FailedAfter(fault, _) => refusal_number(fault.numbered()),
+        Output::Refused(refusal) => refusal_number(refusal.numbered()),
     }
 }
 
@@ -62,35 +70,35 @@ fn length_of(output: Output) -> usize {
 fn core_in_range(core: Core) -> bool {
     let exchange = core.exchange;
     let call = core.call;
-    if core.command > 512 {
+    if core.command > DATA_LIMIT {
         return false;
     }
-    if core.found > 1024 {
+    if core.found > FOUND_LIMIT {
         return false;
     }
-    if exchange.phase > 6 {
+    if exchange.phase > Exchange::DRAINING_PHASE {
         return false;
     }
-    if call.kind > 24 {
+    if call.kind > LAST_KIND {
         return false;
     }
-    if call.stage > 9 {
+    if call.stage > LAST_STAGE {
         return false;
     }
-    call.phase <= 5
+    call.phase <= PAUSE_PHASE
 }
 
 // Every field of a session is in its range.
-fn in_range(session: Session) -> bool {
+fn is_in_range(session: Session) -> bool {
     let core = session.core;
-    let books = session.books;
-    if books[0] > 1 {
+    let numbers = session.books;
+    if numbers[books::OPENED] > books::OPEN {
         return false;
     }
-    if books[1] > 1 {
+    if numbers[books::MODE] > books::PADDED_MODE {
         return false;
     }
-    if books[2] > 7 {
+    if numbers[books::CALLER] > books::LAST_CALLER {
         return false;
     }
     core_in_range(core)
@@ -158,7 +166,7 @@ fn same_frames(before: [u32; CALLERS], after: [u32; CALLERS]) -> bool {
     before[7] == after[7]
 }
 
-fn same_books(before: [u8; BOOKS], after: [u8; BOOKS]) -> bool {
+fn same_books(before: [u8; BOOKS_SIZE], after: [u8; BOOKS_SIZE]) -> bool {
     if before[0] != after[0] {
         return false;
     }
@@ -181,7 +189,7 @@ fn same(before: Session, after: Session) -> bool {
     false
 }
 
-fn one_more(n: u64, more: bool) -> u64 {
+fn one_more_if(n: u64, more: bool) -> u64 {
     if more {
         std::num::wrapping_add_u64(n, 1)
     } else {
@@ -193,7 +201,7 @@ fn one_more(n: u64, more: bool) -> u64 {
 fn counted(counts: [u64; OUTCOMES], kind: usize, counts_here: bool) -> [u64; OUTCOMES] {
     let mut counts = counts;
     if kind < OUTCOMES {
-        counts[kind] = one_more(counts[kind], counts_here);
+        counts[kind] = one_more_if(counts[kind], counts_here);
     }
     counts
 }
@@ -209,11 +217,19 @@ fn is_early(kind: usize) -> bool {
 }
 
 fn is_unfit(before: Session, kind: usize) -> bool {
-    if in_range(before) { false } else { kind != 1 }
+    if is_in_range(before) {
+        false
+    } else {
+        kind != 1
+    }
 }
 
 fn is_short(size: usize, kind: usize) -> bool {
-    if size < 1024 { !is_early(kind) } else { false }
+    if size < BUFFER_NEED {
+        !is_early(kind)
+    } else {
+        false
+    }
 }
 
 fn is_changed(before: Session, after: Session, kind: usize) -> bool {
@@ -231,7 +247,7 @@ fn line(text: &[u8], n: u64) {
 }
 
 // The line of a refusal.
-fn refused(counts: [u64; OUTCOMES], k: u8) {
+fn print_refused(counts: [u64; OUTCOMES], k: u8) {
     let n = k as usize;
     io::write_all(libc::STDOUT_FILENO, b"refused ");
     io::print_decimal(libc::STDOUT_FILENO, k as u64);
@@ -241,7 +257,7 @@ fn refused(counts: [u64; OUTCOMES], k: u8) {
 fn refusals(counts: [u64; OUTCOMES]) {
     let mut left: u8 = 22;
     while left > 0 {
-        refused(counts, 23 - left);
+        print_refused(counts, 23 - left);
         left -= 1;
     }
 }
@@ -267,7 +283,7 @@ impl Tally {
         output: Output,
         size: usize,
     ) -> Tally {
-        let kind = kind(output);
+        let kind = outcome_number(output);
         let events = self.events;
         let events = counted(events, kind, !is_call);
         let calls = self.calls;
@@ -275,10 +291,10 @@ impl Tally {
         Tally {
             events,
             calls,
-            unfit: one_more(self.unfit, is_unfit(before, kind)),
-            short: one_more(self.short, is_short(size, kind)),
-            changed: one_more(self.changed, is_changed(before, after, kind)),
-            long: one_more(self.long, length_of(output) > size),
+            unfit: one_more_if(self.unfit, is_unfit(before, kind)),
+            short: one_more_if(self.short, is_short(size, kind)),
+            changed: one_more_if(self.changed, is_changed(before, after, kind)),
+            long: one_more_if(self.long, length_of(output) > size),
         }
     }
 

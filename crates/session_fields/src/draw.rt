@@ -1,12 +1,18 @@
 // Numbers drawn from a seed, and sessions made of them.
-use engine::books::BOOKS;
+use calls::LAST_KIND;
+use calls::LAST_STAGE;
+use engine::books::BOOKS_SIZE;
+use engine::books::CALLERS;
 use engine::call::Call;
+use engine::call::PAUSE_PHASE;
 use engine::core::Core;
+use engine::core::FOUND_LIMIT;
 use engine::session::Session;
 use exchange::Exchange;
+use stages::put::DATA_LIMIT;
 
 // The next seed: a linear congruential generator.
-pub(crate) fn next(seed: u64) -> u64 {
+pub(crate) fn next_seed(seed: u64) -> u64 {
     (seed % 2147483648 * 1103515245 + 12345) % 2147483648
 }
 
@@ -16,7 +22,7 @@ fn mixed(x: u64) -> u64 {
 }
 
 // The number k of a seed.
-pub(crate) fn number(seed: u64, k: u64) -> u64 {
+pub(crate) fn drawn(seed: u64, k: u64) -> u64 {
     mixed(mixed(mixed(seed % 2147483648 + k % 64 * 7919)))
 }
 
@@ -44,7 +50,7 @@ fn filled(x: u64, last: u16) -> usize {
     }
 }
 
-fn wide(x: u64) -> u32 {
+fn any_count(x: u64) -> u32 {
     if x % 8 == 0 {
         u32::MAX
     } else {
@@ -54,47 +60,55 @@ fn wide(x: u64) -> u32 {
 
 // Whether a session is handed a call, not an event.
 pub(crate) fn is_call(seed: u64) -> bool {
-    number(seed, 0) % 3 == 0
+    drawn(seed, 0) % 3 == 0
 }
 
 // What runs: no call in most sessions that are handed one, and in few others.
-fn running(seed: u64) -> u8 {
-    let x = number(seed, 1);
+fn running_kind(seed: u64) -> u8 {
+    let x = drawn(seed, 1);
     if is_call(seed) {
-        if x / 4096 % 8 == 0 { small(x, 24) } else { 0 }
+        if x / 4096 % 8 == 0 {
+            small(x, LAST_KIND)
+        } else {
+            0
+        }
     } else {
-        small(x, 24)
+        small(x, LAST_KIND)
     }
 }
 
 // What is awaited: an exchange in more than half.
 fn awaited(x: u64) -> u8 {
-    if x / 4096 % 2 == 0 { 0 } else { small(x, 5) }
+    if x / 4096 % 2 == 0 {
+        0
+    } else {
+        small(x, PAUSE_PHASE)
+    }
 }
 
-fn call(seed: u64) -> Call {
+fn drawn_call(seed: u64) -> Call {
     Call {
-        kind: running(seed),
-        stage: small(number(seed, 2), 9),
-        cursor: small(number(seed, 2) / 65536, 16),
-        phase: awaited(number(seed, 3)),
+        kind: running_kind(seed),
+        stage: small(drawn(seed, 2), LAST_STAGE),
+        cursor: small(drawn(seed, 2) / 65536, 16),
+        phase: awaited(drawn(seed, 3)),
     }
 }
 
 fn exchange(seed: u64) -> Exchange {
     Exchange {
-        phase: small(number(seed, 4), 6),
-        code: byte(number(seed, 5)),
-        clock: wide(number(seed, 6)),
+        phase: small(drawn(seed, 4), Exchange::DRAINING_PHASE),
+        code: byte(drawn(seed, 5)),
+        clock: any_count(drawn(seed, 6)),
     }
 }
 
 fn core(seed: u64) -> Core {
     let exchange = exchange(seed);
-    let call = call(seed);
+    let call = drawn_call(seed);
     Core {
-        command: filled(number(seed, 7), 512),
-        found: filled(number(seed, 8), 1024),
+        command: filled(drawn(seed, 7), DATA_LIMIT as u16),
+        found: filled(drawn(seed, 8), FOUND_LIMIT as u16),
         exchange,
         call,
     }
@@ -129,11 +143,11 @@ pub(crate) fn caller(x: u64) -> u8 {
     }
 }
 
-fn books(seed: u64) -> [u8; BOOKS] {
+fn books(seed: u64) -> [u8; BOOKS_SIZE] {
     [
-        opened(number(seed, 9)),
-        mode(number(seed, 14)),
-        caller(number(seed, 15)),
+        opened(drawn(seed, 9)),
+        mode(drawn(seed, 14)),
+        caller(drawn(seed, 15)),
     ]
 }
 
@@ -141,13 +155,13 @@ fn books(seed: u64) -> [u8; BOOKS] {
 pub(crate) fn session(seed: u64) -> Session {
     let core = core(seed);
     let books = books(seed);
-    let command = byte(number(seed, 11));
-    let found = byte(number(seed, 12));
-    let frames = wide(number(seed, 10));
+    let command = byte(drawn(seed, 11));
+    let found = byte(drawn(seed, 12));
+    let frames = any_count(drawn(seed, 10));
     Session {
-        command: [command; 512],
-        found: [found; 1024],
-        frames: [frames; 8],
+        command: [command; DATA_LIMIT],
+        found: [found; FOUND_LIMIT],
+        frames: [frames; CALLERS],
         books,
         core,
     }
@@ -155,7 +169,7 @@ pub(crate) fn session(seed: u64) -> Session {
 
 // The buffer's length.
 pub(crate) fn size(seed: u64) -> usize {
-    match number(seed, 13) % 8 {
+    match drawn(seed, 13) % 8 {
         0 => 0,
         1 => 1,
         2 => 1023,

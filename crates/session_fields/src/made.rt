@@ -1,6 +1,6 @@
 // The call or the event that a seed draws.
 use super::draw;
-use bench_input::part;
+use bench_input::slice;
 use calls::start;
 use calls::start::Numbers;
 use engine::session::Session;
@@ -9,11 +9,11 @@ use exchange::Event;
 ghost use Prim.Native.Nat.{_≤_};
 
 // Room for a packet over the limit.
-const ROOM: usize = 1100;
+const PACKET_ROOM: usize = 1100;
 
 // How many bytes an argument has: mostly few.
-fn count(seed: u64, k: u64) -> usize {
-    let x = draw::number(seed, k);
+fn argument_length(seed: u64, k: u64) -> usize {
+    let x = draw::drawn(seed, k);
     if x % 8 == 0 {
         (x / 8 % 1101) as usize
     } else {
@@ -23,35 +23,35 @@ fn count(seed: u64, k: u64) -> usize {
 
 // The number of a call, at times the one behind the last.
 fn call_number(x: u64) -> u8 {
-    draw::byte(x % (start::LAST as u64 + 2))
+    draw::byte(x % (start::LAST_CALL as u64 + 2))
 }
 
 // A call's arguments that are numbers: mostly ones that calls take.
 fn numbers(seed: u64) -> Numbers {
-    let x = draw::number(seed, 27);
+    let x = draw::drawn(seed, 27);
     let ms = if x % 8 == 0 { 100000 } else { 100 };
     Numbers {
         ms,
         word: (x / 8 % 65536) as u16,
         x: draw::byte(x / 16 % 3),
         y: draw::byte(x / 64 % 2),
-        caller: draw::caller(draw::number(seed, 28)),
+        caller: draw::caller(draw::drawn(seed, 28)),
     }
 }
 
 // A call whose strings are any bytes, those of a target's start, of a jump, or of FeliCa blocks.
-fn plain(session: Session, seed: u64, bytes: &[u8], buffer: &mut [u8]) -> Step {
-    let number = call_number(draw::number(seed, 21));
+fn hand_call(session: Session, seed: u64, bytes: &[u8], buffer: &mut [u8]) -> Step {
+    let number = call_number(draw::drawn(seed, 21));
     let numbers = numbers(seed);
-    let rest = part(bytes, 0, count(seed, 20));
-    let none = part(bytes, 0, 0);
-    let one = part(bytes, 0, 1);
-    let six = part(bytes, 0, 6);
-    let eight = part(bytes, 0, 8);
-    let ten = part(bytes, 0, 10);
-    let block = part(bytes, 0, 16);
-    let eighteen = part(bytes, 0, 18);
-    match draw::number(seed, 26) / 2 % 8 {
+    let rest = slice(bytes, 0, argument_length(seed, 20));
+    let none = slice(bytes, 0, 0);
+    let one = slice(bytes, 0, 1);
+    let six = slice(bytes, 0, 6);
+    let eight = slice(bytes, 0, 8);
+    let ten = slice(bytes, 0, 10);
+    let block = slice(bytes, 0, 16);
+    let eighteen = slice(bytes, 0, 18);
+    match draw::drawn(seed, 26) / 2 % 8 {
         0 => session.call(number, numbers, six, eighteen, ten, rest, buffer),
         1 => session.call(number, numbers, none, ten, rest, none, buffer),
         2 => session.call(number, numbers, eight, one, block, none, buffer),
@@ -60,12 +60,12 @@ fn plain(session: Session, seed: u64, bytes: &[u8], buffer: &mut [u8]) -> Step {
 }
 
 // A call whose first string is a bitrate.
-fn at_bitrate(session: Session, seed: u64, bytes: &[u8], buffer: &mut [u8]) -> Step {
-    let number = call_number(draw::number(seed, 21));
+fn hand_call_at_bitrate(session: Session, seed: u64, bytes: &[u8], buffer: &mut [u8]) -> Step {
+    let number = call_number(draw::drawn(seed, 21));
     let numbers = numbers(seed);
-    let rest = part(bytes, 0, count(seed, 20));
-    let none = part(bytes, 0, 0);
-    match draw::number(seed, 26) / 2 % 8 {
+    let rest = slice(bytes, 0, argument_length(seed, 20));
+    let none = slice(bytes, 0, 0);
+    match draw::drawn(seed, 26) / 2 % 8 {
         0 => session.call(number, numbers, b"848A", rest, rest, none, buffer),
         1 => session.call(number, numbers, b"106B", rest, rest, none, buffer),
         2 => session.call(number, numbers, b"106B", rest, rest, none, buffer),
@@ -76,7 +76,7 @@ fn at_bitrate(session: Session, seed: u64, bytes: &[u8], buffer: &mut [u8]) -> S
 }
 
 // The event: a packet in every other case.
-fn kind(x: u64) -> Event {
+fn drawn_event(x: u64) -> Event {
     match x % 12 {
         0 => Event::Ok,
         1 => Event::Bad,
@@ -100,8 +100,8 @@ fn length(x: u64, frame: usize) -> usize {
 }
 
 // A response to the code in a frame with `n` bytes behind the code.
-fn response(code: u8, n: u8, status: u8) -> [u8; ROOM] {
-    let mut bytes = [0u8; ROOM];
+fn response(code: u8, n: u8, status: u8) -> [u8; PACKET_ROOM] {
+    let mut bytes = [0u8; PACKET_ROOM];
     let size = n % 32 + 3;
     let answer = std::num::wrapping_add_u8(code, 1);
     let sum = std::num::wrapping_add_u8(std::num::wrapping_add_u8(0xD5, answer), status);
@@ -117,12 +117,12 @@ fn response(code: u8, n: u8, status: u8) -> [u8; ROOM] {
 }
 
 // Hands the session an event.
-fn event(session: Session, seed: u64, buffer: &mut [u8]) -> Step {
+fn hand_event(session: Session, seed: u64, buffer: &mut [u8]) -> Step {
     let core = session.core;
     let exchange = core.exchange;
-    let n = draw::byte(draw::number(seed, 22));
-    let x = draw::number(seed, 23);
-    let event = kind(draw::number(seed, 24));
+    let n = draw::byte(draw::drawn(seed, 22));
+    let x = draw::drawn(seed, 23);
+    let event = drawn_event(draw::drawn(seed, 24));
     let status = if x / 8 % 2 == 0 {
         0
     } else {
@@ -134,12 +134,12 @@ fn event(session: Session, seed: u64, buffer: &mut [u8]) -> Step {
         session.event(event, &ack, buffer)
     } else {
         let frame = n % 32 + 10;
-        session.event(event, part(&bytes, 0, length(x, frame as usize)), buffer)
+        session.event(event, slice(&bytes, 0, length(x, frame as usize)), buffer)
     }
 }
 
 // How many bytes of 1,024 are left before the last so many.
-fn before(size: usize) -> usize
+fn unused_bytes(size: usize) -> usize
     ensures { λ r. ⌜ r ≤ 1024 ⌝ }
 {
     if size < 1024 { 1024 - size } else { 0 }
@@ -148,15 +148,15 @@ fn before(size: usize) -> usize
 // Hands the session a call or an event, with a buffer of so many bytes.
 pub(crate) fn handed(session: Session, seed: u64, size: usize) -> Step {
     let mut buffer = [0u8; 1024];
-    let start = before(size);
-    let bytes = response(draw::byte(draw::number(seed, 25)), 5, 7);
+    let start = unused_bytes(size);
+    let bytes = response(draw::byte(draw::drawn(seed, 25)), 5, 7);
     if draw::is_call(seed) {
-        if draw::number(seed, 26) % 2 == 0 {
-            plain(session, seed, &bytes, &mut buffer[start..])
+        if draw::drawn(seed, 26) % 2 == 0 {
+            hand_call(session, seed, &bytes, &mut buffer[start..])
         } else {
-            at_bitrate(session, seed, &bytes, &mut buffer[start..])
+            hand_call_at_bitrate(session, seed, &bytes, &mut buffer[start..])
         }
     } else {
-        event(session, seed, &mut buffer[start..])
+        hand_event(session, seed, &mut buffer[start..])
     }
 }

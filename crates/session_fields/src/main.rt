@@ -23,7 +23,7 @@ fn main() {
     let mut left = SESSIONS;
     while left > 0 {
         tally = turn(seed, tally);
-        seed = draw::next(seed);
+        seed = draw::next_seed(seed);
         left -= 1;
     }
     tally.print();

@@ -10,15 +10,15 @@ use summary::Summary;
 // How many entries there are: under each of the six settings 1 payload of no byte, 256 of one and 65,536 of two.
 const ENTRIES: usize = 394758;
 
-// No contract can say what is written: `lines::fill` says what each block is, and acceptance's `printed` what they are together.
+// No contract can say what is written: `lines::put_lines` says what each block is, and acceptance's `printed` what they are together.
 fn main() {
     let summed = 1 < os::arg_count();
     let mut summary = Summary::empty();
     let mut buffer = io::large_buffer();
-    let mut step = Reached::At(Entry::start());
+    let mut step = Reached::At(Entry::first());
     let mut left = ENTRIES;
     while left > 0 {
-        let block = lines::fill(step, &mut buffer);
+        let block = lines::put_lines(step, &mut buffer);
         let len = block.len;
         step = block.step;
         left -= block.count;

@@ -36,7 +36,7 @@ fn crc_of(crc: u32, text: &[u8]) -> u32 {
     crc
 }
 
-fn wide(number: u32) -> u64 {
+fn as_u64(number: u32) -> u64 {
     number as u64
 }
 
@@ -78,7 +78,7 @@ impl Summary {
     pub(crate) fn print(self) {
         print_number(self.lines, b" lines, ");
         print_number(self.bytes, b" bytes, CRC-32 ");
-        io::print_hex(libc::STDOUT_FILENO, wide(self.crc ^ ALL_ONES), 8);
+        io::print_hex(libc::STDOUT_FILENO, as_u64(self.crc ^ ALL_ONES), 8);
         print(b"\n");
     }
 }

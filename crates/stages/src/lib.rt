@@ -25,7 +25,7 @@ pub struct Command {
 
 impl Command {
     // With data of its own: the first `len` bytes.
-    pub fn with(code: u8, clock: u32, bytes: [u8; FIXED_LIMIT], len: usize) -> Command
+    pub fn fixed(code: u8, clock: u32, bytes: [u8; FIXED_LIMIT], len: usize) -> Command
         ensures { λ r. ⌜ (len ≤ fixedLimit → Commands r (λ pending. cmd code clock (take len bytes))) ⌝ }
     {
         Command {

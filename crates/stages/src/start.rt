@@ -23,7 +23,7 @@ pub enum Start {
 }
 
 // A command whose data have been put by, if that is within the limit.
-pub fn command(kind: u8, code: u8, clock: u32, len: usize) -> Start
+pub fn first_command(kind: u8, code: u8, clock: u32, len: usize) -> Start
     ensures { λ r. ⌜ ((c₀ c₁ l : List ℕ) → Joins len c₀ c₁ l → Starts r c₀ c₁ (limited kind (cmd code clock l))) ⌝ }
 {
     if DATA_LIMIT < len {

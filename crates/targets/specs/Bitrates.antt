@@ -1,6 +1,7 @@
 -- What the functions answer. That `isRate` and `sendPartOf` take exactly the texts of `Form` is proved in `proofs/Exact`.
 use mathlib.Core.Bool.{Bool, cond, _&&_, _||_}
 use mathlib.Core.List.{List, [], _∷_, _++_}
+use mathlib.Core.Option.{Option, none, some}
 use mathlib.Core.Path.{_≡_}
 use Prim.Native.Nat.{ℕ, _+_, _-_, _≤_}
 use Prim.Native.Char.{code}
@@ -9,6 +10,7 @@ use lib.Dec.{leb, eqb}
 use lib.ListN.{length, take, drop, getD}
 use Rattle.errors.specs.Choice.{same}
 use Rattle.errors.specs.declared.Numbered.{Numbered}
+use Rattle.errors.specs.declared.Refusal.the-variants.{Bitrate as BadBitrate}
 use Rattle.errors.specs.Refusals.{Returned, answered, refused, plain, numbered}
 use Rattle.targets.specs.declared.Bitrate.{Bitrate}
 use Rattle.targets.specs.declared.Bitrate.the-variants.{B106A, B212F, B424F, B106B, B212B, B424B, B848B, Other}
@@ -37,7 +39,7 @@ parsed (Send n) = answered n
 parsed (Refused e) = refused (numbered e)
 
 unfoldable pub sendPartOf : List ℕ → Returned
-sendPartOf t = cond (isBitrate t) (answered (sendLength t)) (refused (plain 5))
+sendPartOf t = cond (isBitrate t) (answered (sendLength t)) (refused (numbered BadBitrate))
 
 -- The bytes of a text in quotes.
 abbrev pub ascii : String → List ℕ
@@ -71,6 +73,19 @@ choiceOn t (refused k) = noCode k
 
 unfoldable pub choiceOf : List ℕ → Choice
 choiceOf t = choiceOn t (sendPartOf t)
+
+-- What follows a bitrate, and the chip's code of one: `r` where there is none.
+abbrev pub byBitrate : {S : Type 0} → S → Choice → (Bitrate → S) → S
+byBitrate r (chosen b) f = f b
+byBitrate r (noCode e) f = r
+
+abbrev pub byCode : {S : Type 0} → S → Option ℕ → (ℕ → S) → S
+byCode r none f = r
+byCode r (some code) f = f code
+
+-- the code by which a call names a text's bitrate to the chip: `takes` has those of the bitrates that it takes
+abbrev pub codeOr : {S : Type 0} → S → (Bitrate → Option ℕ) → List ℕ → (ℕ → S) → S
+codeOr r takes text f = byBitrate r (choiceOf text) (λ b. byCode r (takes b) f)
 
 -- `rate_length`: the rate that a text starts with has n bytes; where n is under 2 there is none.
 pub record StartsWithRate (t : List ℕ) (n : ℕ) : Type 0 where

@@ -31,6 +31,13 @@ pub data TargetData : List ℕ → List ℕ → List ℕ → Type 0 where
 abbrev pub isType2 : ℕ → Bool
 isType2 selRes = eqb (selRes / 32 % 4) 0
 
+-- where target data has NFCID1Length, and where the UID begins
+abbrev pub nfcid1LengthOffset : ℕ
+nfcid1LengthOffset = 3
+
+abbrev pub nfcid1Offset : ℕ
+nfcid1Offset = 4
+
 -- ---- target data as a test
 
 unfoldable pub isUidLength : ℕ → Bool
@@ -42,9 +49,9 @@ isAts bytes = eqb (length bytes) (getD bytes 0 0)
 
 unfoldable pub isTargetData : List ℕ → Bool
 isTargetData bytes =
-    pick (ltb (length bytes) 4) false
-    (pick (isUidLength (getD bytes 3 0))
-    (pick (ltb (length bytes) (4 + getD bytes 3 0)) false (isAts (drop (4 + getD bytes 3 0) bytes)))
+    pick (ltb (length bytes) nfcid1Offset) false
+    (pick (isUidLength (getD bytes nfcid1LengthOffset 0))
+    (pick (ltb (length bytes) (nfcid1Offset + getD bytes nfcid1LengthOffset 0)) false (isAts (drop (nfcid1Offset + getD bytes nfcid1LengthOffset 0) bytes)))
     false)
 
 -- ---- both ways
@@ -85,7 +92,7 @@ pub record Split (bytes : List ℕ) : Type 0 where
   pub is : TargetData bytes uid ats
 
 -- what stands behind the UID
-behind-uid : (s t q n : ℕ) (uid ats : List ℕ) → drop (4 + length uid) (s ∷ t ∷ q ∷ n ∷ (uid ++ ats)) ≡ ats
+behind-uid : (s t q n : ℕ) (uid ats : List ℕ) → drop (nfcid1Offset + length uid) (s ∷ t ∷ q ∷ n ∷ (uid ++ ats)) ≡ ats
 behind-uid s t q n uid ats = drop-append-add (s ∷ t ∷ q ∷ n ∷ []) (uid ++ ats) (length uid) ∙ drop-append-seam uid ats
 
 pub target-taken : {bytes uid ats : List ℕ} → TargetData bytes uid ats → isTargetData bytes ≡ true
@@ -93,7 +100,7 @@ unfolding isTargetData pick
 target-taken (targetData s t q uid ats u a) =
     let bytes : List ℕ = s ∷ t ∷ q ∷ length uid ∷ (uid ++ ats) in
     let l : length (uid ++ ats) ≡ length uid + length ats = length-append uid ats in
-    rw (le-ltb (length bytes) 4 (omega arith), length-taken (length uid) u, le-ltb (length bytes) (4 + length uid) (omega arith), behind-uid s t q (length uid) uid ats)
+    rw (le-ltb (length bytes) nfcid1Offset (omega arith), length-taken (length uid) u, le-ltb (length bytes) (nfcid1Offset + length uid) (omega arith), behind-uid s t q (length uid) uid ats)
     (ats-taken a)
 
 pub target-only : (bytes : List ℕ) → isTargetData bytes ≡ true → Split bytes
@@ -102,15 +109,15 @@ target-only [] h = absurd (false-true h)
 target-only (s ∷ []) h = absurd (false-true h)
 target-only (s ∷ t ∷ []) h = absurd (false-true h)
 target-only (s ∷ t ∷ q ∷ []) h = absurd (false-true h)
-target-only (s ∷ t ∷ q ∷ n ∷ l) h = go (isUidLength n) (ltb (length bytes) (4 + n)) refl refl (rw (le-ltb (length bytes) 4 (omega arith)) at h)
+target-only (s ∷ t ∷ q ∷ n ∷ l) h = go (isUidLength n) (ltb (length bytes) (nfcid1Offset + n)) refl refl (rw (le-ltb (length bytes) nfcid1Offset (omega arith)) at h)
   where
     bytes : List ℕ
     bytes = s ∷ t ∷ q ∷ n ∷ l
 
-    fitting : isUidLength n ≡ true → n ≤ length l → isAts (drop (4 + n) bytes) ≡ true → Split bytes
+    fitting : isUidLength n ≡ true → n ≤ length l → isAts (drop (nfcid1Offset + n) bytes) ≡ true → Split bytes
     fitting u f a =
         let e : length (take n l) ≡ n = length-take-le n l f in
-        let d : drop (4 + n) bytes ≡ drop n l = drop-append-add (s ∷ t ∷ q ∷ n ∷ []) l n in
+        let d : drop (nfcid1Offset + n) bytes ≡ drop n l = drop-append-add (s ∷ t ∷ q ∷ n ∷ []) l n in
         record {
           uid = take n l;
           ats = drop n l;
@@ -118,9 +125,9 @@ target-only (s ∷ t ∷ q ∷ n ∷ l) h = go (isUidLength n) (ltb (length byte
               (targetData s t q (take n l) (drop n l) (rw e (length-only n u)) (ats-only (drop n l) (rw d at a)));
         }
 
-    go : (u f : Bool) → isUidLength n ≡ u → ltb (length bytes) (4 + n) ≡ f → pick u (pick f false (isAts (drop (4 + n) bytes))) false ≡ true → Split bytes
+    go : (u f : Bool) → isUidLength n ≡ u → ltb (length bytes) (nfcid1Offset + n) ≡ f → pick u (pick f false (isAts (drop (nfcid1Offset + n) bytes))) false ≡ true → Split bytes
     go true true e g k = absurd (false-true k)
-    go true false e g k = fitting e (omega (arith, ltb-false (length bytes) (4 + n) g)) k
+    go true false e g k = fitting e (omega (arith, ltb-false (length bytes) (nfcid1Offset + n) g)) k
     go false f e g k = absurd (false-true k)
 
 -- ---- the lengths of its parts, where they stand: the UID's is byte 3, and the ATS's its first byte, 0 where there is none
@@ -132,18 +139,18 @@ ats-length : {bytes : List ℕ} → Ats bytes → getD bytes 0 0 ≡ length byte
 ats-length absent = refl
 ats-length (present bytes) = refl
 
-pub uid-length-at : {bytes uid ats : List ℕ} → TargetData bytes uid ats → getD bytes 3 0 ≡ length uid
+pub uid-length-at : {bytes uid ats : List ℕ} → TargetData bytes uid ats → getD bytes nfcid1LengthOffset 0 ≡ length uid
 uid-length-at (targetData s t q uid ats u a) = refl
 
-pub ats-length-at : {bytes uid ats : List ℕ} → TargetData bytes uid ats → getD bytes (4 + length uid) 0 ≡ length ats
+pub ats-length-at : {bytes uid ats : List ℕ} → TargetData bytes uid ats → getD bytes (nfcid1Offset + length uid) 0 ≡ length ats
 ats-length-at (targetData s t q uid ats u a) =
     getD-append-add (s ∷ t ∷ q ∷ length uid ∷ []) (uid ++ ats) (length uid) 0 ∙ (behind-first uid ats ∙ ats-length a)
 
-pub target-long : {bytes uid ats : List ℕ} → TargetData bytes uid ats → 4 ≤ length bytes
+pub target-long : {bytes uid ats : List ℕ} → TargetData bytes uid ats → nfcid1Offset ≤ length bytes
 target-long (targetData s t q uid ats u a) = omega arith
 
 -- the UID and the ATS are the bytes from byte 4 on
-pub parts-at : {bytes uid ats : List ℕ} → TargetData bytes uid ats → drop 4 bytes ≡ uid ++ ats
+pub parts-at : {bytes uid ats : List ℕ} → TargetData bytes uid ats → drop nfcid1Offset bytes ≡ uid ++ ats
 parts-at (targetData s t q uid ats u a) = refl
 
 -- some target data: a UID of 4 bytes and no ATS, one of 7 bytes and an ATS of 5; and bytes that are none

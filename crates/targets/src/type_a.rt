@@ -4,9 +4,9 @@ ghost use Prim.Native.Nat.{_≤_};
 ghost use Rattle.targets.specs.TypeA.{isType2, isUidLength, isAts, isTargetData};
 
 // Where NFCID1Length stands, and where the UID begins.
-const NFCID1_LENGTH: usize = 3;
+const NFCID1_LENGTH_OFFSET: usize = 3;
 
-const NFCID1: usize = 4;
+const NFCID1_OFFSET: usize = 4;
 
 // A byte that is a length.
 fn wide(byte: u8) -> usize
@@ -46,12 +46,12 @@ fn is_ats(bytes: &[u8]) -> bool
 pub fn is_target_data(bytes: &[u8]) -> bool
     ensures { λ r. ⌜ r ≡ isTargetData (now (bytes .entry)) ⌝ }
 {
-    if bytes.len() < NFCID1 {
+    if bytes.len() < NFCID1_OFFSET {
         return false;
     }
-    let uid = wide(bytes[NFCID1_LENGTH]);
+    let uid = wide(bytes[NFCID1_LENGTH_OFFSET]);
     if is_uid_length(uid) {
-        let behind = NFCID1 + uid;
+        let behind = NFCID1_OFFSET + uid;
         if bytes.len() < behind {
             return false;
         }

@@ -8,7 +8,7 @@ returns : tie.Need-returns
 returns c =
     let at-answer = c .before .before .before in
     let at-first = at-answer .before .before in
-    reply-text _ _ _ _ _ _ _ _ _ (at-first .before .before .next .given .1) (c .put .ensures) (at-answer .answer .ensures .0) (at-answer .answer .ensures .1) (at-first .first .ensures)
+    reply-text _ _ _ _ _ _ _ _ _ (at-first .before .before .next .given .1) (c .put .ensures) (at-answer .answer .ensures .0) (at-answer .answer .ensures .1) (at-first .prefix .ensures)
 
 pub reply-spec : {M : Type 1} → statement M
 reply-spec =

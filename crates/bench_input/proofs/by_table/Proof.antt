@@ -83,8 +83,8 @@ returns-3 c =
       inOrder = tt;
     }
 
-by-number-requires : tie.Need-by-number-requires
-by-number-requires c κs =
+call-or-event-requires : tie.Need-call-or-event-requires
+call-or-event-requires c κs =
     let at-read = c .before .before .before .before .before in
     grown-at _ _ _ _ _ _ (at-read .read .ensures .1) (c .before .taken .given .1) .0
 
@@ -103,8 +103,8 @@ returns-4 c =
     let number = number-is (start .args .table .now) (start .pre .0) _ inside _ (at-read-byte .read-byte .ensures) _ (at-number .number .given .1) in
     let grown = grown-at _ _ _ _ _ _ (at-read .read .ensures .1) (at-taken .taken .given .1) in
     record {
-      says = row-said (start .args .line .now) _ (at-row .row .ensures .0) _ (at-i .i .given .1) _ _ _ _ letters number (all-taken _ _ _ (at-read .read .ensures .0) _ (at-taken .taken .given .1)) (c .by-number .ensures .0 _);
-      inOrder = c .by-number .ensures .1 _ _ (omega arith) (grown .3);
+      says = row-said (start .args .line .now) _ (at-row .row .ensures .0) _ (at-i .i .given .1) _ _ _ _ letters number (all-taken _ _ _ (at-read .read .ensures .0) _ (at-taken .taken .given .1)) (c .call-or-event .ensures .0 _);
+      inOrder = c .call-or-event .ensures .1 _ _ (omega arith) (grown .3);
     }
 
 pub by-table-spec : {M : Type 1} → statement M
@@ -129,6 +129,6 @@ by-table-spec =
     (λ c. search needs)
     (λ c. search needs)
     returns-3
-    by-number-requires
+    call-or-event-requires
     (λ c. search needs)
     returns-4)

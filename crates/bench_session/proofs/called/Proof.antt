@@ -10,7 +10,7 @@ returns c =
     let at = c .before .before in
     let at-part4 = at .before .before in
     let at-part2 = at-part4 .before .before in
-    rw (← at-part4 .part4 .ensures, ← at-part4 .before .part3 .ensures, ← at-part2 .part2 .ensures, ← at-part2 .before .part .ensures) (at .call .ensures)
+    rw (← at-part4 .slice4 .ensures, ← at-part4 .before .slice3 .ensures, ← at-part2 .slice2 .ensures, ← at-part2 .before .slice .ensures) (at .call .ensures)
 
 pub called-spec : {M : Type 1} → statement M
 called-spec =

@@ -13,7 +13,7 @@ returns-2 c =
     let at-event2 = c .before .before in
     let at-part = at-event2 .before .before in
     let at-event = at-part .before .before in
-    rw (← at-part .part .ensures) (event-some _ _ _ _ _ (at-event .before .before .event-by .ensures) _ _ (at-event .event .given .1) (at-event2 .event2 .ensures))
+    rw (← at-part .slice .ensures) (event-some _ _ _ _ _ (at-event .before .before .event-by .ensures) _ _ (at-event .event .given .1) (at-event2 .event2 .ensures))
 
 pub on-event-spec : {M : Type 1} → statement M
 on-event-spec =

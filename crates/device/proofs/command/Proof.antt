@@ -13,7 +13,7 @@ returns c = rw (c .before .match .keys1) (c .reset-mode-command .ensures)
 
 returns-2 : tie.Need-returns-2
 unfolding openingCommand pick
-returns-2 c = rw (c .before .match .keys2) (c .with .ensures (omega arith))
+returns-2 c = rw (c .before .match .keys2) (c .fixed .ensures (omega arith))
 
 returns-3 : tie.Need-returns-3
 unfolding openingCommand pick

@@ -25,6 +25,6 @@ settings-spec =
     (λ c κs. search needs)
     (λ c. rw (c .before .match .keys1) (c .configured .ensures (omega arith)))
     (λ c. rw (c .before .match .keys2) (c .configured2 .ensures (omega arith)))
-    (λ c. rw (c .before .match .keys3) (c .with .ensures (omega arith)))
+    (λ c. rw (c .before .match .keys3) (c .fixed .ensures (omega arith)))
     (λ c. rw (c .before .match .keys4) (c .reset-mode-command .ensures))
     returns-5)

@@ -16,6 +16,6 @@ reply-spec =
     (λ c κs. search needs)
     (λ c κs. search needs)
     (λ c. search needs)
-    (λ c. reply-text _ _ _ _ _ _ _ _ _ (search needs) _ _ _ (c .before .before .before .before .before .before .next .given .1) (c .before .before .before .before .first .ensures) (c .before .before .answer .ensures) (c .fed .ensures))
+    (λ c. reply-text _ _ _ _ _ _ _ _ _ (search needs) _ _ _ (c .before .before .before .before .before .before .next .given .1) (c .before .before .before .before .prefix .ensures) (c .before .before .answer .ensures) (c .fed .ensures))
     (λ c. reply-long _ _ _ _ _ _ _ _ _ (search needs) _ (c .before .before .before .before .enum-told .given .1) (c .before .before .unreadable .ensures) (c .fed2 .ensures))
     (λ c. reply-end _ _ _ _ (c .enum-told2 .given .1)))

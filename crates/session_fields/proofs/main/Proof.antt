@@ -20,8 +20,8 @@ loop-holds c = omega arith
 turn-requires : tie.Need-turn-requires Inv-loop μ-loop
 turn-requires c κs = search needs
 
-next-requires : tie.Need-next-requires Inv-loop μ-loop
-next-requires c κs = search needs
+next-seed-requires : tie.Need-next-seed-requires Inv-loop μ-loop
+next-seed-requires c κs = search needs
 
 sub-left : tie.Need-sub-left Inv-loop μ-loop
 sub-left c = search needs
@@ -47,7 +47,7 @@ main-spec =
     empty-requires
     loop-holds
     turn-requires
-    next-requires
+    next-seed-requires
     sub-left
     loop-less
     loop-again

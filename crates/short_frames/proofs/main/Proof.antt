@@ -15,16 +15,16 @@ abbrev μ-loop : tie.MeasureT-loop
 μ-loop summed summary₀ buffer₀ step₀ left₀ summary buffer step left = left
 
 loop-less : tie.Need-loop-less Inv-loop μ-loop
-loop-less c = less-left _ _ (c .before .before .before .before .before .before .before .before .loop .inv .1) _ _ _ (c .before .before .before .before .before .fill .ensures) (omega arith) (omega arith)
+loop-less c = less-left _ _ (c .before .before .before .before .before .before .before .before .loop .inv .1) _ _ _ (c .before .before .before .before .before .put-lines .ensures) (omega arith) (omega arith)
 
 loop-again : tie.Need-loop-again Inv-loop μ-loop
-loop-again c = (search needs, on-way-more _ _ (c .before .before .before .before .before .before .before .before .loop .inv .1) _ _ _ (c .before .before .before .before .before .fill .ensures))
+loop-again c = (search needs, on-way-more _ _ (c .before .before .before .before .before .before .before .before .loop .inv .1) _ _ _ (c .before .before .before .before .before .put-lines .ensures))
 
 loop-less-2 : tie.Need-loop-less-2 Inv-loop μ-loop
-loop-less-2 c = less-left _ _ (c .before .before .before .before .before .before .before .before .before .loop .inv .1) _ _ _ (c .before .before .before .before .before .before .fill .ensures) (omega arith) (omega arith)
+loop-less-2 c = less-left _ _ (c .before .before .before .before .before .before .before .before .before .loop .inv .1) _ _ _ (c .before .before .before .before .before .before .put-lines .ensures) (omega arith) (omega arith)
 
 loop-again-2 : tie.Need-loop-again-2 Inv-loop μ-loop
-loop-again-2 c = (search needs, on-way-more _ _ (c .before .before .before .before .before .before .before .before .before .loop .inv .1) _ _ _ (c .before .before .before .before .before .before .fill .ensures))
+loop-again-2 c = (search needs, on-way-more _ _ (c .before .before .before .before .before .before .before .before .before .loop .inv .1) _ _ _ (c .before .before .before .before .before .before .put-lines .ensures))
 
 pub main-spec : {M : Type 1} → statement M
 main-spec =
@@ -36,10 +36,10 @@ main-spec =
     (λ c κs. search needs)
     (λ c κs. search needs)
     (λ c κs. search needs)
-    (λ c. (search needs, rw (c .start .ensures) on-way-start))
+    (λ c. (search needs, rw (c .first .ensures) on-way-start))
     (λ c. sym (c .before .before .loop .inv .0))
     (λ c κs. search needs)
-    (λ c. few-counted _ _ (c .before .before .before .before .before .loop .inv .1) _ _ _ (c .before .before .fill .ensures))
+    (λ c. few-counted _ _ (c .before .before .before .before .before .loop .inv .1) _ _ _ (c .before .before .put-lines .ensures))
     (λ c. search needs)
     (λ c. sym (length-take-le _ _ (search needs)))
     (λ c κs. search needs)

@@ -18,19 +18,19 @@ abbrev μ-loop : tie.MeasureT-loop
 returns-2 : tie.Need-returns-2 Inv-loop μ-loop
 returns-2 c =
     let at-loop = c .before .before .before .before in
-    no-digit _ 0 _ _ (search needs) (c .before .digit .ensures) (at-loop .loop .inv .2) (c .if2 .taken)
+    no-digit _ 0 _ _ (search needs) (c .before .digit-value .ensures) (at-loop .loop .inv .2) (c .if2 .taken)
 
 returns-3 : tie.Need-returns-3 Inv-loop μ-loop
 returns-3 c =
     let at-digit = c .before .before in
     let at-loop = at-digit .before .before .before in
-    over-limit _ _ _ _ (search needs) (at-digit .digit .ensures) (at-loop .loop .inv .1) (c .if3 .taken)
+    over-limit _ _ _ _ (search needs) (at-digit .digit-value .ensures) (at-loop .loop .inv .1) (c .if3 .taken)
 
 loop-again : tie.Need-loop-again Inv-loop μ-loop
 loop-again c =
     let at-digit = c .before .before in
     let at-loop = at-digit .before .before .before in
-    (search needs, next-number _ _ _ _ (search needs) (at-digit .digit .ensures) (at-loop .loop .inv .1), next-digits _ 0 _ _ (search needs) (at-digit .digit .ensures) (at-loop .loop .inv .2) (c .before .if2 .left), c .if3 .left)
+    (search needs, next-number _ _ _ _ (search needs) (at-digit .digit-value .ensures) (at-loop .loop .inv .1), next-digits _ 0 _ _ (search needs) (at-digit .digit-value .ensures) (at-loop .loop .inv .2) (c .before .if2 .left), c .if3 .left)
 
 returns-4 : tie.Need-returns-4 Inv-loop μ-loop
 returns-4 c = number-read _ _ _ (omega arith) (c .loop-test .left) (c .before .loop .inv .1) (c .before .loop .inv .2) (c .before .loop .inv .3)

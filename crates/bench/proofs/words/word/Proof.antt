@@ -13,4 +13,4 @@ word-spec =
     (λ c. search needs)
     (λ c. search needs)
     (λ c. search needs)
-    (λ c. c .before .end .ensures .2 ∙ c .before .before .start .ensures .1))
+    (λ c. c .before .word-end .ensures .2 ∙ c .before .before .word-start .ensures .1))

@@ -14,7 +14,7 @@ unfolding argument
 returns c = λ b.
     let at-number = c .before .before in
     let start = at-number .before .before .before in
-    record { says = λ f. at-false _ _ _ _ (le-ltb _ _ (start .pre .0)) (number-none _ _ (at-number .number .ensures) _ (c .enum-told .given .1)); inOrder = tt }
+    record { says = λ f. at-false _ _ _ _ (le-ltb _ _ (start .pre .0)) (number-none _ _ (at-number .read-number .ensures) _ (c .enum-told .given .1)); inOrder = tt }
 
 returns-2 : tie.Need-returns-2
 unfolding argument
@@ -22,7 +22,7 @@ returns-2 c = λ b.
     let at-number = c .before .before .before in
     let start = at-number .before .before .before in
     record {
-      says = λ f. at-false _ _ _ _ (le-ltb _ _ (start .pre .0)) (number-value _ _ (at-number .number .ensures) _ _ _ (c .before .numbers .given .1) refl);
+      says = λ f. at-false _ _ _ _ (le-ltb _ _ (start .pre .0)) (number-value _ _ (at-number .read-number .ensures) _ _ _ (c .before .numbers .given .1) refl);
       inOrder = (start .pre .1, omega arith, omega arith, refl);
     }
 

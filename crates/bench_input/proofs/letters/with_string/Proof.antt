@@ -32,8 +32,8 @@ returns-2 c =
     let b = behind-at _ _ _ _ _ _ (at-string .string .ensures .1) (at-end .end .given .1) in
     record {
       says = λ f. at-true _ _ _ _ (lt-ltb _ _ (start .pre .0)) (at-true _ _ _ _ few (hex-value _ _ _ _ (at-string .string .ensures .0) _ _ _ (at-end .end .given .1)
-          (ap (λ s. f (arguments (start .args .taken .numbers) s)) (more-strings _ _ _ _ _ _ _ (c .ended .ensures) (at-if1 .if1 .taken) (start .pre .1) b))));
-      inOrder = more-ended _ _ _ _ _ _ _ (c .ended .ensures) (at-if1 .if1 .taken) (start .pre .1) b;
+          (ap (λ s. f (arguments (start .args .taken .numbers) s)) (more-strings _ _ _ _ _ _ _ (c .with-end .ensures) (at-if1 .if1 .taken) (start .pre .1) b))));
+      inOrder = more-ended _ _ _ _ _ _ _ (c .with-end .ensures) (at-if1 .if1 .taken) (start .pre .1) b;
     }
 
 returns-3 : tie.Need-returns-3

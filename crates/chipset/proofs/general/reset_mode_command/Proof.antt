@@ -5,4 +5,4 @@ use Rattle.chipset.proofs.general.reset_mode_command.Statement.{stateme
 use Rattle.chipset.proofs.general.reset_mode_command.Tie as tie
 
 pub reset-mode-command-spec : {M : Type 1} → statement M
-reset-mode-command-spec = tie.close (tie.spec (λ c κs. search needs) (λ c. c .with .ensures (omega arith)))
+reset-mode-command-spec = tie.close (tie.spec (λ c κs. search needs) (λ c. c .fixed .ensures (omega arith)))

@@ -14,4 +14,4 @@ set-parameters-spec =
     (λ c. search needs)
     (λ c κs. search needs)
     (λ c κs. search needs)
-    (λ c. c .command .ensures _ _ _ (c .before .put-two .ensures)))
+    (λ c. c .first-command .ensures _ _ _ (c .before .put-two .ensures)))

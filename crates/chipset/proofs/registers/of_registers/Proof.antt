@@ -12,7 +12,7 @@ unfolding asserted
 returns c =
     let fits = sym (c .before .before .before .before .before .whole-registers .ensures) ∙ c .before .before .before .before .if1 .taken in
     let l = c .before .before .before .before .before .before .before .args .bytes .now in
-    starts-true _ _ _ _ _ _ fits (same-command _ _ _ _ _ _ _ _ (append-nil l) (c .command .ensures _ _ _ (c .before .put-two .ensures)))
+    starts-true _ _ _ _ _ _ fits (same-command _ _ _ _ _ _ _ _ (append-nil l) (c .first-command .ensures _ _ _ (c .before .put-two .ensures)))
 
 pub of-registers-spec : {M : Type 1} → statement M
 unfolding asserted

@@ -16,4 +16,4 @@ write-single-register-spec =
     (λ c. search needs)
     (λ c κs. search needs)
     (λ c κs. search needs)
-    (λ c. c .command .ensures _ _ _ (c .before .put-two .ensures)))
+    (λ c. c .first-command .ensures _ _ _ (c .before .put-two .ensures)))

@@ -15,5 +15,5 @@ tg-init-target-spec =
     (λ c κs. search needs)
     (λ c κs. search needs)
     (λ c κs. search needs)
-    (λ c. starts-true _ _ _ _ _ _ (search (same-value, needs)) (c .command .ensures _ _ _ (c .before .put-all .ensures)))
+    (λ c. starts-true _ _ _ _ _ _ (search (same-value, needs)) (c .first-command .ensures _ _ _ (c .before .put-all .ensures)))
     (λ c. starts-false _ _ _ _ _ _ (search (same-value, needs)) (c .refused .ensures _)))

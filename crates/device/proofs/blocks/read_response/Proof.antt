@@ -14,4 +14,4 @@ read-response-spec =
     (λ c κs. search needs)
     (λ c κs. search needs)
     (λ c κs. search needs)
-    (λ c. rw (c .before .check-read .ensures ∙ ap (readCheck _ _) (c .before .before .reply .ensures)) at (c .if-good .ensures)))
+    (λ c. rw (c .before .check-read .ensures ∙ ap (readCheck _ _) (c .before .before .card-reply .ensures)) at (c .if-good .ensures)))

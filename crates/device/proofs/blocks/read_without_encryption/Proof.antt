@@ -12,7 +12,7 @@ unfolding readFirst
 returns c =
     let l = c .before .before .before .before .before .before .args .command .now in
     let n : length l ≡ dataLimit = search needs in
-    thru-clock _ _ _ _ _ _ _ _ (c .before .before .before .clock .ensures) (c .sent .ensures _ _ _ _ (read-few _ _ l _ n) (c .before .build-read-request .ensures))
+    thru-clock _ _ _ _ _ _ _ _ (c .before .before .before .clock .ensures) (c .start-built .ensures _ _ _ _ (read-few _ _ l _ n) (c .before .build-read-request .ensures))
 
 pub read-without-encryption-spec : {M : Type 1} → statement M
 read-without-encryption-spec =

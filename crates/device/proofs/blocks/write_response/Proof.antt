@@ -14,4 +14,4 @@ write-response-spec =
     (λ c κs. search needs)
     (λ c κs. search needs)
     (λ c κs. search needs)
-    (λ c. rw (c .before .check-write .ensures ∙ ap (writeCheck _) (c .before .before .reply .ensures)) at (c .if-good .ensures)))
+    (λ c. rw (c .before .check-write .ensures ∙ ap (writeCheck _) (c .before .before .card-reply .ensures)) at (c .if-good .ensures)))

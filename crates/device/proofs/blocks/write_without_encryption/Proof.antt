@@ -12,7 +12,7 @@ unfolding writeFirst
 returns c =
     let l = c .before .before .before .before .before .before .before .args .command .now in
     let n : length l ≡ dataLimit = search needs in
-    thru-clock _ _ _ _ _ _ _ _ (c .before .before .before .clock .ensures) (c .sent .ensures _ _ _ _ (write-few _ _ _ l _ n) (c .before .build-write-request .ensures))
+    thru-clock _ _ _ _ _ _ _ _ (c .before .before .before .clock .ensures) (c .start-built .ensures _ _ _ _ (write-few _ _ _ l _ n) (c .before .build-write-request .ensures))
 
 pub write-without-encryption-spec : {M : Type 1} → statement M
 write-without-encryption-spec =

@@ -7,7 +7,7 @@ use Rattle.device.proofs.transceive.type1.Tie as tie
 
 returns : tie.Need-returns
 unfolding type1First
-returns c = starts-true _ _ _ _ _ _ (sym (c .before .before .before .before .before .is-sendable .ensures) ∙ c .before .before .before .before .if1 .taken) (c .command .ensures _ _ _ (c .before .put-two .ensures))
+returns c = starts-true _ _ _ _ _ _ (sym (c .before .before .before .before .before .is-sendable .ensures) ∙ c .before .before .before .before .if1 .taken) (c .first-command .ensures _ _ _ (c .before .put-two .ensures))
 
 pub type1-spec : {M : Type 1} → statement M
 unfolding type1First

@@ -18,6 +18,6 @@ command-spec =
     (λ c κs. search needs)
     (λ c κs. search needs)
     (λ c κs. search needs)
-    (λ c. rw (c .before .match .keys1) (c .with .ensures (omega arith)))
+    (λ c. rw (c .before .match .keys1) (c .fixed .ensures (omega arith)))
     (λ c. rw (c .before .match .keys2) (c .pending .ensures))
     returns-3)

@@ -11,13 +11,13 @@ returns-3 : tie.Need-returns-3
 unfolding depAsserted asserted
 returns-3 c =
     starts-true _ _ _ _ _ _ (search (in-range, needs))
-    (not-supported _ _ _ _ _ _ _ _ (c .before .before .before .before .rate .ensures) refl (c .before .before .before .dep-code .ensures) (c .before .enum-told .given .1) (c .refused3 .ensures _))
+    (not-supported _ _ _ _ _ _ _ _ (c .before .before .before .before .bitrate-of .ensures) refl (c .before .before .before .dep-code .ensures) (c .before .enum-told .given .1) (c .refused3 .ensures _))
 
 returns-4 : tie.Need-returns-4
 unfolding depAsserted asserted
 returns-4 c =
     starts-true _ _ _ _ _ _ (search (in-range, needs))
-    (supported _ _ _ _ _ _ _ _ (c .before .before .before .before .before .before .rate .ensures) refl (c .before .before .before .before .before .dep-code .ensures) _ (c .before .before .before .code .given .1) (c .jump .ensures))
+    (supported _ _ _ _ _ _ _ _ (c .before .before .before .before .before .before .bitrate-of .ensures) refl (c .before .before .before .before .before .dep-code .ensures) _ (c .before .before .before .code .given .1) (c .jump .ensures))
 
 pub detect-dep-spec : {M : Type 1} → statement M
 unfolding asserted depAsserted

@@ -13,7 +13,7 @@ unfolding pollAsserted asserted
 returns c =
     let at-rate = c .before .before .before .before in
     starts-true _ _ _ _ _ _ (sym (at-rate .before .before .is-list .ensures) ∙ at-rate .before .if1 .taken)
-    (not-supported _ _ _ _ _ _ _ _ (at-rate .rate .ensures) refl (c .before .before .before .type-f-code .ensures) (c .before .enum-told .given .1) (c .refused .ensures _))
+    (not-supported _ _ _ _ _ _ _ _ (at-rate .bitrate-of .ensures) refl (c .before .before .before .type-f-code .ensures) (c .before .enum-told .given .1) (c .refused .ensures _))
 
 returns-2 : tie.Need-returns-2
 unfolding pollAsserted asserted pollFirst
@@ -21,7 +21,7 @@ returns-2 c =
     let at-rate = c .before .before .before .before .before .before .before .before in
     let fits = sym (at-rate .before .before .is-list .ensures) ∙ at-rate .before .if1 .taken in
     starts-true _ _ _ _ _ _ fits
-    (supported _ _ _ _ _ _ _ _ (at-rate .rate .ensures) refl (c .before .before .before .before .before .before .before .type-f-code .ensures) _ (c .before .before .before .before .before .code .given .1)
+    (supported _ _ _ _ _ _ _ _ (at-rate .bitrate-of .ensures) refl (c .before .before .before .before .before .before .before .type-f-code .ensures) _ (c .before .before .before .before .before .code .given .1)
     (short-staged _ _ _ _ _ (omega (arith, list-few (at-rate .before .before .before .before .before .args .codes .now) fits)) (c .staged .ensures _ _ _ (c .before .put-two .ensures))))
 
 pub poll-type-f-spec : {M : Type 1} → statement M

@@ -14,6 +14,6 @@ detect-spec =
     (λ c. search needs)
     (λ c. search needs)
     (λ c κs. search needs)
-    (λ c. not-supported _ _ _ _ _ _ _ _ (c .before .before .before .before .rate .ensures) refl (c .before .before .before .type-a-code .ensures) (c .before .enum-told .given .1) (c .refused .ensures _))
+    (λ c. not-supported _ _ _ _ _ _ _ _ (c .before .before .before .before .bitrate-of .ensures) refl (c .before .before .before .type-a-code .ensures) (c .before .enum-told .given .1) (c .refused .ensures _))
     (λ c κs. search needs)
-    (λ c. supported _ _ _ _ _ _ _ _ (c .before .before .before .before .before .before .rate .ensures) refl (c .before .before .before .before .before .type-a-code .ensures) _ (c .before .before .before .code .given .1) (c .list .ensures)))
+    (λ c. supported _ _ _ _ _ _ _ _ (c .before .before .before .before .before .before .bitrate-of .ensures) refl (c .before .before .before .before .before .type-a-code .ensures) _ (c .before .before .before .code .given .1) (c .list .ensures)))

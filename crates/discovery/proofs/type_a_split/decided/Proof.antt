@@ -15,4 +15,4 @@ returns-3 c =
 pub decided-spec : {M : Type 1} → statement M
 unfolding pick splitDecision
 decided-spec =
-    tie.close (tie.spec (λ c κs. search needs) (λ c κs. search needs) (λ c κs. search needs) (λ c. rw (c .before .match .keys1) (c .listed .ensures _)) (λ c. rw (c .before .match .keys2) (c .written .ensures)) returns-3)
+    tie.close (tie.spec (λ c κs. search needs) (λ c κs. search needs) (λ c κs. search needs) (λ c. rw (c .before .match .keys1) (c .listed .ensures _)) (λ c. rw (c .before .match .keys2) (c .rx-mode-written .ensures)) returns-3)

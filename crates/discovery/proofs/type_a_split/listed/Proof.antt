@@ -8,7 +8,7 @@ use Rattle.discovery.proofs.type_a_split.listed.Tie as tie
 
 returns-4 : tie.Need-returns-4
 unfolding splitListed withLength
-returns-4 c = λ f. decision-false _ _ _ _ _ _ (search (decided, needs)) (decision-false _ _ _ _ _ _ (search (decided, needs)) (decision-false _ _ _ _ _ _ (search (decided, needs)) (c .found .ensures f)))
+returns-4 c = λ f. decision-false _ _ _ _ _ _ (search (decided, needs)) (decision-false _ _ _ _ _ _ (search (decided, needs)) (decision-false _ _ _ _ _ _ (search (decided, needs)) (c .target-found .ensures f)))
 
 pub listed-spec : {M : Type 1} → statement M
 unfolding splitListed withLength

@@ -14,4 +14,4 @@ pub command-spec : {M : Type 1} → statement M
 unfolding pick typeBCommand
 command-spec =
     tie.close
-    (tie.spec (λ c κs. search needs) (λ c κs. search needs) (λ c κs. search needs) (λ c. rw (c .before .match .keys1) (c .pending .ensures)) (λ c. rw (c .before .match .keys2) (c .with .ensures (omega arith))) returns-3)
+    (tie.spec (λ c κs. search needs) (λ c κs. search needs) (λ c κs. search needs) (λ c. rw (c .before .match .keys1) (c .pending .ensures)) (λ c. rw (c .before .match .keys2) (c .fixed .ensures (omega arith))) returns-3)

@@ -19,5 +19,5 @@ command-spec =
     (λ c κs. search needs)
     (λ c κs. search needs)
     (λ c. rw (c .before .match .keys1) (c .read-single-register-command .ensures))
-    (λ c. rw (c .before .match .keys2) (c .with .ensures (omega arith)))
+    (λ c. rw (c .before .match .keys2) (c .fixed .ensures (omega arith)))
     returns-3)

@@ -18,7 +18,7 @@ returns c =
     let at-put = at-word .before .before .before .before in
     let start = at-put .before .before .before .before .before .before .before in
     card-done (start .args .cards .now) (start .args .i) _ _ _ _ _ _ _ _ _ _ _ _ _
-    (at-put .put .ensures) (at-put2 .put2 .ensures) (at-put3 .put3 .ensures) (at-put4 .put4 .ensures) (at-word .word .ensures) (at-first .first .ensures) refl
+    (at-put .put .ensures) (at-put2 .put2 .ensures) (at-put3 .put3 .ensures) (at-put4 .put4 .ensures) (at-word .word .ensures) (at-first .prefix .ensures) refl
 
 pub put-card-spec : {M : Type 1} → statement M
 put-card-spec =

@@ -31,7 +31,7 @@ returns-3 c =
     let at-if1 = at-is .before .before .before in
     let at-find = at-if1 .before in (
       no-cards _ _ (at-find .find .ensures .0) (at-if1 .if1 .left) _ (at-find2 .find2 .ensures .0) _ (at-is .is-exactly .ensures)
-          _ _ (at-if2 .if2 .taken) refl (at-read .read .ensures) _ _ _ _ (at-number .number .given .1) (at-cards .put-cards .ensures) (c .enum-told2 .given .1),
+          _ _ (at-if2 .if2 .taken) refl (at-read .read .ensures) _ _ _ _ (at-number .number .given .1) (at-cards .read-cards .ensures) (c .enum-told2 .given .1),
       search needs,
     )
 
@@ -48,7 +48,7 @@ returns-4 c =
     let at-find = at-if1 .before in
     let start = at-find .before .before .before in
     round-said _ _ (at-find .find .ensures .0) (at-if1 .if1 .left) _ (at-find2 .find2 .ensures .0) _ (at-is .is-exactly .ensures)
-    _ _ (at-if2 .if2 .taken) refl (at-read .read .ensures) _ _ _ _ (at-number .number .given .1) (at-cards .put-cards .ensures) _ (at-len .len .given .1) (start .pre .0) (start .pre .1)
+    _ _ (at-if2 .if2 .taken) refl (at-read .read .ensures) _ _ _ _ (at-number .number .given .1) (at-cards .read-cards .ensures) _ (at-len .len .given .1) (start .pre .0) (start .pre .1)
 
 pub read-line-spec : {M : Type 1} → statement M
 read-line-spec =

@@ -14,11 +14,11 @@ abbrev μ-loop : tie.MeasureT-loop
 loop-holds : tie.Need-loop-holds Inv-loop μ-loop
 loop-holds c = omega arith
 
-sub-refused : tie.Need-sub-refused Inv-loop μ-loop
-sub-refused c = omega arith
+sub-print-refused : tie.Need-sub-print-refused Inv-loop μ-loop
+sub-print-refused c = omega arith
 
-refused-requires : tie.Need-refused-requires Inv-loop μ-loop
-refused-requires c κs = search needs
+print-refused-requires : tie.Need-print-refused-requires Inv-loop μ-loop
+print-refused-requires c κs = search needs
 
 sub-left : tie.Need-sub-left Inv-loop μ-loop
 sub-left c = search needs
@@ -39,8 +39,8 @@ refusals-spec =
     Inv-loop
     μ-loop
     loop-holds
-    sub-refused
-    refused-requires
+    sub-print-refused
+    print-refused-requires
     sub-left
     loop-less
     loop-again

@@ -10,14 +10,14 @@ use borrow.Author.Needs.{needs}
 use Rattle.engine.proofs.core.Core.continued.Statement.{statement}
 use Rattle.engine.proofs.core.Core.continued.Tie as tie
 
-kept-requires : tie.Need-kept-requires
-kept-requires c κs =
+keep-requires : tie.Need-keep-requires
+keep-requires c κs =
     let a = c .before .before .before .before .before .before .before .before .before .before .before .before .before .args in
     let p = c .before .before .before .before .before .before .before .before .before .before .before .before .before .pre in
     (p .0, subst (DecisionFits (take (a .self .found) (a .found .now)) (a .response .now)) (c .before .before .before .before .before .decision2 .given .1) (p .1), p .2)
 
-kept-requires-2 : tie.Need-kept-requires-2
-kept-requires-2 c κs =
+keep-requires-2 : tie.Need-keep-requires-2
+keep-requires-2 c κs =
     let a = c .before .before .before .before .before .before .before .before .before .before .before .before .before .args in
     let p = c .before .before .before .before .before .before .before .before .before .before .before .before .before .pre in
     (p .0, subst (DecisionFits (take (a .self .found) (a .found .now)) (a .response .now)) (c .before .before .before .before .before .decision3 .given .1) (p .1), p .2)
@@ -34,17 +34,17 @@ unfolding performsOf
 returns-2 c = λ _.
     let a = c .before .before .before .before .before .before .before .before .before .before .before .before .before .before .before .before .before .before .args in
     rw (c .before .before .before .before .before .before .before .before .before .before .decision2 .given .1)
-    (c .before .before .before .before .kept .ensures ∙ ap (λ x. keepsOf (a .self) (arrays (a .command .now) (a .found .now)) x (layoutBytes (take (a .self .found) (a .found .now)) (a .response .now) (c .before .before .before .before .before .before .before .before .before .before .decision2 .given .0 .1 .0)) (a .buffer .now)) (c .before .before .before .before .before .before .before .before .to-stage2 .ensures))
+    (c .before .before .before .before .keep .ensures ∙ ap (λ x. keepsOf (a .self) (arrays (a .command .now) (a .found .now)) x (layoutBytes (take (a .self .found) (a .found .now)) (a .response .now) (c .before .before .before .before .before .before .before .before .before .before .decision2 .given .0 .1 .0)) (a .buffer .now)) (c .before .before .before .before .before .before .before .before .to-stage2 .ensures))
 
 returns-3 : tie.Need-returns-3
 unfolding performsOf
 returns-3 c = λ _.
     let a = c .before .before .before .before .before .before .before .before .before .before .before .before .before .before .before .before .before .before .args in
     rw (c .before .before .before .before .before .before .before .before .before .before .decision3 .given .1)
-    (c .before .before .before .before .kept2 .ensures ∙ ap (λ x. keepsOf (a .self) (arrays (a .command .now) (a .found .now)) x (layoutBytes (take (a .self .found) (a .found .now)) (a .response .now) (c .before .before .before .before .before .before .before .before .before .before .decision3 .given .0 .1 .1 .0)) (a .buffer .now)) (c .before .before .before .before .before .before .before .before .to-cursor .ensures))
+    (c .before .before .before .before .keep2 .ensures ∙ ap (λ x. keepsOf (a .self) (arrays (a .command .now) (a .found .now)) x (layoutBytes (take (a .self .found) (a .found .now)) (a .response .now) (c .before .before .before .before .before .before .before .before .before .before .decision3 .given .0 .1 .1 .0)) (a .buffer .now)) (c .before .before .before .before .before .before .before .before .to-cursor .ensures))
 
 returns-4 : tie.Need-returns-4
-returns-4 c = λ _. rw (c .before .before .before .before .before .before .before .before .decision4 .given .1) (c .before .before .before .before .put-by .ensures _)
+returns-4 c = λ _. rw (c .before .before .before .before .before .before .before .before .decision4 .given .1) (c .before .before .before .before .put-pending .ensures _)
 
 returns-5 : tie.Need-returns-5
 unfolding performsOf
@@ -64,10 +64,10 @@ continued-spec =
     (λ c κs. let p = c .before .before .before .before .before .before .before .before .before .before .before .before .pre in (p .2 .1, p .2 .2, p .2 .4))
     (λ c. search needs)
     (λ c κs. search needs)
-    kept-requires
+    keep-requires
     (λ c. search needs)
     (λ c κs. search needs)
-    kept-requires-2
+    keep-requires-2
     (λ c. search needs)
     (λ c κs. let p = c .before .before .before .before .before .before .before .before .before .before .before .pre in (p .2 .2, p .2 .4))
     (λ c. search needs)

@@ -39,21 +39,21 @@ unfolding performsOf
 returns-2 c =
     let a = c .before .before .before .before .before .before .before .before .before .before .before .before .before .args in
     rw (c .before .before .before .before .before .before .before .decision2 .given .1)
-    (done-copied (a .self) _ (layoutBytes (take (a .self .found) (a .found .now)) (a .response .now) (c .before .before .before .before .before .before .before .decision2 .given .0 .0)) (a .buffer .now) _ _ _ (c .before .before .before .answer .ensures .0) (c .before .before .before .answer .ensures .1) (c .ended2 .ensures _ _))
+    (done-copied (a .self) _ (layoutBytes (take (a .self .found) (a .found .now)) (a .response .now) (c .before .before .before .before .before .before .before .decision2 .given .0 .0)) (a .buffer .now) _ _ _ (c .before .before .before .put-answer .ensures .0) (c .before .before .before .put-answer .ensures .1) (c .ended2 .ensures _ _))
 
 returns-3 : tie.Need-returns-3
 unfolding performsOf
 returns-3 c =
     let a = c .before .before .before .before .before .before .before .before .before .before .before .before .before .args in
     rw (c .before .before .before .before .before .before .before .decision3 .given .1)
-    (type1-copied (a .self) _ (layoutBytes (take (a .self .found) (a .found .now)) (a .response .now) (c .before .before .before .before .before .before .before .decision3 .given .0 .0)) (a .buffer .now) _ _ _ (c .before .before .before .answer2 .ensures .0) (c .before .before .before .answer2 .ensures .1) (c .ended3 .ensures _ _))
+    (type1-copied (a .self) _ (layoutBytes (take (a .self .found) (a .found .now)) (a .response .now) (c .before .before .before .before .before .before .before .decision3 .given .0 .0)) (a .buffer .now) _ _ _ (c .before .before .before .put-answer2 .ensures .0) (c .before .before .before .put-answer2 .ensures .1) (c .ended3 .ensures _ _))
 
 returns-4 : tie.Need-returns-4
 unfolding performsOf
 returns-4 c =
     let a = c .before .before .before .before .before .before .before .before .before .before .before .before .before .args in
     rw (c .before .before .before .before .before .before .before .decision4 .given .1)
-    (lengths-copied (a .self) _ (layoutBytes (take (a .self .found) (a .found .now)) (a .response .now) (c .before .before .before .before .before .before .before .decision4 .given .0 .0)) (a .buffer .now) _ _ _ _ _ (c .before .before .before .answer3 .ensures .0) (c .before .before .before .answer3 .ensures .1) (c .ended4 .ensures _ _))
+    (lengths-copied (a .self) _ (layoutBytes (take (a .self .found) (a .found .now)) (a .response .now) (c .before .before .before .before .before .before .before .decision4 .given .0 .0)) (a .buffer .now) _ _ _ _ _ (c .before .before .before .put-answer3 .ensures .0) (c .before .before .before .put-answer3 .ensures .1) (c .ended4 .ensures _ _))
 
 returns-5 : tie.Need-returns-5
 unfolding performsOf

@@ -1,9 +1,0 @@
-use mathlib.Core.Path.{_∙_}
-use native.Mathlib.Omega.{arith}
-use lib.Seq.{take-length}
-use Rattle.discovery.specs.PollLaws.{none-yet, all-found, most-found}
-use Rattle.discovery.proofs.poll_type_f.kept.Statement.{statement}
-use Rattle.discovery.proofs.poll_type_f.kept.Tie as tie
-
-pub kept-spec : {M : Type 1} → statement M
-kept-spec = tie.close (tie.spec (λ c. (none-yet _ _ (c .if1 .taken), omega arith, omega arith)) (λ c. (take-length _ ∙ all-found _ _ (c .before .if1 .left) (omega arith), omega arith, omega arith)) (λ c. (most-found _ _ (c .before .if1 .left), omega arith, omega arith)))

@@ -1,8 +1,0 @@
-use native.Mathlib.Omega.{arith}
-use Rattle.stages.specs.Starts.{limited, over-limit, within-limit, starts-command}
-use Rattle.stages.proofs.start.command.Statement.{statement}
-use Rattle.stages.proofs.start.command.Tie as tie
-
-pub command-spec : {M : Type 1} → statement M
-unfolding limited
-command-spec = tie.close (tie.spec (λ c. λ x y l h. over-limit _ x y l h (omega arith) _) (λ c. λ x y l h. within-limit _ x y l h (omega arith) _ _ (λ k p. starts-command _ x y l k p)))
