@@ -6,7 +6,7 @@ use lib.Dec.{leb}
 use Rattle.protocol.specs.Discovery as discovery
 use Rattle.protocol.specs.Scripts.{ask}
 use Rattle.protocol.specs.Rules.{Rule, version, noBytes, allBytes, registersWritten, firstByte, listedTarget, exchangedData, thru, jump, status, initiatorCommand, targetStatus, ruleScript}
-use Rattle.protocol.specs.Calls.{Row, row, resets, rowOf, Call, opening, reader, request, device, unknown, limit, deviceLimit}
+use Rattle.protocol.specs.Calls.{Row, row, resets, rowOf, Call, opening, reader, request, device, unknown, limit, deviceLimit, callFrames, openingFrames, codeFrames, paddedMode}
 use Rattle.protocol.specs.Calls.{DeviceCall, detectTypeA, detectTypeASplit, detectTypeB, detectTypeF, detectDep, transceive, pollTypeF, readWithoutEncryption, writeWithoutEncryption}
 use Rattle.protocol.specs.Starts.{limited, rowStart, deviceStart, startOf}
 use Rattle.protocol.specs.Arguments.{wordsIn}
@@ -18,7 +18,7 @@ use Rattle.protocol.specs.BlocksSound.{block-rules}
 use Rattle.protocol.specs.PollSound.{words-count, codes-within, codes-correct}
 
 -- a command, by its rule
-rule-sound : (code clock : ℕ) (bytes : List ℕ) (q : Rule) → Sound (ruleForm q) (limited bytes (ask code clock bytes (ruleScript q))) 4
+rule-sound : (code clock : ℕ) (bytes : List ℕ) (q : Rule) → Sound (ruleForm q) (limited bytes (ask code clock bytes (ruleScript q))) callFrames
 rule-sound code clock bytes version = search sound-rules depth 60
 rule-sound code clock bytes noBytes = search sound-rules depth 60
 rule-sound code clock bytes allBytes = search sound-rules depth 60
@@ -32,18 +32,18 @@ rule-sound code clock bytes status = search sound-rules depth 60
 rule-sound code clock bytes initiatorCommand = search sound-rules depth 60
 rule-sound code clock bytes targetStatus = search sound-rules depth 60
 
-row-sound : (w : Row) → Sound (rowForm w) (rowStart w) 4
-row-sound (row holds code clock bytes q) = sound-if (ruleForm q) holds _ _ 4 (rule-sound code clock bytes q) tt
+row-sound : (w : Row) → Sound (rowForm w) (rowStart w) callFrames
+row-sound (row holds code clock bytes q) = sound-if (ruleForm q) holds _ _ callFrames (rule-sound code clock bytes q) tt
 row-sound resets = search sound-rules depth 60
 
-typeA-sound : (code : ℕ) (uid : List ℕ) → Within (discovery.detectTypeA code uid) 4 × Correct onlyCards (discovery.detectTypeA code uid) []
+typeA-sound : (code : ℕ) (uid : List ℕ) → Within (discovery.detectTypeA code uid) callFrames × Correct onlyCards (discovery.detectTypeA code uid) []
 typeA-sound code uid = (search sound-rules depth 60, search correct-rules depth 60 fits 4000)
 
-split-sound : (code : ℕ) (uid : List ℕ) → Within (discovery.detectTypeASplit code uid) 4 × Correct onlyCards (discovery.detectTypeASplit code uid) []
+split-sound : (code : ℕ) (uid : List ℕ) → Within (discovery.detectTypeASplit code uid) callFrames × Correct onlyCards (discovery.detectTypeASplit code uid) []
 split-sound code uid = (search sound-rules depth 60, search (target-answer, correct-rules) depth 60 fits 4000)
 
 -- a list of system codes
-words-sound : (code : ℕ) (words : List ℕ) → Within (discovery.pollTypeF code (wordsIn words)) (3 * (length words / 2))
+words-sound : (code : ℕ) (words : List ℕ) → Within (discovery.pollTypeF code (wordsIn words)) (codeFrames * (length words / 2))
     × Correct (polledCodes (length words / 2)) (discovery.pollTypeF code (wordsIn words)) []
 words-sound code words =
     let codes : List ℕ = wordsIn words in
@@ -64,7 +64,7 @@ device-sound (writeWithoutEncryption idm service blocks bytes ms) = search (bloc
 
 pub sound : (c : Call) → Sound (formOf c) (startOf c) (limit c)
 sound (opening mode) =
-    sound-if versionAndName (leb mode 1) _ _ 10 (search sound-rules depth 60, search (version-name, correct-rules) depth 60 fits 4000) tt
+    sound-if versionAndName (leb mode paddedMode) _ _ openingFrames (search sound-rules depth 60, search (version-name, correct-rules) depth 60 fits 4000) tt
 sound (reader (request r)) = row-sound (rowOf r)
 sound (reader (device d)) = device-sound d
 sound (reader unknown) = search sound-rules depth 60

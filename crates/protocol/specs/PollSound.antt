@@ -18,6 +18,7 @@ use Rattle.protocol.specs.Laws.{by-fault}
 use Rattle.protocol.specs.Sound.{Within, responseTo, responseIn, PlacedBytes, no-bytes, own-byte, card-byte, IsResponseByte, Final, Ends, Correct}
 use Rattle.protocol.specs.Sound.{ends-either, ends-if, ends-short, placed-part, placed-append, sound-rules}
 use Rattle.protocol.specs.Names.{idmAndPmm, listedIdmOffset, pmmEnd, cardMark}
+use Rattle.protocol.specs.Calls.{codeFrames}
 
 -- ---- at most three frames a code
 
@@ -61,16 +62,16 @@ within-end f g m h k nothing = h noCardMet
 within-end f g m h k (refused r) = by-no-card (λ s. Within s m) (f noCardMet) (g r) r (λ _. h noCardMet) (k r)
 within-end f g m h k (refusedAfter r n) = k r
 
-detect-within : (code : ℕ) (req : List ℕ) → Within (detectTypeF code req) 3
+detect-within : (code : ℕ) (req : List ℕ) → Within (detectTypeF code req) codeFrames
 detect-within code req = search sound-rules depth 60
 
-pub codes-within : (code first finished : ℕ) (found : List Byte) (codes : List ℕ) → Within (pollCodes code first finished found codes) (3 * length codes)
+pub codes-within : (code first finished : ℕ) (found : List Byte) (codes : List ℕ) → Within (pollCodes code first finished found codes) (codeFrames * length codes)
 codes-within code first finished found [] = tt
 codes-within code first finished found (c ∷ codes) =
-    let e : 3 * suc (length codes) ≡ 3 + 3 * length codes = omega arith in
+    let e : codeFrames * suc (length codes) ≡ codeFrames + codeFrames * length codes = omega arith in
     rw e
-    (within-then (detectTypeF code (systemCodeReq c)) 3 (3 * length codes) first _ (detect-within code (systemCodeReq c))
-    (λ next a. within-end _ _ (3 * length codes)
+    (within-then (detectTypeF code (systemCodeReq c)) codeFrames (codeFrames * length codes) first _ (detect-within code (systemCodeReq c))
+    (λ next a. within-end _ _ (codeFrames * length codes)
     (λ bs. codes-within code next (suc finished) _ codes) (λ r. tt) a))
 
 -- ---- the answer

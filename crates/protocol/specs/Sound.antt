@@ -26,7 +26,7 @@ use Rattle.protocol.specs.Rules.{rateBytes, versionBytes, rate, sendInde
 use Rattle.protocol.specs.Device.{chipsetName, nameBytes}
 use Rattle.protocol.specs.Discovery.{byNoCard, cardA, uidLength, atsLength}
 use Rattle.protocol.specs.Own.{Cards, Owns, CardsAndFlag, CardAndRates, DepAndCards, Form, versionAndName, HasForm, Formed}
-use Rattle.protocol.specs.Names.{selResOffset, sensResOffset, targetOffset, uidLengthOffset, uidOffset, moreBit, atrResCmd0, atrResCmd1}
+use Rattle.protocol.specs.Names.{selResOffset, sensResOffset, targetOffset, uidLengthOffset, uidOffset, moreBit, atrResCmd0, atrResCmd1, versionNeed}
 
 -- on no path more than n command frames
 abbrev pub Within : Script → ℕ → Type 0
@@ -215,7 +215,7 @@ owns-own [] = tt
 owns-own (b ∷ l) = owns-own l
 
 -- the opening's answer, whose version is command 1
-pub version-name : (rs : List (List ℕ)) (bs : List ℕ) → responseTo rs 1 ≡ bs → 4 ≤ length bs
+pub version-name : (rs : List (List ℕ)) (bs : List ℕ) → responseTo rs 1 ≡ bs → versionNeed ≤ length bs
     → Final versionAndName rs (done (versionBytes 1 (getD bs 0 0) (getD bs 1 0) (getD bs 2 0) ++ chipsetName (getD bs 1 0) (getD bs 2 0)))
 unfolding part
 version-name rs bs e h =

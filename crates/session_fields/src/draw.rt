@@ -50,7 +50,7 @@ fn filled(x: u64, last: u16) -> usize {
     }
 }
 
-fn any_count(x: u64) -> u32 {
+fn any_u32(x: u64) -> u32 {
     if x % 8 == 0 {
         u32::MAX
     } else {
@@ -99,7 +99,7 @@ fn exchange(seed: u64) -> Exchange {
     Exchange {
         phase: small(drawn(seed, 4), Exchange::DRAINING_PHASE),
         code: byte(drawn(seed, 5)),
-        clock: any_count(drawn(seed, 6)),
+        clock: any_u32(drawn(seed, 6)),
     }
 }
 
@@ -157,7 +157,7 @@ pub(crate) fn session(seed: u64) -> Session {
     let books = books(seed);
     let command = byte(drawn(seed, 11));
     let found = byte(drawn(seed, 12));
-    let frames = any_count(drawn(seed, 10));
+    let frames = any_u32(drawn(seed, 10));
     Session {
         command: [command; DATA_LIMIT],
         found: [found; FOUND_LIMIT],
