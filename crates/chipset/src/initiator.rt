@@ -39,7 +39,7 @@ pub const IN_JUMP_FOR_DEP_CODE: u8 = 0x56;
 // InDataExchange: the status is a byte's low six bits, and the bit above them the more flag.
 pub const MORE_BIT: u8 = 64;
 
-// MaxTg: one target is listed at a time. This is its number.
+// MaxTg, one target at a time; and the number of the target that is listed.
 pub const ONE_TARGET: u8 = 1;
 
 pub const TARGET_NUMBER: u8 = 0x01;
