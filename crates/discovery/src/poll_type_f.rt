@@ -31,7 +31,7 @@ ghost use Rattle.discovery.specs.Decisions.{pollCommand, soFar, hasNext,
 ghost use Rattle.discovery.specs.Firsts.{pollAsserted};
 
 // The most system codes of a list.
-const MOST_CODES: usize = 16;
+const SYSTEM_CODES: usize = 16;
 
 const LAST_CODE: u8 = 15;
 
@@ -56,7 +56,7 @@ fn is_list(codes: &[u8]) -> bool
 {
     if codes.len() % 2 == 0 {
         if 1 <= codes.len() / 2 {
-            codes.len() / 2 <= MOST_CODES
+            codes.len() / 2 <= SYSTEM_CODES
         } else {
             false
         }

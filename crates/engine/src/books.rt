@@ -28,7 +28,7 @@ pub const OFF_MODE: u8 = 0;
 pub const PADDED_MODE: u8 = 1;
 
 // Callers are numbered from 0 to 7.
-pub const CALLERS: usize = 8;
+pub const CALLER_COUNT: usize = 8;
 
 pub const LAST_CALLER: u8 = 7;
 
@@ -63,11 +63,11 @@ pub fn extra_zeros(mode: u8, packet: &[u8]) -> usize
 }
 
 // Where an opening begins, in its mode. The books of a fresh session have it off.
-pub(crate) fn begin(frames: &mut [u32; CALLERS], books: &mut [u8; BOOKS_SIZE], mode: u8)
+pub(crate) fn begin(frames: &mut [u32; CALLER_COUNT], books: &mut [u8; BOOKS_SIZE], mode: u8)
     ensures { λ _. ⌜ booksOf (now (books .exit)) (now (frames .exit)) ≡ noBooks mode ⌝ }
 {
     *books = [CLOSED, mode, 0];
-    *frames = [0; CALLERS];
+    *frames = [0; CALLER_COUNT];
 }
 
 // One command frame more, up to the ceiling.
@@ -78,7 +78,7 @@ fn one_more(frames: u32) -> u32
 }
 
 // A command frame counts for a caller.
-fn count_frame(frames: &mut [u32; CALLERS], caller: u8)
+fn count_frame(frames: &mut [u32; CALLER_COUNT], caller: u8)
     requires { ⌜ caller ≤ lastCaller ⌝ }
     ensures { λ _. ⌜ now (frames .exit) ≡ countedIn caller (now (frames .entry)) ⌝ }
 {
@@ -99,7 +99,7 @@ fn end_call(books: &mut [u8; BOOKS_SIZE], caller: u8, opening: bool, opened: u8)
 
 // What came out of a caller's call, an opening or not: a command frame counts, and an opening's end says whether the reader is open.
 pub(crate) fn book(
-    frames: &mut [u32; CALLERS],
+    frames: &mut [u32; CALLER_COUNT],
     books: &mut [u8; BOOKS_SIZE],
     caller: u8,
     opening: bool,

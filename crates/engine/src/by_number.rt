@@ -1,6 +1,6 @@
 // Events by their numbers, for a host: the running call's numbers go by value, and the session's arrays are lent.
 use super::books::BOOKS_SIZE;
-use super::books::CALLERS;
+use super::books::CALLER_COUNT;
 use super::core::Core;
 use super::core::FOUND_LIMIT;
 use super::core::Progress;
@@ -56,7 +56,7 @@ pub fn event(
     core: Core,
     command: &mut [u8; DATA_LIMIT],
     found: &mut [u8; FOUND_LIMIT],
-    frames: &mut [u32; CALLERS],
+    frames: &mut [u32; CALLER_COUNT],
     books: &mut [u8; BOOKS_SIZE],
     number: u8,
     packet: &[u8],

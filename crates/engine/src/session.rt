@@ -1,6 +1,6 @@
 // The session and its entries: a call or an event goes in with the buffer; the session comes back with an order or an answer.
 use super::books::BOOKS_SIZE;
-use super::books::CALLERS;
+use super::books::CALLER_COUNT;
 use super::core::Core;
 use super::core::FOUND_LIMIT;
 use super::core::Output;
@@ -19,7 +19,7 @@ ghost use Rattle.engine.specs.SessionSteps.{stepped, freshSession};
 pub struct Session {
     pub command: [u8; DATA_LIMIT],
     pub found: [u8; FOUND_LIMIT],
-    pub frames: [u32; CALLERS],
+    pub frames: [u32; CALLER_COUNT],
     pub books: [u8; BOOKS_SIZE],
     pub core: Core,
 }
@@ -38,7 +38,7 @@ impl Session {
         Session {
             command: [0; DATA_LIMIT],
             found: [0; FOUND_LIMIT],
-            frames: [0; CALLERS],
+            frames: [0; CALLER_COUNT],
             books: [0; BOOKS_SIZE],
             core,
         }

@@ -2,7 +2,7 @@
 // admitted and what comes out is booked here.
 use super::books;
 use super::books::BOOKS_SIZE;
-use super::books::CALLERS;
+use super::books::CALLER_COUNT;
 use super::books::LAST_CALLER;
 use super::books::PADDED_MODE;
 use super::core::BUFFER_NEED;
@@ -67,7 +67,7 @@ pub(crate) fn event(
     core: Core,
     command: &mut [u8],
     found: &mut [u8],
-    frames: &mut [u32; CALLERS],
+    frames: &mut [u32; CALLER_COUNT],
     books: &mut [u8; BOOKS_SIZE],
     event: Event,
     packet: &[u8],
@@ -93,7 +93,7 @@ pub(crate) fn event(
 // An opening begins the books anew, in its mode.
 fn open(
     core: Core,
-    frames: &mut [u32; CALLERS],
+    frames: &mut [u32; CALLER_COUNT],
     books: &mut [u8; BOOKS_SIZE],
     caller: u8,
     mode: u8,
@@ -130,7 +130,7 @@ fn open(
 pub fn call(
     core: Core,
     command: &mut [u8; DATA_LIMIT],
-    frames: &mut [u32; CALLERS],
+    frames: &mut [u32; CALLER_COUNT],
     books: &mut [u8; BOOKS_SIZE],
     number: u8,
     numbers: Numbers,

@@ -3,7 +3,7 @@ use calls::LAST_KIND;
 use calls::LAST_STAGE;
 use engine::books;
 use engine::books::BOOKS_SIZE;
-use engine::books::CALLERS;
+use engine::books::CALLER_COUNT;
 use engine::call::PAUSE_PHASE;
 use engine::core::BUFFER_NEED;
 use engine::core::Core;
@@ -141,7 +141,7 @@ fn same_core(before: Core, after: Core) -> bool {
     same_running(before, after)
 }
 
-fn same_frames(before: [u32; CALLERS], after: [u32; CALLERS]) -> bool {
+fn same_frames(before: [u32; CALLER_COUNT], after: [u32; CALLER_COUNT]) -> bool {
     if before[0] != after[0] {
         return false;
     }

@@ -2,7 +2,7 @@
 use calls::LAST_KIND;
 use calls::LAST_STAGE;
 use engine::books::BOOKS_SIZE;
-use engine::books::CALLERS;
+use engine::books::CALLER_COUNT;
 use engine::call::Call;
 use engine::call::PAUSE_PHASE;
 use engine::core::Core;
@@ -161,7 +161,7 @@ pub(crate) fn session(seed: u64) -> Session {
     Session {
         command: [command; DATA_LIMIT],
         found: [found; FOUND_LIMIT],
-        frames: [frames; CALLERS],
+        frames: [frames; CALLER_COUNT],
         books,
         core,
     }
