@@ -1,7 +1,7 @@
 -- Laws of a text in a buffer: put there byte by byte, or as a copy, and one text behind another.
 use mathlib.Core.Path.{_≡_, refl, sym, ap, ap₂, _∙_}
 use mathlib.Core.Bool.{Bool, true, false}
-use mathlib.Core.List.{List, [], _++_, append-assoc}
+use mathlib.Core.List.{List, [], _++_, append-assoc, append-nil}
 use Prim.Native.Nat.{ℕ, _+_, _-_, _≤_, _<_}
 use native.Mathlib.Nat.{add-assoc, zero-add}
 use native.Mathlib.Numerals.{add-one}
@@ -100,6 +100,10 @@ appended t o o′ at r e = record {
       let n : 0 + length s + length t ≡ 0 + length (s ++ t) = rw (length-append s t) (omega arith) in
       e ∙ sym (put-there t o at (omega arith)) ∙ ap₂ (λ i z. placed (i + length t) (over i t z)) g f ∙ ap₂ placed n (over-over b s t 0 k);
 }
+
+-- no text
+pub none-put : (o : List ℕ) (at : ℕ) → Appends at [] o at o
+none-put o at = record { behind = λ s b before h. before ∙ ap (λ x. placedAt 0 x b) (sym (append-nil s)) }
 
 -- two texts, one behind the other
 pub both-appended : (t u o o′ o″ : List ℕ) (at r r′ : ℕ) → Appends at t o r o′ → Appends r u o′ r′ o″ → Appends at (t ++ u) o r′ o″

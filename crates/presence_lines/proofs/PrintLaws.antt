@@ -15,8 +15,8 @@ use Rattle.targets.specs.Bitrates.{ascii}
 use Rattle.bench.specs.DecimalLaws.{decimal-short}
 use Rattle.bench.specs.Hex.{hexOf}
 use Rattle.bench.specs.HexLaws.{hex-short}
-use Rattle.bench.specs.TextLaws.{appended, both-appended, then-put, both-put}
-use Rattle.bench.specs.Texts.{placed, placedAt, putAt, decimalOf, Appends}
+use Rattle.bench.specs.TextLaws.{appended, none-put, both-appended, then-put, both-put}
+use Rattle.bench.specs.Texts.{placed, putAt, decimalOf, Appends}
 use Rattle.bench.specs.Words.{ahead, wordsOf}
 use Rattle.presence_list.specs.Names.{recordSize, identifierLimit, lengthOffset, bitrateOffset, cardLimit}
 use Rattle.presence_list.specs.Checks.{byte-in, first-in}
@@ -50,10 +50,6 @@ module _ (b : List ℕ) (i : ℕ) where
   bitrate-shown t w o o₁ o₂ at r₁ r₂ h e f is =
       let named : w ≡ getD bitrates (getD (take recordSize (drop (recordSize * i) b)) bitrateOffset 0) [] = is ∙ ap (λ (k : ℕ). getD bitrates k []) (sym (byte-in b (recordSize * i) bitrateOffset (omega arith))) in
       rw (h, ← named) (both-put _ _ _ _ _ _ _ _ e f)
-
--- no text
-pub none-put : (o : List ℕ) (at : ℕ) → Appends at [] o at o
-none-put o at = record { behind = λ s b before h. before ∙ ap (λ (x : List ℕ). placedAt 0 x b) (sym (append-nil s)) }
 
 pub bitrate-not : (t : Bool) (e o : List ℕ) (at : ℕ) → t ≡ false → Appends at (rateText t e) o at o
 unfolding rateText pick

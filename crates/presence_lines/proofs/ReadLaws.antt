@@ -15,13 +15,12 @@ use Rattle.errors.specs.declared.Refusal.{Refusal}
 use Rattle.targets.specs.Bitrates.{ascii}
 use Rattle.bench.specs.Hex.{isHex, pairsOf, readOf}
 use Rattle.bench.specs.HexLaws.{length-pairs, read-count, read-into, not-read}
-use Rattle.bench.specs.TextLaws.{both-appended, then-put, both-put}
+use Rattle.bench.specs.TextLaws.{none-put, both-appended, then-put, both-put}
 use Rattle.bench.specs.Texts.{returned, over, placed, putAt, Appends}
 use Rattle.bench.specs.WordLaws.{wordsBehind, next-word}
 use Rattle.bench.specs.Words.{wordsOf}
 use Rattle.bench.specs.declared.Put.{Put}
 use Rattle.bench.specs.declared.Put.the-variants.{Bytes as PutBytes, Refused}
-use Rattle.presence_lines.proofs.PrintLaws.{none-put}
 use Rattle.presence_lines.specs.Lines.{kinds, bitrates, placeAmong, beforeColon, behindColon, kindNamed, bitrateOf, identifierOf, isIdentifier, isCard, recordWith, overLength, identified, recordOfWord, areCards, recordsOfWords, colon}
 use Rattle.presence_lines.specs.Readings.{PutsRecord, ReadSoFar}
 use Rattle.presence_lines.specs.declared.read.Cards.{Cards}
