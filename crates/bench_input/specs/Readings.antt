@@ -39,21 +39,22 @@ inputIn b (Call number n e) =
 inputIn b (Event number n) = happens number (slice 0 n b)
 inputIn b Unreadable = unreadable
 
--- the ends follow a place, each behind the one before and all in the buffer; b became o, and is as it was behind the last
-abbrev pub StringsInOrder : ℕ → List ℕ → List ℕ → List ℕ → Type 0
-StringsInOrder at [] b o = (at ≤ bytesRoom) × (drop at o ≡ drop at b)
-StringsInOrder at (i ∷ ends) b o = (at ≤ i) × StringsInOrder i ends b o
+-- the ends follow a place, each behind the one before, all in the buffer and none behind the line's length k; b became o, and is as it was
+-- behind the last
+abbrev pub StringsInOrder : ℕ → ℕ → List ℕ → List ℕ → List ℕ → Type 0
+StringsInOrder k at [] b o = (at ≤ k) × (at ≤ bytesRoom) × (drop at o ≡ drop at b)
+StringsInOrder k at (i ∷ ends) b o = (at ≤ i) × StringsInOrder k i ends b o
 
 -- what holds of the ends and of the buffer: nothing where the line cannot be read
-abbrev pub EndsInOrder : Input → List ℕ → List ℕ → Type 0
-EndsInOrder (Call number n e) b o = StringsInOrder 0 (e .first ∷ e .second ∷ e .third ∷ e .fourth ∷ []) b o
-EndsInOrder (Event number n) b o = StringsInOrder 0 (n ∷ []) b o
-EndsInOrder Unreadable b o = Unit {0}
+abbrev pub EndsInOrder : ℕ → Input → List ℕ → List ℕ → Type 0
+EndsInOrder k (Call number n e) b o = StringsInOrder k 0 (e .first ∷ e .second ∷ e .third ∷ e .fourth ∷ []) b o
+EndsInOrder k (Event number n) b o = StringsInOrder k 0 (n ∷ []) b o
+EndsInOrder k Unreadable b o = Unit {0}
 
--- what a line says was read, with the bytes of its arguments in the buffer b, which became o
-pub record Reads (b o : List ℕ) (r : Input) (s : Said) : Type 0 where
+-- what a line of k bytes says was read, with the bytes of its arguments in the buffer b, which became o
+pub record Reads (k : ℕ) (b o : List ℕ) (r : Input) (s : Said) : Type 0 where
   pub says : inputIn o r ≡ s
-  pub inOrder : EndsInOrder r b o
+  pub inOrder : EndsInOrder k r b o
 
 -- what is read with an argument that was read
 abbrev pub byteIn : Byte → (ℕ → Read) → Read

@@ -216,7 +216,7 @@ fn argument(letter: u8, line: &[u8], k: usize, taken: Taken, bytes: &mut [u8]) -
 pub(crate) fn read(line: &[u8], letters: &[u8], bytes: &mut [u8]) -> Next
     requires { ⌜ (length (now line) ≤ lineLimit) × (length (now bytes) ≡ bytesRoom) × (length (now letters) + 1 ≡ length (wordsOf (now line))) ⌝ }
     ensures { λ r. ⌜ nextIn (now (bytes .exit)) r some ≡ argumentsOf (now (letters .entry)) (drop 1 (wordsOf (now (line .entry)))) noArguments ⌝ }
-    ensures { λ r. ⌜ TakenWithin 0 bytesRoom (now (bytes .entry)) (now (bytes .exit)) r ⌝ }
+    ensures { λ r. ⌜ TakenWithin 0 (length (now (line .entry))) (now (bytes .entry)) (now (bytes .exit)) r ⌝ }
 {
     let mut taken = Taken {
         numbers: Numbers {

@@ -76,7 +76,7 @@ fn on_event(session: Session, number: u8, n: usize, bytes: &[u8], buffer: &mut [
 }
 
 // What the engine does with what was read.
-fn step(session: Session, input: Input, bytes: &[u8; BYTES_ROOM], buffer: &mut [u8]) -> Step
+pub fn step(session: Session, input: Input, bytes: &[u8], buffer: &mut [u8]) -> Step
     ensures { λ r. ⌜ stepped r (now (buffer .exit)) ≡ saidStep session (inputIn (now (bytes .entry)) input) (now (buffer .entry)) ⌝ }
 {
     match input {
@@ -86,6 +86,13 @@ fn step(session: Session, input: Input, bytes: &[u8; BYTES_ROOM], buffer: &mut [
         Input::Event(number, n) => on_event(session, number, n, bytes, buffer),
         Input::Unreadable => unreadable(session),
     }
+}
+
+// The same, of what was read into an array.
+fn step_read(session: Session, input: Input, bytes: &[u8; BYTES_ROOM], buffer: &mut [u8]) -> Step
+    ensures { λ r. ⌜ stepped r (now (buffer .exit)) ≡ saidStep session (inputIn (now (bytes .entry)) input) (now (buffer .entry)) ⌝ }
+{
+    step(session, input, bytes, buffer)
 }
 
 // Hands a line to the session, and puts the text printed for it at the start of `out`.
@@ -99,7 +106,7 @@ pub fn answer(
 {
     let mut bytes = [0u8; BYTES_ROOM];
     let input = bench_input::read(line, &mut bytes);
-    let stepped = step(session, input, &bytes, buffer);
+    let stepped = step_read(session, input, &bytes, buffer);
     let output = stepped.output;
     let len = output::print(output, buffer, out);
     let after = stepped.session;

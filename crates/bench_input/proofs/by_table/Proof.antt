@@ -104,7 +104,7 @@ returns-4 c =
     let grown = grown-at _ _ _ _ _ _ (at-read .read .ensures .1) (at-taken .taken .given .1) in
     record {
       says = row-said (start .args .line .now) _ (at-row .row .ensures .0) _ (at-i .i .given .1) _ _ _ _ letters number (all-taken _ _ _ (at-read .read .ensures .0) _ (at-taken .taken .given .1)) (c .call-or-event .ensures .0 _);
-      inOrder = c .call-or-event .ensures .1 _ _ (omega arith) (grown .3);
+      inOrder = c .call-or-event .ensures .1 _ _ _ (omega arith) (omega arith) (grown .3);
     }
 
 pub by-table-spec : {M : Type 1} → statement M

@@ -6,10 +6,10 @@ use Rattle.bench_session.proofs.step.Statement.{statement}
 use Rattle.bench_session.proofs.step.Tie as tie
 
 returns : tie.Need-returns
-returns c = rw (c .before .before .before .before .before .before .input .given .1) (c .before .before .called .ensures)
+returns c = rw (c .before .before .before .before .before .input .given .1) (c .before .before .called .ensures)
 
 returns-2 : tie.Need-returns-2
-returns-2 c = rw (c .before .before .before .before .before .before .input2 .given .1) (c .before .before .on-event .ensures)
+returns-2 c = rw (c .before .before .before .before .before .input2 .given .1) (c .before .before .on-event .ensures)
 
 returns-3 : tie.Need-returns-3
 unfolding saidStep

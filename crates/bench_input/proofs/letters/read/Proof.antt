@@ -42,7 +42,7 @@ returns-2 c =
     let at-loop = c .before in
     let start = at-loop .before .before .before .before in
     let i = at-loop .loop .inv in
-    (all-read _ _ _ _ _ _ i (start .pre .2) (c .loop-test .left), (i .held, omega arith, omega (arith, i .room, start .pre .0), i .behind))
+    (all-read _ _ _ _ _ _ i (start .pre .2) (c .loop-test .left), (i .held, omega arith, omega (arith, i .room), i .behind))
 
 pub read-spec : {M : Type 1} → statement M
 read-spec =

@@ -1,0 +1,6 @@
+mod ShownLaws
+mod RunLaws
+mod SearchLaws
+mod LineLaws
+mod ReadLaws
+mod CutLaws

@@ -1,0 +1,11 @@
+pub mod LineSession
+pub mod First
+pub mod Cut
+pub mod Shortest
+pub mod Fast
+pub mod Loop
+pub mod Run
+pub mod ScriptLines
+pub mod Bench
+pub mod BenchLaws
+pub mod Answer
