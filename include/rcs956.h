@@ -2,7 +2,7 @@
  * The RC-S956 reader engine, for C and C++.
  *
  * The functions stand in libsession_c.a, which `rt staticlib session_c` proves and writes to target/staticlib/, for x86-64 Linux. Their
- * contracts are those of crates/session_c/src/lib.rt. hosts/c/host.c is a host that runs them.
+ * contracts are those of crates/session_c/src/lib.rt. hosts/c has hosts that run them.
  *
  * Orders and events. The engine does no transport itself. A call gives an outcome. Where that is an order, the host carries it out
  * and returns what came of it by rcs956_event, which gives the next outcome, and so on until the call ends:

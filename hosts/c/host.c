@@ -1,104 +1,12 @@
 /*
- * A host in C: it carries out the engine's orders over a transport and prints each as a bench line.
- *
- * Another transport is another `struct transport`; run_call stays as it is. The one here takes its events from a script of bench
- * lines: `host SCRIPT`. The script is that of the program `session`, and so is what is printed.
+ * A host in C over a script: `host SCRIPT`. Its transport takes the events from a file of bench lines; the script is that of the program
+ * `session`, and so is what is printed.
  */
-#include "rcs956.h"
+#include "reader.h"
 
 #include <stdio.h>
 #include <stdlib.h>
 #include <string.h>
-
-/*
- * What a host brings along; write, read and drain answer the event. A read waits up to `ms` for a packet of at most
- * RCS956_BUFFER_SIZE bytes, a drain up to 50. With `shared` it waits for what is left of the time that began with the last read or
- * drain without it; RCS956_EVENT_LATE where nothing is left.
- */
-struct transport {
-    void *self;
-    uint8_t (*write)(void *self, const uint8_t *bytes, size_t len);
-    uint8_t (*read)(void *self, uint32_t ms, bool shared, uint8_t *packet, size_t *len);
-    uint8_t (*drain)(void *self, bool shared, uint8_t *packet, size_t *len);
-    void (*sleep)(void *self, uint32_t us);
-};
-
-/* One reader: its session and the buffer for orders and answers. */
-struct reader {
-    rcs956_session session;
-    uint8_t buffer[RCS956_BUFFER_SIZE];
-};
-
-static void print_bytes(const char *word, const uint8_t *bytes, size_t len, const char *mark)
-{
-    printf(len > 0 ? "%s " : "%s", word);
-    for (size_t k = 0; k < len; k++)
-        printf("%02X", bytes[k]);
-    puts(mark);
-}
-
-/* Prints an outcome as its bench line. */
-static void print_line(rcs956_outcome outcome, const uint8_t *buffer)
-{
-    char lengths[24];
-    switch (outcome.kind) {
-    case RCS956_WRITE: print_bytes("write", buffer, outcome.len, ""); break;
-    case RCS956_READ: printf("read %lu\n", (unsigned long)outcome.time); break;
-    case RCS956_DRAIN: puts("drain"); break;
-    case RCS956_PAUSE: printf("pause %lu\n", (unsigned long)outcome.time); break;
-    case RCS956_DONE: print_bytes("done", buffer, outcome.len, ""); break;
-    case RCS956_DONE_TYPE1: print_bytes("done", buffer, outcome.len, " type1"); break;
-    case RCS956_UID_AND_ATS:
-        snprintf(lengths, sizeof lengths, " uid %d ats %d", outcome.uid, outcome.ats);
-        print_bytes("done", buffer, outcome.len, lengths);
-        break;
-    case RCS956_NONE: puts("none"); break;
-    default:
-        printf("refused %d", outcome.refusal);
-        if (outcome.refusal == RCS956_STATUS)
-            printf(" %02X", outcome.status);
-        if (outcome.refusal == RCS956_CARD_STATUS)
-            printf(" %02X%02X", outcome.status, outcome.status2);
-        if (outcome.kind == RCS956_LIST_REFUSED)
-            printf(" finished %d", outcome.finished);
-        putchar('\n');
-    }
-}
-
-/* Carries out a call's orders, from its first outcome to its end, which it answers. */
-static rcs956_outcome run_call(struct reader *reader, rcs956_outcome outcome, const struct transport *t)
-{
-    uint8_t packet[RCS956_BUFFER_SIZE];
-    unsigned reads = 0, drains = 0; /* since the last write */
-    bool framed = false;            /* the last write was a command's frame, not an ACK */
-    for (;;) {
-        uint8_t event;
-        size_t len = 0;
-        print_line(outcome, reader->buffer);
-        switch (outcome.kind) {
-        case RCS956_WRITE:
-            framed = outcome.len > 6;
-            reads = drains = 0;
-            event = t->write(t->self, reader->buffer, outcome.len);
-            break;
-        case RCS956_READ:
-            event = t->read(t->self, outcome.time, framed && reads >= 2, packet, &len);
-            reads += reads < 2;
-            break;
-        case RCS956_DRAIN:
-            event = t->drain(t->self, drains >= 1, packet, &len);
-            drains = 1;
-            break;
-        case RCS956_PAUSE:
-            t->sleep(t->self, outcome.time);
-            event = RCS956_EVENT_SLEPT;
-            break;
-        default:
-            return outcome;
-        }
-        outcome = rcs956_event(&reader->session, event, packet, len, reader->buffer, sizeof reader->buffer);
-    }
-}
 
 /* The scripted transport: a file of bench lines. A line that does not fit ends the program. */
 struct script {

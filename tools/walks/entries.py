@@ -115,3 +115,83 @@ ROUND = dict(
     claim="afterRound (r .state) {x0} {x1} {x2} (r .answer) ≡ roundStep (h .state) (h .cards) (h .arrived) (h .departed) n₁ (p₁ .now)",
     says="round-reported t r h n₁ (p₁ .now) {x0} {x1} {x2} s e",
 )
+
+CH = "Rattle.chip_c.proofs."
+CL = "Rattle.simulated_chip."
+CHIP = dict(
+    what="chip",
+    T="Chip",
+    N="State",
+    O="Outcome",
+    decl_T=CL + "specs.declared.chip.Chip",
+    decl_N=CL + "specs.declared.chip.State",
+    decl_O="Rattle.chip_c.specs.declared.outcome.Outcome",
+    mod_T=CL + "proofs.chip.Chip",
+    mod_N=CL + "proofs.chip.State",
+    mod_O=CH + "outcome.Outcome",
+    apart=CH + "Apart",
+    state="state",
+    state_offset=59032,
+    arrays=[("cards", "u8", 4060, 0, True), ("sent", "u8", 18504, 4060, True), ("replies", "u8", 36468, 22564, True)],
+)
+ADDITION = CHIP | dict(
+    R="AddEffect",
+    I="Addition",
+    decl_R=CL + "specs.declared.add.AddEffect",
+    decl_I=CL + "specs.declared.add.Addition",
+    mod_R=CL + "proofs.add.AddEffect",
+    mod_I=CL + "proofs.add.Addition",
+    output="addition",
+    of=CH + "outcome.Outcome.of_addition",
+    of_key="chip-c·outcome·Outcome·of-addition",
+)
+ADD_CARD = ADDITION | dict(
+    title="chip_c::rcs956_chip_add_card",
+    callee=CH + "by_number.add_card",
+    callee_key="chip-c·by-number·add-card",
+    fn=CH + "rcs956_chip_add_card",
+    fn_key="chip-c·rcs956-chip-add-card",
+    fn_name="rcs956-chip-add-card",
+    params=[("kind", "u8"), ("bitrate", "u8"), ("listed", "slice"), ("atqb", "slice")],
+    spec_uses=[
+        "use Rattle.simulated_chip.specs.Memory.{kindAt}",
+        "use Rattle.simulated_chip.specs.Additions.{afterAddition, addCardIn}",
+        "use Rattle.chip_c.specs.Numbers.{bitrateBy}",
+        "use Rattle.chip_c.specs.Outcomes.{additionOutcome as outcomeOf, card-reported}",
+    ],
+    claim="afterAddition (r .state) {x0} {x1} {x2} (r .addition) ≡ addCardIn (h .state) (h .cards) (h .sent) (h .replies) (kindAt n₁) (bitrateBy n₁ n₂) (p₁ .now) (p₂ .now)",
+    says="card-reported t r h n₁ n₂ (p₁ .now) (p₂ .now) {x0} {x1} {x2} s e",
+)
+ADD_REPLY = ADDITION | dict(
+    title="chip_c::rcs956_chip_add_reply",
+    callee=CL + "proofs.chip.State.add_reply",
+    callee_key="simulated-chip·chip·State·add-reply",
+    fn=CH + "rcs956_chip_add_reply",
+    fn_key="chip-c·rcs956-chip-add-reply",
+    fn_name="rcs956-chip-add-reply",
+    params=[("bytes", "slice"), ("reply", "slice")],
+    spec_uses=["use Rattle.simulated_chip.specs.Additions.{afterAddition, addReplyIn}", "use Rattle.chip_c.specs.Outcomes.{additionOutcome as outcomeOf, reply-reported}"],
+    claim="afterAddition (r .state) {x0} {x1} {x2} (r .addition) ≡ addReplyIn (h .state) (h .cards) (h .sent) (h .replies) (p₁ .now) (p₂ .now)",
+    says="reply-reported t r h (p₁ .now) (p₂ .now) {x0} {x1} {x2} s e",
+)
+CHIP_STEP = CHIP | dict(
+    R="StepEffect",
+    I="Answer",
+    decl_R=CL + "specs.declared.chip.StepEffect",
+    decl_I=CL + "specs.declared.chip.Answer",
+    mod_R=CL + "proofs.chip.StepEffect",
+    mod_I=CL + "proofs.chip.Answer",
+    output="answer",
+    of=CH + "outcome.Outcome.of",
+    of_key="chip-c·outcome·Outcome·of",
+    title="chip_c::rcs956_chip_step",
+    callee=CH + "by_number.step",
+    callee_key="chip-c·by-number·step",
+    fn=CH + "rcs956_chip_step",
+    fn_key="chip-c·rcs956-chip-step",
+    fn_name="rcs956-chip-step",
+    params=[("written", "slice"), ("buffer", "buffer")],
+    spec_uses=["use Rattle.simulated_chip.specs.Steps.{afterStep, stepIn}", "use Rattle.chip_c.specs.Outcomes.{outcomeOf, step-reported}"],
+    claim="(afterStep (r .state) (r .answer) {z} ≡ stepIn (h .state) (h .cards) (h .sent) (h .replies) (p₁ .now) ys) × ({x0} ≡ h .cards) × ({x1} ≡ h .sent) × ({x2} ≡ h .replies)",
+    says="step-reported t r h (p₁ .now) {x0} {x1} {x2} ys {z} s e",
+)

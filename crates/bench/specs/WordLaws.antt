@@ -147,3 +147,21 @@ next-word l from end h e =
     let is : end ≡ from + k = e ∙ ap (λ x. from + indexOf 32 (drop from x)) all in
     let size : end - from ≡ k = omega arith in
     words-behind (drop from l) ∙ rw (size, is, drop-drop k from l)
+
+-- ---- the words of a line, by their number
+
+-- n words from the i-th on
+unfoldable pub wordsFrom : ℕ → ℕ → List (List ℕ) → List (List ℕ)
+wordsFrom i zero ws = []
+wordsFrom i (suc n) ws = getD ws i [] ∷ wordsFrom (suc i) n ws
+
+words-from : (n i : ℕ) (ws : List (List ℕ)) → length ws ≡ i + n → drop i ws ≡ wordsFrom i n ws
+unfolding wordsFrom
+words-from zero i ws h = drop-of-length-le ws {i = i} (omega arith)
+words-from (suc n) i ws h = drop-cons ws i [] (omega arith) ∙ ap (λ l. getD ws i [] ∷ l) (words-from n (suc i) ws (omega arith))
+
+pub words-are : (ws : List (List ℕ)) (n : ℕ) → n ≡ length ws → (k : ℕ) → n ≡ k → ws ≡ wordsFrom 0 k ws
+words-are ws n counted k h = words-from k 0 ws (omega arith)
+
+pub word-fits : (limit : ℕ) (l w : List ℕ) (k : ℕ) → w ≡ getD (wordsOf l) k [] → length l ≤ limit → length w ≤ limit
+word-fits limit l w k e h = omega (arith, ap length e, word-short l k)

@@ -2,11 +2,10 @@
 use mathlib.Core.Path.{_≡_, refl, sym, ap, _∙_}
 use mathlib.Core.Bool.{true}
 use mathlib.Core.List.{List, [], _∷_, _++_}
-use Prim.Native.Nat.{ℕ, zero, suc, _+_, _/_, _≤_}
+use Prim.Native.Nat.{ℕ, _/_, _≤_}
 use native.Mathlib.Nat.{zero-add}
 use native.Mathlib.Omega.{arith}
-use lib.ListN.{length, take, drop, getD, length-take, drop-of-length-le}
-use lib.Seq.{drop-cons}
+use lib.ListN.{length, take, drop, getD, length-take}
 use Rattle.errors.specs.Choice.{pick}
 use Rattle.errors.specs.declared.Refusal.{Refusal}
 use Rattle.framing.specs.declared.FrameFormat.{FrameFormat}
@@ -15,8 +14,7 @@ use Rattle.framing.specs.declared.settings.Setting.the-variants.{Format, Nothin
 use Rattle.bench.specs.Hex.{isHex, pairsOf, readOf}
 use Rattle.bench.specs.HexLaws.{length-pairs, was-read, read-count, read-into, not-read}
 use Rattle.bench.specs.Texts.{returned, over, Appends}
-use Rattle.bench.specs.WordLaws.{word-short}
-use Rattle.bench.specs.Words.{wordsOf}
+use Rattle.bench.specs.WordLaws.{wordsFrom, words-are}
 use Rattle.bench.specs.declared.Put.{Put}
 use Rattle.bench.specs.declared.Put.the-variants.{Bytes, Refused}
 use Rattle.bench_codec.specs.Codec.{lineLimit, bytesRoom, frameRoom, unreadable, settingNamed, onBytes, onFormat, onSetting, twoWords, threeWords, fourWords, fiveWords, onWords, blockText, withBytes, withBlocks, withService, blockLine}
@@ -89,37 +87,24 @@ module _ (v name w b z : List ℕ) (m : ℕ) (s : Setting) (known : s ≡ settin
   unfolding onSetting
   some-setting f q e = rw (sym known ∙ q) e
 
--- n words from the i-th on
-wordsFrom : ℕ → ℕ → List (List ℕ) → List (List ℕ)
-wordsFrom i zero ws = []
-wordsFrom i (suc n) ws = getD ws i [] ∷ wordsFrom (suc i) n ws
-
-words-from : (n i : ℕ) (ws : List (List ℕ)) → length ws ≡ i + n → drop i ws ≡ wordsFrom i n ws
-unfolding wordsFrom
-words-from zero i ws h = drop-of-length-le ws {i = i} (omega arith)
-words-from (suc n) i ws h = drop-cons ws i [] (omega arith) ∙ ap (λ l. getD ws i [] ∷ l) (words-from n (suc i) ws (omega arith))
-
 -- the words of a line, by their number
 module _ (ws : List (List ℕ)) (n : ℕ) (counted : n ≡ length ws) (b z : List ℕ) (m : ℕ) where
-  are : (k : ℕ) → n ≡ k → ws ≡ wordsFrom 0 k ws
-  are k h = words-from k 0 ws (omega arith)
-
   pub two-are : n ≡ 2 → (u v : List ℕ) → u ≡ getD ws 0 [] → v ≡ getD ws 1 [] → Appends 0 (twoWords u v) b m z → Appends 0 (onWords ws) b m z
   unfolding onWords wordsFrom
-  two-are h u v p q e = rw (are 2 h) (rw (p, q) at e)
+  two-are h u v p q e = rw (words-are ws n counted 2 h) (rw (p, q) at e)
 
   pub three-are : n ≡ 3 → (u v w : List ℕ) → u ≡ getD ws 0 [] → v ≡ getD ws 1 [] → w ≡ getD ws 2 [] → Appends 0 (threeWords u v w) b m z → Appends 0 (onWords ws) b m z
   unfolding onWords wordsFrom
-  three-are h u v w p q s e = rw (are 3 h) (rw (p, q, s) at e)
+  three-are h u v w p q s e = rw (words-are ws n counted 3 h) (rw (p, q, s) at e)
 
   pub four-are : n ≡ 4 → (u v w y : List ℕ) → u ≡ getD ws 0 [] → v ≡ getD ws 1 [] → w ≡ getD ws 2 [] → y ≡ getD ws 3 [] → Appends 0 (fourWords u v w y) b m z → Appends 0 (onWords ws) b m z
   unfolding onWords wordsFrom
-  four-are h u v w y p q s t e = rw (are 4 h) (rw (p, q, s, t) at e)
+  four-are h u v w y p q s t e = rw (words-are ws n counted 4 h) (rw (p, q, s, t) at e)
 
   pub five-are : n ≡ 5 → (u v w y x : List ℕ) → u ≡ getD ws 0 [] → v ≡ getD ws 1 [] → w ≡ getD ws 2 [] → y ≡ getD ws 3 [] → x ≡ getD ws 4 [] → Appends 0 (fiveWords u v w y x) b m z
       → Appends 0 (onWords ws) b m z
   unfolding onWords wordsFrom
-  five-are h u v w y x p q s t r e = rw (are 5 h) (rw (p, q, s, t, r) at e)
+  five-are h u v w y x p q s t r e = rw (words-are ws n counted 5 h) (rw (p, q, s, t, r) at e)
 
   pub others-are : (n ≡ 2 → ⊥) → (n ≡ 3 → ⊥) → (n ≡ 4 → ⊥) → (n ≡ 5 → ⊥) → Appends 0 unreadable b m z → Appends 0 (onWords ws) b m z
   unfolding onWords
@@ -133,6 +118,3 @@ module _ (ws : List (List ℕ)) (n : ℕ) (counted : n ≡ length ws) (b z : Lis
       go (a ∷ c ∷ d ∷ f ∷ []) i j k m = absurd (k refl)
       go (a ∷ c ∷ d ∷ f ∷ g ∷ []) i j k m = absurd (m refl)
       go (a ∷ c ∷ d ∷ f ∷ g ∷ o ∷ l) i j k m = e
-
-pub word-fits : (l w : List ℕ) (k : ℕ) → w ≡ getD (wordsOf l) k [] → length l ≤ lineLimit → length w ≤ lineLimit
-word-fits l w k e h = omega (arith, ap length e, word-short l k)

@@ -12,8 +12,10 @@ pub mod Parts
 pub mod Enclose
 pub mod Copied
 pub mod Settings
+pub mod Commands
 pub mod Exact
 pub mod RoundTrip
+pub mod Intact
 pub mod Padded
 pub mod Unpadded
 pub mod PaddedAnswers

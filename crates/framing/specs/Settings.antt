@@ -1,6 +1,6 @@
 -- The six settings in document 01's order. A setting's payload limit is the longest that its length form can carry.
 use mathlib.Core.List.{List, _∷_}
-use Prim.Native.Nat.{ℕ}
+use Prim.Native.Nat.{ℕ, _+_, _%_}
 use lib.Dec.{eqb}
 use Rattle.framing.specs.Frames.{longest}
 use Rattle.errors.specs.Choice.{pick}
@@ -11,7 +11,7 @@ use Rattle.framing.specs.declared.LengthEncoding.{LengthEncoding}
 use Rattle.framing.specs.declared.LengthEncoding.the-variants.{Normal, ExtendedLittleEndian, NormalOrExtendedBigEndian}
 use Rattle.framing.specs.declared.settings.Setting.{Setting}
 use Rattle.framing.specs.declared.settings.Setting.the-variants.{Format, Nothing}
-use Rattle.framing.specs.Names.{hostToController}
+use Rattle.framing.specs.Names.{hostToController, controllerToHost}
 
 abbrev pub formatOf : LengthEncoding → ErrorDetection → FrameFormat
 formatOf e d = record { length = e; error = d; limit = longest e }
@@ -29,6 +29,14 @@ settingOf n =
 abbrev pub rcs956 : FrameFormat
 rcs956 = formatOf NormalOrExtendedBigEndian ErrorFrame
 
+-- a payload's TFI says where it goes; a code and bytes follow
+abbrev pub payloadFrom : ℕ → ℕ → List ℕ → List ℕ
+payloadFrom direction code bytes = direction ∷ code ∷ bytes
+
 -- a command's payload: TFI D4, the code, the data
 abbrev pub commandPayload : ℕ → List ℕ → List ℕ
-commandPayload code bytes = hostToController ∷ code ∷ bytes
+commandPayload code bytes = payloadFrom hostToController code bytes
+
+-- its response's: TFI D5, the code plus 1 as a byte, the bytes
+abbrev pub responsePayload : ℕ → List ℕ → List ℕ
+responsePayload code bytes = payloadFrom controllerToHost ((code + 1) % 256) bytes

@@ -1,5 +1,6 @@
 -- `by_words` meets its contract.
-use Rattle.bench_codec.proofs.CodecLaws.{two-are, three-are, four-are, five-are, others-are, word-fits}
+use Rattle.bench_codec.proofs.CodecLaws.{two-are, three-are, four-are, five-are, others-are}
+use Rattle.bench.specs.WordLaws.{word-fits}
 use borrow.Author.Needs.{needs}
 use Rattle.bench_codec.proofs.by_words.Statement.{statement}
 use Rattle.bench_codec.proofs.by_words.Tie as tie

@@ -1,4 +1,4 @@
--- `framing::frame::build_command` meets its contract.
+-- `framing::frame::build_directed` meets its contract.
 use native.Mathlib.Numerals.{add-two}
 use mathlib.Core.Path.{_≡_, sym, _∙_}
 use native.Mathlib.Omega.{arith}
@@ -9,8 +9,8 @@ use Rattle.framing.specs.Settings.{rcs956}
 use Rattle.framing.specs.declared.Place.the-variants.{At}
 use Prim.Native.Nat.{_+_}
 use borrow.Author.Needs.{needs}
-use Rattle.framing.proofs.frame.build_command.Statement.{statement}
-use Rattle.framing.proofs.frame.build_command.Tie as tie
+use Rattle.framing.proofs.frame.build_directed.Statement.{statement}
+use Rattle.framing.proofs.frame.build_directed.Tie as tie
 
 -- what the place that was found says
 placed : (c : tie.After-start) → At (c .start .given .0 .0) ≡ placeOf rcs956 (length (c .before .before .before .before .before .before .args .bytes .now) + 2) (length (c .before .before .before .before .before .before .args .buffer .now))
@@ -59,13 +59,13 @@ enclose-requires c κs =
     let k = fits (c .before .before .before .before .before .before) in
     (k .short, rw (c .before .before .buffer .given .1) (simp length-set (k .inside)))
 
-add-t12 : tie.Need-add-t12
-add-t12 c =
+add-t13 : tie.Need-add-t13
+add-t13 c =
     let k = fits (c .before .before .before .before .before .before .before .before .before) in
     omega arith
 
-add-t14 : tie.Need-add-t14
-add-t14 c =
+add-t15 : tie.Need-add-t15
+add-t15 c =
     let k = fits (c .before .before .before .before .before .before .before .before .before) in
     omega arith
 
@@ -79,8 +79,8 @@ returns-2 c =
     build-refused _ _ _ _
     (rw (c .before .before .before .before .format .ensures, add-two) at (sym (c .before .refusal .given .1) ∙ c .before .before .before .room-for .ensures))
 
-pub build-command-spec : {M : Type 1} → statement M
-build-command-spec =
+pub build-directed-spec : {M : Type 1} → statement M
+build-directed-spec =
     tie.close
     (tie.spec
     (λ c. search needs)
@@ -96,8 +96,8 @@ build-command-spec =
     (λ c. search needs)
     copy-requires
     enclose-requires
-    add-t12
-    add-t14
+    add-t13
+    add-t15
     (λ c. search needs)
     (λ c. c .before .before .enclose .kept .1 .1 .0 ∙ (c .before .before .before .before .before .buffer .given .1 ∙ simp length-set))
     returns

@@ -1,0 +1,4 @@
+pub mod Readers
+pub mod HostCalls
+pub mod ChipCode
+pub mod FilledChip

@@ -1,0 +1,4 @@
+pub mod ChipLines
+pub mod Lines
+pub mod Readings
+pub mod Meaning
