@@ -15,17 +15,19 @@
  *     RCS956_DONE        has the answer, the buffer's first `len` bytes  the call has ended
  *     RCS956_DONE_TYPE1  the same, of a Type 1 tag                       the call has ended
  *     RCS956_NONE        has none: no card, no command                   the call has ended
- *     RCS956_REFUSED     has `refusal`, `status` with 15 and 20          see below
+ *     RCS956_REFUSED     has `refusal`, `status` with 15 and 20          the call has ended
  *     RCS956_LIST_REFUSED the same of a list, and `finished`             the call has ended
  *     RCS956_UID_AND_ATS the answer as with DONE, and `uid` and `ats`    the call has ended
+ *     RCS956_REFUSED_AT_ONCE has `refusal`                               as before: nothing has changed
  *
  * Deadlines. Behind a command's frame the first read has its own time. The second and later ones share one: the command's clock,
  * which starts at the second. Drains that follow each other share their 50 ms. Where a shared time is over before a read, the
  * event is LATE; a read that waits for what is left of it and gets nothing is TIME. The opening's reads, behind a written ACK,
  * have their own time each. LATE fits shared times alone. An ACK has 6 bytes and a command's frame has more.
  *
- * Refusals. 1 to 6 change nothing: neither session nor buffer. An order that was due is still due, so an event refused with 1, 2
- * or 3 can be given anew. Any other refusal ends the call and leaves the buffer as it was.
+ * Refusals. The kind, not the number, says whether a call or an event was refused at once. RCS956_REFUSED_AT_ONCE changes nothing:
+ * neither session nor buffer. An order that was due is still due, so the event can be given anew. RCS956_REFUSED and
+ * RCS956_LIST_REFUSED end the call and leave the buffer as it was. The numbers 1 to 6 are of refusals at once alone.
  *
  * The buffer needs 1,024 bytes, and a packet has at most 1,024. The buffer's other bytes stay as they are. It may be used for other
  * things, and be another one, from call to call and from event to event, once its bytes are written or read.
@@ -62,7 +64,7 @@ extern "C" {
 /* Two arguments: a pointer, and the length 0. */
 #define RCS956_NO_BYTES (const uint8_t *)"", 0
 
-/* Kinds of outcomes: four orders, three ends, the refusal, the refusal that ends a list, and the answer with two lengths. */
+/* Kinds of outcomes: four orders, three ends, a call's refusal, a list's, the answer with two lengths, and the refusal at once. */
 #define RCS956_WRITE 0
 #define RCS956_READ 1
 #define RCS956_DRAIN 2
@@ -73,6 +75,7 @@ extern "C" {
 #define RCS956_REFUSED 7
 #define RCS956_LIST_REFUSED 8
 #define RCS956_UID_AND_ATS 9
+#define RCS956_REFUSED_AT_ONCE 10
 
 /* Events. */
 #define RCS956_EVENT_OK 0     /* the bytes are written */
@@ -217,16 +220,16 @@ rcs956_session rcs956_fresh(void);
 
 /*
  * Returns what came of the order. The packet's bytes count with RCS956_EVENT_PACKET alone.
- * Refuses, in this order: 1 where the session is out of range, the event does not fit or has no such number, 2 where the buffer is
- * short, 3 where the packet is over-long. Other refusals end the call.
+ * Refuses at once, in this order: 1 where the session is out of range, the event does not fit or has no such number, 2 where the
+ * buffer is short, 3 where the packet is over-long. Other refusals end the call.
  */
 rcs956_outcome rcs956_event(rcs956_session *session, uint8_t number, const uint8_t *packet, size_t packet_len, uint8_t *buffer,
                             size_t buffer_len);
 
 /*
  * Makes a call by its number; the functions below name the arguments of each.
- * Refuses, in this order: 1 where a call runs, the reader is not open (but for an opening) or the session is out of range, 2 where
- * the buffer is short, then 4, 5, 6 and 3. A number that has no call is 4.
+ * Refuses at once, in this order: 1 where a call runs, the reader is not open (but for an opening) or the session is out of range,
+ * 2 where the buffer is short, then 4, 5, 6 and 3. A number that has no call is 4.
  */
 rcs956_outcome rcs956_call(rcs956_session *session, uint8_t number, rcs956_numbers numbers, const uint8_t *first, size_t first_len,
                            const uint8_t *second, size_t second_len, const uint8_t *third, size_t third_len, const uint8_t *fourth,
@@ -452,7 +455,7 @@ static inline rcs956_outcome rcs956_detect_type_f(rcs956_session *session, uint8
 
 /*
  * Type F for each of 1 to 16 system codes, two bytes each, high byte first, with request code 01 and time slots 00. Answer: for each
- * code 01, IDm (8) and PMm (8), or 00 where no card was met. A refusal above 6 but 17 ends the list: RCS956_LIST_REFUSED.
+ * code 01, IDm (8) and PMm (8), or 00 where no card was met. A refusal of a code's poll but 17 ends the list: RCS956_LIST_REFUSED.
  */
 static inline rcs956_outcome rcs956_poll_type_f(rcs956_session *session, uint8_t caller, const uint8_t *bitrate, size_t bitrate_len,
                                                 const uint8_t *codes, size_t codes_len, uint8_t *buffer, size_t buffer_len)

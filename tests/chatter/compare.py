@@ -190,8 +190,8 @@ def draw(program, rng):
         answer = child.stdout.readline().rstrip("\n")
         script.append(line)
         answers.append(answer)
-        if answer.startswith("refused") and int(answer.split()[1]) <= 6:
-            continue
+        if answer.startswith("refused") and (record.order is None or int(answer.split()[1]) <= 4):
+            continue  # at once: a call's first line, or an event's 1 to 4
         if record.order is None:
             chip.opening = line.startswith("open")
             opened = opened and not chip.opening

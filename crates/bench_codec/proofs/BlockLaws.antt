@@ -14,8 +14,9 @@ use Rattle.errors.specs.declared.Refusal.{Refusal}
 use Rattle.framing.specs.Build.{Left, left, returned, putFrame}
 use Rattle.framing.specs.declared.Built.{Built}
 use Rattle.framing.specs.declared.Built.the-variants.{Frame, Refused}
-use Rattle.felica.specs.Fields.{idmIn, blockDataIn, requestOf, requestIn, numbersOf}
+use Rattle.felica.specs.Fields.{idmIn, blockDataIn, parsedRequest, requestOf, requestIn, numbersOf}
 use Rattle.felica.specs.Laid.{request-length, reply-length, fits-idm, fits-few, write-idm, write-few, write-few-bytes, reply-idm, reply-bytes}
+use Rattle.felica.specs.Taken.{parsed-fields}
 use Rattle.felica.specs.Packets.{replyPacket, readCode, writeCode, readReplyCode, writeReplyCode, readRequest, writeRequest, readReply, writeReply, requestFits, writeFits, readReplyFits, idmFits, builtOf}
 use Rattle.felica.specs.declared.request.Asked.{Asked}
 use Rattle.felica.specs.declared.request.Request.{Request}
@@ -60,7 +61,10 @@ unfolding askedText
 asked-done name idm b o₀ o₁ o₂ o₃ a r₀ r₁ r₂ r₃ word first second third =
     both-appended _ _ _ _ _ _ _ _ (both-appended _ _ _ _ _ _ _ _ (both-appended _ _ _ _ _ _ _ _ (appended name b o₀ 0 r₀ word) first) second) third
 
-module _ (r : Request) (p out : List ℕ) (known : requestIn r p ≡ requestOf p) where
+module _ (r : Request) (p out : List ℕ) (parsed : r ≡ parsedRequest p) where
+  known : requestIn r p ≡ requestOf p
+  known = ap (λ x. requestIn x p) parsed ∙ parsed-fields p
+
   pub text-read : (i o : List ℕ) (a : Asked) (n : ℕ) → r ≡ request.Read a → i ≡ idmIn p → Appends 0 (askedText (ascii "read") i (a .service) (numbersOf a)) out n o → Appends 0 (requestText p) out n o
   unfolding requestText fieldsText
   text-read i o a n q e d = rw (← known, q) (rw e at d)

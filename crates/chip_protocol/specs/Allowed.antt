@@ -12,7 +12,8 @@ use lib.ListN.{length, take, length-append}
 use lib.Seq.{take-append-seam}
 use Rattle.errors.specs.Choice.{pick, same, same-self, same-is, same-not}
 use Rattle.errors.specs.declared.Refusal.{Refusal}
-use Rattle.errors.specs.declared.Refusal.the-variants.{OutOfTurn, ShortBuffer, OverLong, BadArgument, Bitrate as BadBitrate, NotSendable}
+use Rattle.errors.specs.Refusals.{numbered}
+use Rattle.errors.specs.declared.Refusal.the-variants.{OverLong, BadArgument}
 use Rattle.framing.specs.Lists.{Bytes}
 use Rattle.targets.specs.declared.Bitrate.{Bitrate}
 use Rattle.protocol.specs.Starts.{dataLimit}
@@ -27,12 +28,7 @@ use Rattle.chip_protocol.specs.declared.Kind.the-variants.{TypeA, TypeB,
 
 abbrev pub number : Added → ℕ
 number (added f) = 0
-number (refuses OutOfTurn) = 1
-number (refuses ShortBuffer) = 2
-number (refuses OverLong) = 3
-number (refuses BadArgument) = 4
-number (refuses BadBitrate) = 5
-number (refuses NotSendable) = 6
+number (refuses r) = numbered r .number
 
 pub not-four : (g : List Card) → refuses BadArgument ≡ added g → ⊥
 not-four g e = omega (arith, ap number e)

@@ -1,29 +1,26 @@
 -- From what a script comes to, to how the run of an accepted call ends.
 use mathlib.Core.Path.{_≡_, refl, sym, ap, _∙_, subst}
-use mathlib.Core.Bool.{Bool, true, false, false≢true}
 use mathlib.Core.List.{List, [], _∷_}
-use mathlib.Core.Option.{Option, none, some}
 use Prim.Native.Nat.{ℕ, zero, suc, _+_}
 use native.Mathlib.Omega.{arith}
-use lib.Dec.{leb, ltb}
 use lib.ListN.{length}
 use Rattle.framing.specs.Commands.{commandIn}
 use Rattle.exchange.specs.Exchange.{Event}
-use Rattle.protocol.specs.Scripts.{Byte, Answer, Script}
-use Rattle.protocol.specs.Calls.{Call, opening, reader, ReaderCall, isOpening}
-use Rattle.protocol.specs.Device.{deviceNew}
+use Rattle.protocol.specs.Scripts.{Answer, Script}
+use Rattle.protocol.specs.Calls.{opening, reader, ReaderCall}
 use Rattle.protocol.specs.Starts.{startOf, starts}
 use Rattle.protocol.specs.Session.{idle, Session, Entry, call, event, answers, step}
-use Rattle.protocol.specs.Machine.{Machine, plainAnswer, outputValues}
+use Rattle.protocol.specs.Machine.{Machine, outputValues}
 use Rattle.chip_protocol.specs.Packets.{receivedIn, receivedCommand}
-use Rattle.chip_protocol.specs.Field.{Card, FieldFits}
+use Rattle.chip_protocol.specs.Field.{FieldFits}
 use Rattle.chip_protocol.specs.Chip.{ChipState, cardAt, chipStep, stepFor}
-use Rattle.chip_protocol.specs.Channel.{Chip, simulated, asIs, Channel, channel, End, run, callRun}
-use Rattle.chip_protocol.specs.Script.{more, Responder, responder, packetsFor, stateFor, chipOf, runAnswer, runState, runEvents, Sends}
+use Rattle.chip_protocol.specs.Channel.{simulated, asIs, Channel, channel, End, callRun}
+use Rattle.chip_protocol.specs.Script.{more, responder, packetsFor, stateFor, chipOf, Sends, peerOf}
 use Rattle.chip_protocol.specs.Claim.{PacketsFit, Reached, Accepted, EndsWith}
-use Rattle.chip_protocol.specs.Run.{sessionAt, PlayEnd, play, playFrom, readsAnd, run-call, run-opening}
-use Rattle.chip_protocol.specs.Machines.{reached-session, reached-next, same-call-run, SameEnd, reached-run, machine-accepted, AcceptedIn, opened-of}
-use Rattle.chip_protocol.specs.Alike.{Alike, onEnd, onChannel, alike-call}
+use Rattle.chip_protocol.specs.Run.{PlayEnd, playFrom, readsAnd, run-call, run-opening}
+use Rattle.protocol.specs.Runs.{sessionAt, runEvents}
+use Rattle.chip_protocol.specs.Machines.{reached-session, reached-next, same-call-run, reached-run, machine-accepted, AcceptedIn, opened-of}
+use Rattle.chip_protocol.specs.Alike.{Alike, alike-call}
 use Rattle.chip_protocol.specs.Fits.{chip-fits, HasFitting}
 use Rattle.chip_protocol.specs.Found.{Comes}
 
@@ -94,13 +91,13 @@ module _ (M : Machine) (room : ℕ) (give : ℕ → Event → M .Input) (gives :
       let w = reached-session M s h in
       let z : Session = w .0 in
       let k : AcceptedIn z (acc .caller) (reader d) room = machine-accepted M s z i (acc .caller) (reader d) room (w .1) (acc .entry) (acc .accepted) in
-      let count : runEvents responder m x t ≡ n + m = c .events m ∙ more-plus n m in
-      let r = run-call responder HasFitting chip-fits room (k .roomy) (reader d) x m (acc .caller) (z .books) t g sends refl (opened-of (z .books) d (k .admitted)) (k .known) begins in
-      let plays : PlaysTo (playFrom responder room (runEvents responder m x t) (step (sessionAt idle (z .books)) (call (acc .caller) (reader d) room)) (channel (chipOf responder) t [])) a u m =
+      let count : runEvents (peerOf responder) m x t ≡ n + m = c .events m ∙ more-plus n m in
+      let r = run-call responder HasFitting chip-fits room (k .accepts .roomy) (reader d) x m (acc .caller) (z .books) t g sends refl (opened-of (z .books) d (k .accepts .admitted)) (k .accepts .known) begins in
+      let plays : PlaysTo (playFrom responder room (runEvents (peerOf responder) m x t) (step (sessionAt idle (z .books)) (call (acc .caller) (reader d) room)) (channel (chipOf responder) t [])) a u m =
       subst (λ (e : PlayEnd responder). PlaysTo e a u m) (sym r)
       record { output = ap answers (c .answer); channel = ap (λ (v : ChipState). channel (chipOf responder) v []) (c .state); left = refl } in
       subst (λ (j : ℕ). EndsWith simulated asIs M room give (callRun M simulated give j s (channel simulated t []) i) a (t .field) (cardAt (t .field) (u .found)) m) count
-      (ends (runEvents responder m x t) s (sessionAt idle (z .books)) t u [] i (call (acc .caller) (reader d) room) a m h (subst (M .Represents s) (at-idle z (k .free)) (w .1)) (acc .entry) plays f)
+      (ends (runEvents (peerOf responder) m x t) s (sessionAt idle (z .books)) t u [] i (call (acc .caller) (reader d) room) a m h (subst (M .Represents s) (at-idle z (k .free)) (w .1)) (acc .entry) plays f)
 
   -- an opening, whatever packets are unread
   pub ends-opening : (s : M .State) (i : M .Input) (mode : ℕ) (t : ChipState) (q : List (List ℕ)) (a : Answer ℕ) (u : ChipState) (n : ℕ) (x : Script) (m : ℕ)
@@ -110,9 +107,9 @@ module _ (M : Machine) (room : ℕ) (give : ℕ → Event → M .Input) (gives :
       let w = reached-session M s h in
       let z : Session = w .0 in
       let k : AcceptedIn z (acc .caller) (opening mode) room = machine-accepted M s z i (acc .caller) (opening mode) room (w .1) (acc .entry) (acc .accepted) in
-      let j : ℕ = suc (readsAnd (runEvents responder m x t) q) in
-      let count : j ≡ 2 + n + length q + m = omega (arith, reads-plus (runEvents responder m x t) q, c .events m, more-plus n m) in
-      let r = run-opening responder HasFitting chip-fits room (k .roomy) (opening mode) x m (acc .caller) (z .books) t q g sends short refl (k .known) begins in
+      let j : ℕ = suc (readsAnd (runEvents (peerOf responder) m x t) q) in
+      let count : j ≡ 2 + n + length q + m = omega (arith, reads-plus (runEvents (peerOf responder) m x t) q, c .events m, more-plus n m) in
+      let r = run-opening responder HasFitting chip-fits room (k .accepts .roomy) (opening mode) x m (acc .caller) (z .books) t q g sends short refl (k .accepts .known) begins in
       let plays : PlaysTo (playFrom responder room j (step (sessionAt idle (z .books)) (call (acc .caller) (opening mode) room)) (channel (chipOf responder) t q)) a u m =
       subst (λ (e : PlayEnd responder). PlaysTo e a u m) (sym r)
       record { output = ap answers (c .answer); channel = ap (λ (v : ChipState). channel (chipOf responder) v []) (c .state); left = refl } in

@@ -13,7 +13,7 @@ use Rattle.targets.specs.TypeA.{isType2}
 use Rattle.targets.specs.declared.Bitrate.{Bitrate}
 use Rattle.exchange.specs.Packets.{Reply, response}
 use Rattle.protocol.specs.Scripts.{Byte, ifElse, Answer, done, Script, finish, command, reset, fieldPause}
-use Rattle.protocol.specs.Discovery.{cardA, withoutCrc, wakeUp, deselect, poll, detectTypeA, detectTypeB, detectTypeF, detectDep, sensfReq}
+use Rattle.protocol.specs.Discovery.{cardA, withoutCrc, wakeUp, poll, detectTypeA, detectTypeB, detectTypeF, detectDep, sensfReq}
 use Rattle.protocol.specs.Machine.{plainAnswer}
 use Rattle.protocol.specs.Names.{atrResCmd0, atrResCmd1}
 use Rattle.protocol.specs.Values.{rest-values}
@@ -22,7 +22,8 @@ use Rattle.chip_protocol.specs.Chip.{ChipState, withFound, cardAt, first
 use Rattle.chip_protocol.specs.Names.{txControlOn, txControlOff}
 use Rattle.chip_protocol.specs.declared.Kind.{Kind}
 use Rattle.chip_protocol.specs.declared.Kind.the-variants.{TypeA, TypeB, TypeF, Dep}
-use Rattle.chip_protocol.specs.Script.{more, responder, runAnswer, runState, runEvents}
+use Rattle.protocol.specs.Runs.{runAnswer, runState, runEvents}
+use Rattle.chip_protocol.specs.Script.{more, responder, peerOf}
 use Rattle.chip_protocol.specs.Answers.{answerA, answerWakeUp, answerB, answerF, answerDep, eventsA, eventsB, eventsF, eventsDep}
 use Rattle.chip_protocol.specs.First.{First}
 use Rattle.chip_protocol.specs.Search.{OptionFits}
@@ -41,9 +42,9 @@ responses = tt
 
 -- a script's answer, and the state and the number of events that it leaves
 pub record Comes (x : Script) (s : ChipState) (a : Answer ℕ) (t : ChipState) (n : ℕ) : Type 0 where
-  pub answer : plainAnswer (runAnswer responder x s) ≡ a
-  pub state : runState responder x s ≡ t
-  pub events : (m : ℕ) → runEvents responder m x s ≡ more n m
+  pub answer : plainAnswer (runAnswer (peerOf responder) x s) ≡ a
+  pub state : runState (peerOf responder) x s ≡ t
+  pub events : (m : ℕ) → runEvents (peerOf responder) m x s ≡ more n m
 
 -- a card found: it fits, and is of the kind
 abbrev pub FoundFits : Kind → Option Card → Type 0
@@ -96,9 +97,9 @@ module _ (code request slots : ℕ) (s : ChipState) (o : Option Card) where
   poll-comes k on e h =
       let g = on-poll k code request slots s placeF o h in
       record {
-        answer = ap (λ (x : Option Card). plainAnswer (runAnswer responder (polled k code request slots s placeF x) (withFound s placeF true))) e ∙ g .answer;
-        state = ap (λ (x : Option Card). runState responder (polled k code request slots s placeF x) (withFound s placeF true)) e ∙ g .state;
-        events = λ m. ap (λ (x : Option Card). more 3 (runEvents responder m (polled k code request slots s placeF x) (withFound s placeF true))) e ∙ ap (more 3) (g .events m);
+        answer = ap (λ (x : Option Card). plainAnswer (runAnswer (peerOf responder) (polled k code request slots s placeF x) (withFound s placeF true))) e ∙ g .answer;
+        state = ap (λ (x : Option Card). runState (peerOf responder) (polled k code request slots s placeF x) (withFound s placeF true)) e ∙ g .state;
+        events = λ m. ap (λ (x : Option Card). more 3 (runEvents (peerOf responder) m (polled k code request slots s placeF x) (withFound s placeF true))) e ∙ ap (more 3) (g .events m);
       }
 
   -- CIU_TxControl says whether the RF field is on
@@ -107,8 +108,8 @@ module _ (code request slots : ℕ) (s : ChipState) (o : Option Card) where
 
   abbrev BehindF : Bool → Type 0
   BehindF t =
-      (plainAnswer (runAnswer responder (behindF t) s) ≡ answerF o) × (runState responder (behindF t) s ≡ withFound s placeF true)
-      × ((m : ℕ) → more 3 (runEvents responder m (behindF t) s) ≡ more (eventsF t) m)
+      (plainAnswer (runAnswer (peerOf responder) (behindF t) s) ≡ answerF o) × (runState (peerOf responder) (behindF t) s ≡ withFound s placeF true)
+      × ((m : ℕ) → more 3 (runEvents (peerOf responder) m (behindF t) s) ≡ more (eventsF t) m)
 
   by-control : (t : Bool) → Comes (poll 1 code (sensfReq 0xFFFF request slots)) s (answerF o) (withFound s placeF true) 3
       → Comes (poll 2 code (sensfReq 0xFFFF request slots)) (withFound s (s .found) true) (answerF o) (withFound s placeF true) 3
@@ -142,8 +143,8 @@ module _ (code : ℕ) (s : ChipState) (p : Option ℕ) where
 
   abbrev BehindA : Option Card → Option Card → Type 0
   BehindA x o =
-      (plainAnswer (runAnswer responder (listedA x) (withFound s p true)) ≡ answerA o) × (runState responder (listedA x) (withFound s p true) ≡ withFound s p true)
-      × ((m : ℕ) → more 3 (runEvents responder m (listedA x) (withFound s p true)) ≡ more (eventsA o) m)
+      (plainAnswer (runAnswer (peerOf responder) (listedA x) (withFound s p true)) ≡ answerA o) × (runState (peerOf responder) (listedA x) (withFound s p true) ≡ withFound s p true)
+      × ((m : ℕ) → more 3 (runEvents (peerOf responder) m (listedA x) (withFound s p true)) ≡ more (eventsA o) m)
 
   on-list-a : (o : Option Card) → FoundFits TypeA o → BehindA o o
   unfolding responses
@@ -195,8 +196,8 @@ module _ (code : ℕ) (s : ChipState) (p : Option ℕ) where
 
   abbrev BehindB : Option Card → Option Card → Type 0
   BehindB x o =
-      (plainAnswer (runAnswer responder (listedB x) (withFound s p true)) ≡ answerB o) × (runState responder (listedB x) (withFound s p true) ≡ withFound s p true)
-      × ((m : ℕ) → more 3 (runEvents responder m (listedB x) (withFound s p true)) ≡ more (eventsB o) m)
+      (plainAnswer (runAnswer (peerOf responder) (listedB x) (withFound s p true)) ≡ answerB o) × (runState (peerOf responder) (listedB x) (withFound s p true) ≡ withFound s p true)
+      × ((m : ℕ) → more 3 (runEvents (peerOf responder) m (listedB x) (withFound s p true)) ≡ more (eventsB o) m)
 
   -- WUPB to the card found
   wakes : (c : Card) → cardAt (s .field) p ≡ some c → FoundFits TypeB (some c) → Comes (wakeUp 0) (withFound s p true) (answerB (some c)) (withFound s p true) 3
@@ -204,9 +205,9 @@ module _ (code : ℕ) (s : ChipState) (p : Option ℕ) where
   wakes c e h =
       let g = on-wake-up s p (replyTo (c .replies) wupb) (wakes-b c (h .1) (h .0 .wakes)) in
       record {
-        answer = ap (λ (x : Option Card). plainAnswer (runAnswer responder (onReply (wakeUp 0) (response (exchangedWith x wupb))) (withFound s p true))) e ∙ g .answer;
-        state = ap (λ (x : Option Card). runState responder (onReply (wakeUp 0) (response (exchangedWith x wupb))) (withFound s p true)) e ∙ g .state;
-        events = λ m. ap (λ (x : Option Card). more 3 (runEvents responder m (onReply (wakeUp 0) (response (exchangedWith x wupb))) (withFound s p true))) e ∙ ap (more 3) (g .events m);
+        answer = ap (λ (x : Option Card). plainAnswer (runAnswer (peerOf responder) (onReply (wakeUp 0) (response (exchangedWith x wupb))) (withFound s p true))) e ∙ g .answer;
+        state = ap (λ (x : Option Card). runState (peerOf responder) (onReply (wakeUp 0) (response (exchangedWith x wupb))) (withFound s p true)) e ∙ g .state;
+        events = λ m. ap (λ (x : Option Card). more 3 (runEvents (peerOf responder) m (onReply (wakeUp 0) (response (exchangedWith x wupb))) (withFound s p true))) e ∙ ap (more 3) (g .events m);
       }
 
   on-list-b : (o : Option Card) → cardAt (s .field) p ≡ o → FoundFits TypeB o → BehindB o o
@@ -237,8 +238,8 @@ module _ (code : ℕ) (atrReq : List ℕ) (s : ChipState) (p : Option ℕ) where
 
   abbrev BehindDep : Option Card → Option Card → Type 0
   BehindDep x o =
-      (plainAnswer (runAnswer responder (jumpedTo x) (withFound s p true)) ≡ answerDep o) × (runState responder (jumpedTo x) (withFound s p true) ≡ withFound s p true)
-      × ((m : ℕ) → more 6 (runEvents responder m (jumpedTo x) (withFound s p true)) ≡ more (eventsDep o) m)
+      (plainAnswer (runAnswer (peerOf responder) (jumpedTo x) (withFound s p true)) ≡ answerDep o) × (runState (peerOf responder) (jumpedTo x) (withFound s p true) ≡ withFound s p true)
+      × ((m : ℕ) → more 6 (runEvents (peerOf responder) m (jumpedTo x) (withFound s p true)) ≡ more (eventsDep o) m)
 
   on-jump : (o : Option Card) → BehindDep o o
   unfolding responses

@@ -1,32 +1,31 @@
 -- What the opening, a transceive to the card found, and a read or write of its blocks come to with the simulated chip.
 use mathlib.Core.Path.{_≡_, refl, sym, ap, _∙_, subst}
-use mathlib.Core.Bool.{Bool, true, false, cond, _&&_}
+use mathlib.Core.Bool.{Bool, true, false, cond}
 use mathlib.Core.List.{List, [], _∷_, map}
 use mathlib.Core.Option.{Option, none, some}
-use Prim.Native.Nat.{ℕ, _+_, _-_, _*_, _≤_}
+use Prim.Native.Nat.{ℕ, _-_, _*_}
 use native.Mathlib.Omega.{arith}
-use borrow.Author.Tests.{le-ltb, lt-ltb, ltb-true, ltb-false, eqb-true}
-use lib.Dec.{eqb, ltb}
-use lib.ListN.{length, take, drop}
+use borrow.Author.Tests.{le-ltb, lt-ltb, ltb-true, ltb-false}
+use lib.Dec.{ltb}
+use lib.ListN.{length, take}
 use Rattle.errors.specs.Choice.{pick}
 use Rattle.crc.specs.Crc.{typeA as crcA, checks}
-use Rattle.felica.specs.Names.{blockSize, blocksOffset}
+use Rattle.felica.specs.Names.{blockSize}
 use Rattle.felica.specs.Packets.{readRequest, writeRequest}
 use Rattle.felica.specs.Accepted.{good-read}
 use Rattle.felica.specs.Checks.{readCheck, writeCheck}
 use Rattle.felica.specs.declared.check.Checked.{Checked}
 use Rattle.felica.specs.declared.check.Checked.the-variants.{Good, Faulty}
-use Rattle.exchange.specs.Packets.{Reply, response}
-use Rattle.protocol.specs.Scripts.{Byte, value, own, ifElse, part, rest, Answer, done, refused, Script, finish, reset, command, fieldPause}
+use Rattle.exchange.specs.Packets.{response}
+use Rattle.protocol.specs.Scripts.{value, own, ifElse, part, Answer, done, Script, finish}
 use Rattle.protocol.specs.Blocks.{byCheck, readBlocks, writeBlocks, responseBlocksOffset}
 use Rattle.protocol.specs.Device.{deviceNew, nameBytes}
 use Rattle.protocol.specs.Discovery.{transceiveType2, transceiveThru}
-use Rattle.protocol.specs.Machine.{plainAnswer}
 use Rattle.protocol.specs.Values.{rest-values, part-values}
 use Rattle.chip_protocol.specs.Names.{firmwareVersion}
 use Rattle.chip_protocol.specs.Field.{Card, replyTo, crcFits}
 use Rattle.chip_protocol.specs.Chip.{ChipState, withFound, cardAt, exchanged, exchangedWith}
-use Rattle.chip_protocol.specs.Script.{more, responder, runAnswer, runState, runEvents}
+use Rattle.chip_protocol.specs.Script.{more}
 use Rattle.chip_protocol.specs.Answers.{openingAnswer, handedOut, answerRead, answerWrite}
 use Rattle.chip_protocol.specs.Found.{onReply, responses, Comes}
 

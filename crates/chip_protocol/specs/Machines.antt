@@ -1,22 +1,21 @@
 -- The run of a machine that simulates the definitions is that of the definitions' session; and what "accepted" says.
 use mathlib.Core.Path.{_≡_, refl, sym, ap, _∙_, subst}
-use mathlib.Core.Bool.{Bool, true, false, cond, _||_, false≢true}
+use mathlib.Core.Bool.{Bool, true, false, _||_, false≢true}
 use mathlib.Core.List.{List, [], _∷_, _++_}
-use mathlib.Core.Option.{Option, none, some}
 use Prim.Native.Nat.{ℕ, zero, suc}
-use lib.Dec.{leb, ltb}
-use Rattle.errors.specs.declared.Refusal.the-variants.{OutOfTurn, ShortBuffer, BadArgument}
 use Rattle.exchange.specs.Exchange.{Event}
 use Rattle.protocol.specs.Scripts.{Byte, Script}
 use Rattle.protocol.specs.Calls.{Call, ReaderCall, reader}
-use Rattle.protocol.specs.Starts.{Start, refuses, starts, startOf}
+use Rattle.protocol.specs.Starts.{starts, startOf}
 use Rattle.protocol.specs.Session as Spec
-use Rattle.protocol.specs.Session.{Running, idle, busy, Books, lastCaller, bufferNeed, admits, Session, fresh, Entry, call, event, Output, orders, answers, rejects, unchanged, started, given, step}
+use Rattle.protocol.specs.Session.{Running, idle, busy, Books, admits, Session, fresh, Entry, call, event, Output, orders, answers, rejects, given, step}
 use Rattle.protocol.specs.Machine.{Machine, outputValues, stateAfter, entries, still-represents}
+use Rattle.protocol.specs.Runs.{sessionAt, idleWith, Accepts}
+use Rattle.protocol.specs.RunLaws.{call-cases}
 use Rattle.chip_protocol.specs.Claim.{isAccepted, Reached, Accepted}
-use Rattle.chip_protocol.specs.Channel.{Chip, Channel, eventFor, channelAfter, End, run, callRun}
+use Rattle.chip_protocol.specs.Channel.{Channel, eventFor, channelAfter, End, run, callRun}
 use Rattle.chip_protocol.specs.Script.{Responder, chipOf}
-use Rattle.chip_protocol.specs.Run.{sessionAt, PlayEnd, play, playFrom}
+use Rattle.chip_protocol.specs.Run.{PlayEnd, play, playFrom}
 
 -- ---- sessions that are reached from a fresh one
 
@@ -89,25 +88,15 @@ values-accepted (rejects r) = refl
 -- an accepted call: no other runs, and it is not refused at once
 pub record AcceptedIn (z : Session) (caller : ℕ) (c : Call) (room : ℕ) : Type 0 where
   pub free : z .running ≡ idle
-  pub admitted : admits (z .books) c ≡ true
-  pub roomy : ltb room bufferNeed ≡ false
-  pub known : leb caller lastCaller ≡ true
   pub script : Script
-  pub begins : startOf c ≡ starts script
+  pub accepts : Accepts (admits (z .books) c) caller c room script
 
 accepted-by : (p : Running) (b : Books) (caller : ℕ) (c : Call) (room : ℕ) → isAccepted ((step (sessionAt p b) (call caller c room)) .output) ≡ true
     → AcceptedIn (sessionAt p b) caller c room
 accepted-by (busy d phase) b caller c room h = absurd (false≢true h)
-accepted-by idle b caller c room h = go (admits b c) (ltb room bufferNeed) (leb caller lastCaller) (startOf c) refl refl refl refl h
-  where
-    go : (t u v : Bool) (w : Start) → admits b c ≡ t → ltb room bufferNeed ≡ u → leb caller lastCaller ≡ v → startOf c ≡ w
-        → isAccepted (given (cond t (cond u (unchanged ShortBuffer) (cond v (started c w) (unchanged BadArgument))) (unchanged OutOfTurn))) ≡ true
-        → AcceptedIn (sessionAt idle b) caller c room
-    go true true v w p q r z h = absurd (false≢true h)
-    go true false true (refuses x) p q r z h = absurd (false≢true h)
-    go true false true (starts x) p q r z h = record { free = refl; admitted = p; roomy = q; known = r; script = x; begins = z }
-    go true false false w p q r z h = absurd (false≢true h)
-    go false u v w p q r z h = absurd (false≢true h)
+accepted-by idle b caller c room h =
+    call-cases (λ o. isAccepted (given o) ≡ true → AcceptedIn (idleWith b) caller c room) (λ _. AcceptedIn (idleWith b) caller c room) c
+    (λ _ e. absurd (false≢true e)) (λ x phase k _. k) (λ a k _. k) (admits b c) caller room (λ s k. record { free = refl; script = s; accepts = k }) h
 
 pub accepted : (z : Session) (caller : ℕ) (c : Call) (room : ℕ) → isAccepted ((step z (call caller c room)) .output) ≡ true → AcceptedIn z caller c room
 accepted z caller c room h = accepted-by (z .running) (z .books) caller c room h
@@ -132,4 +121,4 @@ pub accepted-script : (M : Machine) (room : ℕ) (s : M .State) (i : M .Input) (
 accepted-script M room s i c h acc =
     let w = reached-session M s h in
     let k = machine-accepted M s (w .0) i (acc .caller) c room (w .1) (acc .entry) (acc .accepted) in
-    (k .script, k .begins)
+    (k .script, k .accepts .begins)

@@ -1,29 +1,30 @@
 -- A call's run against a chip comes to what its script comes to: for every script and every chip, from any books, in both modes, for any caller.
 use mathlib.Core.Path.{_≡_, refl, ap, ap₂, _∙_}
-use mathlib.Core.Bool.{Bool, true, false, _||_, false≢true}
+use mathlib.Core.Bool.{Bool, true, false, _||_}
 use mathlib.Core.List.{List, [], _∷_, _++_, append-nil}
 use Prim.Native.Nat.{ℕ, zero, suc, _≤_}
 use native.Mathlib.Omega.{arith}
 use borrow.Author.Tests.{le-ltb}
 use lib.Dec.{eqb, leb, ltb}
 use lib.ListN.{length}
-use Rattle.errors.specs.declared.Refusal.the-variants.{OutOfTurn}
 use Rattle.framing.specs.Frames.{ack}
 use Rattle.framing.specs.Intact.{ack-no-command}
 use Rattle.framing.specs.Padded.{unpadded}
 use Rattle.framing.specs.Unpadded.{length-unpadded}
 use Rattle.exchange.specs.Packets.{commandFrame, Reply}
-use Rattle.exchange.specs.Exchange.{Order, write, read, pause, Event, ok, pkt, time, slept, unfit, pending, ended, sending, reading, waiting, firstReadTime}
+use Rattle.exchange.specs.Exchange.{Order, write, read, pause, ok, pkt, time, slept, pending, sending, reading, waiting, firstReadTime}
 use Rattle.protocol.specs.Scripts.{Byte, Answer, Script, finish, command, reset, fieldPause}
 use Rattle.protocol.specs.Calls.{Call, isOpening, resetModeCode, resetModeData}
 use Rattle.protocol.specs.Names.{commandClock, resetPauseTime, fieldPauseTime, openingReadTime}
 use Rattle.protocol.specs.Starts.{dataLimit, startOf, starts}
-use Rattle.protocol.specs.Session.{Rest, byReply, ofReset, Phase, exchange, resetAck, resetPause, fieldPausing, openingAck, openingReads, CallResult, startScript, afterReply, progress, begin, Running, idle, busy, Books, lastCaller, admits, booksFor, bookOrder, bookAnswer, Session, packetLimit, withoutZeros, seen, call, event, Output, orders, answers, rejects, bufferNeed, packetLength, StepResult, stepResult, step, effect, afterEffect, given}
+use Rattle.protocol.specs.Session.{Rest, byReply, ofReset, exchange, resetAck, resetPause, fieldPausing, openingAck, openingReads, startScript, afterReply, progress, begin, idle, busy, Books, lastCaller, booksFor, bookOrder, bookAnswer, Session, packetLimit, call, event, Output, orders, answers, rejects, bufferNeed, StepResult, step}
+use Rattle.protocol.specs.Runs.{sessionAt, settled, runAnswer, runState, runEvents, exchangeBooks, runBooks}
+use Rattle.protocol.specs.RunLaws.{fit-start, fit-reply, call-begins, stepped-plain, plain-ok, plain-slept, plain-time, plain-packet, plain-ack}
 use Rattle.chip_protocol.specs.Packets.{Response, responsePacket, ResponseFits}
 use Rattle.chip_protocol.specs.Channel.{Channel, channel, eventFor, channelAfter}
 use Rattle.chip_protocol.specs.Claim.{PacketsFit}
-use Rattle.chip_protocol.specs.Script.{replied, Responder, Fits, packetsFor, stateFor, chipOf, runAnswer, runState, runEvents, exchangeBooks, runBooks, AllBytes, Sends}
-use Rattle.chip_protocol.specs.Intact.{all-bytes, response-intact, response-short, response-not-ack, response-not-empty, response-unpadded, command-heard, ack-led, ack-start, ack-unpadded}
+use Rattle.chip_protocol.specs.Script.{replied, Responder, Fits, packetsFor, stateFor, chipOf, AllBytes, Sends, peerOf}
+use Rattle.chip_protocol.specs.Intact.{all-bytes, response-intact, response-short, response-not-ack, response-not-empty, response-unpadded, command-heard, ack-led, ack-start}
 
 -- ---- a run of the definitions' session
 
@@ -44,69 +45,9 @@ module _ (C : Responder) where
   play room (suc n) s l (orders x) =
       play room n ((step s (event (eventFor (chipOf C) l x) room)) .state) (channelAfter (chipOf C) l x) ((step s (event (eventFor (chipOf C) l x) room)) .output)
 
-abbrev pub sessionAt : Running → Books → Session
-sessionAt r b = record { running = r; books = b }
-
--- a call after what it did last
-abbrev pub settled : Call → Books → CallResult → StepResult Session Byte
-settled c b unfit = stepResult (sessionAt idle b) (rejects OutOfTurn)
-settled c b (pending x phase) = stepResult (sessionAt (busy c phase) (bookOrder x b)) (orders x)
-settled c b (ended a) = stepResult (sessionAt idle (bookAnswer c a b)) (answers a)
-
-abbrev isFit : CallResult → Bool
-isFit unfit = false
-isFit (pending x phase) = true
-isFit (ended a) = true
-
-fit-start : (x : Script) → isFit (startScript x) ≡ true
-fit-start (finish a) = refl
-fit-start (command code clock bytes k) = refl
-fit-start (reset x) = refl
-fit-start (fieldPause x) = refl
-
-fit-reply : (rest : Rest) (r : Reply) → isFit (afterReply rest r) ≡ true
-fit-reply (byReply k) r = fit-start (k r)
-fit-reply (ofReset x) r = refl
-
-fit-begin : (t : Bool) (x : Script) → isFit (begin t x) ≡ true
-fit-begin true x = refl
-fit-begin false x = fit-start x
-
 or-true : (t : Bool) → (t || true) ≡ true
 or-true true = refl
 or-true false = refl
-
--- ---- a step with an event that fits
-
-seen-plain : (p : Bool) (e : Event) → withoutZeros e ≡ e → seen p e ≡ e
-seen-plain true e h = h
-seen-plain false e h = refl
-
--- an event that both modes take as it is, no longer than a packet
-pub record Plain (e : Event) : Type 0 where
-  pub same : withoutZeros e ≡ e
-  pub short : ltb packetLimit (packetLength e) ≡ false
-
-stepped : (c : Call) (phase : Phase) (b : Books) (e : Event) (room : ℕ) (r : CallResult) → ltb room bufferNeed ≡ false → Plain e → progress phase e ≡ r → isFit r ≡ true
-    → step (sessionAt (busy c phase) b) (event e room) ≡ settled c b r
-stepped c phase b e room unfit roomy p h f = absurd (false≢true f)
-stepped c phase b e room (pending x q) roomy p h f = rw (seen-plain (b .padded) e (p .same), h, roomy, p .short)
-stepped c phase b e room (ended a) roomy p h f = rw (seen-plain (b .padded) e (p .same), h, roomy, p .short)
-
-plain-ok : Plain ok
-plain-ok = record { same = refl; short = refl }
-
-plain-slept : Plain slept
-plain-slept = record { same = refl; short = refl }
-
-plain-time : Plain time
-plain-time = record { same = refl; short = refl }
-
-plain-packet : (p : List ℕ) → length p ≤ packetLimit → unpadded p ≡ p → Plain (pkt p)
-plain-packet p h u = let s : ltb packetLimit (length p) ≡ false = le-ltb packetLimit (length p) h in record { same = rw (s, u); short = s }
-
-plain-ack : Plain (pkt ack)
-plain-ack = plain-packet ack (omega arith) ack-unpadded
 
 -- ---- an exchange
 
@@ -145,7 +86,7 @@ module _ (C : Responder) (Good : C .State → Type 0) (sound : Fits C Good) (roo
   -- three events
   exchanged : (n code clock : ℕ) (bytes : List ℕ) (rest : Rest) (b : Books) (s : C .State) → Good s → eqb clock 0 ≡ false → AllBytes (code ∷ bytes) → length bytes ≤ dataLimit
       → playFrom C room (suc (suc (suc n))) (settled c b (pending (write (commandFrame code bytes)) (exchange (sending code clock) rest))) (channel (chipOf C) s [])
-      ≡ playFrom C room n (settled c (exchangeBooks C code clock bytes b) (afterReply rest (replied (C .response s code bytes)))) (channel (chipOf C) (C .after s code bytes) [])
+      ≡ playFrom C room n (settled c (exchangeBooks code clock bytes b) (afterReply rest (replied (C .response s code bytes)))) (channel (chipOf C) (C .after s code bytes) [])
   exchanged n code clock bytes rest b s g awaits isBytes short =
       let x : Response = C .response s code bytes in
       let fits = sound .fits s g code bytes in
@@ -158,66 +99,55 @@ module _ (C : Responder) (Good : C .State → Type 0) (sound : Fits C Good) (roo
       let l₃ : Channel (chipOf C) = channel (chipOf C) (C .after s code bytes) [] in
       on (suc (suc n)) (sessionAt (busy c (exchange (sending code clock) rest)) b₁) (channel (chipOf C) s []) l₁ (write f)
       (settled c b₁ (pending (read firstReadTime) (exchange (reading code clock) rest)))
-      (stepped c (exchange (sending code clock) rest) b₁ ok room (pending (read firstReadTime) (exchange (reading code clock) rest)) roomy plain-ok refl refl)
+      (stepped-plain c (exchange (sending code clock) rest) b₁ ok room (pending (read firstReadTime) (exchange (reading code clock) rest)) roomy plain-ok refl refl)
       (ap (λ (h : List ℕ). channel (chipOf C) (stateFor C s h) (packetsFor C s h)) (command-heard code bytes (all-bytes (code ∷ bytes) isBytes) short))
       ∙ on (suc n) (sessionAt (busy c (exchange (reading code clock) rest)) b₂) l₁ l₂ (read firstReadTime)
       (settled c b₂ (pending (read clock) (exchange (waiting code clock) rest)))
-      (stepped c (exchange (reading code clock) rest) b₂ (pkt ack) room (pending (read clock) (exchange (waiting code clock) rest)) roomy plain-ack (first-packet code clock rest awaits) refl)
+      (stepped-plain c (exchange (reading code clock) rest) b₂ (pkt ack) room (pending (read clock) (exchange (waiting code clock) rest)) roomy plain-ack (first-packet code clock rest awaits) refl)
       refl
       ∙ on n (sessionAt (busy c (exchange (waiting code clock) rest)) b₃) l₂ l₃ (read clock)
       (settled c b₃ (afterReply rest (replied x)))
-      (stepped c (exchange (waiting code clock) rest) b₃ (pkt (responsePacket code x)) room (afterReply rest (replied x)) roomy
+      (stepped-plain c (exchange (waiting code clock) rest) b₃ (pkt (responsePacket code x)) room (afterReply rest (replied x)) roomy
       (plain-packet (responsePacket code x) (response-short code x fits) (response-unpadded code x fits)) (second-packet code clock rest x fits) (fit-reply rest (replied x)))
       refl
 
   -- the theorem
   pub run-script : (x : Script) (m : ℕ) (b : Books) (s : C .State) → Good s → Sends x
-      → playFrom C room (runEvents C m x s) (settled c b (startScript x)) (channel (chipOf C) s [])
-      ≡ playEnd C (sessionAt idle (bookAnswer c (runAnswer C x s) (runBooks C x s b))) (channel (chipOf C) (runState C x s) []) (answers (runAnswer C x s)) m
+      → playFrom C room (runEvents (peerOf C) m x s) (settled c b (startScript x)) (channel (chipOf C) s [])
+      ≡ playEnd C (sessionAt idle (bookAnswer c (runAnswer (peerOf C) x s) (runBooks (peerOf C) x s b))) (channel (chipOf C) (runState (peerOf C) x s) []) (answers (runAnswer (peerOf C) x s)) m
   run-script (finish a) m b s g h = over m (sessionAt idle (bookAnswer c a b)) (channel (chipOf C) s []) a
   run-script (command code clock bytes k) m b s g h =
-      exchanged (runEvents C m (k (replied (C .response s code bytes))) (C .after s code bytes)) code clock bytes (byReply k) b s g (h .0) (h .1) (h .2)
-      ∙ run-script (k (replied (C .response s code bytes))) m (exchangeBooks C code clock bytes b) (C .after s code bytes) (sound .good s g code bytes) (h .3 (replied (C .response s code bytes)))
+      exchanged (runEvents (peerOf C) m (k (replied (C .response s code bytes))) (C .after s code bytes)) code clock bytes (byReply k) b s g (h .0) (h .1) (h .2)
+      ∙ run-script (k (replied (C .response s code bytes))) m (exchangeBooks code clock bytes b) (C .after s code bytes) (sound .good s g code bytes) (h .3 (replied (C .response s code bytes)))
   run-script (reset x) m b s g h =
       let t : C .State = C .after s resetModeCode resetModeData in
       let r : Reply = replied (C .response s resetModeCode resetModeData) in
-      let b₁ : Books = exchangeBooks C resetModeCode commandClock resetModeData b in
+      let b₁ : Books = exchangeBooks resetModeCode commandClock resetModeData b in
       let b₂ : Books = bookOrder (write ack) b₁ in
       let b₃ : Books = bookOrder (pause resetPauseTime) b₂ in
-      exchanged (suc (suc (runEvents C m x t))) resetModeCode commandClock resetModeData (ofReset x) b s g refl reset-bytes (omega arith)
-      ∙ on (suc (runEvents C m x t)) (sessionAt (busy c (resetAck x)) b₂) (channel (chipOf C) t []) (channel (chipOf C) t []) (write ack)
+      exchanged (suc (suc (runEvents (peerOf C) m x t))) resetModeCode commandClock resetModeData (ofReset x) b s g refl reset-bytes (omega arith)
+      ∙ on (suc (runEvents (peerOf C) m x t)) (sessionAt (busy c (resetAck x)) b₂) (channel (chipOf C) t []) (channel (chipOf C) t []) (write ack)
       (settled c b₂ (pending (pause resetPauseTime) (resetPause x)))
-      (stepped c (resetAck x) b₂ ok room (pending (pause resetPauseTime) (resetPause x)) roomy plain-ok refl refl)
+      (stepped-plain c (resetAck x) b₂ ok room (pending (pause resetPauseTime) (resetPause x)) roomy plain-ok refl refl)
       (ap (λ (h : List ℕ). channel (chipOf C) (stateFor C t h) (packetsFor C t h)) ack-no-command)
-      ∙ on (runEvents C m x t) (sessionAt (busy c (resetPause x)) b₃) (channel (chipOf C) t []) (channel (chipOf C) t []) (pause resetPauseTime)
+      ∙ on (runEvents (peerOf C) m x t) (sessionAt (busy c (resetPause x)) b₃) (channel (chipOf C) t []) (channel (chipOf C) t []) (pause resetPauseTime)
       (settled c b₃ (startScript x))
-      (stepped c (resetPause x) b₃ slept room (startScript x) roomy plain-slept refl (fit-start x)) refl
+      (stepped-plain c (resetPause x) b₃ slept room (startScript x) roomy plain-slept refl (fit-start x)) refl
       ∙ run-script x m b₃ t (sound .good s g resetModeCode resetModeData) h
   run-script (fieldPause x) m b s g h =
-      on (runEvents C m x s) (sessionAt (busy c (fieldPausing x)) (bookOrder (pause fieldPauseTime) b)) (channel (chipOf C) s []) (channel (chipOf C) s []) (pause fieldPauseTime)
+      on (runEvents (peerOf C) m x s) (sessionAt (busy c (fieldPausing x)) (bookOrder (pause fieldPauseTime) b)) (channel (chipOf C) s []) (channel (chipOf C) s []) (pause fieldPauseTime)
       (settled c (bookOrder (pause fieldPauseTime) b) (startScript x))
-      (stepped c (fieldPausing x) (bookOrder (pause fieldPauseTime) b) slept room (startScript x) roomy plain-slept refl (fit-start x)) refl
+      (stepped-plain c (fieldPausing x) (bookOrder (pause fieldPauseTime) b) slept room (startScript x) roomy plain-slept refl (fit-start x)) refl
       ∙ run-script x m (bookOrder (pause fieldPauseTime) b) s g h
 
   -- ---- from an idle session
 
-  -- an accepted call of an open reader
-  begun : (r : CallResult) (caller : ℕ) (b : Books) → isFit r ≡ true
-      → _≡_ {A = StepResult Session Byte} (stepResult (afterEffect (sessionAt idle b) (call caller c room) (effect c r)) (given (effect c r))) (settled c (booksFor caller c b) r)
-  begun unfit caller b f = absurd (false≢true f)
-  begun (pending x phase) caller b f = refl
-  begun (ended a) caller b f = refl
-
-  pub call-begins : (x : Script) (caller : ℕ) (b : Books) → admits b c ≡ true → leb caller lastCaller ≡ true → startOf c ≡ starts x
-      → step (sessionAt idle b) (call caller c room) ≡ settled c (booksFor caller c b) (begin (isOpening c) x)
-  call-begins x caller b a k h = rw (a, roomy, k, h) (begun (begin (isOpening c) x) caller b (fit-begin (isOpening c) x))
-
   pub run-call : (x : Script) (m caller : ℕ) (b : Books) (s : C .State) → Good s → Sends x → isOpening c ≡ false → b .opened ≡ true → leb caller lastCaller ≡ true → startOf c ≡ starts x
-      → playFrom C room (runEvents C m x s) (step (sessionAt idle b) (call caller c room)) (channel (chipOf C) s [])
-      ≡ playEnd C (sessionAt idle (bookAnswer c (runAnswer C x s) (runBooks C x s (booksFor caller c b)))) (channel (chipOf C) (runState C x s) []) (answers (runAnswer C x s)) m
+      → playFrom C room (runEvents (peerOf C) m x s) (step (sessionAt idle b) (call caller c room)) (channel (chipOf C) s [])
+      ≡ playEnd C (sessionAt idle (bookAnswer c (runAnswer (peerOf C) x s) (runBooks (peerOf C) x s (booksFor caller c b)))) (channel (chipOf C) (runState (peerOf C) x s) []) (answers (runAnswer (peerOf C) x s)) m
   run-call x m caller b s g h n o k e =
-      ap (λ (r : StepResult Session Byte). playFrom C room (runEvents C m x s) r (channel (chipOf C) s []))
-      (call-begins x caller b (rw o) k e ∙ ap (λ t. settled c (booksFor caller c b) (begin t x)) n)
+      ap (λ (r : StepResult Session Byte). playFrom C room (runEvents (peerOf C) m x s) r (channel (chipOf C) s []))
+      (call-begins x caller c room b (record { admitted = rw o; roomy = roomy; known = k; begins = e }) ∙ ap (λ t. settled c (booksFor caller c b) (begin t x)) n)
       ∙ run-script x m (booksFor caller c b) s g h
 
   stale : (x : Script) (b : Books) (p : List ℕ) → length p ≤ packetLimit
@@ -240,7 +170,7 @@ module _ (C : Responder) (Good : C .State → Type 0) (sound : Fits C Good) (roo
   drained x n [] b s h =
       on n (sessionAt (busy c (openingReads x)) (bookOrder (read openingReadTime) b)) (channel (chipOf C) s []) (channel (chipOf C) s []) (read openingReadTime)
       (settled c (bookOrder (read openingReadTime) b) (startScript x))
-      (stepped c (openingReads x) (bookOrder (read openingReadTime) b) time room (startScript x) roomy plain-time refl (fit-start x)) refl
+      (stepped-plain c (openingReads x) (bookOrder (read openingReadTime) b) time room (startScript x) roomy plain-time refl (fit-start x)) refl
   drained x n (p ∷ q) b s h =
       on (readsAnd n q) (sessionAt (busy c (openingReads x)) (bookOrder (read openingReadTime) b)) (channel (chipOf C) s (p ∷ q)) (channel (chipOf C) s q) (read openingReadTime)
       (settled c (bookOrder (read openingReadTime) b) (pending (read openingReadTime) (openingReads x)))
@@ -249,16 +179,16 @@ module _ (C : Responder) (Good : C .State → Type 0) (sound : Fits C Good) (roo
 
   pub run-opening : (x : Script) (m caller : ℕ) (b : Books) (s : C .State) (q : List (List ℕ)) → Good s → Sends x → PacketsFit q → isOpening c ≡ true → leb caller lastCaller ≡ true → startOf c ≡ starts x
       → (let b₁ = openingBooks q (bookOrder (write ack) (booksFor caller c b)) in
-      playFrom C room (suc (readsAnd (runEvents C m x s) q)) (step (sessionAt idle b) (call caller c room)) (channel (chipOf C) s q)
-      ≡ playEnd C (sessionAt idle (bookAnswer c (runAnswer C x s) (runBooks C x s b₁))) (channel (chipOf C) (runState C x s) []) (answers (runAnswer C x s)) m)
+      playFrom C room (suc (readsAnd (runEvents (peerOf C) m x s) q)) (step (sessionAt idle b) (call caller c room)) (channel (chipOf C) s q)
+      ≡ playEnd C (sessionAt idle (bookAnswer c (runAnswer (peerOf C) x s) (runBooks (peerOf C) x s b₁))) (channel (chipOf C) (runState (peerOf C) x s) []) (answers (runAnswer (peerOf C) x s)) m)
   run-opening x m caller b s q g h short o k e =
-      let n : ℕ = readsAnd (runEvents C m x s) q in
+      let n : ℕ = readsAnd (runEvents (peerOf C) m x s) q in
       let b₁ : Books = bookOrder (write ack) (booksFor caller c b) in
       ap (λ (r : StepResult Session Byte). playFrom C room (suc n) r (channel (chipOf C) s q))
-      (call-begins x caller b (rw o (or-true (b .opened))) k e ∙ ap (λ t. settled c (booksFor caller c b) (begin t x)) o)
+      (call-begins x caller c room b (record { admitted = rw o (or-true (b .opened)); roomy = roomy; known = k; begins = e }) ∙ ap (λ t. settled c (booksFor caller c b) (begin t x)) o)
       ∙ on n (sessionAt (busy c (openingAck x)) b₁) (channel (chipOf C) s q) (channel (chipOf C) s q) (write ack)
       (settled c b₁ (pending (read openingReadTime) (openingReads x)))
-      (stepped c (openingAck x) b₁ ok room (pending (read openingReadTime) (openingReads x)) roomy plain-ok refl refl)
+      (stepped-plain c (openingAck x) b₁ ok room (pending (read openingReadTime) (openingReads x)) roomy plain-ok refl refl)
       (ap (λ (t : List ℕ). channel (chipOf C) (stateFor C s t) (q ++ packetsFor C s t)) ack-no-command ∙ ap (channel (chipOf C) s) (append-nil q))
-      ∙ drained x (runEvents C m x s) q b₁ s short
+      ∙ drained x (runEvents (peerOf C) m x s) q b₁ s short
       ∙ run-script x m (openingBooks q b₁) s g h

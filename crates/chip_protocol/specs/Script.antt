@@ -7,14 +7,10 @@ use lib.Dec.{eqb}
 use lib.ListN.{length}
 use Rattle.errors.specs.declared.Fault.the-variants.{Status}
 use Rattle.framing.specs.Commands.{commandIn}
-use Rattle.framing.specs.Frames.{ack}
-use Rattle.exchange.specs.Packets.{commandFrame, Reply, response, failed, errorIdentifier}
-use Rattle.exchange.specs.Exchange.{write, read, pause, firstReadTime}
-use Rattle.protocol.specs.Scripts.{Byte, Answer, Script, finish, command, reset, fieldPause}
-use Rattle.protocol.specs.Calls.{resetModeCode, resetModeData}
-use Rattle.protocol.specs.Names.{commandClock, resetPauseTime, fieldPauseTime}
+use Rattle.exchange.specs.Packets.{Reply, response, failed, errorIdentifier}
+use Rattle.protocol.specs.Scripts.{Script, finish, command, reset, fieldPause}
 use Rattle.protocol.specs.Starts.{dataLimit}
-use Rattle.protocol.specs.Session.{Books, bookOrder}
+use Rattle.protocol.specs.Runs.{Peer}
 use Rattle.chip_protocol.specs.Packets.{Response, responds, syntaxError, packetsOf, ResponseFits}
 use Rattle.chip_protocol.specs.Chip.{ChipState, responseTo, stateAfter}
 use Rattle.chip_protocol.specs.Channel.{Chip}
@@ -57,36 +53,9 @@ module _ (C : Responder) where
   abbrev pub chipOf : Chip
   chipOf = record { State = C .State; packets = λ s written. packetsFor s (commandIn written); next = λ s written. stateFor s (commandIn written) }
 
-  -- ---- each command gets the chip's response: the answer, the chip's state then, the events and m more, the books then
-
-  abbrev pub runAnswer : Script → C .State → Answer Byte
-  runAnswer (finish a) s = a
-  runAnswer (command code clock bytes k) s = runAnswer (k (replied (C .response s code bytes))) (C .after s code bytes)
-  runAnswer (reset x) s = runAnswer x (C .after s resetModeCode resetModeData)
-  runAnswer (fieldPause x) s = runAnswer x s
-
-  abbrev pub runState : Script → C .State → C .State
-  runState (finish a) s = s
-  runState (command code clock bytes k) s = runState (k (replied (C .response s code bytes))) (C .after s code bytes)
-  runState (reset x) s = runState x (C .after s resetModeCode resetModeData)
-  runState (fieldPause x) s = runState x s
-
-  abbrev pub runEvents : ℕ → Script → C .State → ℕ
-  runEvents m (finish a) s = m
-  runEvents m (command code clock bytes k) s = suc (suc (suc (runEvents m (k (replied (C .response s code bytes))) (C .after s code bytes))))
-  runEvents m (reset x) s = suc (suc (suc (suc (suc (runEvents m x (C .after s resetModeCode resetModeData))))))
-  runEvents m (fieldPause x) s = suc (runEvents m x s)
-
-  abbrev pub exchangeBooks : ℕ → ℕ → List ℕ → Books → Books
-  exchangeBooks code clock bytes b = bookOrder (read clock) (bookOrder (read firstReadTime) (bookOrder (write (commandFrame code bytes)) b))
-
-  abbrev pub runBooks : Script → C .State → Books → Books
-  runBooks (finish a) s b = b
-  runBooks (command code clock bytes k) s b = runBooks (k (replied (C .response s code bytes))) (C .after s code bytes) (exchangeBooks code clock bytes b)
-  runBooks (reset x) s b =
-      runBooks x (C .after s resetModeCode resetModeData)
-      (bookOrder (pause resetPauseTime) (bookOrder (write ack) (exchangeBooks resetModeCode commandClock resetModeData b)))
-  runBooks (fieldPause x) s b = runBooks x s (bookOrder (pause fieldPauseTime) b)
+-- it replies to each command
+abbrev pub peerOf : Responder → Peer
+peerOf C = record { State = C .State; reply = λ s code bytes. replied (C .response s code bytes); after = C .after }
 
 -- ---- scripts whose commands the chip can receive, whatever the replies: a clock that is not 0, codes and data that are bytes, data within the limit
 abbrev pub AllBytes : List ℕ → Type 0

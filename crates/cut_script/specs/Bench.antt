@@ -42,7 +42,7 @@ abbrev pub isSome : {A : Type 0} → Option A → Bool
 isSome none = false
 isSome (some x) = true
 
--- at once, 1 to 6; a later end of a call is none
+-- refused at once; a later end of a call is none
 abbrev pub isAtOnce : Output ℕ → Bool
 isAtOnce (orders x) = false
 isAtOnce (answers a) = false

@@ -12,7 +12,7 @@ pub record LineSession : Type 1 where
   pub act : State → Line → State × Out
   pub isOpening : Line → Bool
   pub isRefusal : Out → Bool
-  pub isAtOnce : Out → Bool  -- refused at once, 1 to 6
+  pub isAtOnce : Out → Bool  -- refused at once
   pub sameRefusal : Out → Out → Bool
 
 module _ (M : LineSession) where

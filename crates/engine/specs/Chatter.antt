@@ -5,8 +5,8 @@ use Prim.Native.Nat.{ℕ}
 use Rattle.protocol.specs.Calls.{Call}
 use Rattle.protocol.specs.Session as Spec
 use Rattle.protocol.specs.Machine.{entries}
-use Rattle.protocol.specs.PollList.{EventAndRoom}
-use Rattle.protocol.specs.Chatter.{waits, Alike, callEntries, linesFrom}
+use Rattle.protocol.specs.Runs.{EventAndRoom, callEntries, linesFrom}
+use Rattle.protocol.specs.Chatter.{waits, Alike}
 use Rattle.protocol.specs.ChatterMachine.{SameFrom, machine-chatter}
 use Rattle.engine.specs.Inputs.{Input}
 use Rattle.engine.specs.Refinement.{engine}

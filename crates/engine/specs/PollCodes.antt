@@ -8,7 +8,8 @@ use lib.ListN.{length}
 use Rattle.protocol.specs.Arguments.{systemCodesFit, wordsIn}
 use Rattle.protocol.specs.Session.{Books}
 use Rattle.protocol.specs.Machine.{entries}
-use Rattle.protocol.specs.PollList.{EventAndRoom, oneCall, singleCalls, idleWith}
+use Rattle.protocol.specs.PollList.{oneCall, singleCalls}
+use Rattle.protocol.specs.Runs.{EventAndRoom, idleWith}
 use Rattle.protocol.specs.PollMachine.{EqualFrom, machine-singles}
 use Rattle.engine.specs.Inputs.{Input}
 use Rattle.engine.specs.Refinement.{engine}

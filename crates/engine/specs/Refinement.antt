@@ -24,7 +24,7 @@ use Rattle.engine.specs.Books.{noBooks, booked as bookedBy}
 use Rattle.engine.specs.Core.{Arrays, After, unchanged, eventCore}
 use Rattle.engine.specs.Core.{isValid as validCore}
 use Rattle.engine.specs.Transitions.{noCall, validCall}
-use Rattle.engine.specs.SessionSteps.{State, state, stateIn, valid, isValidState, bookedAfter, steppedOf, eventAfter, openIn, openAfter, startAfter, arraysIn, freshSession}
+use Rattle.engine.specs.SessionSteps.{State, state, stateIn, valid, isValidState, withRoom, withCaller, bookedAfter, steppedOf, eventAfter, openIn, openAfter, startAfter, arraysIn, freshSession}
 use Rattle.engine.specs.Inputs.{Input, opens, asks, gives, entryOf, outputOf, afterInput, act}
 use Rattle.engine.specs.Relation.{Position, Wait, callAt, Fields, coreWith, arraysAt, PositionAgrees, coreAt, runningAt, Represents, free, runs, SessionRepresents}
 use Rattle.engine.specs.Simulation.{Simulates}
@@ -138,6 +138,12 @@ free-refines v b bounds i = go i (in-range v noCall b bounds refl)
     stays : (e : Entry) (r : Refusal) (buffer : List ℕ) → EntryRefines (specified idle b bounds) e (unchanged (state (coreWith v noCall) (bookNumbers b)) (arraysAt v) r buffer) (unchangedOf r)
     stays e r buffer = refused-refines idle b bounds e r buffer here
 
+    -- 2, a caller's 4, and then what the call does
+    called : {e : Entry} (k : ℕ) (buffer : List ℕ) {x : After State} {u : Effect} → (k ≤ lastCaller → EntryRefines (specified idle b bounds) e x u)
+        → EntryRefines (specified idle b bounds) e (withRoom (state (coreWith v noCall) (bookNumbers b)) (arraysAt v) buffer (withCaller (state (coreWith v noCall) (bookNumbers b)) (arraysAt v) k buffer x))
+        (Spec.withRoom (length buffer) (Spec.withCaller k u))
+    called k buffer h = refines-if (ltb (length buffer) bufferNeed) (λ _. stays _ ShortBuffer buffer) (λ _. refines-caller k (stays _ BadArgument buffer) h)
+
     in-mode : (k mode : ℕ) (buffer : List ℕ) → k ≤ lastCaller → (t : Bool) → ltb 1 mode ≡ t
         → EntryRefines (specified idle b bounds) (call k (opening mode) (length buffer)) (openIn (state (coreWith v noCall) (bookNumbers b)) (arraysAt v) k mode buffer) (started (opening mode) (startOf (opening mode)))
     in-mode k mode buffer caller true e = rw (e, lt-leb mode 1 (ltb-true 1 mode e)) (stays _ BadArgument buffer)
@@ -147,15 +153,11 @@ free-refines v b bounds i = go i (in-range v noCall b bounds refl)
 
     go : (i : Input) → isValidState (state (coreWith v noCall) (bookNumbers b)) ≡ true
         → EntryRefines (specified idle b bounds) (entryOf i) (afterInput (state (coreWith v noCall) (bookNumbers b)) (arraysAt v) i) (effectOf idle b (entryOf i))
-    go (opens k mode buffer) h =
-        rw (h, or-true (b .opened))
-        (refines-if (ltb (length buffer) bufferNeed) (λ _. stays _ ShortBuffer buffer)
-        (λ _. refines-caller k (stays _ BadArgument buffer) (λ caller. in-mode k mode buffer caller (ltb 1 mode) refl)))
+    go (opens k mode buffer) h = rw (h, or-true (b .opened)) (called k buffer (λ caller. in-mode k mode buffer caller (ltb 1 mode) refl))
     go (asks k q buffer) h =
         rw (h, open-flag b, or-false (b .opened))
         (refines-if (b .opened)
-        (λ _. refines-if (ltb (length buffer) bufferNeed) (λ _. stays _ ShortBuffer buffer)
-        (λ _. refines-caller k (stays _ BadArgument buffer) (λ caller. call-refines idle b bounds k q (length buffer) _ _ caller (call-sims v q buffer))))
+        (λ _. called k buffer (λ caller. call-refines idle b bounds k q (length buffer) _ _ caller (call-sims v q buffer)))
         (λ _. stays _ OutOfTurn buffer))
     go (gives e buffer) h = rw h (stays _ OutOfTurn buffer)
 

@@ -9,7 +9,6 @@ use borrow.Author.Tests.{ltb-false}
 use lib.Dec.{eqb, ltb, leb}
 use lib.ListN.{length}
 use Rattle.errors.specs.Choice.{pick}
-use Rattle.errors.specs.Refusals.{numbered}
 use Rattle.errors.specs.declared.Refusal.{Refusal}
 use Rattle.errors.specs.declared.Refusal.the-variants.{OutOfTurn, ShortBuffer, OverLong, BadArgument}
 use Rattle.errors.specs.declared.Fault.{Fault}
@@ -32,7 +31,7 @@ use Rattle.engine.specs.Core.{isValid as validCore}
 use Rattle.engine.specs.Exchanges.{by-pick}
 use Rattle.engine.specs.Inputs.{Input, opens as opened, asks, gives, bufferOf, stepWith, afterInput}
 use Rattle.engine.specs.Transitions.{Transitioned, unfitting, orders, sends as sendsStage, resetDone, replies, refuses, fits, transitionOf, validCall}
-use Rattle.engine.specs.SessionSteps.{State, state, stateIn, valid, isValidState, isFree, isAdmitted, bookedAfter, eventAfter, openAfter, startAfter, arraysIn, steppedOf}
+use Rattle.engine.specs.SessionSteps.{State, state, stateIn, valid, isValidState, isFree, isAdmitted, withRoom, withCaller, bookedAfter, eventAfter, openAfter, startAfter, arraysIn, steppedOf}
 use Rattle.engine.specs.declared.call.Call.{Call}
 use Rattle.engine.specs.declared.core.Core.{Core}
 use Rattle.engine.specs.declared.core.Output.{Output}
@@ -161,15 +160,10 @@ idle-free s b h r =
     let k = both-right (leb (s .command) dataLimit) _ h in
     rw (both-left (leb (s .command) dataLimit) _ h, both-left (leb (s .found) foundLimit) _ k, both-left (leb (s .exchange .phase) drainingPhase) _ (both-right (leb (s .found) foundLimit) _ k), r) refl
 
-by-test : (P : After State → Type 0) (t : Bool) (x y : After State) → (t ≡ true → P x) → P y → P (pick t x y)
+by-cases : (P : After State → Type 0) (t : Bool) (x y : After State) → (t ≡ true → P x) → (t ≡ false → P y) → P (pick t x y)
 unfolding pick
-by-test P true x y h k = h refl
-by-test P false x y h k = k
-
-by-left : (P : After State → Type 0) (t : Bool) (x y : After State) → P x → (t ≡ false → P y) → P (pick t x y)
-unfolding pick
-by-left P true x y h k = h
-by-left P false x y h k = k refl
+by-cases P true x y h k = h refl
+by-cases P false x y h k = k refl
 
 module _ (s : State) (f : Arrays) (b : List ℕ) where
   record Stays (a : After State) : Type 0 where
@@ -191,29 +185,30 @@ module _ (s : State) (f : Arrays) (b : List ℕ) where
         );
   }
 
+  -- a call: 1, 2, a caller's 4, and then what it does
+  called-stays : (t : Bool) (k : ℕ) (a : After State) → (t ≡ true → k ≤ lastCaller → Stays a) → Stays (pick t (withRoom s f b (withCaller s f k b a)) (unchanged s f OutOfTurn b))
+  called-stays t k a h =
+      by-cases Stays t _ _
+      (λ admitted. by-pick Stays (ltb (length b) bufferNeed) _ _ (refuses-once ShortBuffer)
+      (by-cases Stays (ltb lastCaller k) _ _ (λ _. refuses-once BadArgument) (λ few. h admitted (ltb-false lastCaller k few))))
+      (λ _. refuses-once OutOfTurn)
+
   open-stays : (k mode : ℕ) → Stays (openAfter s f k mode b)
   unfolding openAfter openCore
   open-stays k mode =
-      by-pick Stays (isFree s) _ _
-      (by-pick Stays (ltb (length b) bufferNeed) _ _ (refuses-once ShortBuffer)
-      (by-pick Stays (ltb lastCaller k) _ _ (refuses-once BadArgument)
-      (by-pick Stays (ltb 1 mode) _ _ (refuses-once BadArgument)
-      (record { early = λ r e. absurd (other-class e (λ z. omega (arith, z))); late = λ e. absurd (omega (arith, e)) }))))
-      (refuses-once OutOfTurn)
+      called-stays (isFree s) k _ (λ _ _. by-pick Stays (ltb 1 mode) _ _ (refuses-once BadArgument)
+      (record { early = λ r e. absurd (other-class e (λ z. omega (arith, z))); late = λ e. absurd (omega (arith, e)) }))
 
   start-stays : (k : ℕ) (x : Start) → Stays (startAfter s f k x b)
   unfolding startAfter
   start-stays k x =
-      by-test Stays (isAdmitted s) _ _
-      (λ admitted. by-pick Stays (ltb (length b) bufferNeed) _ _ (refuses-once ShortBuffer)
-      (by-left Stays (ltb lastCaller k) _ _ (refuses-once BadArgument)
-      (λ few. booked-stays k false _ (ltb-false lastCaller k few) (both-left (isValidState s) _ (both-left (isFree s) _ admitted)) (start-unchanged (s .core) f b x))))
-      (refuses-once OutOfTurn)
+      called-stays (isAdmitted s) k _
+      (λ admitted few. booked-stays k false _ few (both-left (isValidState s) _ (both-left (isFree s) _ admitted)) (start-unchanged (s .core) f b x))
 
   event-stays : (e : Event) → Stays (eventAfter s f e b)
   unfolding eventAfter
   event-stays e =
-      by-test Stays (isValidState s) _ _ (λ valid. booked-stays _ _ _ (valid-caller s valid) valid (event-unchanged (s .core) f b _)) (refuses-once OutOfTurn)
+      by-cases Stays (isValidState s) _ _ (λ valid. booked-stays _ _ _ (valid-caller s valid) valid (event-unchanged (s .core) f b _)) (λ _. refuses-once OutOfTurn)
 
 all-stay : (s : State) (f : Arrays) (i : Input) → Stays s f (bufferOf i) (afterInput s f i)
 all-stay s f (opened k mode b) = open-stays s f b k mode
@@ -225,9 +220,9 @@ all-stay s f (gives e b) = event-stays s f b e
 stays : (s : Session) (i : Input) → Stays (stateIn s) (arraysIn s) (bufferOf i) (afterInput (stateIn s) (arraysIn s) i)
 stays s i = all-stay (stateIn s) (arraysIn s) i
 
-pub refused-unchanged : (s : Session) (i : Input) (r : Refusal) → (stepWith s i) .output ≡ Refused r → numbered r .number ≤ 6
+pub refused-unchanged : (s : Session) (i : Input) (r : Refusal) → (stepWith s i) .output ≡ Refused r
     → stepWith s i ≡ record { session = s; output = Refused r; buffer = bufferOf i }
-refused-unchanged s i r e h = ap steppedOf (stays s i .early r e)
+refused-unchanged s i r e = ap steppedOf (stays s i .early r e)
 
 ends-free : (s : Session) (i : Input) → class ((stepWith s i) .output) ≡ 1
     → (isFree (stateIn ((stepWith s i) .session)) ≡ true) × ((stepWith s i) .buffer ≡ bufferOf i)

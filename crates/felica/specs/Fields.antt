@@ -81,17 +81,22 @@ requestOf p =
     pick (isRequest readCode 0 p) (reads (idmIn p) (serviceIn p) (numbersIn (listIn p)))
     (pick (isRequest writeCode blockSize p) (writes (idmIn p) (serviceIn p) (numbersIn (listIn p)) (blockDataIn (countIn p) p)) noRequest)
 
--- what the code's answer says of the packet p
+-- the code's answer: the service code, the number of blocks, and the block numbers of a list's first four elements, 0 where it has fewer
+abbrev pub fourIn : List ℕ → BlockNumbers
+fourIn l = record { 0 = getD l 1 0; 1 = getD l 3 0; 2 = getD l 5 0; 3 = getD l 7 0 }
+
+abbrev pub askedIn : List ℕ → Asked
+askedIn p = record { service = serviceIn p; count = countIn p; numbers = fourIn (listIn p) }
+
+unfoldable pub parsedRequest : List ℕ → Request
+parsedRequest p = pick (isRequest readCode 0 p) (request.Read (askedIn p)) (pick (isRequest writeCode blockSize p) (request.Write (askedIn p)) request.Nothing)
+
+-- what such an answer says of the packet p; of `parsedRequest p` that is `requestOf p`: `parsed-fields` (Taken.antt)
 abbrev pub four : BlockNumbers → List ℕ
 four n = n .0 ∷ n .1 ∷ n .2 ∷ n .3 ∷ []
 
 abbrev pub numbersOf : Asked → List ℕ
 numbersOf a = take (a .count) (four (a .numbers))
-
-pub record AskedOf (a : Asked) (p : List ℕ) : Type 0 where
-  pub service : a .service ≡ serviceIn p
-  pub count : a .count ≡ countIn p
-  pub numbers : numbersOf a ≡ numbersIn (listIn p)
 
 abbrev pub requestIn : Request → List ℕ → RequestFields
 requestIn (request.Read a) p = reads (idmIn p) (a .service) (numbersOf a)

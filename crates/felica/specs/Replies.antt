@@ -126,7 +126,7 @@ laid code p room len c =
     let n : getD p 0 0 ≡ suc (length (drop codeOffset p)) = omega (arith, len, length-drop codeOffset p) in
     drop-cons p 0 0 (omega arith) ∙ ap (λ x. x ∷ drop codeOffset p) n ∙ ap (λ r. suc (length r) ∷ r) from-code
 
-idm-eight : (p : List ℕ) → flagsEnd ≤ length p → length (idmIn p) ≡ idmSize
+pub idm-eight : (p : List ℕ) → flagsEnd ≤ length p → length (idmIn p) ≡ idmSize
 idm-eight p room = omega (arith, length-take idmSize (drop idmOffset p), length-drop idmOffset p)
 
 module _ (code : ℕ) (p : List ℕ) (good : isReply code p ≡ true) where

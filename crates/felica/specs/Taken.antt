@@ -1,5 +1,5 @@
 -- Laws of packets taken apart, as the code makes its tests.
-use mathlib.Core.Path.{_≡_, sym, ap, ap₂, _∙_}
+use mathlib.Core.Path.{_≡_, refl, sym, ap, ap₂, _∙_}
 use mathlib.Core.Bool.{Bool, true, false}
 use mathlib.Core.List.{List}
 use Prim.Native.Nat.{ℕ, zero, suc, _+_, _*_, _-_, _/_, _≤_, _<_}
@@ -14,11 +14,13 @@ use Rattle.framing.specs.Lists.{both}
 use Rattle.framing.specs.Valid.{both-left, both-right}
 use Rattle.felica.specs.Names.{blockSize, mostBlocks, elementSize, codeOffset, servicesOffset, serviceLowOffset, serviceHighOffset, requestHead, flagsEnd}
 use Rattle.felica.specs.Packets.{readCode, writeCode, readReplyCode, writeReplyCode}
-use Rattle.felica.specs.Fields.{idmIn, serviceIn, countIn, listIn, blockDataIn, flag1In, flag2In, blocksIn, numbersIn, isBlockList, asksBlocks, isRequest, requestOf, reads, writes, noRequest, four, numbersOf, AskedOf, hasBlocks, isReadReply, isWriteReply, replyFieldsOf, readReplied, writeReplied, noReply}
+use Rattle.felica.specs.Fields.{idmIn, serviceIn, countIn, listIn, blockDataIn, flag1In, flag2In, blocksIn, numbersIn, isBlockList, asksBlocks, isRequest, requestOf, reads, writes, noRequest, fourIn, askedIn, parsedRequest, four, numbersOf, requestIn, hasBlocks, isReadReply, isWriteReply, replyFieldsOf, readReplied, writeReplied, noReply}
+use Rattle.felica.specs.Lists.{few-numbers}
 use Rattle.felica.specs.Checks.{isFrom, byFlags, checkOf, readCheck, writeCheck}
 use Rattle.felica.specs.declared.BlockNumbers.{BlockNumbers}
 use Rattle.felica.specs.declared.check.Checked.{Checked}
 use Rattle.felica.specs.declared.request.Asked.{Asked}
+use Rattle.felica.specs.declared.request.Request.the-variants.{Read, Write, Nothing}
 
 -- ---- requests
 
@@ -80,36 +82,45 @@ module _ (code s : ℕ) (p : List ℕ) (r : Bool) (known : r ≡ isRequest code 
       list-within p s (countIn p) (eqb-true (length p) (requestHead + (elementSize + s) * countIn p) e) request-few
 
 pub asked-of : (p : List ℕ) (s k w lo hi : ℕ) (ns : BlockNumbers) → s ≡ lo + 256 * hi → lo ≡ getD p serviceLowOffset 0 → hi ≡ getD p serviceHighOffset 0 → k ≡ countIn p → w ≡ k
-    → requestHead + elementSize * countIn p ≤ length p → countIn p ≤ mostBlocks
-    → (length (take (requestHead + elementSize * w - requestHead) (drop requestHead p)) ≤ elementSize * mostBlocks → take (length (take (requestHead + elementSize * w - requestHead) (drop requestHead p)) / elementSize) (four ns) ≡ numbersIn (take (requestHead + elementSize * w - requestHead) (drop requestHead p)))
-    → AskedOf (record { service = s; count = k; numbers = ns }) p
-asked-of p s k w lo hi ns e f g h m room few n =
+    → ns ≡ fourIn (take (requestHead + elementSize * w - requestHead) (drop requestHead p)) → _≡_ {A = Asked} (record { service = s; count = k; numbers = ns }) (askedIn p)
+asked-of p s k w lo hi ns e f g h m n =
     let j : requestHead + elementSize * w - requestHead ≡ elementSize * countIn p = omega arith in
-    let l : length (take (requestHead + elementSize * w - requestHead) (drop requestHead p)) ≡ elementSize * countIn p
-    = ap (λ i. length (take i (drop requestHead p))) j ∙ length-take (elementSize * countIn p) (drop requestHead p) ∙ omega (arith, length-drop requestHead p) in
-    let half : length (take (requestHead + elementSize * w - requestHead) (drop requestHead p)) / elementSize ≡ k = omega (arith, l) in
-    record {
-      service = e ∙ ap₂ (λ x y. x + 256 * y) f g;
-      count = h;
-      numbers = ap (λ i. take i (four ns)) (sym half) ∙ n (omega (arith, l)) ∙ ap (λ i. numbersIn (take i (drop requestHead p))) j;
-    }
+    let service : s ≡ serviceIn p = e ∙ ap₂ (λ x y. x + 256 * y) f g in
+    let numbers : ns ≡ fourIn (listIn p) = n ∙ ap (λ i. fourIn (take i (drop requestHead p))) j in
+    rw (service, h, numbers)
 
-module _ (p : List ℕ) (a : Asked) (asked : AskedOf a p) where
-  pub as-read : (r : Bool) → r ≡ isRequest readCode 0 p → r ≡ true → reads (idmIn p) (a .service) (numbersOf a) ≡ requestOf p
-  unfolding requestOf pick
-  as-read r t h = rw (sym t ∙ h) (ap₂ (reads (idmIn p)) (asked .service) (asked .numbers))
+-- the answer by the tests
+module _ (p : List ℕ) (r : Bool) (known : r ≡ isRequest readCode 0 p) where
+  pub as-read : (a : Asked) → a ≡ askedIn p → r ≡ true → Read a ≡ parsedRequest p
+  unfolding parsedRequest pick
+  as-read a e h = rw (sym known ∙ h) (ap Read e)
 
-  pub as-write : (r q : Bool) → r ≡ isRequest readCode 0 p → r ≡ false → q ≡ isRequest writeCode blockSize p → q ≡ true
-      → writes (idmIn p) (a .service) (numbersOf a) (blockDataIn (a .count) p) ≡ requestOf p
-  unfolding requestOf pick
-  as-write r q t h u k =
-      rw (sym t ∙ h, sym u ∙ k)
-      (ap₂ (λ x y. writes (idmIn p) x y (blockDataIn (a .count) p)) (asked .service) (asked .numbers)
-      ∙ ap (λ j. writes (idmIn p) (serviceIn p) (numbersIn (listIn p)) (blockDataIn j p)) (asked .count))
+  pub as-write : (a : Asked) (q : Bool) → a ≡ askedIn p → r ≡ false → q ≡ isRequest writeCode blockSize p → q ≡ true → Write a ≡ parsedRequest p
+  unfolding parsedRequest pick
+  as-write a q e h u k = rw (sym known ∙ h, sym u ∙ k) (ap Write e)
 
-pub as-none : (p : List ℕ) (r q : Bool) → r ≡ isRequest readCode 0 p → r ≡ false → q ≡ isRequest writeCode blockSize p → q ≡ false → noRequest ≡ requestOf p
-unfolding requestOf pick
-as-none p r q t h u k = rw (sym t ∙ h, sym u ∙ k)
+  pub as-none : (q : Bool) → r ≡ false → q ≡ isRequest writeCode blockSize p → q ≡ false → Nothing ≡ parsedRequest p
+  unfolding parsedRequest pick
+  as-none q h u k = rw (sym known ∙ h, sym u ∙ k)
+
+-- the answer's fields are the packet's
+numbers-asked : (code s : ℕ) (p : List ℕ) → isRequest code s p ≡ true → numbersOf (askedIn p) ≡ numbersIn (listIn p)
+numbers-asked code s p h =
+    let room = request-room code s p true (sym h) refl in
+    let few = request-few code s p true (sym h) refl in
+    let l : length (listIn p) ≡ elementSize * countIn p = length-take (elementSize * countIn p) (drop requestHead p) ∙ omega (arith, length-drop requestHead p, room) in
+    let half : length (listIn p) / elementSize ≡ countIn p = omega (arith, l) in
+    ap (λ i. take i (four (fourIn (listIn p)))) (sym half) ∙ few-numbers (listIn p) (omega (arith, l, few))
+
+pub parsed-fields : (p : List ℕ) → requestIn (parsedRequest p) p ≡ requestOf p
+unfolding parsedRequest requestOf pick
+parsed-fields p = go (isRequest readCode 0 p) (isRequest writeCode blockSize p) refl refl
+  where
+    go : (t u : Bool) → isRequest readCode 0 p ≡ t → isRequest writeCode blockSize p ≡ u → requestIn (pick t (Read (askedIn p)) (pick u (Write (askedIn p)) Nothing)) p
+        ≡ pick t (reads (idmIn p) (serviceIn p) (numbersIn (listIn p))) (pick u (writes (idmIn p) (serviceIn p) (numbersIn (listIn p)) (blockDataIn (countIn p) p)) noRequest)
+    go true u e f = ap (reads (idmIn p) (serviceIn p)) (numbers-asked readCode 0 p e)
+    go false true e f = ap (λ l. writes (idmIn p) (serviceIn p) l (blockDataIn (countIn p) p)) (numbers-asked writeCode blockSize p f)
+    go false false e f = refl
 
 -- ---- replies
 

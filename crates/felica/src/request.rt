@@ -14,12 +14,12 @@ use errors::Refusal;
 use framing::Built;
 ghost use mathlib.Core.Path.{_≡_};
 ghost use mathlib.Core.List.{_++_};
-ghost use Prim.Native.Nat.{_+_, _*_, _/_, _≤_};
+ghost use Prim.Native.Nat.{_+_, _*_, _≤_};
 ghost use lib.ListN.{length, take, drop};
 ghost use Rattle.framing.specs.Build.{returned, left, putFrame};
 ghost use Rattle.felica.specs.Names.{idmSize, blockSize, mostBlocks, elementSize, requestHead};
 ghost use Rattle.felica.specs.Packets.{request, blockList, readRequest, writeRequest, requestFits, writeFits, builtOf};
-ghost use Rattle.felica.specs.Fields.{requestIn, requestOf, isRequest, asksBlocks, isBlockList, countIn, blockDataIn, four, numbersIn, AskedOf};
+ghost use Rattle.felica.specs.Fields.{isRequest, asksBlocks, isBlockList, countIn, blockDataIn, fourIn, askedIn, parsedRequest};
 
 // The bytes of a block list element, and the first of them, of the first service.
 const ELEMENT_SIZE: usize = 2;
@@ -39,7 +39,7 @@ pub(crate) const COUNT_OFFSET: usize = 13;
 
 const REQUEST_HEAD: usize = 14;
 
-// What a request asks for: the service code, and the first `count` of the block numbers.
+// What a request asks for: the service code, the number of blocks, 1 to 4, and their block numbers, 0 behind them.
 pub struct Asked {
     pub service: u16,
     pub count: u8,
@@ -218,9 +218,9 @@ fn service_code(low: u8, high: u8) -> u16
     low as u16 + 256 * (high as u16)
 }
 
-// The block numbers of a list of at most four elements.
+// The block numbers of a list's first four elements, 0 where it has fewer.
 fn block_numbers(list: &[u8]) -> BlockNumbers
-    ensures { λ r. ⌜ (length (now (list .entry)) ≤ elementSize * mostBlocks → take (length (now (list .entry)) / elementSize) (four r) ≡ numbersIn (now (list .entry))) ⌝ }
+    ensures { λ r. ⌜ r ≡ fourIn (now (list .entry)) ⌝ }
 {
     BlockNumbers(
         byte_at(list, 1),
@@ -232,8 +232,8 @@ fn block_numbers(list: &[u8]) -> BlockNumbers
 
 // What a request asks for.
 fn asked_for(packet: &[u8]) -> Asked
-    requires { ⌜ (requestHead + elementSize * countIn (now packet) ≤ length (now packet)) × (countIn (now packet) ≤ mostBlocks) ⌝ }
-    ensures { λ r. ⌜ AskedOf r (now (packet .entry)) ⌝ }
+    requires { ⌜ requestHead + elementSize * countIn (now packet) ≤ length (now packet) ⌝ }
+    ensures { λ r. ⌜ r ≡ askedIn (now (packet .entry)) ⌝ }
 {
     let count = byte_at(packet, COUNT_OFFSET);
     let end = REQUEST_HEAD + ELEMENT_SIZE * wide(count);
@@ -249,7 +249,7 @@ fn asked_for(packet: &[u8]) -> Asked
 
 // A request taken apart; other bytes give nothing.
 pub fn parse_request(packet: &[u8]) -> Request
-    ensures { λ r. ⌜ requestIn r (now (packet .entry)) ≡ requestOf (now (packet .entry)) ⌝ }
+    ensures { λ r. ⌜ r ≡ parsedRequest (now (packet .entry)) ⌝ }
 {
     if is_request(READ_CODE, 0, packet) {
         return Request::Read(asked_for(packet));

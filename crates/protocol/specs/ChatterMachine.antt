@@ -1,14 +1,13 @@
 -- The same of a machine that simulates the definitions, from states that stand for one session.
-use mathlib.Core.Path.{_≡_, refl, sym, ap, _∙_, subst}
+use mathlib.Core.Path.{_≡_, refl, sym, ap, ap₂, _∙_, subst}
 use mathlib.Core.List.{List, [], _∷_, map}
 use Prim.Native.Nat.{ℕ}
-use Rattle.exchange.specs.Exchange.{write, read, drain, pause}
 use Rattle.protocol.specs.Scripts.{Byte}
 use Rattle.protocol.specs.Calls.{Call}
 use Rattle.protocol.specs.Session.{Session, Output, orders, answers, rejects, outputs, sessionAfter}
 use Rattle.protocol.specs.Machine.{outputValues, plainAnswer, Machine, givenOut, stateAfter, entries, same-out, still-represents}
-use Rattle.protocol.specs.PollList.{EventAndRoom}
-use Rattle.protocol.specs.Chatter.{waits, Alike, callEntries, linesFrom, answersIn, writesIn, SameFor}
+use Rattle.protocol.specs.Runs.{EventAndRoom, callEntries, linesFrom, consIf, writeOf, answersIn, writesIn}
+use Rattle.protocol.specs.Chatter.{waits, Alike, SameFor}
 use Rattle.protocol.specs.ChatterSame.{chatter-same}
 
 plain-answers : (outs : List (Output Byte)) → answersIn (map outputValues outs) ≡ map plainAnswer (answersIn outs)
@@ -17,14 +16,14 @@ plain-answers (orders x ∷ outs) = plain-answers outs
 plain-answers (answers a ∷ outs) = ap (λ others. plainAnswer a ∷ others) (plain-answers outs)
 plain-answers (rejects r ∷ outs) = plain-answers outs
 
+plain-write : (out : Output Byte) → writeOf (outputValues out) ≡ writeOf out
+plain-write (orders x) = refl
+plain-write (answers a) = refl
+plain-write (rejects r) = refl
+
 plain-writes : (outs : List (Output Byte)) → writesIn (map outputValues outs) ≡ writesIn outs
 plain-writes [] = refl
-plain-writes (orders (write bytes) ∷ outs) = ap (λ others. bytes ∷ others) (plain-writes outs)
-plain-writes (orders (read ms) ∷ outs) = plain-writes outs
-plain-writes (orders drain ∷ outs) = plain-writes outs
-plain-writes (orders (pause us) ∷ outs) = plain-writes outs
-plain-writes (answers a ∷ outs) = plain-writes outs
-plain-writes (rejects r ∷ outs) = plain-writes outs
+plain-writes (out ∷ outs) = ap₂ consIf (plain-write out) (plain-writes outs)
 
 module _ (M : Machine) where
   -- two lists of inputs, from two states. Afterwards both stand for one session, so that any further inputs give the same of both.

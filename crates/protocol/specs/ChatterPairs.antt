@@ -1,76 +1,88 @@
 -- There are such pairs: wherever a record waits, any ACK-led packets may come in between, and whatever follows them then. And each command
 -- whose clock is not 0 ms comes to wait.
-use mathlib.Core.Path.{_≡_, refl, sym, ap, ap₂, _∙_, subst}
+use mathlib.Core.Path.{_≡_, refl, sym, ap, ap₂, _∙_, subst, subst₂}
 use mathlib.Core.Bool.{Bool, true, false, false≢true, cond, _&&_, _||_}
 use mathlib.Core.List.{List, [], _∷_, _++_, map}
+use mathlib.Core.Option.{Option, none, some}
 use Prim.Native.Nat.{ℕ, zero, suc, _+_}
 use native.Mathlib.Nat.{zero-add, add-zero}
 use native.Mathlib.Omega.{arith}
 use lib.Dec.{eqb, ltb}
 use lib.ListN.{length, length-replicate, replicate}
-use Rattle.errors.specs.declared.Fault.the-variants.{TimeOut}
 use Rattle.framing.specs.Frames.{ack}
 use Rattle.framing.specs.Lists.{starts}
-use Rattle.framing.specs.Unpadded.{unpadded-start}
 use Rattle.exchange.specs.Packets.{ackLed}
-use Rattle.exchange.specs.Exchange.{write, read, Event, ok, bad, pkt, time, fail, late, slept, pending, sending, reading, waiting, cancelling, firstReadTime}
+use Rattle.exchange.specs.Exchange.{Order, write, read, drain, pause, Event, ok, pkt, pending, sending, reading, waiting, firstReadTime}
 use Rattle.protocol.specs.Scripts.{Byte}
 use Rattle.protocol.specs.Calls.{Call}
-use Rattle.protocol.specs.Session.{Rest, Phase, CallResult, exchange, progress, busy, Books, bookOrder, Session, packetLimit, seen, call, event, Output, orders, answers, rejects, bufferNeed, stepResult}
-use Rattle.protocol.specs.Session.{runs, bufferNeed, packetLength, eventEffect, afterEffect, given, step, outputs, sessionAfter}
-use Rattle.protocol.specs.Record.{Item, ordered, accepted, Record, Note, Observed, observed, add, observe, isCommand, events, isAckLed, acked, line}
+use Rattle.protocol.specs.Session.{Rest, Phase, exchange, Running, idle, busy, Books, bookOrder, Session, packetLimit, seen, call, event, Output, orders, answers, rejects, bufferNeed, stepResult}
+use Rattle.protocol.specs.Session.{packetLength, step, outputs, sessionAfter}
+use Rattle.protocol.specs.Record.{Item, ordered, accepted, Record, Note, Observed, observed, add, observe, oneIf, isCommand, frames, events, pendingOrder, isAckLed, acked, idleUnder, idleReads, line}
 use Rattle.protocol.specs.Claim.{allowedBetween}
-use Rattle.protocol.specs.PollList.{EventAndRoom, eventEntry, isIdle, eventWith}
-use Rattle.protocol.specs.Chatter.{unanswered, waits, isFurther, eventsBut, Alike, callEntries, linesFrom}
-use Rattle.protocol.specs.ChatterLaws.{Proper, Trace, IsAsked, AskedBy, Acked, waits-now, waits-so, and-left, and-right, read-books, led-start, led-again}
-use Rattle.protocol.specs.ChatterSame.{seenOf, runningBy, idle-after, idle-seen, busyIn, seenBehind, Here, run-on, Begins, silent, going, begins}
+use Rattle.protocol.specs.Runs.{sessionAt, busyIn, EventAndRoom, eventWith, eventEntry, callEntries, seenBehind, seenOf, InCall, linesFrom}
+use Rattle.protocol.specs.RunLaws.{stepped, stepped-plain, plain-ok, plain-ack, seen-append, outputs-append}
+use Rattle.protocol.specs.Chatter.{unanswered, waits, isFurther, eventsBut, Alike}
+use Rattle.protocol.specs.ChatterLaws.{NoWait, Placed, placed-waits, and-left, and-right, read-books, led-start, further-led, led-again}
+use Rattle.protocol.specs.ChatterSame.{begunWith, seenFirst, call-follows}
 
 -- the lines behind events
 abbrev shown : Bool → Observed → Session → List EventAndRoom → List Item
 shown mode w s es = seenOf mode ((seenBehind w s es) .lines)
 
--- ---- two records that grow alike, the second with n packets more
+-- ---- two records that grow alike, the second with n packets more, which are idle reads
 
 pub record Beside (n : ℕ) (xs ys : List Item) : Type 0 where
   pub alike : Alike waits xs ys
   pub more : events ys ≡ n + events xs
+  pub idles : idleReads ys ≡ n + idleReads xs
   pub sameUnanswered : unanswered xs ≡ unanswered ys
   pub sameAcked : acked xs ≡ acked ys
+  pub sameFrames : frames xs ≡ frames ys
+  pub samePending : pendingOrder xs ≡ pendingOrder ys
 
-beside-alike : (x : Item) (xs ys : List Item) → Alike waits xs ys → waits xs ≡ waits ys → Alike waits (x ∷ xs) (x ∷ ys)
-beside-alike (ordered x) xs ys a w = a
-beside-alike (accepted e) xs ys a w = λ i. cond (w i && isFurther e) (a i) (e ∷ a i)
+idle-alike : (p : Option Order) (xs ys : List Item) (e : Event) → acked xs ≡ acked ys → frames xs ≡ frames ys → idleUnder p xs e ≡ idleUnder p ys e
+idle-alike none xs ys e a f = refl
+idle-alike (some (write bytes)) xs ys e a f = refl
+idle-alike (some (read ms)) xs ys e a f = rw (a, f)
+idle-alike (some drain) xs ys e a f = refl
+idle-alike (some (pause us)) xs ys e a f = refl
 
-beside-more : {n : ℕ} (x : Item) {xs ys : List Item} → Beside n xs ys → Beside n (x ∷ xs) (x ∷ ys)
-beside-more {n} x {xs} {ys} h = record {
-  alike = beside-alike x xs ys (h .alike) (ap₂ (λ u a. u && a) (h .sameUnanswered) (h .sameAcked));
+beside-order : {n : ℕ} (x : Order) {xs ys : List Item} → Beside n xs ys → Beside n (ordered x ∷ xs) (ordered x ∷ ys)
+beside-order x h = record {
+  alike = h .alike;
   more = let m = h .more in omega arith;
-  sameUnanswered = ap (λ u. isCommand x || (allowedBetween x && u)) (h .sameUnanswered);
-  sameAcked = ap (λ a. cond (isCommand x) false (isAckLed x || a)) (h .sameAcked);
+  idles = h .idles;
+  sameUnanswered = ap (λ u. isCommand (ordered x) || (allowedBetween (ordered x) && u)) (h .sameUnanswered);
+  sameAcked = ap (λ a. cond (isCommand (ordered x)) false a) (h .sameAcked);
+  sameFrames = ap (λ n. oneIf (isCommand (ordered x)) + n) (h .sameFrames);
+  samePending = refl;
 }
 
--- n further packets, in this mode
-module _ (n : ℕ) (mode : Bool) where
-  abbrev BesideIn : Record → Record → Type 0
-  BesideIn l k = Beside n (seenOf mode l) (seenOf mode k)
+beside-event : {n : ℕ} (e : Event) {xs ys : List Item} → Beside n xs ys → Beside n (accepted e ∷ xs) (accepted e ∷ ys)
+beside-event e {xs} {ys} h =
+    let idle-so : idleUnder (pendingOrder xs) xs e ≡ idleUnder (pendingOrder ys) ys e =
+    ap (λ p. idleUnder p xs e) (h .samePending) ∙ idle-alike (pendingOrder ys) xs ys e (h .sameAcked) (h .sameFrames) in
+    record {
+      alike = λ i. cond ((h .sameUnanswered i && h .sameAcked i) && isFurther e) (h .alike i) (e ∷ h .alike i);
+      more = let m = h .more in omega arith;
+      idles = rw idle-so (omega (arith, h .idles));
+      sameUnanswered = ap (λ u. allowedBetween (accepted e) && u) (h .sameUnanswered);
+      sameAcked = ap (λ a. isAckLed (accepted e) || a) (h .sameAcked);
+      sameFrames = ap (λ n. 0 + n) (h .sameFrames);
+      samePending = refl;
+    }
 
-  line-beside : (m : ℕ) (x : Item) (l k : Record) → BesideIn l k → BesideIn (line m x ∷ l) (line m x ∷ k)
-  line-beside m x l k h = go (eqb 0 m) refl
-    where
-      go : (t : Bool) → eqb 0 m ≡ t → BesideIn (line m x ∷ l) (line m x ∷ k)
-      go true e = rw e (beside-more _ h)
-      go false e = rw e h
+run-beside : (n : ℕ) (mode : Bool) (es : List EventAndRoom) (outs : List (Output Byte)) (l k : Record) (y : Note) → Beside n (seenOf mode l) (seenOf mode k)
+    → Beside n (seenOf mode ((observe (observed l (y ∷ [])) (map eventEntry es) outs) .lines)) (seenOf mode ((observe (observed k (y ∷ [])) (map eventEntry es) outs) .lines))
+run-beside n mode [] outs l k y h = h
+run-beside n mode (e ∷ es) [] l k y h = h
+run-beside n mode (e ∷ es) (orders x ∷ outs) l k y h = run-beside n mode es outs _ _ y (beside-order x (beside-event (seen mode (e .event)) h))
+run-beside n mode (e ∷ es) (answers a ∷ outs) l k y h = run-beside n mode es outs _ _ _ (beside-event (seen mode (e .event)) h)
+run-beside n mode (e ∷ es) (rejects r ∷ outs) l k y h = run-beside n mode es outs l k y h
 
-  run-beside : (es : List EventAndRoom) (outs : List (Output Byte)) (l k : Record) (ns : List Note) → BesideIn l k
-      → BesideIn ((observe (observed l ns) (map eventEntry es) outs) .lines) ((observe (observed k ns) (map eventEntry es) outs) .lines)
-  run-beside [] outs l k ns h = h
-  run-beside (e ∷ es) [] l k ns h = h
-  run-beside (e ∷ es) (o ∷ outs) l k [] h = run-beside es outs l k [] h
-  run-beside (e ∷ es) (orders x ∷ outs) l k (y ∷ ns) h =
-      run-beside es outs _ _ (y ∷ ns)
-      (line-beside (length ns) (ordered x) (line (length ns) (accepted (e .event)) ∷ l) (line (length ns) (accepted (e .event)) ∷ k) (line-beside (length ns) (accepted (e .event)) l k h))
-  run-beside (e ∷ es) (answers a ∷ outs) l k (y ∷ ns) h = run-beside es outs _ _ _ (line-beside (length ns) (accepted (e .event)) l k h)
-  run-beside (e ∷ es) (rejects r ∷ outs) l k (y ∷ ns) h = run-beside es outs l k (y ∷ ns) h
+beside-itself : (xs : List Item) → Beside 0 xs xs
+beside-itself xs =
+    record { alike = refl; more = sym (zero-add (events xs)); idles = sym (zero-add (idleReads xs)); sameUnanswered = refl; sameAcked = refl; sameFrames = refl; samePending = refl }
 
 -- ---- further packets
 
@@ -85,9 +97,8 @@ abbrev pub acks : ℕ → List EventAndRoom
 acks n = replicate n (eventWith (pkt ack) bufferNeed)
 
 seen-ack : (mode : Bool) → seen mode (pkt ack) ≡ pkt ack
-unfolding starts
 seen-ack false = refl
-seen-ack true = ap pkt (unpadded-start ack refl)
+seen-ack true = plain-ack .same
 
 ack-led : ackLed ack ≡ true
 unfolding ackLed starts
@@ -97,28 +108,33 @@ pub bare-acks : (mode : Bool) (n : ℕ) → Furthers mode (acks n)
 bare-acks mode zero = tt
 bare-acks mode (suc n) = (rw (seen-ack mode, ack-led) (refl, refl, refl), bare-acks mode n)
 
-further-allowed : (e : Event) → isFurther e ≡ true → allowedBetween (accepted e) ≡ true
-further-allowed ok h = refl
-further-allowed bad h = h
-further-allowed (pkt packet) h = h
-further-allowed time h = h
-further-allowed fail h = h
-further-allowed late h = h
-further-allowed slept h = h
+either-way : (t : Bool) → (t || true) ≡ true
+either-way true = refl
+either-way false = refl
 
 -- one more, and its read order
-further-beside : (n ms : ℕ) (e : Event) (xs ys : List Item) → Beside n xs ys → waits ys ≡ true → isFurther e ≡ true → Beside (suc n) xs (ordered (read ms) ∷ accepted e ∷ ys)
-further-beside n ms e xs ys h w f =
-    let both-hold : (waits ys && isFurther e) ≡ true = rw (w, f) refl in
-    record {
-      alike = h .alike ∙ sym (ap (λ t. cond t (eventsBut waits ys) (e ∷ eventsBut waits ys)) both-hold);
-      more = let m = h .more in omega arith;
-      sameUnanswered = h .sameUnanswered ∙ sym (ap (λ t. t && unanswered ys) (further-allowed e f));
-      sameAcked = h .sameAcked ∙ and-right (unanswered ys) (acked ys) w ∙ sym (ap (λ t. t || acked ys) f);
-    }
+module _ (ms : ℕ) (e : Event) (ys : List Item) (w : waits ys ≡ true) (asks : pendingOrder ys ≡ some (read ms)) (f : isFurther e ≡ true) where
+  between : allowedBetween (accepted e) ≡ true
+  between = further-led (λ e. allowedBetween (accepted e) ≡ true) (λ packet h. h) e f
 
-further-waits : (ms : ℕ) (e : Event) (ys : List Item) → waits ys ≡ true → isFurther e ≡ true → waits (ordered (read ms) ∷ accepted e ∷ ys) ≡ true
-further-waits ms e ys w f = ap₂ (λ t a. (t && unanswered ys) && (a || acked ys)) (further-allowed e f) f ∙ ap (λ u. u && true) (and-left (unanswered ys) (acked ys) w)
+  is-idle : idleUnder (pendingOrder ys) ys e ≡ true
+  is-idle = rw asks (further-led (λ e. idleUnder (some (read ms)) ys e ≡ true) (λ packet h. rw (h, and-right (unanswered ys) (acked ys) w) (either-way (eqb (frames ys) 0))) e f)
+
+  further-beside : (n : ℕ) (xs : List Item) → Beside n xs ys → Beside (suc n) xs (ordered (read ms) ∷ accepted e ∷ ys)
+  further-beside n xs h =
+      let both-hold : (waits ys && isFurther e) ≡ true = rw (w, f) refl in
+      record {
+        alike = h .alike ∙ sym (ap (λ t. cond t (eventsBut waits ys) (e ∷ eventsBut waits ys)) both-hold);
+        more = let m = h .more in omega arith;
+        idles = rw is-idle (omega (arith, h .idles));
+        sameUnanswered = h .sameUnanswered ∙ sym (ap (λ t. t && unanswered ys) between);
+        sameAcked = h .sameAcked ∙ and-right (unanswered ys) (acked ys) w ∙ sym (ap (λ t. t || acked ys) f);
+        sameFrames = let m = h .sameFrames in omega arith;
+        samePending = h .samePending ∙ asks;
+      }
+
+  further-waits : waits (ordered (read ms) ∷ accepted e ∷ ys) ≡ true
+  further-waits = ap₂ (λ t a. (t && unanswered ys) && (a || acked ys)) between f ∙ ap (λ u. u && true) (and-left (unanswered ys) (acked ys) w)
 
 -- ---- a call that waits under its clock
 
@@ -126,29 +142,31 @@ module _ (c : Call) (code clock : ℕ) (rest : Rest) (b : Books) (z : eqb clock 
   abbrev waitingIn : Session
   waitingIn = busyIn c (exchange (waiting code clock) rest) b
 
-  taken : (e : Event) (room : ℕ) → isFurther e ≡ true → ltb packetLimit (packetLength e) ≡ false → ltb room bufferNeed ≡ false
-      → eventEffect c e room (progress (exchange (waiting code clock) rest) e) ≡ runs c (read clock) (exchange (waiting code clock) rest)
-  taken e room f p r = ap (eventEffect c e room) (led-again code clock rest e z f) ∙ rw (r, p) refl
-
   taken-step : (e : EventAndRoom) → isFurther (seen (b .padded) (e .event)) ≡ true → ltb packetLimit (packetLength (seen (b .padded) (e .event))) ≡ false → ltb (e .room) bufferNeed ≡ false
       → step waitingIn (eventEntry e) ≡ stepResult waitingIn (orders (read clock))
   taken-step e f p r =
-      ap (λ o. stepResult (afterEffect waitingIn (eventEntry e) o) (given o)) (taken (seen (b .padded) (e .event)) (e .room) f p r)
+      stepped c (exchange (waiting code clock) rest) b (e .event) (e .room) _ r p (led-again code clock rest (seen (b .padded) (e .event)) z f) refl
       ∙ ap (λ x. stepResult (busyIn c (exchange (waiting code clock) rest) x) (orders (read clock))) (read-books clock b)
+
+  furthers-out : (ps ds : List EventAndRoom) → Furthers (b .padded) ps
+      → outputs waitingIn (map eventEntry (ps ++ ds)) ≡ replicate (length ps) (orders (read clock)) ++ outputs waitingIn (map eventEntry ds)
+  furthers-out [] ds q = refl
+  furthers-out (e ∷ ps) ds q =
+      ap (λ r. r .output ∷ outputs (r .state) (map eventEntry (ps ++ ds))) (taken-step e (q .0 .0) (q .0 .1) (q .0 .2))
+      ∙ ap (λ outs. orders (read clock) ∷ outs) (furthers-out ps ds (q .1))
 
   module _ (y : Note) (ds : List EventAndRoom) where
     abbrev linesOn : Record → List EventAndRoom → List Item
     linesOn l es = shown (b .padded) (observed l (y ∷ [])) waitingIn es
 
     furthers-beside : (ps : List EventAndRoom) → Furthers (b .padded) ps → (n : ℕ) (l k : Record) → Beside n (seenOf (b .padded) l) (seenOf (b .padded) k)
-        → waits (seenOf (b .padded) k) ≡ true → Beside (length ps + n) (linesOn l ds) (linesOn k (ps ++ ds))
-    furthers-beside [] q n l k h w = rw (zero-add n) (run-beside n (b .padded) ds (outputs waitingIn (map eventEntry ds)) l k (y ∷ []) h)
-    furthers-beside (e ∷ ps) q n l k h w =
+        → waits (seenOf (b .padded) k) ≡ true → pendingOrder (seenOf (b .padded) k) ≡ some (read clock) → Beside (length ps + n) (linesOn l ds) (linesOn k (ps ++ ds))
+    furthers-beside [] q n l k h w a = rw (zero-add n) (run-beside n (b .padded) ds (outputs waitingIn (map eventEntry ds)) l k y h)
+    furthers-beside (e ∷ ps) q n l k h w a =
         let f = q .0 .0 in
         let d = seen (b .padded) (e .event) in
-        let xs = seenOf (b .padded) l in
         let ys = seenOf (b .padded) k in
-        let on = furthers-beside ps (q .1) (suc n) l (line 0 (ordered (read clock)) ∷ line 0 (accepted (e .event)) ∷ k) (further-beside n clock d xs ys h w f) (further-waits clock d ys w f) in
+        let on = furthers-beside ps (q .1) (suc n) l (line 0 (ordered (read clock)) ∷ line 0 (accepted (e .event)) ∷ k) (further-beside clock d ys w a f n (seenOf (b .padded) l) h) (further-waits clock d ys w a f) refl in
         let count : length ps + suc n ≡ length (e ∷ ps) + n = omega arith in
         subst (λ m. Beside m (linesOn l ds) (linesOn k ((e ∷ ps) ++ ds))) count
         (subst (λ r. Beside (length ps + suc n) (linesOn l ds) (shown (b .padded) (add (observed k (y ∷ [])) (eventEntry e) (r .output)) (r .state) (ps ++ ds)))
@@ -156,74 +174,67 @@ module _ (c : Call) (code clock : ℕ) (rest : Rest) (b : Books) (z : eqb clock 
 
 -- ---- any record that waits
 
--- events behind events
-seen-append : (es ds : List EventAndRoom) (w : Observed) (s : Session) → seenBehind w s (es ++ ds) ≡ seenBehind (seenBehind w s es) (sessionAfter s (map eventEntry es)) ds
-seen-append [] ds w s = refl
-seen-append (e ∷ es) ds w s = seen-append es ds (add w (eventEntry e) ((step s (eventEntry e)) .output)) ((step s (eventEntry e)) .state)
+module _ (mode : Bool) (P : Session → Observed → Type 0) where
+  -- a call that runs, and is the one observed
+  busy-cases : (c : Call) (phase : Phase) (b : Books) (l : Record) → ((y : Note) → Placed (seenOf mode l) phase → P (busyIn c phase b) (observed l (y ∷ [])))
+      → (ns : List Note) → InCall NoWait Placed mode (busy c phase) l ns → P (busyIn c phase b) (observed l ns)
+  busy-cases c phase b l f [] h = absurd h
+  busy-cases c phase b l f (y ∷ []) h = f y h
+  busy-cases c phase b l f (y ∷ (z ∷ ns)) h = absurd h
 
-acked-asked : (c : Call) (t : Trace) (r : CallResult) (xs : List Item) → Acked c t r → AskedBy c t r xs → IsAsked c t xs
-acked-asked c t r xs a h = go (eqb (a .clock) 0) refl
-  where
-    go : (z : Bool) → eqb (a .clock) 0 ≡ z → IsAsked c t xs
-    go true e =
-        let is : r ≡ pending (write ack) (exchange (cancelling TimeOut) (a .rest)) = a .is ∙ rw e refl in
-        subst (λ q. AskedBy c t q xs) is h
-    go false e =
-        let is : r ≡ pending (read (a .clock)) (exchange (waiting (a .code) (a .clock)) (a .rest)) = a .is ∙ rw e refl in
-        subst (λ q. AskedBy c t q xs) is h
+  waits-cases : ((c : Call) (code clock : ℕ) (rest : Rest) (b : Books) (l : Record) (y : Note) → eqb clock 0 ≡ false → b .padded ≡ mode → waits (seenOf mode l) ≡ true
+      → pendingOrder (seenOf mode l) ≡ some (read clock) → P (busyIn c (exchange (waiting code clock) rest) b) (observed l (y ∷ [])))
+      → (r : Running) (b : Books) (l : Record) (ns : List Note) → b .padded ≡ mode → InCall NoWait Placed mode r l ns → waits (seenOf mode l) ≡ true → P (sessionAt r b) (observed l ns)
+  waits-cases f idle b l ns m h w = absurd (false≢true (sym h ∙ and-left (unanswered (seenOf mode l)) (acked (seenOf mode l)) w))
+  waits-cases f (busy c phase) b l ns m h w =
+      busy-cases c phase b l
+      (λ y q. let k = placed-waits (seenOf mode l) phase q w in
+      subst (λ p. P (busyIn c p b) (observed l (y ∷ []))) (sym (k .is)) (f c (k .code) (k .clock) (k .rest) b l y (k .runs) m w (k .asks)))
+      ns h
 
-beside-itself : (xs : List Item) → Beside 0 xs xs
-beside-itself xs = record { alike = refl; more = sym (zero-add (events xs)); sameUnanswered = refl; sameAcked = refl }
+shown-append : (mode : Bool) (w : Observed) (s : Session) (es ds : List EventAndRoom) → shown mode w s (es ++ ds) ≡ shown mode (seenBehind w s es) (sessionAfter s (map eventEntry es)) ds
+shown-append mode w s es ds = ap (λ x. seenOf mode (x .lines)) (seen-append es ds w s)
 
 module _ (ps ds : List EventAndRoom) where
-  abbrev PairsAt : ℕ → Bool → Observed → Session → Type 0
-  PairsAt n mode w s = Beside n (shown mode w s ds) (shown mode w s (ps ++ ds))
+  abbrev PairsAt : Bool → Session → Observed → Type 0
+  PairsAt mode s w = Furthers mode ps → Beside (length ps) (shown mode w s ds) (shown mode w s (ps ++ ds))
 
-  -- from where it waits
-  waiting-pairs : (c : Call) (code clock : ℕ) (rest : Rest) (mode : Bool) (w : Observed) (s : Session) (y : Note) → eqb clock 0 ≡ false
-      → s .running ≡ busy c (exchange (waiting code clock) rest) → s .books .padded ≡ mode → w .notes ≡ y ∷ [] → Furthers mode ps → waits (seenOf mode (w .lines)) ≡ true
-      → PairsAt (length ps) mode w s
-  waiting-pairs c code clock rest mode w s y z p q n f h =
-      let b = s .books in
-      let v : Observed = observed (w .lines) (y ∷ []) in
-      let r : Session = busyIn c (exchange (waiting code clock) rest) b in
-      let v-is : v ≡ w = λ i. observed (w .lines) (sym n i) in
-      let r-is : r ≡ s = λ i. record { running = sym p i; books = b } in
-      let here : PairsAt (length ps + 0) (b .padded) v r =
-      furthers-beside c code clock rest b z y ds ps (subst (λ m. Furthers m ps) (sym q) f) 0 (w .lines) (w .lines) (beside-itself _) (subst (λ m. waits (seenOf m (w .lines)) ≡ true) (sym q) h) in
-      subst (λ m. PairsAt m mode w s) (add-zero (length ps))
-      (subst (λ x. PairsAt (length ps + 0) mode x s) v-is (subst (λ x. PairsAt (length ps + 0) mode v x) r-is (subst (λ m. PairsAt (length ps + 0) m v r) q here)))
-
-  module _ (es : List EventAndRoom) where
-    abbrev PairsFrom : Session → Observed → Type 0
-    PairsFrom s w =
-        Furthers (s .books .padded) ps → waits (shown (s .books .padded) w s es) ≡ true
-        → Beside (length ps) (shown (s .books .padded) w s (es ++ ds)) (shown (s .books .padded) w s (es ++ (ps ++ ds)))
-
-    going-pairs : (c : Call) (t : Trace) (l : Record) (y : Note) (phase : Phase) (b : Books) → Proper (t .result) → Here c t l b phase []
-        → PairsFrom (busyIn c phase b) (observed l (y ∷ []))
-    going-pairs c t l y phase b i k f h =
-        let v : Observed = observed l (y ∷ []) in
-        let r : Session = busyIn c phase b in
-        let w : Observed = seenBehind v r es in
-        let g = run-on c t es l y phase b [] k in
-        let xs = seenOf (b .padded) (w .lines) in
-        let n = waits-now c t xs i (g .real) (acked-asked c t _ xs (waits-so c t xs i (g .real) h) (g .asked)) h in
-        let on = waiting-pairs c (n .code) (n .clock) (n .rest) (b .padded) w (sessionAfter r (map eventEntry es)) (g .noted .0) (n .runs) (g .running ∙ ap (runningBy c) (n .is)) (g .inMode) (g .noted .1) f h in
-        subst (λ x. Beside (length ps) (seenOf (b .padded) (x .lines)) (shown (b .padded) v r (es ++ (ps ++ ds)))) (sym (seen-append es ds v r))
-        (subst (λ x. Beside (length ps) (shown (b .padded) w (sessionAfter r (map eventEntry es)) ds) (seenOf (b .padded) (x .lines))) (sym (seen-append es (ps ++ ds) v r)) on)
-
-    begun-pairs : (s : Session) (w : Observed) → Begins s w → PairsFrom s w
-    begun-pairs s w (silent b p q) =
-        subst (λ r. PairsFrom r w) (sym p)
-        (λ f h. absurd (false≢true (ap (λ l. waits (seenOf (b .padded) l)) (sym (ap (λ x. x .lines) (idle-seen b (w .lines) (w .notes) es) ∙ q)) ∙ h)))
-    begun-pairs s w (going c t l y phase b i k p q) =
-        subst (λ r. PairsFrom r w) (sym p) (subst (λ v. PairsFrom (busyIn c phase b) v) (sym q) (going-pairs c t l y phase b i k))
+  waiting-pairs : (mode : Bool) (c : Call) (code clock : ℕ) (rest : Rest) (b : Books) (l : Record) (y : Note) → eqb clock 0 ≡ false → b .padded ≡ mode → waits (seenOf mode l) ≡ true
+      → pendingOrder (seenOf mode l) ≡ some (read clock) → PairsAt mode (busyIn c (exchange (waiting code clock) rest) b) (observed l (y ∷ []))
+  waiting-pairs mode c code clock rest b l y z m =
+      let s : Session = busyIn c (exchange (waiting code clock) rest) b in
+      let v : Observed = observed l (y ∷ []) in
+      subst (λ k. waits (seenOf k l) ≡ true → pendingOrder (seenOf k l) ≡ some (read clock) → PairsAt k s v) m
+      (λ w a f. subst (λ n. Beside n (shown (b .padded) v s ds) (shown (b .padded) v s (ps ++ ds))) (add-zero (length ps))
+      (furthers-beside c code clock rest b z y ds ps f 0 l l (beside-itself _) w a))
 
 -- behind any events es after which a command waits: further packets ps, and then any events ds
 pub further-pairs : (s : Session) (caller : ℕ) (c : Call) (room : ℕ) (es ps ds : List EventAndRoom) → waits (linesFrom s caller c room es) ≡ true
     → Furthers (((step s (call caller c room)) .state) .books .padded) ps → Beside (length ps) (linesFrom s caller c room (es ++ ds)) (linesFrom s caller c room (es ++ (ps ++ ds)))
-further-pairs s caller c room es ps ds h f = begun-pairs ps ds es _ _ (begins caller c room s) f h
+further-pairs s caller c room es ps ds h f =
+    let b = begunWith s caller c room in
+    let g = call-follows s caller c room es in
+    let r = sessionAfter (b .state) (map eventEntry es) in
+    let w = seenBehind (seenFirst s caller c room) (b .state) es in
+    let mode = b .state .books .padded in
+    subst₂ (Beside (length ps)) (sym (shown-append mode (seenFirst s caller c room) (b .state) es ds)) (sym (shown-append mode (seenFirst s caller c room) (b .state) es (ps ++ ds)))
+    (waits-cases mode (PairsAt ps ds mode) (waiting-pairs ps ds mode) (r .running) (r .books) (w .lines) (w .notes) (g .1 .0) (g .1 .1) h f)
+
+-- each of them gets a read order, and the others what they get without
+pub further-orders : (s : Session) (caller : ℕ) (c : Call) (room : ℕ) (es ps ds : List EventAndRoom) → waits (linesFrom s caller c room es) ≡ true
+    → Furthers (((step s (call caller c room)) .state) .books .padded) ps
+    → (ms : ℕ) × (outputs s (callEntries caller c room (es ++ (ps ++ ds)))
+    ≡ outputs s (callEntries caller c room es) ++ (replicate (length ps) (orders (read ms)) ++ outputs (sessionAfter s (callEntries caller c room es)) (map eventEntry ds)))
+further-orders s caller c room es ps ds h f =
+    let b = begunWith s caller c room in
+    let g = call-follows s caller c room es in
+    let r = sessionAfter (b .state) (map eventEntry es) in
+    let w = seenBehind (seenFirst s caller c room) (b .state) es in
+    let mode = b .state .books .padded in
+    let k = waits-cases mode (λ s w. (ms : ℕ) × (outputs s (map eventEntry (ps ++ ds)) ≡ replicate (length ps) (orders (read ms)) ++ outputs s (map eventEntry ds)))
+    (λ c code clock rest b l y z m w a. (clock, furthers-out c code clock rest b z ps ds (subst (λ t. Furthers t ps) (sym m) f)))
+    (r .running) (r .books) (w .lines) (w .notes) (g .1 .0) (g .1 .1) h in
+    (k .0, ap (λ outs. b .output ∷ outs) (outputs-append es (ps ++ ds) (b .state) ∙ ap (λ outs. outputs (b .state) (map eventEntry es) ++ outs) (k .1)))
 
 -- with n bare ACKs
 pub any-length : (s : Session) (caller : ℕ) (c : Call) (room : ℕ) (es : List EventAndRoom) → waits (linesFrom s caller c room es) ≡ true
@@ -243,62 +254,30 @@ seen-ok false = refl
 seen-ok true = refl
 
 module _ (c : Call) (code clock : ℕ) (rest : Rest) (z : eqb clock 0 ≡ false) where
-  ok-step : (b : Books) → step (busyIn c (exchange (sending code clock) rest) b) (event ok bufferNeed) ≡ stepResult (busyIn c (exchange (reading code clock) rest) (bookOrder (read firstReadTime) b)) (orders (read firstReadTime))
-  ok-step b =
-      let s : Session = busyIn c (exchange (sending code clock) rest) b in
-      ap (λ e. let o = eventEffect c e bufferNeed (progress (exchange (sending code clock) rest) e) in stepResult (afterEffect s (event ok bufferNeed) o) (given o)) (seen-ok (b .padded))
-
-  ack-again : progress (exchange (reading code clock) rest) (pkt ack) ≡ pending (read clock) (exchange (waiting code clock) rest)
-  ack-again = rw (led-start ack ack-led, ack-led, z) refl
-
-  ack-step : (b : Books) → step (busyIn c (exchange (reading code clock) rest) b) (event (pkt ack) bufferNeed) ≡ stepResult (busyIn c (exchange (waiting code clock) rest) (bookOrder (read clock) b)) (orders (read clock))
-  ack-step b =
-      let s : Session = busyIn c (exchange (reading code clock) rest) b in
-      ap (λ e. let o = eventEffect c e bufferNeed (progress (exchange (reading code clock) rest) e) in stepResult (afterEffect s (event (pkt ack) bufferNeed) o) (given o)) (seen-ack (b .padded))
-      ∙ ap (λ r. let o = eventEffect c (pkt ack) bufferNeed r in stepResult (afterEffect s (event (pkt ack) bufferNeed) o) (given o)) ack-again
-
   reaches-wait : (b : Books) (l : Record) (y : Note) → unanswered (seenOf (b .padded) l) ≡ true
       → waits (shown (b .padded) (observed l (y ∷ [])) (busyIn c (exchange (sending code clock) rest) b) acknowledged) ≡ true
   reaches-wait b l y u =
-      let first = ok-step b in
-      let second = ack-step (bookOrder (read firstReadTime) b) in
       let w : Observed = observed l (y ∷ []) in
       let r : Observed = observed (line 0 (ordered (read firstReadTime)) ∷ line 0 (accepted ok) ∷ l) (y ∷ []) in
+      let first = stepped-plain c (exchange (sending code clock) rest) b ok bufferNeed (pending (read firstReadTime) (exchange (reading code clock) rest)) refl plain-ok refl refl in
+      let second = stepped-plain c (exchange (reading code clock) rest) (bookOrder (read firstReadTime) b) (pkt ack) bufferNeed (pending (read clock) (exchange (waiting code clock) rest)) refl plain-ack (rw (led-start ack ack-led, ack-led, z) refl) refl in
       ap (λ p. waits (shown (b .padded) (add w (event ok bufferNeed) (p .output)) (p .state) (eventWith (pkt ack) bufferNeed ∷ []))) first
       ∙ ap (λ p. waits (seenOf (b .padded) ((add r (event (pkt ack) bufferNeed) (p .output)) .lines))) second
       ∙ rw (seen-ack (b .padded), seen-ok (b .padded), ack-led, u) refl
-
-module _ (es : List EventAndRoom) (d : Call) (code clock : ℕ) (rest : Rest) (z : eqb clock 0 ≡ false) where
-  abbrev ReachesWait : Session → Observed → Type 0
-  ReachesWait s w =
-      unanswered (shown (s .books .padded) w s es) ≡ true → (sessionAfter s (map eventEntry es)) .running ≡ busy d (exchange (sending code clock) rest)
-      → waits (shown (s .books .padded) w s (es ++ acknowledged)) ≡ true
-
-  going-waits : (c : Call) (t : Trace) (l : Record) (y : Note) (phase : Phase) (b : Books) → Here c t l b phase [] → ReachesWait (busyIn c phase b) (observed l (y ∷ []))
-  going-waits c t l y phase b k u p =
-      let v : Observed = observed l (y ∷ []) in
-      let r : Session = busyIn c phase b in
-      let w : Observed = seenBehind v r es in
-      let s : Session = sessionAfter r (map eventEntry es) in
-      let g = run-on c t es l y phase b [] k in
-      let n = g .noted in
-      let here : waits (shown (s .books .padded) (observed (w .lines) (n .0 ∷ [])) (busyIn d (exchange (sending code clock) rest) (s .books)) acknowledged) ≡ true =
-      reaches-wait d code clock rest z (s .books) (w .lines) (n .0) (subst (λ m. unanswered (seenOf m (w .lines)) ≡ true) (sym (g .inMode)) u) in
-      let in-session : waits (shown (s .books .padded) (observed (w .lines) (n .0 ∷ [])) s acknowledged) ≡ true =
-      subst (λ q. waits (shown (s .books .padded) (observed (w .lines) (n .0 ∷ [])) (record { running = q; books = s .books }) acknowledged) ≡ true) (sym p) here in
-      let seen-so : waits (shown (s .books .padded) w s acknowledged) ≡ true =
-      subst (λ ns. waits (shown (s .books .padded) (observed (w .lines) ns) s acknowledged) ≡ true) (sym (n .1)) in-session in
-      subst (λ x. waits (seenOf (b .padded) (x .lines)) ≡ true) (sym (seen-append es acknowledged v r))
-      (subst (λ m. waits (shown m w s acknowledged) ≡ true) (g .inMode) seen-so)
-
-  begun-waits : (s : Session) (w : Observed) → Begins s w → ReachesWait s w
-  begun-waits s w (silent b p q) =
-      subst (λ r. ReachesWait r w) (sym p) (λ u h. absurd (false≢true (ap isIdle (sym h ∙ ap (λ r. r .running) (idle-after b es)))))
-  begun-waits s w (going c t l y phase b i k p q) =
-      subst (λ r. ReachesWait r w) (sym p) (subst (λ v. ReachesWait (busyIn c phase b) v) (sym q) (going-waits c t l y phase b k))
 
 -- behind any events es after which a command frame has been ordered: its `ok` and ACK, if its clock is not 0 ms
 pub command-waits : (s : Session) (caller : ℕ) (c : Call) (room : ℕ) (es : List EventAndRoom) (d : Call) (code clock : ℕ) (rest : Rest) → eqb clock 0 ≡ false
     → unanswered (linesFrom s caller c room es) ≡ true → (sessionAfter s (callEntries caller c room es)) .running ≡ busy d (exchange (sending code clock) rest)
     → waits (linesFrom s caller c room (es ++ acknowledged)) ≡ true
-command-waits s caller c room es d code clock rest z u p = begun-waits es d code clock rest z _ _ (begins caller c room s) u p
+command-waits s caller c room es d code clock rest z u p =
+    let b = begunWith s caller c room in
+    let g = call-follows s caller c room es in
+    let r = sessionAfter (b .state) (map eventEntry es) in
+    let w = seenBehind (seenFirst s caller c room) (b .state) es in
+    let mode = b .state .books .padded in
+    ap waits (shown-append mode (seenFirst s caller c room) (b .state) es acknowledged)
+    ∙ subst (λ q. InCall NoWait Placed mode q (w .lines) (w .notes) → waits (shown mode w (sessionAt q (r .books)) acknowledged) ≡ true) (sym p)
+    (busy-cases mode (λ s v. waits (shown mode v s acknowledged) ≡ true) d (exchange (sending code clock) rest) (r .books) (w .lines)
+    (λ y _. subst (λ k. unanswered (seenOf k (w .lines)) ≡ true → waits (shown k (observed (w .lines) (y ∷ [])) (busyIn d (exchange (sending code clock) rest) (r .books)) acknowledged) ≡ true) (g .1 .0)
+    (reaches-wait d code clock rest z (r .books) (w .lines) y) u)
+    (w .notes)) (g .1 .1)

@@ -1,309 +1,140 @@
 -- Further ACK-led packets cannot matter (document 02, N11), for every session, every call and any events.
 use mathlib.Core.Path.{_≡_, refl, sym, ap, _∙_, subst}
-use mathlib.Core.Bool.{Bool, true, false, false≢true}
-use mathlib.Core.List.{List, [], _∷_, map, reverse, reverseAux, reverse-reverse}
-use mathlib.Core.Option.{none, some}
+use mathlib.Core.Bool.{Bool, true, _&&_}
+use mathlib.Core.List.{List, [], _∷_, map, reverse, reverseAux}
 use Prim.Native.Nat.{ℕ}
-use lib.Dec.{leb, ltb}
-use Rattle.errors.specs.declared.Refusal.{Refusal}
-use Rattle.errors.specs.declared.Refusal.the-variants.{OutOfTurn, ShortBuffer, OverLong, BadArgument}
-use Rattle.exchange.specs.Exchange.{Order, write, read, drain, pause, Event, unfit, pending, ended}
-use Rattle.protocol.specs.Scripts.{Byte, Answer}
+use Rattle.exchange.specs.Exchange.{Event, unfit, pending, ended}
+use Rattle.protocol.specs.Scripts.{Byte}
 use Rattle.protocol.specs.Calls.{Call, isOpening}
-use Rattle.protocol.specs.Starts.{Start, refuses, starts, startOf}
-use Rattle.protocol.specs.Session.{Phase, CallResult, progress, begin, Running, idle, busy, Books, lastCaller, admits, booksFor, bookOrder, bookAnswer, Session, seen, packetLimit, Entry, call, event, Output, orders, answers, rejects}
-use Rattle.protocol.specs.Session.{Effect, unchanged, runs, ends, effect, bufferNeed, packetLength, admitted, eventEffect, started, callEffect, afterEffect, given, step, outputs, sessionAfter}
-use Rattle.protocol.specs.Record.{Item, ordered, accepted, Record, Note, note, Observed, observed, addCall, addEvent, add, observe, linesOf, seenItem, line}
+use Rattle.protocol.specs.Session.{Phase, CallResult, progress, Running, idle, busy, Books, admits, Session, seen, event, call, Output, bufferNeed}
+use Rattle.protocol.specs.Session.{Effect, effect, eventEffect, afterEffect, given, StepResult, step, outputs, sessionAfter}
+use Rattle.protocol.specs.Record.{accepted, Record, Note, Observed, observed, addCall, addEvent, add}
 use Rattle.protocol.specs.Laws.{split}
-use Rattle.protocol.specs.PollList.{EventAndRoom, eventEntry, idleWith}
-use Rattle.protocol.specs.Chatter.{waits, Alike, callEntries, watching, linesFrom, answersIn, writesIn, SameFor}
-use Rattle.protocol.specs.ChatterLaws.{Proper, proper-begin, Trace, trace, resultTrace, withWrite, next, replay, reached, IsAsked, AskedBy, Real, replayed}
+use Rattle.protocol.specs.Runs.{sessionAt, idleWith, busyIn, EventAndRoom, eventEntry, callEntries, seenBehind, watching, seenOf, linesFrom, HoldsIn, consIf, answerOf, writeOf, answersIn, writesIn, Trace, trace, next, replay}
+use Rattle.protocol.specs.RunLaws.{event-cases, call-cases, kept-along, same-picked}
+use Rattle.protocol.specs.Chatter.{waits, isFurther, eventsBut, Alike, SameFor}
+use Rattle.protocol.specs.ChatterLaws.{NoWait, Placed, PlacedBy, Proper, proper-begin, result-placed, and-left, and-right, read-books, event-placed, placed-waits, waits-again}
 
--- a call's lines as a mode sees them
-abbrev pub seenOf : Bool → Record → List Item
-seenOf mode l = map (seenItem mode) (linesOf 0 l)
+-- ---- a run and its replay: from the trace t, in this mode
 
--- what the trace of call c says of the session and of what was given out
-abbrev pub answersBy : CallResult → List (Answer Byte)
-answersBy unfit = []
-answersBy (pending x phase) = []
-answersBy (ended a) = a ∷ []
+module _ (t : Trace) (mode : Bool) where
+  -- without the further packets
+  abbrev behind : Record → Trace
+  behind l = replay t (eventsBut waits (seenOf mode l))
 
-abbrev pub runningBy : Call → CallResult → Running
-runningBy c unfit = idle
-runningBy c (pending x phase) = busy c phase
-runningBy c (ended a) = idle
+  abbrev AsReplayed : Session → Trace → List (Output Byte) → Type 0
+  AsReplayed s r outs = (s ≡ r .session) × (answersIn outs ≡ answersIn (r .outs)) × (writesIn outs ≡ writesIn (r .outs))
 
--- from the trace t of call c, in this mode: after events, the session s, the record w and what was given out are those of the lines
-module _ (c : Call) (t : Trace) (mode : Bool) where
-  abbrev pub behind : Observed → Trace
-  behind w = reached c t (seenOf mode (w .lines))
+  -- the session, its record, and what was given out, the newest first
+  abbrev pub Follows : Session → Observed → List (Output Byte) → Type 0
+  Follows s w outs = AsReplayed s (behind (w .lines)) outs × HoldsIn NoWait Placed mode s w
 
-  pub record MatchesTrace (ws : List (List ℕ)) (w : Observed) (s : Session) (outs : List (Output Byte)) : Type 0 where
-    pub real : Real c t (seenOf mode (w .lines))
-    pub asked : AskedBy c t ((behind w) .result) (seenOf mode (w .lines))
-    pub noted : (y : Note) × (w .notes ≡ y ∷ [])
-    pub inMode : s .books .padded ≡ mode
-    pub running : s .running ≡ runningBy c ((behind w) .result)
-    pub books : s .books ≡ (behind w) .books
-    pub answered : answersIn outs ≡ answersBy ((behind w) .result)
-    pub written : reverseAux (writesIn outs) ws ≡ (behind w) .writes
-
--- the same behind other outputs
-outs-as : {c : Call} {t : Trace} {mode : Bool} {vs ws : List (List ℕ)} {w : Observed} {s : Session} {xs ys : List (Output Byte)} → MatchesTrace c t mode vs w s xs
-    → answersIn ys ≡ answersBy ((behind c t mode w) .result) → reverseAux (writesIn ys) ws ≡ (behind c t mode w) .writes → MatchesTrace c t mode ws w s ys
-outs-as f p q =
-    record { real = f .real; asked = f .asked; noted = f .noted; inMode = f .inMode; running = f .running; books = f .books; answered = p; written = q }
-
-abbrev isUnfit : CallResult → Bool
-isUnfit unfit = true
-isUnfit (pending x phase) = false
-isUnfit (ended a) = false
-
-written-order : (x : Order) (outs : List (Output Byte)) (ws : List (List ℕ)) → reverseAux (writesIn (orders x ∷ outs)) ws ≡ reverseAux (writesIn outs) (withWrite x ws)
-written-order (write bytes) outs ws = refl
-written-order (read ms) outs ws = refl
-written-order drain outs ws = refl
-written-order (pause us) outs ws = refl
-
--- what an observer has seen behind events
-abbrev pub seenBehind : Observed → Session → List EventAndRoom → Observed
-seenBehind w s es = observe w (map eventEntry es) (outputs s (map eventEntry es))
-
--- events in a session with no call are refused
-idle-outs : (b : Books) (es : List EventAndRoom) → (answersIn (outputs (idleWith b) (map eventEntry es)) ≡ []) × (writesIn (outputs (idleWith b) (map eventEntry es)) ≡ [])
-idle-outs b [] = (refl, refl)
-idle-outs b (e ∷ es) = idle-outs b es
-
-pub idle-after : (b : Books) (es : List EventAndRoom) → sessionAfter (idleWith b) (map eventEntry es) ≡ idleWith b
-idle-after b [] = refl
-idle-after b (e ∷ es) = idle-after b es
-
-pub idle-seen : (b : Books) (l : Record) (ns : List Note) (es : List EventAndRoom) → seenBehind (observed l ns) (idleWith b) es ≡ observed l ns
-idle-seen b l ns [] = refl
-idle-seen b l [] (e ∷ es) = idle-seen b l [] es
-idle-seen b l (y ∷ ns) (e ∷ es) = idle-seen b l (y ∷ ns) es
-
--- ---- a call that runs
-
-abbrev pub busyIn : Call → Phase → Books → Session
-busyIn c phase b = record { running = busy c phase; books = b }
-
-module _ (c : Call) (t : Trace) where
-  -- a record l whose last line is an order, and books b: the call is in this phase, and wrote ws
-  pub record Here (l : Record) (b : Books) (phase : Phase) (ws : List (List ℕ)) : Type 0 where
-    pub real : Real c t (seenOf (b .padded) l)
-    pub asked : IsAsked c t (seenOf (b .padded) l)
-    pub order : Order
-    pub is : reached c t (seenOf (b .padded) l) ≡ trace (pending order phase) b ws
-
-  abbrev pub MatchesFrom : Bool → List (List ℕ) → Observed → Session → List EventAndRoom → Type 0
-  MatchesFrom mode ws w s es =
-      MatchesTrace c t mode ws (seenBehind w s es) (sessionAfter s (map eventEntry es)) (outputs s (map eventEntry es))
-
-  abbrev pub RunsOn : List EventAndRoom → Type 0
-  RunsOn es = (l : Record) (y : Note) (phase : Phase) (b : Books) (ws : List (List ℕ)) → Here l b phase ws
-      → MatchesFrom (b .padded) ws (observed l (y ∷ [])) (busyIn c phase b) es
-
-  module _ (e : Event) (room : ℕ) (es : List EventAndRoom) (on : RunsOn es) (l : Record) (y : Note) (phase : Phase) (b : Books) (ws : List (List ℕ)) (h : Here l b phase ws) where
+  -- an event
+  module _ (c : Call) (phase : Phase) (b : Books) (l : Record) (y : Note) (outs : List (Output Byte)) (e : EventAndRoom)
+      (h : Follows (busyIn c phase b) (observed l (y ∷ [])) outs) where
     abbrev d : Event
-    d = seen (b .padded) e
+    d = seen mode (e .event)
 
-    -- what an effect of the event leads to
     abbrev Goal : Effect → Type 0
-    Goal o =
-        MatchesTrace c t (b .padded) ws
-        (seenBehind (addEvent e l (y ∷ []) (given o)) (afterEffect (busyIn c phase b) (event e room) o) es)
-        (sessionAfter (afterEffect (busyIn c phase b) (event e room) o) (map eventEntry es))
-        (given o ∷ outputs (afterEffect (busyIn c phase b) (event e room) o) (map eventEntry es))
+    Goal o = Follows (afterEffect (busyIn c phase b) (eventEntry e) o) (addEvent (e .event) l (y ∷ []) (given o)) (given o ∷ outs)
 
-    refused-goal : (r : Refusal) → Goal (unchanged r)
-    refused-goal r =
-        let f = on l y phase b ws h in
-        outs-as f (f .answered) (f .written)
+    -- it is a further one, or it is replayed
+    abbrev After : Effect → List Event → Type 0
+    After o es = AsReplayed (afterEffect (busyIn c phase b) (eventEntry e) o) (replay t es) (given o ∷ outs)
 
-    -- the event is accepted
-    event-next : (r : CallResult) → progress phase d ≡ r → next c d (reached c t (seenOf (b .padded) l)) ≡ resultTrace c r b ws
-    event-next r p = ap (next c d) (h .is) ∙ ap (λ z. resultTrace c z b ws) p
+    abbrev before : Trace
+    before = behind l
 
-    fits : (r : CallResult) → progress phase d ≡ r → (r ≡ unfit → ⊥) → (next c d (reached c t (seenOf (b .padded) l))) .result ≡ unfit → ⊥
-    fits r p n u = n (sym (ap (λ z. z .result) (event-next r p)) ∙ u)
+    abbrev Taken : CallResult → CallResult → Type 0
+    Taken r q =
+        AsReplayed (afterEffect (busyIn c phase b) (eventEntry e) (effect c r)) (trace (afterEffect (busyIn c phase b) (event d bufferNeed) (effect c q)) (given (effect c q) ∷ before .outs)) (given (effect c r) ∷ outs)
 
-    runs-goal : (x : Order) (new : Phase) → progress phase d ≡ pending x new → Goal (runs c x new)
-    runs-goal x new p =
-        let is : next c d (reached c t (seenOf (b .padded) l)) ≡ resultTrace c (pending x new) b ws = event-next (pending x new) p in
-        let f = on (line 0 (ordered x) ∷ line 0 (accepted e) ∷ l) y new (bookOrder x b) (withWrite x ws) (record {
-          real = ((h .real, h .asked, fits (pending x new) p (λ u. false≢true (ap isUnfit u))), (new, ap (λ z. z .result) is));
-          asked = tt;
-          order = x;
-          is = is;
-        }) in
-        outs-as f (f .answered) (written-order x (outputs (busyIn c new (bookOrder x b)) (map eventEntry es)) ws ∙ f .written)
+    same-after : (r : CallResult) → afterEffect (busyIn c phase b) (eventEntry e) (effect c r) ≡ afterEffect (busyIn c phase b) (event d bufferNeed) (effect c r)
+    same-after unfit = refl
+    same-after (pending x new) = refl
+    same-after (ended a) = refl
 
-    ends-goal : (a : Answer Byte) → progress phase d ≡ ended a → Goal (ends c a)
-    ends-goal a p =
-        let is : next c d (reached c t (seenOf (b .padded) l)) ≡ resultTrace c (ended a) b ws = event-next (ended a) p in
-        let s : Session = idleWith (bookAnswer c a b) in
-        let outs : List (Output Byte) = answers a ∷ outputs s (map eventEntry es) in
-        let none-more = idle-outs (bookAnswer c a b) es in
-        let w : Observed = observed (line 0 (accepted e) ∷ l) (note (y .caller) (y .call) (some a) ∷ []) in
-        let ended-here : MatchesTrace c t (b .padded) ws w s outs = record {
-          real = (h .real, h .asked, fits (ended a) p (λ u. false≢true (ap isUnfit u)));
-          asked = subst (λ r. AskedBy c t r (seenOf (b .padded) (w .lines))) (ap (λ z. z .result) (sym is)) tt;
-          noted = (_, refl);
-          inMode = refl;
-          running = ap (λ z. runningBy c (z .result)) (sym is);
-          books = ap (λ z. z .books) (sym is);
-          answered = ap (λ others. a ∷ others) (none-more .0) ∙ ap (λ z. answersBy (z .result)) (sym is);
-          written = ap (λ vs. reverseAux vs ws) (none-more .1) ∙ ap (λ z. z .writes) (sym is);
-        } in
-        subst (λ k. MatchesTrace c t (b .padded) ws k (sessionAfter s (map eventEntry es)) outs)
-        (sym (idle-seen (bookAnswer c a b) (w .lines) (w .notes) es))
-        (subst (λ r. MatchesTrace c t (b .padded) ws w r outs) (sym (idle-after (bookAnswer c a b) es)) ended-here)
+    taken : (r : CallResult) → progress phase d ≡ r → After (effect c r) (d ∷ eventsBut waits (seenOf mode l))
+    taken r p =
+        subst (λ s. AsReplayed (afterEffect (busyIn c phase b) (eventEntry e) (effect c r)) (next d (trace s (before .outs))) (given (effect c r) ∷ outs)) (h .0 .0)
+        (subst (Taken r) (sym p) (same-after r, ap (consIf (answerOf (given (effect c r)))) (h .0 .1), ap (consIf (writeOf (given (effect c r)))) (h .0 .2)))
 
-    admitted-goal : (o : Effect) → Goal o → Goal (admitted d room o)
-    admitted-goal o g =
-        split Goal (ltb room bufferNeed) _ _ (λ _. refused-goal ShortBuffer)
-        (λ _. split Goal (ltb packetLimit (packetLength d)) _ _ (λ _. refused-goal OverLong) (λ _. g))
+    stays : (waits (seenOf mode l) && isFurther d) ≡ true → (r : CallResult) → progress phase d ≡ r → After (effect c r) (eventsBut waits (seenOf mode l))
+    stays f r p =
+        let w = placed-waits (seenOf mode l) phase (h .1 .1) (and-left (waits (seenOf mode l)) (isFurther d) f) in
+        let again = waits-again (seenOf mode l) phase d w (and-right (waits (seenOf mode l)) (isFurther d) f) in
+        subst (λ r. After (effect c r) (eventsBut waits (seenOf mode l))) (sym again ∙ p)
+        (ap (busyIn c phase) (read-books (w .clock) b) ∙ h .0 .0, h .0 .1, h .0 .2)
 
-    event-goal : (r : CallResult) → progress phase d ≡ r → Goal (eventEffect c d room r)
-    event-goal unfit p = refused-goal OutOfTurn
-    event-goal (pending x new) p = admitted-goal (runs c x new) (runs-goal x new p)
-    event-goal (ended a) p = admitted-goal (ends c a) (ends-goal a p)
+    replayed : (r : CallResult) → progress phase d ≡ r → After (effect c r) (eventsBut waits (accepted d ∷ seenOf mode l))
+    replayed r p = split (After (effect c r)) (waits (seenOf mode l) && isFurther d) _ _ (λ f. stays f r p) (λ _. taken r p)
 
-  pub run-on : (es : List EventAndRoom) → RunsOn es
-  run-on [] l y phase b ws h = record {
-    real = h .real;
-    asked = subst (λ r. AskedBy c t r (seenOf (b .padded) l)) (ap (λ z. z .result) (sym (h .is))) (h .asked);
-    noted = (y, refl);
-    inMode = refl;
-    running = ap (λ z. runningBy c (z .result)) (sym (h .is));
-    books = ap (λ z. z .books) (sym (h .is));
-    answered = ap (λ z. answersBy (z .result)) (sym (h .is));
-    written = ap (λ z. z .writes) (sym (h .is));
-  }
-  run-on (e ∷ es) l y phase b ws h = event-goal (e .event) (e .room) es (run-on es) l y phase b ws h (progress phase (seen (b .padded) (e .event))) refl
+    event-follows : Goal (eventEffect c d (e .room) (progress phase d))
+    event-follows =
+        event-cases Goal (λ r. (progress phase d ≡ r) × PlacedBy (accepted d ∷ seenOf mode l) r) c
+        (λ _. h)
+        (λ x new k. (replayed (pending x new) (k .0), (h .1 .0, k .1)))
+        (λ a k. (replayed (ended a) (k .0), (h .1 .0, k .1)))
+        d (e .room) (progress phase d) (refl, event-placed (seenOf mode l) phase d (h .1 .1))
+
+  step-follows : (r : Running) (b : Books) (l : Record) (ns : List Note) (outs : List (Output Byte)) (e : EventAndRoom) → Follows (sessionAt r b) (observed l ns) outs
+      → (let s = step (sessionAt r b) (eventEntry e) in Follows (s .state) (add (observed l ns) (eventEntry e) (s .output)) (s .output ∷ outs))
+  step-follows idle b l [] outs e h = h
+  step-follows idle b l (y ∷ ns) outs e h = h
+  step-follows (busy c phase) b l [] outs e h = absurd (h .1 .1)
+  step-follows (busy c phase) b l (y ∷ []) outs e h =
+      subst (λ m. Goal c phase b l y outs e h (eventEffect c (seen m (e .event)) (e .room) (progress phase (seen m (e .event))))) (sym (h .1 .0)) (event-follows c phase b l y outs e h)
+  step-follows (busy c phase) b l (y ∷ (z ∷ ns)) outs e h = absurd (h .1 .1)
+
+  pub follows : (es : List EventAndRoom) (s : Session) (w : Observed) (outs : List (Output Byte)) → Follows s w outs
+      → Follows (sessionAfter s (map eventEntry es)) (seenBehind w s es) (reverseAux (outputs s (map eventEntry es)) outs)
+  follows = kept-along Follows (λ s w. step-follows (s .running) (s .books) (w .lines) (w .notes))
 
 -- ---- a call's beginning
 
--- behind the call's entry: no call runs, and the call has no line; or one does, whose events follow
-pub data Begins (s : Session) (w : Observed) : Type 0 where
-  silent : (b : Books) → s ≡ idleWith b → w .lines ≡ [] → Begins s w
-  going : (c : Call) (t : Trace) (l : Record) (y : Note) (phase : Phase) (b : Books) → Proper (t .result) → Here c t l b phase []
-      → s ≡ busyIn c phase b → w ≡ observed l (y ∷ []) → Begins s w
-
 module _ (caller : ℕ) (c : Call) (room : ℕ) where
-  abbrev pub entry : Entry
-  entry = call caller c room
+  -- the entry leaves and gives out what it does: nothing is replayed yet
+  begins : (r : Running) (b : Books)
+      → (let s = step (sessionAt r b) (call caller c room) in
+      Follows (trace (s .state) (s .output ∷ [])) (s .state .books .padded) (s .state) (add (watching (b .caller) r) (call caller c room) (s .output)) (s .output ∷ []))
+  begins idle b =
+      call-cases (λ o. let s = afterEffect (idleWith b) (call caller c room) o in Follows (trace s (given o ∷ [])) (s .books .padded) s (addCall caller c [] [] (given o)) (given o ∷ [])) Proper c
+      (λ _. ((refl, refl, refl), (refl, refl)))
+      (λ x phase q. ((refl, refl, refl), (refl, result-placed [] (pending x phase) refl q)))
+      (λ a q. ((refl, refl, refl), (refl, refl)))
+      (admits b c) caller room (λ s _. proper-begin (isOpening c) s)
+  begins (busy d phase) b = ((refl, refl, refl), (refl, tt))
 
-  module _ (b : Books) where
-    abbrev Begun : Effect → Type 0
-    Begun o = Begins (afterEffect (idleWith b) entry o) (addCall caller c [] [] (given o))
+module _ (s : Session) (caller : ℕ) (c : Call) (room : ℕ) where
+  -- what the call's entry leaves, and what an observer has then seen
+  abbrev pub begunWith : StepResult Session Byte
+  begunWith = step s (call caller c room)
 
-    refused-begins : (r : Refusal) → Begun (unchanged r)
-    refused-begins r = silent b refl refl
+  abbrev pub seenFirst : Observed
+  seenFirst = add (watching (s .books .caller) (s .running)) (call caller c room) (begunWith .output)
 
-    result-begins : (r : CallResult) → Proper r → Begun (effect c r)
-    result-begins unfit p = refused-begins OutOfTurn
-    result-begins (pending x phase) p =
-        let new : Books = bookOrder x (booksFor caller c b) in
-        going c (trace (pending x phase) new []) (line 0 (ordered x) ∷ []) (note caller c none) phase new p
-        (record { real = (tt, (phase, refl)); asked = tt; order = x; is = refl }) refl refl
-    result-begins (ended a) p = silent (bookAnswer c a (booksFor caller c b)) refl refl
+  abbrev begunTrace : Trace
+  begunTrace = trace (begunWith .state) (begunWith .output ∷ [])
 
-    started-begins : (s : Start) → Begun (started c s)
-    started-begins (refuses r) = refused-begins r
-    started-begins (starts s) = result-begins (begin (isOpening c) s) (proper-begin (isOpening c) s)
+  -- behind any events
+  pub call-follows : (es : List EventAndRoom)
+      → Follows begunTrace (begunWith .state .books .padded) (sessionAfter (begunWith .state) (map eventEntry es)) (seenBehind seenFirst (begunWith .state) es) (reverse (outputs s (callEntries caller c room es)))
+  call-follows es = follows begunTrace (begunWith .state .books .padded) es (begunWith .state) seenFirst (begunWith .output ∷ []) (begins caller c room (s .running) (s .books))
 
-    call-begins : (isAdmitted : Bool) → Begun (callEffect isAdmitted caller c room)
-    call-begins isAdmitted =
-        split Begun isAdmitted _ _
-        (λ _. split Begun (ltb room bufferNeed) _ _ (λ _. refused-begins ShortBuffer)
-        (λ _. split Begun (leb caller lastCaller) _ _ (λ _. started-begins (startOf c)) (λ _. refused-begins BadArgument)))
-        (λ _. refused-begins OutOfTurn)
-
-  -- in any session: no call runs, or another one
-  abbrev BeginsIn : Running → Books → Type 0
-  BeginsIn r b = Begins ((step (record { running = r; books = b }) entry) .state) (add (watching (b .caller) r) entry ((step (record { running = r; books = b }) entry) .output))
-
-  begins-in : (r : Running) (b : Books) → BeginsIn r b
-  begins-in idle b = call-begins b (admits b c)
-  begins-in (busy d phase) b =
-      going d (trace (pending drain phase) b []) [] (note (b .caller) d none) phase b (λ h. absurd (false≢true h))
-      (record { real = tt; asked = tt; order = drain; is = refl }) refl refl
-
-  pub begins : (s : Session) → Begins ((step s entry) .state) (add (watching (s .books .caller) (s .running)) entry ((step s entry) .output))
-  begins s = begins-in (s .running) (s .books)
-
--- ---- two runs from one beginning
-
--- all that they gave out, and the sessions behind
-pub record Both (r s : Session) (xs ys : List (Output Byte)) : Type 0 where
-  pub result : answersIn xs ≡ answersIn ys
-  pub written : writesIn xs ≡ writesIn ys
-  pub session : r ≡ s
-
-module _ (c : Call) (t : Trace) (mode : Bool) (p : Proper (t .result)) (v w : Observed) (r s : Session) (xs ys : List (Output Byte)) where
-  same-trace : MatchesTrace c t mode [] v r xs → MatchesTrace c t mode [] w s ys → Alike waits (seenOf mode (v .lines)) (seenOf mode (w .lines)) → Both r s xs ys
-  same-trace f g a =
-      let q : behind c t mode v ≡ behind c t mode w =
-      replayed c t (seenOf mode (v .lines)) p (f .real) ∙ ap (replay c t) a ∙ sym (replayed c t (seenOf mode (w .lines)) p (g .real)) in
-      let writes : reverse (writesIn xs) ≡ reverse (writesIn ys) = f .written ∙ ap (λ z. z .writes) q ∙ sym (g .written) in
-      let running-same : r .running ≡ s .running = f .running ∙ ap (λ z. runningBy c (z .result)) q ∙ sym (g .running) in
-      let books-same : r .books ≡ s .books = f .books ∙ ap (λ z. z .books) q ∙ sym (g .books) in
-      record {
-        result = f .answered ∙ ap (λ z. answersBy (z .result)) q ∙ sym (g .answered);
-        written = sym (reverse-reverse (writesIn xs)) ∙ ap reverse writes ∙ reverse-reverse (writesIn ys);
-        session = λ i. record { running = running-same i; books = books-same i };
-      }
-
-module _ (es ds : List EventAndRoom) where
-  abbrev BothFrom : Session → Type 0
-  BothFrom s = Both (sessionAfter s (map eventEntry es)) (sessionAfter s (map eventEntry ds)) (outputs s (map eventEntry es)) (outputs s (map eventEntry ds))
-
-  idle-same : (b : Books) → BothFrom (idleWith b)
-  idle-same b = record {
-    result = (idle-outs b es) .0 ∙ sym ((idle-outs b ds) .0);
-    written = (idle-outs b es) .1 ∙ sym ((idle-outs b ds) .1);
-    session = idle-after b es ∙ sym (idle-after b ds);
-  }
-
-  abbrev AlikeFrom : Session → Observed → Type 0
-  AlikeFrom s w = Alike waits (seenOf (s .books .padded) ((seenBehind w s es) .lines)) (seenOf (s .books .padded) ((seenBehind w s ds) .lines))
-
-  events-same : (s : Session) (w : Observed) → Begins s w → AlikeFrom s w → BothFrom s
-  events-same s w (silent b p q) = subst (λ r. AlikeFrom r w → BothFrom r) (sym p) (λ a. idle-same b)
-  events-same s w (going c t l y phase b h k p q) =
-      subst (λ r. AlikeFrom r w → BothFrom r) (sym p)
-      (subst (λ v. AlikeFrom (busyIn c phase b) v → BothFrom (busyIn c phase b)) (sym q)
-      (same-trace c t (b .padded) h (seenBehind (observed l (y ∷ [])) (busyIn c phase b) es) (seenBehind (observed l (y ∷ [])) (busyIn c phase b) ds) _ _ _ _
-      (run-on c t es l y phase b [] k) (run-on c t ds l y phase b [] k)))
-
--- the first output is the same
-more-answers : (o : Output Byte) (xs ys : List (Output Byte)) → answersIn xs ≡ answersIn ys → answersIn (o ∷ xs) ≡ answersIn (o ∷ ys)
-more-answers (orders x) xs ys e = e
-more-answers (answers a) xs ys e = ap (λ others. a ∷ others) e
-more-answers (rejects r) xs ys e = e
-
-more-writes : (o : Output Byte) (xs ys : List (Output Byte)) → writesIn xs ≡ writesIn ys → writesIn (o ∷ xs) ≡ writesIn (o ∷ ys)
-more-writes (orders (write bytes)) xs ys e = ap (λ others. bytes ∷ others) e
-more-writes (orders (read ms)) xs ys e = e
-more-writes (orders drain) xs ys e = e
-more-writes (orders (pause us)) xs ys e = e
-more-writes (answers a) xs ys e = e
-more-writes (rejects r) xs ys e = e
-
--- the theorem
+-- the theorem: two runs from one beginning, with the same replay
 pub chatter-same : (s : Session) (caller : ℕ) (c : Call) (room : ℕ) (es ds : List EventAndRoom)
     → Alike waits (linesFrom s caller c room es) (linesFrom s caller c room ds)
     → SameFor s (callEntries caller c room es) (callEntries caller c room ds)
-chatter-same s caller c room es ds a =
-    let o = (step s (call caller c room)) .output in
-    let r = (step s (call caller c room)) .state in
-    let f = events-same es ds _ _ (begins caller c room s) a in
+chatter-same s caller c room es ds alike =
+    let f = (call-follows s caller c room es) .0 in
+    let g = (call-follows s caller c room ds) .0 in
+    let xs = outputs s (callEntries caller c room es) in
+    let ys = outputs s (callEntries caller c room ds) in
+    let same = ap (replay (begunTrace s caller c room)) alike in
+    let after = f .0 ∙ ap (λ z. z .session) same ∙ sym (g .0) in
     record {
-      result = more-answers o (outputs r (map eventEntry es)) (outputs r (map eventEntry ds)) (f .result);
-      written = more-writes o (outputs r (map eventEntry es)) (outputs r (map eventEntry ds)) (f .written);
-      counted = ap (λ r. r .books .counts) (f .session);
-      after = f .session;
+      result = same-picked answerOf xs ys (f .1 ∙ ap (λ z. answersIn (z .outs)) same ∙ sym (g .1));
+      written = same-picked writeOf xs ys (f .2 ∙ ap (λ z. writesIn (z .outs)) same ∙ sym (g .2));
+      counted = ap (λ z. z .books .counts) after;
+      after = after;
     }

@@ -14,8 +14,8 @@ use Rattle.protocol.specs.Scripts.{refused}
 use Rattle.protocol.specs.Calls.{Call, reader, request, version, getFirmwareVersionCode}
 use Rattle.protocol.specs.Session.{noCounts, Session, Output, orders, answers, outputs, bufferNeed}
 use Rattle.protocol.specs.Machine.{outputValues}
-use Rattle.protocol.specs.PollList.{EventAndRoom, idleWith, eventWith}
-use Rattle.protocol.specs.Chatter.{unanswered, Alike, callEntries, linesFrom, answersIn, SameFor}
+use Rattle.protocol.specs.Runs.{EventAndRoom, idleWith, eventWith, callEntries, linesFrom, answersIn}
+use Rattle.protocol.specs.Chatter.{unanswered, Alike, SameFor}
 use Rattle.protocol.specs.Sample.{formats}
 use Rattle.protocol.specs.Names.{commandClock}
 

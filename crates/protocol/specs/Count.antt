@@ -7,17 +7,17 @@ use Prim.Native.Nat.{ℕ, zero, suc, _+_, _≤_, _<_, min}
 use native.Mathlib.Omega.{arith}
 use native.Mathlib.Nat.{zero-add}
 use borrow.Author.Tests.{eqb-true, eqb-false}
-use lib.Dec.{eqb, leb, ltb}
+use lib.Dec.{eqb}
 use lib.ListN.{length, getD}
 use Rattle.exchange.specs.Packets.{isAck}
-use Rattle.exchange.specs.Exchange.{Order, write, read, drain, pause, Event, unfit, pending, ended}
+use Rattle.exchange.specs.Exchange.{Order, write, read, drain, pause, Event}
 use Rattle.protocol.specs.Scripts.{Byte, Answer}
 use Rattle.protocol.specs.Calls.{Call, opening, reader, isOpening}
-use Rattle.protocol.specs.Starts.{Start, refuses, starts, startOf}
-use Rattle.protocol.specs.Session.{CallResult, begin, progress, Running, idle, busy, Books, lastCaller, noCounts, admits, booksFor, ceiling, addFrame, counted, countedFor, Session, fresh, Entry, call, event, callerCount}
-use Rattle.protocol.specs.Session.{Effect, effect, bufferNeed, packetLimit, seen, packetLength, admitted, eventEffect, started, callEffect, effectOf, booksAfter, given, step, outputs, sessionAfter}
-use Rattle.protocol.specs.Record.{Item, ordered, accepted, Record, Note, note, Observed, observed, addCall, addEvent, add, observe, recordOf, linesOf, seenLines, oneIf, frames, framesBy, line}
+use Rattle.protocol.specs.Session.{Phase, CallResult, progress, Running, idle, busy, Books, lastCaller, noCounts, admits, booksFor, ceiling, addFrame, counted, countedFor, Session, fresh, Entry, call, event, callerCount}
+use Rattle.protocol.specs.Session.{Effect, runs, seen, eventEffect, callEffect, effectOf, booksAfter, given, step, outputs, sessionAfter}
+use Rattle.protocol.specs.Record.{Item, ordered, accepted, Record, Note, note, Observed, observed, addCall, addEvent, add, recordOf, linesOf, seenLines, oneIf, frames, framesBy, line}
 use Rattle.protocol.specs.Laws.{split, lines-own, lines-other}
+use Rattle.protocol.specs.RunLaws.{event-cases, call-cases, kept-after}
 use Rattle.protocol.specs.Theorem.{RunningAgrees, AgreesWith, unused, agrees, fresh-agrees}
 use Rattle.protocol.specs.Seen.{Unused, no-lines, callerAt}
 
@@ -128,21 +128,12 @@ module _ (k : ℕ) (few : k ≤ lastCaller) where
     caller-of (opening mode) = refl
     caller-of (reader d) = refl
 
-    begin-right : (r : CallResult) → Starts (effect c r)
-    begin-right unfit = right
-    begin-right (pending x phase) =
-        rw (caller-of c) (length-counted caller x ((booksFor caller c b) .counts) ∙ eight c, ordered-right x)
-    begin-right (ended a) = (eight c, rw no-line (base c))
-
-    started-right : (s : Start) → Starts (started c s)
-    started-right (refuses r) = right
-    started-right (starts s) = begin-right (begin (isOpening c) s)
-
     call-right : (isAdmitted : Bool) → Starts (callEffect isAdmitted caller c room)
     call-right isAdmitted =
-        split Starts isAdmitted _ _
-        (λ _. split Starts (ltb room bufferNeed) _ _ (λ _. right) (λ _. split Starts (leb caller lastCaller) _ _ (λ _. started-right (startOf c)) (λ _. right)))
-        (λ _. right)
+        call-cases Starts (λ _. Unit {0}) c (λ _. right)
+        (λ x phase _. rw (caller-of c) (length-counted caller x ((booksFor caller c b) .counts) ∙ eight c, ordered-right x))
+        (λ a _. (eight c, rw no-line (base c)))
+        isAdmitted caller room (λ _ _. tt)
 
   -- ---- an event
 
@@ -154,9 +145,8 @@ module _ (k : ℕ) (few : k ≤ lastCaller) where
     accepted-right a =
         rw (lines-own (length ns) l (accepted e) (linesOf (length ns) l) refl, older l (length ns) (accepted e) ns (omega arith), zero-add (frames (linesOf (length ns) l))) (right .1)
 
-    goes-right : (r : CallResult) → Goes (effect c r)
-    goes-right unfit = right
-    goes-right (pending x new) =
+    goes-right : (x : Order) (phase : Phase) → Goes (runs c x phase)
+    goes-right x phase =
         let n : ℕ = length ns in
         let l₁ : Record = line n (accepted e) ∷ l in
         let own : linesOf n (line n (ordered x) ∷ l₁) ≡ ordered x ∷ accepted e ∷ linesOf n l =
@@ -170,17 +160,10 @@ module _ (k : ℕ) (few : k ≤ lastCaller) where
               ∙ rw (whose, own, old)
               (mine-right (eqb k (y .caller)) (getD (b .counts) k 0) (accepted e ∷ linesOf n l) x (cond (isOpening (y .call)) 0 (framesBy k l ns)) before),
         )
-    goes-right (ended a) = (right .0, accepted-right (some a))
 
     -- d: the event as it is seen
-    admitted-right : (d : Event) (o : Effect) → Goes o → Goes (admitted d room o)
-    admitted-right d o h =
-        split Goes (ltb room bufferNeed) _ _ (λ _. right) (λ _. split Goes (ltb packetLimit (packetLength d)) _ _ (λ _. right) (λ _. h))
-
     event-right : (d : Event) (r : CallResult) → Goes (eventEffect c d room r)
-    event-right d unfit = right
-    event-right d (pending x new) = admitted-right d (effect c (pending x new)) (goes-right (pending x new))
-    event-right d (ended a) = admitted-right d (effect c (ended a)) (goes-right (ended a))
+    event-right d r = event-cases Goes (λ _. Unit {0}) c (λ _. right) (λ x phase _. goes-right x phase) (λ a _. (right .0, accepted-right (some a))) d room r tt
 
   -- ---- any list
 
@@ -194,19 +177,19 @@ module _ (k : ℕ) (few : k ≤ lastCaller) where
   entry-right (busy c phase) b l (y ∷ ns) (event e room) i u w r =
       event-right c b l y ns e room w r (seen (b .padded) e) (progress phase (seen (b .padded) e))
 
-  right-after : (s : Session) (w : Observed) (es : List Entry) → AgreesWith s w → Right (s .books) w
-      → Right ((sessionAfter s es) .books) (observe w es (outputs s es))
-  right-after s w [] i r = r
-  right-after s w (e ∷ es) i r =
-      right-after ((step s e) .state) (add w e ((step s e) .output)) es (agrees s w e i)
-      (entry-right (s .running) (s .books) (w .lines) (w .notes) e (i .running) (unused s w i) (i .caller) r)
+  -- with what the record agrees on
+  abbrev AgreesRight : Session → Observed → Type 0
+  AgreesRight s w = AgreesWith s w × Right (s .books) w
 
-  fresh-right : Right (fresh .books) (observed [] [])
-  fresh-right = (refl, no-counts k noCounts all-zero)
+  step-right : (s : Session) (w : Observed) (e : Entry) → AgreesRight s w → AgreesRight ((step s e) .state) (add w e ((step s e) .output))
+  step-right s w e (i, r) = (agrees s w e i, entry-right (s .running) (s .books) (w .lines) (w .notes) e (i .running) (unused s w i) (i .caller) r)
+
+  right-after : (es : List Entry) → Right ((sessionAfter fresh es) .books) (recordOf es (outputs fresh es))
+  right-after es = (kept-after AgreesRight step-right fresh (observed [] []) es (fresh-agrees, (refl, no-counts k noCounts all-zero))) .1
 
 pub eight-counts : (es : List Entry) → length ((sessionAfter fresh es) .books .counts) ≡ callerCount
-eight-counts es = (right-after 0 (omega arith) fresh (observed [] []) es fresh-agrees (fresh-right 0 (omega arith))) .0
+eight-counts es = (right-after 0 (omega arith) es) .0
 
 pub counts-right : (es : List Entry) (k : ℕ) → k ≤ lastCaller
     → getD ((sessionAfter fresh es) .books .counts) k 0 ≡ min (framesBy k ((recordOf es (outputs fresh es)) .lines) ((recordOf es (outputs fresh es)) .notes)) ceiling
-counts-right es k few = (right-after k few fresh (observed [] []) es fresh-agrees (fresh-right k few)) .1
+counts-right es k few = (right-after k few es) .1

@@ -5,16 +5,15 @@ use mathlib.Core.List.{List, [], _∷_}
 use Prim.Native.Nat.{ℕ, zero, suc, _+_, _≤_, _<_}
 use native.Mathlib.Omega.{arith}
 use borrow.Author.Tests.{leb-true}
-use lib.Dec.{eqb, leb, ltb}
+use lib.Dec.{eqb}
 use lib.ListN.{length, getD}
-use Rattle.exchange.specs.Exchange.{Event, unfit, pending, ended}
+use Rattle.exchange.specs.Exchange.{Event}
 use Rattle.protocol.specs.Scripts.{Byte}
-use Rattle.protocol.specs.Calls.{Call, isOpening}
-use Rattle.protocol.specs.Starts.{Start, refuses, starts, startOf}
-use Rattle.protocol.specs.Session.{CallResult, begin, Running, idle, busy, Books, lastCaller, ceiling, admits, Session, fresh, Entry, call, event, Output, orders, answers, rejects}
-use Rattle.protocol.specs.Session.{Effect, effect, bufferNeed, started, callEffect, effectOf, given, step, outputs, sessionAfter}
-use Rattle.protocol.specs.Record.{Record, Note, Observed, observed, addCall, addEvent, add, observe, recordOf, linesOf, frames, framesSinceOpening, framesBy}
-use Rattle.protocol.specs.Laws.{split}
+use Rattle.protocol.specs.Calls.{isOpening}
+use Rattle.protocol.specs.Session.{Running, idle, busy, Books, lastCaller, ceiling, admits, fresh, Entry, call, event, Output, orders, answers, rejects}
+use Rattle.protocol.specs.Session.{effectOf, given, outputs, sessionAfter}
+use Rattle.protocol.specs.Record.{Record, Note, observed, addCall, addEvent, add, recordOf, linesOf, frames, framesSinceOpening, framesBy}
+use Rattle.protocol.specs.RunLaws.{call-cases, kept-after}
 use Rattle.protocol.specs.Count.{counts-right}
 
 -- over all callers
@@ -33,36 +32,16 @@ event-known e l (x ∷ ns) (orders o) h = h
 event-known e l (x ∷ ns) (answers a) h = h
 event-known e l (x ∷ ns) (rejects r) h = h
 
-module _ (l : Record) (ns : List Note) (caller : ℕ) (c : Call) (room : ℕ) (known : Known ns) where
-  abbrev Starts : Effect → Type 0
-  Starts o = Known ((addCall caller c l ns (given o)) .notes)
-
-  begin-known : caller ≤ lastCaller → (r : CallResult) → Starts (effect c r)
-  begin-known h unfit = known
-  begin-known h (pending x phase) = (h, known)
-  begin-known h (ended a) = (h, known)
-
-  started-known : caller ≤ lastCaller → (s : Start) → Starts (started c s)
-  started-known h (refuses r) = known
-  started-known h (starts s) = begin-known h (begin (isOpening c) s)
-
-  call-known : (isAdmitted : Bool) → Starts (callEffect isAdmitted caller c room)
-  call-known isAdmitted =
-      split Starts isAdmitted _ _
-      (λ _. split Starts (ltb room bufferNeed) _ _ (λ _. known)
-      (λ _. split Starts (leb caller lastCaller) _ _ (λ h. started-known (leb-true caller lastCaller h) (startOf c)) (λ _. known)))
-      (λ _. known)
-
 entry-known : (p : Running) (b : Books) (l : Record) (ns : List Note) (e : Entry) → Known ns → Known ((add (observed l ns) e (given (effectOf p b e))) .notes)
-entry-known idle b l ns (call caller c room) h = call-known l ns caller c room h (admits b c)
+entry-known idle b l ns (call caller c room) h =
+    call-cases (λ o. Known ((addCall caller c l ns (given o)) .notes)) (λ _. caller ≤ lastCaller) c
+    (λ _. h) (λ x phase k. (k, h)) (λ a k. (k, h)) (admits b c) caller room (λ s a. leb-true caller lastCaller (a .known))
 entry-known idle b l ns (event e room) h = event-known e l ns _ h
 entry-known (busy d phase) b l ns (call caller c room) h = h
 entry-known (busy d phase) b l ns (event e room) h = event-known e l ns _ h
 
-known-after : (s : Session) (w : Observed) (es : List Entry) → Known (w .notes) → Known ((observe w es (outputs s es)) .notes)
-known-after s w [] h = h
-known-after s w (e ∷ es) h =
-    known-after ((step s e) .state) (add w e ((step s e) .output)) es (entry-known (s .running) (s .books) (w .lines) (w .notes) e h)
+known-after : (es : List Entry) → Known ((recordOf es (outputs fresh es)) .notes)
+known-after es = kept-after (λ s w. Known (w .notes)) (λ s w e. entry-known (s .running) (s .books) (w .lines) (w .notes) e) fresh (observed [] []) es tt
 
 -- ---- the sum
 
@@ -97,7 +76,7 @@ framesIn es k = framesBy k ((recordOf es (outputs fresh es)) .lines) ((recordOf 
 
 pub counts-add-up : (es : List Entry) → ((k : ℕ) → k ≤ lastCaller → countsAfter es k < ceiling)
     → sumOverCallers (countsAfter es) ≡ framesSinceOpening ((recordOf es (outputs fresh es)) .lines) ((recordOf es (outputs fresh es)) .notes)
-counts-add-up es below = sums ∙ all-callers ((recordOf es (outputs fresh es)) .lines) ((recordOf es (outputs fresh es)) .notes) (known-after fresh (observed [] []) es tt)
+counts-add-up es below = sums ∙ all-callers ((recordOf es (outputs fresh es)) .lines) ((recordOf es (outputs fresh es)) .notes) (known-after es)
   where
     exact : (k : ℕ) → k ≤ lastCaller → countsAfter es k ≡ framesIn es k
     exact k h = omega (arith, counts-right es k h, below k h)

@@ -30,6 +30,11 @@ pub split {ℓ} : {X : Type 0} (P : X → Type ℓ) (b : Bool) (x y : X) → (b 
 split P true x y f g = f refl
 split P false x y f g = g refl
 
+-- two that go by one test
+pub split₂ {ℓ} : {X Y : Type 0} (P : X → Y → Type ℓ) (b : Bool) (x y : X) (u v : Y) → (b ≡ true → P x u) → (b ≡ false → P y v) → P (cond b x y) (cond b u v)
+split₂ P true x y u v f g = f refl
+split₂ P false x y u v f g = g refl
+
 -- 17, or another fault
 pub by-fault : (P : Fault → Type 0) → P NoCard → ((r : Fault) → ((A : Type 0) (x y : A) → byNoCard x y r ≡ y) → P r) → (r : Fault) → P r
 by-fault P h k Transport = k Transport (λ A x y. refl)

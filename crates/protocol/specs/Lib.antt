@@ -17,6 +17,7 @@ pub mod Claim
 -- the theorems; what simulates the definitions has demand 3
 pub mod Demand3
 pub mod Machine
+pub mod Runs
 pub mod PollList
 pub mod PollEqual
 pub mod PollMachine
@@ -25,12 +26,14 @@ pub mod UidAndAts
 pub mod Sample
 -- proofs
 pub mod Laws
+pub mod RunLaws
 pub mod Values
 pub mod Sound
 pub mod PollSound
 pub mod PollAlong
 pub mod PollRuns
 pub mod BlocksSound
+pub mod BlocksHanded
 pub mod CallsSound
 pub mod Invariant
 pub mod Preserved

@@ -7,16 +7,17 @@ use native.Mathlib.Omega.{arith}
 use lib.Dec.{eqb}
 use Rattle.errors.specs.declared.Fault.{Fault}
 use Rattle.framing.specs.Frames.{ack}
-use Rattle.exchange.specs.Packets.{commandFrame, hasStart, ackLed, isEmpty, Reply, response, failed}
+use Rattle.exchange.specs.Packets.{commandFrame, Reply, response, failed}
 use Rattle.exchange.specs.Exchange.{write, Event, ok, bad, pkt, time, fail, late, slept, unfit, pending, ended}
 use Rattle.exchange.specs.Exchange.{ExchangePhase, sending, reading, waiting, cancelling, rejecting, draining}
-use Rattle.exchange.specs.Exchange.{ExchangeResult, afterAck, onPacket, onFirstPacket, onLaterPacket, onDrained, advance}
+use Rattle.exchange.specs.Exchange.{ExchangeResult, afterAck, advance}
 use Rattle.protocol.specs.Scripts.{Byte, Answer, Script, finish, command, reset, fieldPause, either, ifElse, andThen}
 use Rattle.protocol.specs.Discovery.{detectTypeF}
 use Rattle.protocol.specs.Session.{byReply, ofReset, Phase, exchange, resetAck, resetPause, fieldPausing, openingAck, openingReads}
 use Rattle.protocol.specs.Session.{CallResult, startScript, afterExchange, progress}
 use Rattle.protocol.specs.Record.{ordered, oneIf, isCommand}
-use Rattle.protocol.specs.Laws.{split, by-write, by-read, frame-not-ack, ack-is-ack}
+use Rattle.protocol.specs.RunLaws.{sending-cases, reading-cases, waiting-cases, cancelling-cases, rejecting-cases, draining-cases}
+use Rattle.protocol.specs.Laws.{split, frame-not-ack, ack-is-ack}
 
 -- no reset on any path
 abbrev pub NoReset : Script → Type 0
@@ -52,26 +53,13 @@ bare-ack = rw ack-is-ack refl
 bare-after-ack : (code clock : ℕ) → Bare (afterAck code clock)
 bare-after-ack code clock = split Bare (eqb clock 0) _ _ (λ _. bare-ack) (λ _. refl)
 
-bare-packet : (code clock : ℕ) (packet : List ℕ) → Bare (onPacket code clock packet)
-bare-packet code clock packet = split Bare (ackLed packet) _ _ (λ _. bare-after-ack code clock) (λ _. tt)
-
-bare-first : (code clock : ℕ) (packet : List ℕ) → Bare (onFirstPacket code clock packet)
-bare-first code clock packet =
-    split Bare (isEmpty packet) _ _ (λ _. tt) (λ _. split Bare (hasStart packet) _ _ (λ _. bare-packet code clock packet) (λ _. bare-ack))
-
-bare-later : (code clock : ℕ) (packet : List ℕ) → Bare (onLaterPacket code clock packet)
-bare-later code clock packet = split Bare (isEmpty packet) _ _ (λ _. tt) (λ _. bare-packet code clock packet)
-
-bare-drained : (packet : List ℕ) → Bare (onDrained packet)
-bare-drained packet = split Bare (isEmpty packet) _ _ (λ _. tt) (λ _. refl)
-
 pub bare : (step : ExchangePhase) (e : Event) → Bare (advance step e)
-bare (sending code clock) = by-write (λ e r. Bare r) unfit (λ _. tt) _ _ refl bare-ack
-bare (reading code clock) = by-read (λ e r. Bare r) unfit (λ _. tt) (onFirstPacket code clock) _ _ _ (bare-first code clock) tt tt tt
-bare (waiting code clock) = by-read (λ e r. Bare r) unfit (λ _. tt) (onLaterPacket code clock) _ _ _ (bare-later code clock) tt tt bare-ack
-bare (cancelling r) = by-write (λ e r. Bare r) unfit (λ _. tt) _ _ tt tt
-bare rejecting = by-write (λ e r. Bare r) unfit (λ _. tt) _ _ refl refl
-bare draining = by-read (λ e r. Bare r) unfit (λ _. tt) onDrained _ _ _ bare-drained tt refl tt
+bare (sending code clock) = sending-cases (λ e r. Bare r) (λ _. tt) code clock refl bare-ack
+bare (reading code clock) = reading-cases (λ e r. Bare r) (λ _. tt) code clock (λ _. tt) tt (λ _ _. bare-after-ack code clock) (λ _. tt) (λ _. bare-ack)
+bare (waiting code clock) = waiting-cases (λ e r. Bare r) (λ _. tt) code clock (λ _. tt) tt (λ _ _. bare-after-ack code clock) (λ _. tt) bare-ack
+bare (cancelling r) = cancelling-cases (λ e r. Bare r) (λ _. tt) r (λ _. tt)
+bare rejecting = rejecting-cases (λ e r. Bare r) (λ _. tt) (λ _. refl)
+bare draining = draining-cases (λ e r. Bare r) (λ _. tt) (λ _. tt) (λ _ _. refl) refl
 
 -- ---- side by side
 

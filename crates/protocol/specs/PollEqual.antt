@@ -1,6 +1,6 @@
 -- One call for a list of system codes equals the single calls made in list order.
 use mathlib.Core.Path.{_≡_, refl, ap, ap₂, sym, _∙_, subst⁻¹, subst₂}
-use mathlib.Core.Bool.{Bool, true, false, cond}
+use mathlib.Core.Bool.{Bool, true, false, cond, _||_}
 use mathlib.Core.List.{List, [], _∷_, _++_, map}
 use mathlib.Core.Option.{Option, none, some}
 use Prim.Native.Nat.{ℕ, suc, _+_, _/_, _%_, _≤_}
@@ -9,7 +9,7 @@ use borrow.Author.Tests.{eq-eqb}
 use lib.Dec.{eqb, ltb, leb}
 use lib.ListN.{length}
 use Rattle.errors.specs.declared.Refusal.{Refusal}
-use Rattle.errors.specs.declared.Refusal.the-variants.{OutOfTurn, ShortBuffer, OverLong, Bitrate as BadBitrate, BadArgument}
+use Rattle.errors.specs.declared.Refusal.the-variants.{OutOfTurn, Bitrate as BadBitrate}
 use Rattle.errors.specs.declared.Fault.{Fault}
 use Rattle.errors.specs.declared.Fault.the-variants.{NoCard}
 use Rattle.framing.specs.Lists.{both-false-r}
@@ -22,33 +22,20 @@ use Rattle.protocol.specs.Discovery.{codeEnd, systemCodeReq, pollCodes}
 use Rattle.protocol.specs.Discovery as discovery
 use Rattle.targets.specs.Bitrates.{Choice, chosen, noCode, choiceOf, byBitrate, byCode}
 use Rattle.protocol.specs.Calls.{Call, reader, device, pollTypeF, readRegisterCode}
-use Rattle.protocol.specs.Starts.{Start, refuses, starts, codeFor, typeFCode}
+use Rattle.protocol.specs.Starts.{Start, refuses, starts, startOf, codeFor, typeFCode}
 use Rattle.protocol.specs.Session.{Phase, seen, lastCaller}
 use Rattle.protocol.specs.Session.{CallResult, startScript, progress, idle, busy, Books, Session, call}
-use Rattle.protocol.specs.Session.{Effect, unchanged, runs, ends, effect, bufferNeed, packetLimit, packetLength, admitted, eventEffect, bookOrder, effectOf, given, afterEffect}
+use Rattle.protocol.specs.Session.{Effect, unchanged, runs, ends, effect, started, bufferNeed, admitted, eventEffect, bookOrder, effectOf, given, afterEffect}
 use Rattle.protocol.specs.Record.{Item, ordered, accepted, Record, Note, note, observed, addCall, addEvent, linesOf, oneIf, isCommand, frames, line}
 use Rattle.protocol.specs.Laws.{by-fault, frame-not-ack, lines-own}
+use Rattle.protocol.specs.RunLaws.{both-admitted, both-called}
 use Rattle.protocol.specs.Seen.{Unused, no-lines, more-unused}
 use Rattle.protocol.specs.PollSound.{words-count}
 use Rattle.protocol.specs.PollAlong.{detect-no-reset, Along, Goes, along}
-use Rattle.protocol.specs.PollList.{EventAndRoom, eventEntry, oneCall, single, endsCode, withNext, handOn, singleCalls, addRefusal, Run, run, framesOf, codeBytes, allBytes, allFinished, byNewest, items, Equal, idleWith}
+use Rattle.protocol.specs.PollList.{oneCall, single, endsCode, withNext, handOn, singleCalls, addRefusal, Run, run, framesOf, codeBytes, allBytes, allFinished, byNewest, items, Equal}
+use Rattle.protocol.specs.Runs.{EventAndRoom, eventEntry, idleWith}
 use Rattle.protocol.specs.PollRuns.{frames-older, bytes-older, from, idle-equal}
 use Rattle.protocol.specs.Names.{ciuTxControl}
-
--- an event that is admitted on both sides, or on none
-both-admitted : (P : Effect → Effect → Type 0) (e : Event) (room : ℕ) (o u : Effect) → ((r : Refusal) → P (unchanged r) (unchanged r)) → P o u
-    → P (admitted e room o) (admitted e room u)
-both-admitted P e room o u h k = first (ltb room bufferNeed)
-  where
-    second : (t : Bool) → P (cond t (unchanged OverLong) o) (cond t (unchanged OverLong) u)
-    second true = h OverLong
-    second false = k
-
-    first : (t : Bool) → P
-        (cond t (unchanged ShortBuffer) (cond (ltb packetLimit (packetLength e)) (unchanged OverLong) o))
-        (cond t (unchanged ShortBuffer) (cond (ltb packetLimit (packetLength e)) (unchanged OverLong) u))
-    first true = h ShortBuffer
-    first false = second (ltb packetLimit (packetLength e))
 
 -- a script that starts fits every event
 start-admitted : (c : Call) (e : Event) (room : ℕ) (s : Script) → eventEffect c e room (startScript s) ≡ admitted e room (effect c (startScript s))
@@ -262,10 +249,10 @@ module _ (caller : ℕ) (known : leb caller lastCaller ≡ true) (text words : L
     by-result : (d : Event) (r s : CallResult) → Goes (restOfList (g .first) (length ns) (g .found) codes) (g .k) r s
         → Both (eventEffect listCall d (e .room) r) (eventEffect (single text systemCode) d (e .room) s)
     by-result d r unfit i = rw i (both-unchanged OutOfTurn)
-    by-result d r (pending y q′) (p′, i, h) = rw i (both-admitted Both d (e .room) _ _ both-unchanged (both-run y p′ q′ h))
+    by-result d r (pending y q′) (p′, i, h) = rw i (both-admitted Both both-unchanged d (e .room) _ _ (both-run y p′ q′ h))
     by-result d r (ended a) i =
         rw (i, start-admitted listCall d (e .room) (restOfList (g .first) (length ns) (g .found) codes (g .k) a))
-        (both-admitted Both d (e .room) _ _ both-unchanged (both-end a))
+        (both-admitted Both both-unchanged d (e .room) _ _ (both-end a))
 
   busy-equal : (es : List EventAndRoom) → BusyEqual es
   busy-equal [] b l m ns systemCode codes p q x isOpen g = record { lines = g .lines; refusals = refl; answer = refl; books = refl; free = refl }
@@ -324,33 +311,15 @@ module _ (caller : ℕ) (text words : List ℕ) (room : ℕ) (es : List EventAnd
       }
 
   start-equal : Starts
-  start-equal = by-room (ltb room bufferNeed) refl
-    where
-      by-room : (t : Bool) → ltb room bufferNeed ≡ t → Starts
-      by-room true h =
-          subst₂ Started
-          (let e : unchanged ShortBuffer ≡ effectOf idle b (call caller theList room) = rw (isOpen, h) refl in e)
-          (let e : unchanged ShortBuffer ≡ effectOf idle b (call caller (single text y) room) = rw (isOpen, h) refl in e)
-          (start-refused ShortBuffer)
-      by-room false h = by-caller (leb caller lastCaller) refl
-        where
-          by-caller : (t : Bool) → leb caller lastCaller ≡ t → Starts
-          by-caller false known =
-              subst₂ Started
-              (let e : unchanged BadArgument ≡ effectOf idle b (call caller theList room) = rw (isOpen, h, known) refl in e)
-              (let e : unchanged BadArgument ≡ effectOf idle b (call caller (single text y) room) = rw (isOpen, h, known) refl in e)
-              (start-refused BadArgument)
-          by-caller true known =
-              by-bitrate Starts (choiceOf text)
-              (λ none-taken. subst₂ Started
-              (let e : unchanged BadBitrate ≡ effectOf idle b (call caller theList room) = rw (isOpen, h, known, fits, none-taken (λ code. starts (discovery.pollTypeF code (wordsIn words)))) refl in e)
-              (let e : unchanged BadBitrate ≡ effectOf idle b (call caller (single text y) room) = rw (isOpen, h, known, none-taken (λ code. starts (discovery.detectTypeF code (systemCodeReq y)))) refl in e)
-              (start-refused BadBitrate))
-              (λ code takes. subst₂ Started
-              (let e : effect theList (startScript (pollCodes code 0 0 [] (y ∷ ys))) ≡ effectOf idle b (call caller theList room) = rw (isOpen, h, known, fits, takes (λ code. starts (discovery.pollTypeF code (wordsIn words))), codes) refl in e)
-              (let e : effect (single text y) (startScript (discovery.detectTypeF code (systemCodeReq y))) ≡ effectOf idle b (call caller (single text y) room) =
-              rw (isOpen, h, known, takes (λ code. starts (discovery.detectTypeF code (systemCodeReq y)))) refl in e)
-              (start-runs known code takes h))
+  start-equal =
+      both-called Started start-refused (b .opened || false) caller room theList (single text y)
+      (λ enough known. by-bitrate (Started (started theList (startOf theList)) (started (single text y) (startOf (single text y)))) (choiceOf text)
+      (λ none-taken. rw (fits, none-taken (λ code. starts (discovery.pollTypeF code (wordsIn words))), none-taken (λ code. starts (discovery.detectTypeF code (systemCodeReq y)))) (start-refused BadBitrate))
+      (λ code takes. subst₂ Started
+      (let e : effect theList (startScript (pollCodes code 0 0 [] (y ∷ ys))) ≡ started theList (startOf theList) = rw (fits, takes (λ code. starts (discovery.pollTypeF code (wordsIn words))), codes) refl in e)
+      (let e : effect (single text y) (startScript (discovery.detectTypeF code (systemCodeReq y))) ≡ started (single text y) (startOf (single text y)) =
+      rw (takes (λ code. starts (discovery.detectTypeF code (systemCodeReq y)))) refl in e)
+      (start-runs known code takes enough)))
 
 -- no codes: 4
 none-fit : (words : List ℕ) → wordsIn words ≡ [] → systemCodesFit words ≡ false

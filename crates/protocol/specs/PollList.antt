@@ -7,31 +7,20 @@ use Prim.Native.Nat.{ℕ, _+_}
 use lib.Dec.{eqb}
 use lib.ListN.{length}
 use Rattle.errors.specs.declared.Refusal.{Refusal}
-use Rattle.exchange.specs.Exchange.{Event}
 use Rattle.protocol.specs.Scripts.{Byte, commandsLater, Answer, done, type1, uidAndAts, nothing, refused, refusedAfter}
 use Rattle.protocol.specs.Discovery.{byNoCard, cardMet, noCardMet}
 use Rattle.protocol.specs.Calls.{Call, reader, device, detectTypeF, pollTypeF}
 use Rattle.protocol.specs.Arguments.{wordsIn}
-use Rattle.protocol.specs.Session.{Running, idle, busy, Books, Session, Entry, call, event, Output, orders, answers, rejects, step, outputs, sessionAfter}
+use Rattle.protocol.specs.Session.{Session, Entry, call, Output, orders, answers, rejects, step, outputs, sessionAfter}
 use Rattle.protocol.specs.Record.{Item, Record, Note, Observed, recordOf, linesOf, frames, RecordLine}
+use Rattle.protocol.specs.Runs.{EventAndRoom, eventEntry, isIdle, callEntries}
 use Rattle.protocol.specs.Names.{systemCodeRequest, oneTimeSlot}
 
 -- ---- the two lists of entries
 
--- an event, and the length of the engine's buffer
-pub record EventAndRoom : Type 0 where
-  pub event : Event
-  pub room : ℕ
-
-abbrev pub eventWith : Event → ℕ → EventAndRoom
-eventWith e room = record { event = e; room = room }
-
-abbrev pub eventEntry : EventAndRoom → Entry
-eventEntry e = event (e .event) (e .room)
-
 -- the one call, and the events
 abbrev pub oneCall : ℕ → List ℕ → List ℕ → ℕ → List EventAndRoom → List Entry
-oneCall caller text words room es = call caller (reader (device (pollTypeF text words))) room ∷ map eventEntry es
+oneCall caller text words room es = callEntries caller (reader (device (pollTypeF text words))) room es
 
 -- the single call of a code
 abbrev pub single : List ℕ → ℕ → Call
@@ -139,10 +128,6 @@ answerIn (x ∷ ns) = x .answer
 abbrev pub items : Record → List Item
 items l = map (λ (x : RecordLine). x .item) l
 
-abbrev pub isIdle : Running → Bool
-isIdle idle = true
-isIdle (busy c phase) = false
-
 -- One call for n codes, and the single calls. The orders and the accepted events are the same, in their order. The refusals at once are
 -- the same. The answer is made of theirs, its card bytes at the places of theirs. Afterwards the books are the same: the frame count, and
 -- whether the reader is open. And the session is idle, or busy, alike.
@@ -152,7 +137,3 @@ pub record Equal (n : ℕ) (one many : Run) : Type 0 where
   pub answer : answerIn (one .seen .notes) ≡ madeOf n (many .seen .lines) (many .seen .notes)
   pub books : one .session .books ≡ many .session .books
   pub free : isIdle (one .session .running) ≡ isIdle (many .session .running)
-
--- an idle session with these books
-abbrev pub idleWith : Books → Session
-idleWith b = record { running = idle; books = b }

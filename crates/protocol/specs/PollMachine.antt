@@ -7,7 +7,8 @@ use lib.ListN.{length}
 use Rattle.protocol.specs.Arguments.{systemCodesFit, wordsIn}
 use Rattle.protocol.specs.Session.{Books, Session, outputs, sessionAfter}
 use Rattle.protocol.specs.Machine.{outputValues, Machine, givenOut, stateAfter, entries, same-out, still-represents}
-use Rattle.protocol.specs.PollList.{EventAndRoom, oneCall, singleCalls, run, Equal, idleWith}
+use Rattle.protocol.specs.PollList.{oneCall, singleCalls, run, Equal}
+use Rattle.protocol.specs.Runs.{EventAndRoom, idleWith}
 use Rattle.protocol.specs.PollEqual.{poll-equals-singles}
 
 module _ (M : Machine) where

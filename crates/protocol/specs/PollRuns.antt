@@ -6,12 +6,13 @@ use native.Mathlib.Omega.{arith}
 use lib.ListN.{length}
 use Rattle.errors.specs.declared.Refusal.{Refusal}
 use Rattle.errors.specs.declared.Refusal.the-variants.{OutOfTurn}
-use Rattle.exchange.specs.Exchange.{Event}
 use Rattle.protocol.specs.Calls.{Call}
-use Rattle.protocol.specs.Session.{Books, Session, Entry, rejects, outputs, sessionAfter}
-use Rattle.protocol.specs.Record.{Item, Record, Note, Observed, observed, addEvent, observe, line}
+use Rattle.protocol.specs.Session.{Books, Session, Entry, outputs, sessionAfter}
+use Rattle.protocol.specs.Record.{Item, Record, Note, Observed, observe, line}
 use Rattle.protocol.specs.Laws.{lines-other}
-use Rattle.protocol.specs.PollList.{EventAndRoom, eventEntry, handOn, refusalsIn, Run, framesOf, allBytes, madeOf, answerIn, items, Equal, idleWith}
+use Rattle.protocol.specs.RunLaws.{not-added}
+use Rattle.protocol.specs.PollList.{handOn, refusalsIn, Run, framesOf, allBytes, madeOf, answerIn, items, Equal}
+use Rattle.protocol.specs.Runs.{EventAndRoom, eventEntry, idleWith}
 
 -- a line of a later call
 pub frames-older : (l : Record) (j : ℕ) (x : Item) (ns : List Note) → length ns ≤ j → framesOf (line j x ∷ l) ns ≡ framesOf l ns
@@ -27,14 +28,6 @@ bytes-older l j x (y ∷ ns) h = rw (bytes-older l j x ns (omega arith), frames-
 abbrev pub from : Observed → List Refusal → Session → List Entry → Run
 from w x s es = record { seen = observe w es (outputs s es); refusals = refusalsIn (outputs s es) x; session = sessionAfter s es }
 
--- an event refused at once leaves no trace
-not-added : (w : Observed) (e : Event) (r : Refusal) → addEvent e (w .lines) (w .notes) (rejects r) ≡ w
-not-added w e r = go (w .lines) (w .notes)
-  where
-    go : (l : Record) (ns : List Note) → addEvent e l ns (rejects r) ≡ observed l ns
-    go l [] = refl
-    go l (x ∷ ns) = refl
-
 -- n: the number of codes
 module _ (n caller room : ℕ) where
   -- both have ended
@@ -46,4 +39,4 @@ module _ (n caller room : ℕ) where
       → Equal n (from v x (idleWith b) (map eventEntry es)) (from w x (idleWith b) (handOn caller room es (idleWith b) cs))
   idle-equal [] b v w x cs o = record { lines = o .lines; refusals = refl; answer = o .answer; books = refl; free = refl }
   idle-equal (e ∷ es) b v w x cs o =
-      rw (not-added v (e .event) OutOfTurn, not-added w (e .event) OutOfTurn) (idle-equal es b v w (OutOfTurn ∷ x) cs o)
+      rw (not-added v (eventEntry e) OutOfTurn, not-added w (eventEntry e) OutOfTurn) (idle-equal es b v w (OutOfTurn ∷ x) cs o)

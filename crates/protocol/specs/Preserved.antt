@@ -10,10 +10,10 @@ use lib.ListN.{length}
 use Rattle.errors.specs.declared.Fault.{Fault}
 use Rattle.errors.specs.declared.Fault.the-variants.{Transport, TimeOut, FalseStart}
 use Rattle.framing.specs.Frames.{ack}
-use Rattle.exchange.specs.Packets.{hasStart, ackLed, isEmpty, Reply, failed, replyOf}
+use Rattle.exchange.specs.Packets.{ackLed, Reply, failed, replyOf}
 use Rattle.exchange.specs.Exchange.{Order, write, read, drain, pause, Event, ok, bad, pkt, time, fail, late, slept, firstReadTime}
 use Rattle.exchange.specs.Exchange.{unfit, pending, ended, ExchangePhase, sending, reading, waiting, cancelling, rejecting, draining}
-use Rattle.exchange.specs.Exchange.{ExchangeResult, afterAck, onFirstPacket, onLaterPacket, onDrained, advance}
+use Rattle.exchange.specs.Exchange.{ExchangeResult, afterAck, advance}
 use Rattle.protocol.specs.Scripts.{refused, Script}
 use Rattle.protocol.specs.Calls.{Call}
 use Rattle.protocol.specs.Session.{Rest, byReply, ofReset, Phase, exchange, resetAck, resetPause, fieldPausing, openingAck, openingReads}
@@ -21,6 +21,7 @@ use Rattle.protocol.specs.Session.{CallResult, startScript, afterExchang
 use Rattle.protocol.specs.Record.{Item, ordered, accepted, Record, linesOf, oneIf, frames, events, pendingOrder, idleUnder, allowed, line}
 use Rattle.protocol.specs.Own.{formOf}
 use Rattle.protocol.specs.Sound.{responseIn, OfExchange}
+use Rattle.protocol.specs.RunLaws.{sending-cases, reading-cases, waiting-cases, cancelling-cases, rejecting-cases, draining-cases}
 use Rattle.protocol.specs.Laws.{split, of-exchange, by-write, by-read, by-pause, lines-own}
 use Rattle.protocol.specs.Invariant.{dueStep, step-due, due, phase-due, RestSound, PhaseSound, Asked, At, Invariant, Preserved}
 use Rattle.protocol.specs.Invariant.{later-sourced, asked-later, closed, script-started, bare, Brought, sourced-more, nothing-brought, brought}
@@ -129,67 +130,37 @@ module _ (n : ℕ) (c : Call) (l : Record) (xs : List Item) where
       → 2 ≤ dueStep step + oneIf (idleUnder (pendingOrder xs) xs e) → PreservedIn rest e (pending drain draining)
   drains {rest = rest} e g i = goes-on (exchange draining rest) e drain g (omega arith) (omega arith) (g .script) (omega arith, refl)
 
-  -- ---- packets
-
-  first-preserved : {rest : Rest} (code clock : ℕ) (packet : List ℕ) → Invariant n c l xs (exchange (reading code clock) rest)
-      → PreservedIn rest (pkt packet) (onFirstPacket code clock packet)
-  first-preserved {rest} code clock packet g =
-      split (PreservedIn rest (pkt packet)) (isEmpty packet) _ _
-      (λ _. fails (pkt packet) TimeOut refl g)
-      (λ _. split (PreservedIn rest (pkt packet)) (hasStart packet) _ _
-      (λ _. split (PreservedIn rest (pkt packet)) (ackLed packet) _ _
-      (λ v. reads-on code clock packet g (omega arith) (omega arith) (g .place .1) v)
-      (λ _. replies-to code packet g (g .place .1)))
-      (λ _. let b : frames (ordered (write ack) ∷ xs) ≡ frames xs = bare n c xs in
-      goes-on (exchange rejecting rest) (pkt packet) (write ack) g (omega arith) (omega arith) (g .script) (omega arith, tt)))
-
-  later-preserved : {rest : Rest} (code clock : ℕ) (packet : List ℕ) → Invariant n c l xs (exchange (waiting code clock) rest)
-      → PreservedIn rest (pkt packet) (onLaterPacket code clock packet)
-  later-preserved {rest} code clock packet g =
-      split (PreservedIn rest (pkt packet)) (isEmpty packet) _ _
-      (λ _. fails (pkt packet) TimeOut refl g)
-      (λ _. split (PreservedIn rest (pkt packet)) (ackLed packet) _ _
-      (λ v. reads-on code clock packet g (omega arith) (omega (arith, idle-ack packet g v)) (g .place .1 .0) v)
-      (λ _. replies-to code packet g (g .place .1 .0)))
-
-  drained-preserved : {rest : Rest} (packet : List ℕ) → Invariant n c l xs (exchange draining rest) → PreservedIn rest (pkt packet) (onDrained packet)
-  drained-preserved {rest} packet g =
-      split (PreservedIn rest (pkt packet)) (isEmpty packet) _ _
-      (λ _. fails (pkt packet) FalseStart refl g)
-      (λ e. let i : oneIf (idleUnder (pendingOrder xs) xs (pkt packet)) ≡ 1 = rw (g .place .1, e) in drains (pkt packet) g (omega arith))
-
   -- ---- every event
 
   -- in the exchange
   advance-preserved : (step : ExchangePhase) (rest : Rest) → Invariant n c l xs (exchange step rest) → (e : Event) → PreservedIn rest e (advance step e)
   advance-preserved (sending code clock) rest g =
-      by-write (PreservedIn rest) unfit (λ _. tt) _ _
+      sending-cases (PreservedIn rest) (λ _. tt) code clock
       (goes-on (exchange (reading code clock) rest) ok (read firstReadTime) g (omega arith) (omega arith) (g .script)
       (omega arith, asked-later n c (ordered (read firstReadTime)) (asked-later n c (accepted ok) (g .place .1) refl) refl))
       (cancels bad Transport refl g (omega arith))
   advance-preserved (reading code clock) rest g =
-      by-read (PreservedIn rest) unfit (λ _. tt) (onFirstPacket code clock) _ _ _
-      (λ p. first-preserved code clock p g)
-      (fails time TimeOut refl g)
+      reading-cases (PreservedIn rest) (λ _. tt) code clock
+      (λ e. fails e TimeOut refl g)
       (fails fail Transport refl g)
-      tt
+      (λ p v. reads-on code clock p g (omega arith) (omega arith) (g .place .1) v)
+      (λ p. replies-to code p g (g .place .1))
+      (λ p. let b : frames (ordered (write ack) ∷ xs) ≡ frames xs = bare n c xs in
+      goes-on (exchange rejecting rest) (pkt p) (write ack) g (omega arith) (omega arith) (g .script) (omega arith, tt))
   advance-preserved (waiting code clock) rest g =
-      by-read (PreservedIn rest) unfit (λ _. tt) (onLaterPacket code clock) _ _ _
-      (λ p. later-preserved code clock p g)
-      (fails time TimeOut refl g)
+      waiting-cases (PreservedIn rest) (λ _. tt) code clock
+      (λ e. fails e TimeOut refl g)
       (fails fail Transport refl g)
+      (λ p v. reads-on code clock p g (omega arith) (omega (arith, idle-ack p g v)) (g .place .1 .0) v)
+      (λ p. replies-to code p g (g .place .1 .0))
       (cancels late TimeOut refl g (omega arith))
-  advance-preserved (cancelling r) rest g =
-      by-write (PreservedIn rest) unfit (λ _. tt) _ _ (fails ok r (g .place .1) g) (fails bad r (g .place .1) g)
-  advance-preserved rejecting rest g =
-      by-write (PreservedIn rest) unfit (λ _. tt) _ _ (drains ok g (omega arith)) (drains bad g (omega arith))
+  advance-preserved (cancelling r) rest g = cancelling-cases (PreservedIn rest) (λ _. tt) r (λ e. fails e r (g .place .1) g)
+  advance-preserved rejecting rest g = rejecting-cases (PreservedIn rest) (λ _. tt) (λ e. drains e g (omega arith))
   advance-preserved draining rest g =
-      let i : oneIf (idleUnder (pendingOrder xs) xs fail) ≡ 1 = rw (g .place .1) in
-      by-read (PreservedIn rest) unfit (λ _. tt) onDrained _ _ _
-      (λ p. drained-preserved p g)
-      (fails time FalseStart refl g)
-      (drains fail g (omega arith))
-      (fails late FalseStart refl g)
+      draining-cases (PreservedIn rest) (λ _. tt)
+      (λ e. fails e FalseStart refl g)
+      (λ p z. let i : oneIf (idleUnder (pendingOrder xs) xs (pkt p)) ≡ 1 = rw (g .place .1, z) in drains (pkt p) g (omega arith))
+      (let i : oneIf (idleUnder (pendingOrder xs) xs fail) ≡ 1 = rw (g .place .1) in drains fail g (omega arith))
 
   -- in the call
   pub preserved : (phase : Phase) → Invariant n c l xs phase → (e : Event) → PreservedBy e (progress phase e)

@@ -16,6 +16,7 @@ use Rattle.protocol.specs.Starts.{Start, refuses, starts, startOf, reade
 use Rattle.protocol.specs.Session.{CallResult, startScript, progress, Running, idle, busy, Books, lastCaller, admits, Session, fresh, packetLimit, seen, Entry, call, event, seenEntry, stepResult}
 use Rattle.protocol.specs.Session.{Effect, unchanged, runs, ends, effect, bufferNeed, withRoom, withCaller, packetLength, admitted, eventEffect, started, callEffect, effectOf, runningAfter, booksAfter, afterEffect, given, step, outputs, sessionAfter}
 use Rattle.protocol.specs.Laws.{split}
+use Rattle.protocol.specs.RunLaws.{call-cases}
 use Rattle.protocol.specs.Machine.{outputValues, Machine, givenOut, stateAfter, entries, same-given, same-counts}
 
 -- ---- the same with the mode off
@@ -236,11 +237,8 @@ fresh-off (call k (opening mode) room ∷ es) h = (
   padded-fits (call k (opening mode) room) (h .0),
   refl,
   subst (λ m. Off ((step fresh (call k (opening m) room)) .state) es (map plainEntry es)) (sym (h .0))
-      (split (λ o. Off (afterEffect fresh (call k (opening 1) room) o) es (map plainEntry es)) (ltb room bufferNeed) _ _
-      (λ _. fresh-off es (h .1))
-      (λ _. split (λ o. Off (afterEffect fresh (call k (opening 1) room) o) es (map plainEntry es)) (leb k lastCaller) _ _
-      (λ _. padded-off _ es refl (h .1))
-      (λ _. fresh-off es (h .1)))),
+      (call-cases (λ o. Off (afterEffect fresh (call k (opening 1) room) o) es (map plainEntry es)) (λ _. Unit {0}) (opening 1)
+      (λ _. fresh-off es (h .1)) (λ x phase _. padded-off _ es refl (h .1)) (λ a _. padded-off _ es refl (h .1)) true k room (λ _ _. tt)),
 )
 fresh-off (call k (reader c) room ∷ es) h = (tt, refl, fresh-off es (h .1))
 fresh-off (event e room ∷ es) h = (tt, refl, fresh-off es (h .1))

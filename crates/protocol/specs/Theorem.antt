@@ -5,21 +5,20 @@ use mathlib.Core.List.{List, [], _∷_}
 use mathlib.Core.Option.{Option, none, some}
 use Prim.Native.Nat.{ℕ, suc, _≤_, _<_}
 use native.Mathlib.Omega.{arith}
-use lib.Dec.{leb, ltb}
 use lib.ListN.{length}
 use Rattle.framing.specs.Frames.{ack}
-use Rattle.exchange.specs.Exchange.{write, Event, unfit, pending, ended}
+use Rattle.exchange.specs.Exchange.{write, Event}
 use Rattle.protocol.specs.Scripts.{Byte, Answer, Script}
 use Rattle.protocol.specs.Calls.{Call, isOpening, limit}
-use Rattle.protocol.specs.Starts.{Start, refuses, starts, startOf}
-use Rattle.protocol.specs.Session.{Phase, CallResult, begin, progress, Running, idle, busy, Books, lastCaller, admits, Session, fresh, Entry, call, event}
-use Rattle.protocol.specs.Session.{Effect, effect, bufferNeed, packetLimit, seen, seenEntry, withRoom, packetLength, admitted, eventEffect, started, callEffect, effectOf, runningAfter, given, step, outputs}
-use Rattle.protocol.specs.Record.{Item, ordered, accepted, Record, Note, Observed, observed, addCall, addEvent, add, observe, recordOf, linesOf, modeAt, asSeen, frames, allowed, line}
+use Rattle.protocol.specs.Session.{Phase, begin, progress, Running, idle, busy, Books, admits, Session, fresh, Entry, call, event}
+use Rattle.protocol.specs.Session.{Effect, seen, seenEntry, eventEffect, callEffect, effectOf, runningAfter, given, step, outputs, sessionAfter}
+use Rattle.protocol.specs.Record.{Item, ordered, accepted, Record, Note, Observed, observed, addCall, addEvent, add, recordOf, linesOf, modeAt, asSeen, frames, allowed, line}
 use Rattle.protocol.specs.Claim.{RunningCall, CardByte, Claim, Claims}
 use Rattle.protocol.specs.Own.{formOf}
 use Rattle.protocol.specs.Sound.{Sound}
 use Rattle.protocol.specs.CallsSound.{sound}
-use Rattle.protocol.specs.Laws.{split, lines-own, lines-other}
+use Rattle.protocol.specs.Laws.{lines-own, lines-other}
+use Rattle.protocol.specs.RunLaws.{event-cases, call-cases, kept-after}
 use Rattle.protocol.specs.Invariant.{phase-due, RestSound, Sourced, Invariant, Preserved, later-card, later-sourced, form-by, bare, script-started}
 use Rattle.protocol.specs.Preserved.{PreservedBy, preserved}
 use Rattle.protocol.specs.Seen.{Unused, no-lines, more-unused, unused-seen, add-seen, callerAt, books-after}
@@ -75,59 +74,26 @@ none-unused (busy c phase) l (y ∷ ns) i = i .2
 pub unused : (s : Session) (w : Observed) → AgreesWith s w → Unused (w .lines) (length (w .notes))
 unused s w i = unused-seen (w .lines) (w .notes) _ (none-unused (s .running) _ (w .notes) (i .running))
 
--- a call begins
-begun : (caller : ℕ) (l : Record) (ns : List Note) (c : Call) (r : CallResult) → Claims l ns → Unused l (length ns)
-    → Preserved (length ns) c l [] r → AgreesAt (runningAfter idle (effect c r)) (addCall caller c l ns (given (effect c r)))
-begun caller l ns c unfit h u q = (h, u)
-begun caller l ns c (pending x phase) h u q = (
-  record { sameCall = refl; unanswered = refl; ownLines = ordered x ∷ []; invariant = q },
-  claims-later l (length ns) (ordered x) ns (omega arith) h,
-  (omega arith, more-unused l (length ns) u),
-)
-begun caller l ns c (ended a) h u q = ((q, h), more-unused l (length ns) u)
-
 -- a call goes on or ends
-module _ (c : Call) (phase : Phase) (l : Record) (y : Note) (ns : List Note) (e : Event) (i : RunningAgrees (busy c phase) l (y ∷ ns)) where
-  abbrev n : ℕ
-  n = length ns
-
-  abbrev Agreed : Effect → Type 0
-  Agreed o = AgreesAt (runningAfter (busy c phase) o) (addEvent e l (y ∷ ns) (given o))
-
-  one-later : Claims (line n (accepted e) ∷ l) ns
-  one-later = claims-later l n (accepted e) ns (omega arith) (i .1)
-
-  none-used : Unused (line n (accepted e) ∷ l) (suc n)
-  none-used = (omega arith, i .2)
-
-  result-agrees : (r : CallResult) → PreservedBy n c l (i .0 .ownLines) e r → Agreed (effect c r)
-  result-agrees unfit q = i
-  result-agrees (pending x new) q = (
-    record { sameCall = i .0 .sameCall; unanswered = i .0 .unanswered; ownLines = ordered x ∷ accepted e ∷ i .0 .ownLines; invariant = q },
-    claims-later (line n (accepted e) ∷ l) n (ordered x) ns (omega arith) one-later,
-    (omega arith, none-used),
-  )
-  result-agrees (ended a) q = ((rw (i .0 .sameCall) q, one-later), none-used)
-
-  -- refused with 2 or 3, nothing changes
-  room-agrees : (room : ℕ) (o : Effect) → Agreed o → Agreed (withRoom room o)
-  room-agrees room o h = split Agreed (ltb room bufferNeed) _ _ (λ _. i) (λ _. h)
-
-  admitted-agrees : (room : ℕ) (o : Effect) → Agreed o → Agreed (admitted e room o)
-  admitted-agrees room o h = room-agrees room _ (split Agreed (ltb packetLimit (packetLength e)) _ _ (λ _. i) (λ _. h))
-
-  event-result-agrees : (room : ℕ) (r : CallResult) → PreservedBy n c l (i .0 .ownLines) e r → Agreed (eventEffect c e room r)
-  event-result-agrees room unfit q = i
-  event-result-agrees room (pending x new) q = admitted-agrees room (effect c (pending x new)) (result-agrees (pending x new) q)
-  event-result-agrees room (ended a) q = admitted-agrees room (effect c (ended a)) (result-agrees (ended a) q)
-
 event-agrees : (c : Call) (phase : Phase) (l : Record) (ns : List Note) (e : Event) (room : ℕ) → RunningAgrees (busy c phase) l ns
     → AgreesAt
     (runningAfter (busy c phase) (eventEffect c e room (progress phase e)))
     (addEvent e l ns (given (eventEffect c e room (progress phase e))))
 event-agrees c phase l [] e room i = absurd i
 event-agrees c phase l (y ∷ ns) e room i =
-    event-result-agrees c phase l y ns e i room (progress phase e) (preserved (length ns) c l (i .0 .ownLines) phase (i .0 .invariant) e)
+    let n : ℕ = length ns in
+    let xs : List Item = i .0 .ownLines in
+    let one-later : Claims (line n (accepted e) ∷ l) ns = claims-later l n (accepted e) ns (omega arith) (i .1) in
+    let none-used : Unused (line n (accepted e) ∷ l) (suc n) = (omega arith, i .2) in
+    event-cases (λ o. AgreesAt (runningAfter (busy c phase) o) (addEvent e l (y ∷ ns) (given o))) (PreservedBy n c l xs e) c
+    (λ _. i)
+    (λ x new q. (
+      record { sameCall = i .0 .sameCall; unanswered = i .0 .unanswered; ownLines = ordered x ∷ accepted e ∷ xs; invariant = q },
+      claims-later (line n (accepted e) ∷ l) n (ordered x) ns (omega arith) one-later,
+      (omega arith, none-used),
+    ))
+    (λ a q. ((rw (i .0 .sameCall) q, one-later), none-used))
+    e room (progress phase e) (preserved n c l xs phase (i .0 .invariant) e)
 
 -- ---- a call
 
@@ -158,15 +124,17 @@ module _ (caller : ℕ) (l : Record) (ns : List Note) (c : Call) (i : RunningAgr
   begin-preserved false s e h =
       script-started (length ns) c l [] [] no-line s (limit c) (omega arith) (omega arith) h refl no-source
 
-  started-agrees : (s : Start) → Sound (formOf c) s (limit c) → Starts (started c s)
-  started-agrees (refuses r) h = i
-  started-agrees (starts s) h = begun caller l ns c (begin (isOpening c) s) (i .0) (i .1) (begin-preserved (isOpening c) s refl h)
-
   call-agrees : (isAdmitted : Bool) (room : ℕ) → Starts (callEffect isAdmitted caller c room)
   call-agrees isAdmitted room =
-      split Starts isAdmitted _ _
-      (λ _. split Starts (ltb room bufferNeed) _ _ (λ _. i) (λ _. split Starts (leb caller lastCaller) _ _ (λ _. started-agrees (startOf c) (sound c)) (λ _. i)))
+      call-cases Starts (Preserved (length ns) c l []) c
       (λ _. i)
+      (λ x phase q. (
+        record { sameCall = refl; unanswered = refl; ownLines = ordered x ∷ []; invariant = q },
+        claims-later l (length ns) (ordered x) ns (omega arith) (i .0),
+        (omega arith, more-unused l (length ns) (i .1)),
+      ))
+      (λ a q. ((q, i .0), more-unused l (length ns) (i .1)))
+      isAdmitted caller room (λ s h. begin-preserved (isOpening c) s refl (subst (λ x. Sound (formOf c) x (limit c)) (h .begins) (sound c)))
 
 -- ---- any list
 
@@ -201,13 +169,9 @@ claims (busy c phase) l (y ∷ ns) i =
     let s : RunningCall l (length ns) (y .call) = rw (i .0 .sameCall) r in
     (rw (i .0 .unanswered) s, i .1)
 
-claims-after : (s : Session) (w : Observed) (es : List Entry) → AgreesWith s w
-    → Claims ((asSeen (observe w es (outputs s es))) .lines) ((observe w es (outputs s es)) .notes)
-claims-after s w [] i = claims (s .running) _ (w .notes) (i .running)
-claims-after s w (e ∷ es) i = claims-after ((step s e) .state) (add w e ((step s e) .output)) es (agrees s w e i)
-
 pub fresh-agrees : AgreesWith fresh (observed [] [])
 fresh-agrees = record { running = (tt, tt); mode = refl; caller = refl }
 
 pub all-claims : (es : List Entry) → Claims ((asSeen (recordOf es (outputs fresh es))) .lines) ((recordOf es (outputs fresh es)) .notes)
-all-claims es = claims-after fresh (observed [] []) es fresh-agrees
+all-claims es =
+    claims ((sessionAfter fresh es) .running) _ ((recordOf es (outputs fresh es)) .notes) ((kept-after AgreesWith agrees fresh (observed [] []) es fresh-agrees) .running)

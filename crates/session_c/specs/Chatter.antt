@@ -6,8 +6,8 @@ use Prim.Native.Nat.{ℕ}
 use Rattle.protocol.specs.Calls.{Call}
 use Rattle.protocol.specs.Session as Spec
 use Rattle.protocol.specs.Machine.{entries, stateAfter}
-use Rattle.protocol.specs.PollList.{EventAndRoom}
-use Rattle.protocol.specs.Chatter.{waits, Alike, callEntries, linesFrom, answersIn, writesIn}
+use Rattle.protocol.specs.Runs.{EventAndRoom, callEntries, linesFrom, answersIn, writesIn}
+use Rattle.protocol.specs.Chatter.{waits, Alike}
 use Rattle.engine.specs.Inputs.{Input}
 use Rattle.engine.specs.Refinement.{engine}
 use Rattle.engine.specs.Chatter.{engine-chatter}

@@ -2,14 +2,15 @@
 use mathlib.Core.List.{List}
 use mathlib.Core.Option.{Option, none, some}
 use Prim.Native.Nat.{ℕ}
-use Rattle.errors.specs.Refusals.{plain}
+use Rattle.errors.specs.declared.Refusal.the-variants.{OutOfTurn}
 use Rattle.exchange.specs.Exchange.{Event}
 use Rattle.engine.specs.Inputs.{Input, gives, stepWith}
 use Rattle.calls.specs.Numbers.{callOf}
 use Rattle.calls.specs.declared.start.Numbers.{Numbers}
 use Rattle.engine.specs.Numbers.{callInput, eventBy}
 use Rattle.engine.specs.declared.session.Session.{Session}
-use Rattle.session_c.specs.Outcomes.{Reported, report, stepReported, refusedOutcome, refusalOutcome}
+use Rattle.engine.specs.declared.core.Output.the-variants.{Refused}
+use Rattle.session_c.specs.Outcomes.{Reported, report, stepReported, outcomeOf}
 
 -- a call or an event as the host gives it: a number, its arguments and the bytes of the buffer
 pub data HostEntry : Type 0 where
@@ -31,7 +32,7 @@ bufferIn (hostEvent number packet b) = b
 
 -- what has no entry of the engine is refused as out of turn, and nothing changes
 abbrev pub reportWith : Session → Option Input → List ℕ → Reported
-reportWith s none b = report s (refusalOutcome refusedOutcome (plain 1) 0) b
+reportWith s none b = report s (outcomeOf (Refused OutOfTurn)) b
 reportWith s (some i) b = stepReported (stepWith s i)
 
 abbrev pub reportFor : Session → HostEntry → Reported

@@ -42,6 +42,9 @@ listRefusedOutcome = 8
 abbrev pub uidAndAtsOutcome : ℕ
 uidAndAtsOutcome = 9
 
+abbrev pub refusedAtOnceOutcome : ℕ
+refusedAtOnceOutcome = 10
+
 -- a kind with a number of bytes, and one with a time
 abbrev pub bytesOutcome : ℕ → ℕ → Outcome
 bytesOutcome kind n = record { kind = kind; refusal = 0; status = 0; status2 = 0; finished = 0; uid = 0; ats = 0; time = 0; len = n }
@@ -69,7 +72,7 @@ outcomeOf (UidAndAts n uid ats) = lengthsOutcome n uid ats
 outcomeOf Nothing = bytesOutcome noneOutcome 0
 outcomeOf (Failed e) = refusalOutcome refusedOutcome (faultNumbered e) 0
 outcomeOf (FailedAfter e finished) = refusalOutcome listRefusedOutcome (faultNumbered e) finished
-outcomeOf (Refused e) = refusalOutcome refusedOutcome (numbered e) 0
+outcomeOf (Refused e) = refusalOutcome refusedAtOnceOutcome (numbered e) 0
 
 -- a session of its parts
 abbrev pub joined : List ℕ → List ℕ → List ℕ → List ℕ → Core → Session

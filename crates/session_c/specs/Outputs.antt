@@ -1,15 +1,19 @@
--- What an outcome and the buffer say: the order or the answer.
+-- What an outcome and the buffer say: the order, the answer or the refusal.
 use mathlib.Core.Path.{_≡_, refl, ap}
+use mathlib.Core.Bool.{cond}
 use mathlib.Core.List.{List, [], _∷_}
-use Prim.Native.Nat.{ℕ}
+use Prim.Native.Nat.{ℕ, _≤_}
+use native.Mathlib.Omega.{arith}
+use lib.Dec.{eqb}
 use lib.ListN.{take, getD}
 use Rattle.errors.specs.Refusals.{numbered, faultNumbered}
+use Rattle.errors.specs.declared.Numbered.{Numbered}
 use Rattle.errors.specs.declared.Refusal.{Refusal}
 use Rattle.errors.specs.declared.Refusal.the-variants.{OutOfTurn, ShortBuffer, OverLong, BadArgument, Bitrate, NotSendable}
 use Rattle.errors.specs.declared.Fault.{Fault}
 use Rattle.errors.specs.declared.Fault.the-variants.{Transport, TimeOut, FalseStart, BrokenFrame, Length, FrameKind, Identifier, Code, Status, ShortResponse, NoCard, CrcA, Rate, CardStatus, OtherCard, UidLayout}
 use Rattle.exchange.specs.Exchange.{write, read, drain, pause}
-use Rattle.protocol.specs.Scripts.{Answer, done, type1, uidAndAts, nothing, refused, refusedAfter}
+use Rattle.protocol.specs.Scripts.{done, type1, uidAndAts, nothing, refused, refusedAfter}
 use Rattle.protocol.specs.Session.{Output as Given, orders, answers, rejects}
 use Rattle.engine.specs.Inputs.{outputOf}
 use Rattle.engine.specs.declared.core.Output.{Output}
@@ -17,50 +21,40 @@ use Rattle.engine.specs.declared.core.Output.the-variants.{Ack, Command, Read, 
 use Rattle.session_c.specs.Outcomes.{outcomeOf}
 use Rattle.session_c.specs.declared.outcome.Outcome.{Outcome}
 
--- the refusals from 1 on, with the status byte of 15 and the status flags of 20; no refusal has the number 0
-abbrev pub refusals : ℕ → ℕ → List (Given ℕ)
-refusals status status2 =
-    rejects OutOfTurn
-    ∷ rejects OutOfTurn
-    ∷ rejects ShortBuffer
-    ∷ rejects OverLong
-    ∷ rejects BadArgument
-    ∷ rejects Bitrate
-    ∷ rejects NotSendable
-    ∷ answers (refused Transport)
-    ∷ answers (refused TimeOut)
-    ∷ answers (refused FalseStart)
-    ∷ answers (refused BrokenFrame)
-    ∷ answers (refused Length)
-    ∷ answers (refused FrameKind)
-    ∷ answers (refused Identifier)
-    ∷ answers (refused Code)
-    ∷ answers (refused (Status status))
-    ∷ answers (refused ShortResponse)
-    ∷ answers (refused NoCard)
-    ∷ answers (refused CrcA)
-    ∷ answers (refused Rate)
-    ∷ answers (refused (CardStatus status status2))
-    ∷ answers (refused OtherCard)
-    ∷ answers (refused UidLayout)
-    ∷ []
+-- the first of a list that has this number; x where none has
+unfoldable pub withNumber : {A : Type 0} → (A → Numbered) → A → List A → ℕ → A
+withNumber f x [] n = x
+withNumber f x (y ∷ ys) n = cond (eqb (f y .number) n) y (withNumber f x ys n)
 
-abbrev pub refusalOf : ℕ → ℕ → ℕ → Given ℕ
-refusalOf number status status2 = getD (refusals status status2) number (rejects OutOfTurn)
+-- at once
+abbrev pub refusalBy : ℕ → Refusal
+refusalBy = withNumber numbered OutOfTurn (OutOfTurn ∷ ShortBuffer ∷ OverLong ∷ BadArgument ∷ Bitrate ∷ NotSendable ∷ [])
 
--- the same of a list, with the number of its codes that were finished
-abbrev pub answerAfter : ℕ → Answer ℕ → Answer ℕ
-answerAfter finished (done bytes) = done bytes
-answerAfter finished (type1 bytes) = type1 bytes
-answerAfter finished (uidAndAts bytes uid ats) = uidAndAts bytes uid ats
-answerAfter finished nothing = nothing
-answerAfter finished (refused r) = refusedAfter r finished
-answerAfter finished (refusedAfter r n) = refusedAfter r n
+-- of a call that ran, with the status byte of 15 and the status flags of 20
+abbrev pub faultBy : ℕ → ℕ → ℕ → Fault
+faultBy number status status2 =
+    withNumber faultNumbered Transport
+    (Transport
+    ∷ TimeOut
+    ∷ FalseStart
+    ∷ BrokenFrame
+    ∷ Length
+    ∷ FrameKind
+    ∷ Identifier
+    ∷ Code
+    ∷ Status status
+    ∷ ShortResponse
+    ∷ NoCard
+    ∷ CrcA
+    ∷ Rate
+    ∷ CardStatus status status2
+    ∷ OtherCard
+    ∷ UidLayout
+    ∷ [])
+    number
 
-abbrev pub refusalAfter : ℕ → Given ℕ → Given ℕ
-refusalAfter finished (orders x) = orders x
-refusalAfter finished (answers a) = answers (answerAfter finished a)
-refusalAfter finished (rejects r) = rejects r
+abbrev faultIn : Outcome → Fault
+faultIn o = faultBy (o .refusal) (o .status) (o .status2)
 
 -- by the kind; bytes stand at the buffer's start
 abbrev pub outputIn : Outcome → List ℕ → Given ℕ
@@ -73,37 +67,41 @@ outputIn o b =
     ∷ answers (done (take (o .len) b))
     ∷ answers (type1 (take (o .len) b))
     ∷ answers nothing
-    ∷ refusalOf (o .refusal) (o .status) (o .status2)
-    ∷ refusalAfter (o .finished) (refusalOf (o .refusal) (o .status) (o .status2))
+    ∷ answers (refused (faultIn o))
+    ∷ answers (refusedAfter (faultIn o) (o .finished))
+    ∷ answers (uidAndAts (take (o .len) b) (o .uid) (o .ats))
     ∷ [])
     (o .kind)
-    (answers (uidAndAts (take (o .len) b) (o .uid) (o .ats)))
+    (rejects (refusalBy (o .refusal)))
 
-numbered-is : (e : Refusal) → refusalOf (numbered e .number) (numbered e .status) (numbered e .status2) ≡ rejects e
-numbered-is OutOfTurn = refl
-numbered-is ShortBuffer = refl
-numbered-is OverLong = refl
-numbered-is BadArgument = refl
-numbered-is Bitrate = refl
-numbered-is NotSendable = refl
+refusal-is : (e : Refusal) → refusalBy (numbered e .number) ≡ e
+unfolding withNumber
+refusal-is OutOfTurn = refl
+refusal-is ShortBuffer = refl
+refusal-is OverLong = refl
+refusal-is BadArgument = refl
+refusal-is Bitrate = refl
+refusal-is NotSendable = refl
 
-fault-is : (e : Fault) → refusalOf (faultNumbered e .number) (faultNumbered e .status) (faultNumbered e .status2) ≡ answers (refused e)
-fault-is Transport = refl
-fault-is TimeOut = refl
-fault-is FalseStart = refl
-fault-is BrokenFrame = refl
-fault-is Length = refl
-fault-is FrameKind = refl
-fault-is Identifier = refl
-fault-is Code = refl
-fault-is (Status s) = refl
-fault-is ShortResponse = refl
-fault-is NoCard = refl
-fault-is CrcA = refl
-fault-is Rate = refl
-fault-is (CardStatus s t) = refl
-fault-is OtherCard = refl
-fault-is UidLayout = refl
+-- a fault's number and values say which it is; its number is none of the first six
+pub fault-is : (e : Fault) → (faultBy (faultNumbered e .number) (faultNumbered e .status) (faultNumbered e .status2) ≡ e) × (7 ≤ faultNumbered e .number)
+unfolding withNumber
+fault-is Transport = (refl, omega arith)
+fault-is TimeOut = (refl, omega arith)
+fault-is FalseStart = (refl, omega arith)
+fault-is BrokenFrame = (refl, omega arith)
+fault-is Length = (refl, omega arith)
+fault-is FrameKind = (refl, omega arith)
+fault-is Identifier = (refl, omega arith)
+fault-is Code = (refl, omega arith)
+fault-is (Status s) = (refl, omega arith)
+fault-is ShortResponse = (refl, omega arith)
+fault-is NoCard = (refl, omega arith)
+fault-is CrcA = (refl, omega arith)
+fault-is Rate = (refl, omega arith)
+fault-is (CardStatus s t) = (refl, omega arith)
+fault-is OtherCard = (refl, omega arith)
+fault-is UidLayout = (refl, omega arith)
 
 -- nothing of an output is lost in the numbers
 pub output-is : (o : Output) (b : List ℕ) → outputIn (outcomeOf o) b ≡ outputOf o b
@@ -116,6 +114,6 @@ output-is (Done n) b = refl
 output-is (Type1 n) b = refl
 output-is (UidAndAts n uid ats) b = refl
 output-is Nothing b = refl
-output-is (Failed e) b = fault-is e
-output-is (FailedAfter e n) b = ap (refusalAfter n) (fault-is e)
-output-is (Refused e) b = numbered-is e
+output-is (Failed e) b = ap (λ (f : Fault). answers (refused f)) (fault-is e .0)
+output-is (FailedAfter e n) b = ap (λ (f : Fault). answers (refusedAfter f n)) (fault-is e .0)
+output-is (Refused e) b = ap rejects (refusal-is e)

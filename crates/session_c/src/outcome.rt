@@ -26,6 +26,8 @@ pub const LIST_REFUSED_OUTCOME: u8 = 8;
 
 pub const UID_AND_ATS_OUTCOME: u8 = 9;
 
+pub const REFUSED_AT_ONCE_OUTCOME: u8 = 10;
+
 // The kind of an order or an answer. With a refusal its number, the status byte of 15 or the two status flags of 20, and with that
 // of a list how many of its codes were finished; with a read its ms, with a pause its µs; with a write order and an answer the number
 // of bytes at the buffer's start, and with an answer whose UID and ATS are told apart the length of each. What does not apply is 0.
@@ -128,7 +130,7 @@ impl Outcome {
             Output::UidAndAts(len, uid, ats) => return Outcome::uid_and_ats(len, uid, ats),
             Output::Nothing => return Outcome::bytes(NONE_OUTCOME, 0),
             Output::Refused(refusal) => return Outcome::refused(
-                REFUSED_OUTCOME,
+                REFUSED_AT_ONCE_OUTCOME,
                 refusal.numbered(),
                 0,
             ),

@@ -1,1 +1,3 @@
 pub mod RequestLaws
+pub mod RingLaws
+pub mod PlayLaws

@@ -3,10 +3,16 @@ use bench::prefix;
 use bench::text;
 use bench_input::slice;
 use simulated_chip::names::PACKET_SIZE;
-ghost use Prim.Native.Nat.{_<_};
+ghost use mathlib.Core.Path.{_≡_};
+ghost use mathlib.Core.List.{List};
+ghost use Prim.Native.Nat.{ℕ, _%_};
+ghost use lib.ListN.{length, take};
+ghost use Rattle.chip_protocol.specs.Channel.{simulated, behindNext};
+ghost use Rattle.chip_protocol.specs.Names.{longestPacket};
+ghost use Rattle.simulator_lines.specs.Ring.{placesLimit, keptWith, packetAt, unreadIn};
 
 // How many packets are kept unread: one more is lost. An opening leaves none, and only a command with a clock of 0 ms leaves one.
-pub const PLACES: usize = 16;
+pub const PLACES: usize = 128;
 
 pub const CHANNEL_SIZE: usize = PLACES * PACKET_SIZE;
 
@@ -17,7 +23,7 @@ pub struct Unread {
 }
 
 fn place(number: usize) -> usize
-    ensures { λ r. ⌜ r < 16 ⌝ }
+    ensures { λ r. ⌜ r ≡ number % placesLimit ⌝ }
 {
     number % PLACES
 }
@@ -33,14 +39,17 @@ impl Unread {
         packet: &[u8],
         packets: &mut [u8; CHANNEL_SIZE],
         lengths: &mut [usize; PLACES],
-    ) -> Unread {
+    ) -> Unread
+        ensures { λ r. ⌜ (length (now (lengths .entry)) ≡ placesLimit → (unreadIn r (now (packets .exit)) (now (lengths .exit)) ≡ keptWith (unreadIn self (now (packets .entry)) (now (lengths .entry))) (take longestPacket (now (packet .entry)))) × (length (now (lengths .exit)) ≡ placesLimit)) ⌝ }
+    {
         if PLACES <= self.count {
             return self;
         }
         let at = place(self.first % PLACES + self.count);
         let start = at * PACKET_SIZE;
-        lengths[at] = packet.len();
-        text::put(prefix(PACKET_SIZE, packet), packets, start);
+        let bytes = prefix(PACKET_SIZE, packet);
+        lengths[at] = bytes.len();
+        text::put(bytes, packets, start);
         Unread {
             first: self.first,
             count: self.count + 1,
@@ -52,13 +61,17 @@ impl Unread {
         self,
         packets: &'a [u8; CHANNEL_SIZE],
         lengths: &[usize; PLACES],
-    ) -> &'a [u8] {
+    ) -> &'a [u8]
+        ensures { λ r. ⌜ now r ≡ packetAt (now (packets .entry)) (now (lengths .entry)) (self .first % placesLimit) ⌝ }
+    {
         let at = place(self.first);
         let start = at * PACKET_SIZE;
         prefix(lengths[at], slice(packets, start, start + PACKET_SIZE))
     }
 
-    pub(crate) fn behind_next(self) -> Unread {
+    pub(crate) fn behind_next(self) -> Unread
+        ensures { λ r. ⌜ ((packets lengths : List ℕ) → unreadIn r packets lengths ≡ behindNext simulated (unreadIn self packets lengths)) ⌝ }
+    {
         if self.count == 0 {
             return self;
         }

@@ -9,13 +9,11 @@ use bench::lines::Unread;
 use bench::prefix;
 use bench::text;
 use bench_input::BYTES_ROOM;
-use bench_input::Ends;
+use bench_input::Input;
 use bench_input::LINE_LIMIT;
-use bench_input::slice;
 use bench_session::BUFFER_SIZE;
 use bench_session::OUT_ROOM;
 use bench_session::output;
-use calls::start::Numbers;
 use channel::CHANNEL_SIZE;
 use channel::PLACES;
 use channel::Unread as Packets;
@@ -27,6 +25,10 @@ use simulated_chip::names::CARDS_SIZE;
 use simulated_chip::names::REPLY_MEMORY_SIZE;
 use simulated_chip::names::SENT_MEMORY_SIZE;
 ghost use mathlib.Core.Path.{_≡_};
+ghost use Rattle.bench_input.specs.Readings.{inputIn};
+ghost use Rattle.simulator_lines.specs.Plays.{callPlayed};
+ghost use Rattle.simulator_lines.specs.Lines.{Simulator, callEnded};
+ghost use Rattle.simulator_lines.specs.Represents.{SimulatorIn, Answers};
 
 // The reader and the chip after a line, and the length of the text printed for it.
 pub struct Answered {
@@ -40,9 +42,7 @@ pub struct Answered {
 // A call, played to its end.
 fn called(
     sim: Answered,
-    number: u8,
-    numbers: Numbers,
-    ends: Ends,
+    input: Input,
     bytes: &[u8; BYTES_ROOM],
     cards: &[u8; CARDS_SIZE],
     sent: &[u8; SENT_MEMORY_SIZE],
@@ -51,15 +51,13 @@ fn called(
     lengths: &mut [usize; PLACES],
     buffer: &mut [u8; BUFFER_SIZE],
     out: &mut [u8; OUT_ROOM],
-) -> Answered {
+) -> Answered
+    ensures { λ r. ⌜ ((z : Simulator) → SimulatorIn (sim .session) (sim .state) (sim .unread) (now (cards .entry)) (now (sent .entry)) (now (replies .entry)) (now (packets .entry)) (now (lengths .entry)) z → Answers r (now (cards .entry)) (now (sent .entry)) (now (replies .entry)) (now (packets .exit)) (now (lengths .exit)) (now (out .exit)) (callEnded (callPlayed (z .session) (z .channel) (inputIn (now (bytes .entry)) input)))) ⌝ }
+{
     let session = sim.session;
     let state = sim.state;
     let unread = sim.unread;
-    let first = slice(bytes, 0, ends.first);
-    let second = slice(bytes, ends.first, ends.second);
-    let third = slice(bytes, ends.second, ends.third);
-    let fourth = slice(bytes, ends.third, ends.fourth);
-    let step = session.call(number, numbers, first, second, third, fourth, buffer);
+    let step = bench_session::step(session, input, bytes, buffer);
     let started = step.session;
     let output = step.output;
     let end = play::to_end(
@@ -130,9 +128,7 @@ fn answer(
         },
         Request::Call(number, numbers, ends) => called(
             sim,
-            number,
-            numbers,
-            ends,
+            Input::Call(number, numbers, ends),
             &bytes,
             cards,
             sent,
@@ -225,6 +221,10 @@ fn begun() -> Answered {
     }
 }
 
+fn no_packets() -> [u8; CHANNEL_SIZE] {
+    [0u8; CHANNEL_SIZE]
+}
+
 // Answers standard input line by line on standard output.
 pub fn run() {
     let mut read = io::large_buffer();
@@ -234,7 +234,7 @@ pub fn run() {
     let mut cards = [0u8; CARDS_SIZE];
     let mut sent = [0u8; SENT_MEMORY_SIZE];
     let mut replies = [0u8; REPLY_MEMORY_SIZE];
-    let mut packets = [0u8; CHANNEL_SIZE];
+    let mut packets = no_packets();
     let mut lengths = [0usize; PLACES];
     let mut sim = begun();
     let mut unread = Unread::nothing();

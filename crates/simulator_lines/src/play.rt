@@ -21,6 +21,11 @@ use simulated_chip::names::CARDS_SIZE;
 use simulated_chip::names::PACKET_SIZE;
 use simulated_chip::names::REPLY_MEMORY_SIZE;
 use simulated_chip::names::SENT_MEMORY_SIZE;
+ghost use mathlib.Core.Path.{_≡_};
+ghost use Rattle.exchange.specs.Exchange as Ordered;
+ghost use Rattle.chip_protocol.specs.Channel.{simulated, Channel};
+ghost use Rattle.simulator_lines.specs.Plays.{Playing, limitedAfter, playedFrom, eventLimit};
+ghost use Rattle.simulator_lines.specs.Represents.{orderAsked, isOver, nextEvent, ChannelIn, PlayIn};
 
 // What an output asks of the channel: a write of so many bytes, the next packet, a pause; or the call is over.
 pub enum Order {
@@ -30,7 +35,9 @@ pub enum Order {
     Over,
 }
 
-fn order_of(output: Output) -> Order {
+fn order_of(output: Output) -> Order
+    ensures { λ r. ⌜ r ≡ orderAsked output ⌝ }
+{
     match output {
         Output::Ack => Order::Write(ACK_SIZE),
         Output::Command(n) => Order::Write(n),
@@ -47,11 +54,10 @@ fn order_of(output: Output) -> Order {
     }
 }
 
-// The chip's numbers and the packets unread, and the event that an order gets.
+// The chip's numbers, and the packets unread.
 pub struct Reaction {
     pub state: State,
     pub unread: Unread,
-    pub event: Event,
 }
 
 // The chip hears the bytes written, and its packets are unread behind the others.
@@ -64,27 +70,35 @@ fn write(
     unread: Unread,
     packets: &mut [u8; CHANNEL_SIZE],
     lengths: &mut [usize; PLACES],
-) -> Reaction {
+) -> Reaction
+    ensures { λ r. ⌜ ((l : Channel simulated) → ChannelIn state (now (cards .entry)) (now (sent .entry)) (now (replies .entry)) unread (now (packets .entry)) (now (lengths .entry)) l → ChannelIn (r .state) (now (cards .entry)) (now (sent .entry)) (now (replies .entry)) (r .unread) (now (packets .exit)) (now (lengths .exit)) (limitedAfter l (Ordered.write (now (written .entry))))) ⌝ }
+{
     let mut packet = [0u8; PACKET_SIZE];
     let step = state.step(cards, sent, replies, written, &mut packet);
     let after = step.state;
     let answer = step.answer;
-    let Answer::Packets(n) = answer else {
-        return Reaction {
+    match answer {
+        Answer::Packets(n) => {
+            let led = unread.with(&ACK_BYTES, packets, lengths);
+            Reaction {
+                state: after,
+                unread: led.with(prefix(n, &packet), packets, lengths),
+            }
+        }
+        Answer::Nothing => Reaction {
             state: after,
             unread,
-            event: Event::Ok,
-        };
-    };
-    let led = unread.with(&ACK_BYTES, packets, lengths);
-    Reaction {
-        state: after,
-        unread: led.with(prefix(n, &packet), packets, lengths),
-        event: Event::Ok,
+        },
+        Answer::Refused(_) => Reaction {
+            state: after,
+            unread,
+        },
     }
 }
 
-fn next_event(unread: Unread) -> Event {
+fn next_event(unread: Unread) -> Event
+    ensures { λ r. ⌜ r ≡ nextEvent (unread .count) ⌝ }
+{
     if unread.count == 0 {
         return Event::Time;
     }
@@ -139,7 +153,9 @@ fn on_write(
     packets: &mut [u8; CHANNEL_SIZE],
     lengths: &mut [usize; PLACES],
     buffer: &mut [u8; BUFFER_SIZE],
-) -> Play {
+) -> Play
+    ensures { λ r. ⌜ (orderAsked (play .output) ≡ Order.Write n → (p : Playing) → PlayIn play (now (cards .entry)) (now (sent .entry)) (now (replies .entry)) (now (packets .entry)) (now (lengths .entry)) (now (buffer .entry)) p → PlayIn r (now (cards .entry)) (now (sent .entry)) (now (replies .entry)) (now (packets .exit)) (now (lengths .exit)) (now (buffer .exit)) (playedFrom 1 p)) ⌝ }
+{
     let state = play.state;
     let unread = play.unread;
     let session = play.session;
@@ -157,7 +173,9 @@ fn on_write(
     played(step, reaction.state, reaction.unread)
 }
 
-fn played(step: Step, state: State, unread: Unread) -> Play {
+fn played(step: Step, state: State, unread: Unread) -> Play
+    ensures { λ r. ⌜ (r .session ≡ step .session) × (r .output ≡ step .output) × (r .state ≡ state) × (r .unread ≡ unread) ⌝ }
+{
     let session = step.session;
     let output = step.output;
     Play {
@@ -179,7 +197,9 @@ fn turn(
     lengths: &mut [usize; PLACES],
     buffer: &mut [u8; BUFFER_SIZE],
     out: &mut [u8; OUT_ROOM],
-) -> Play {
+) -> Play
+    ensures { λ r. ⌜ ((p : Playing) → PlayIn play (now (cards .entry)) (now (sent .entry)) (now (replies .entry)) (now (packets .entry)) (now (lengths .entry)) (now (buffer .entry)) p → PlayIn r (now (cards .entry)) (now (sent .entry)) (now (replies .entry)) (now (packets .exit)) (now (lengths .exit)) (now (buffer .exit)) (playedFrom 1 p)) ⌝ }
+{
     let output = play.output;
     let state = play.state;
     let unread = play.unread;
@@ -209,11 +229,15 @@ fn turn(
     }
 }
 
-fn is_over(output: Output) -> bool {
+fn is_over(output: Output) -> bool
+    ensures { λ r. ⌜ r ≡ isOver (orderAsked output) ⌝ }
+{
     let order = order_of(output);
     match order {
+        Order::Write(_) => false,
+        Order::Next => false,
+        Order::Pause => false,
         Order::Over => true,
-        _ => false,
     }
 }
 
@@ -231,7 +255,9 @@ pub(crate) fn to_end(
     lengths: &mut [usize; PLACES],
     buffer: &mut [u8; BUFFER_SIZE],
     out: &mut [u8; OUT_ROOM],
-) -> Play {
+) -> Play
+    ensures { λ r. ⌜ ((p : Playing) → PlayIn start (now (cards .entry)) (now (sent .entry)) (now (replies .entry)) (now (packets .entry)) (now (lengths .entry)) (now (buffer .entry)) p → PlayIn r (now (cards .entry)) (now (sent .entry)) (now (replies .entry)) (now (packets .exit)) (now (lengths .exit)) (now (buffer .exit)) (playedFrom eventLimit p)) ⌝ }
+{
     let mut now = start;
     let mut left = EVENT_LIMIT;
     while left > 0 {

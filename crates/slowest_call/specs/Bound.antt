@@ -2,29 +2,27 @@
 use mathlib.Core.Path.{_≡_, refl, ap, subst}
 use mathlib.Core.Bool.{Bool, true, false, cond, false≢true, _||_}
 use mathlib.Core.List.{List, [], _∷_}
-use mathlib.Core.Option.{none, some}
+use mathlib.Core.Option.{some}
 use Prim.Native.Nat.{ℕ, suc, _+_, _-_, _≤_}
 use native.Mathlib.Omega.{arith}
-use lib.Dec.{leb, leb→le, ltb, eqb}
+use lib.Dec.{leb→le, eqb}
 use Rattle.errors.specs.declared.Fault.{Fault}
 use Rattle.errors.specs.declared.Fault.the-variants.{Transport, TimeOut, FalseStart}
 use Rattle.framing.specs.Frames.{ack}
-use Rattle.exchange.specs.Packets.{hasStart, ackLed, isEmpty, Reply, response, failed, replyOf}
+use Rattle.exchange.specs.Packets.{ackLed, Reply, response, failed, replyOf}
 use Rattle.exchange.specs.Exchange.{Order, write, read, drain, pause, Event, ok, bad, pkt, time, fail, late, slept, firstReadTime}
 use Rattle.exchange.specs.Exchange.{unfit, pending, ended, ExchangePhase, sending, reading, waiting, cancelling, rejecting, draining}
-use Rattle.exchange.specs.Exchange.{ExchangeResult, afterAck, onFirstPacket, onLaterPacket, onDrained, advance}
+use Rattle.exchange.specs.Exchange.{ExchangeResult, afterAck, advance}
 use Rattle.protocol.specs.Scripts.{Script, finish, command, reset, fieldPause}
 use Rattle.protocol.specs.Calls.{Call, isOpening}
-use Rattle.protocol.specs.Starts.{Start, refuses, starts, startOf}
 use Rattle.protocol.specs.Session.{Rest, byReply, ofReset, Phase, exchange, resetAck, resetPause, fieldPausing, openingAck, openingReads}
-use Rattle.protocol.specs.Session.{CallResult, startScript, afterExchange, progress, begin, Running, idle, busy, Books, bookOrder, bookAnswer, booksFor, lastCaller, admits, Session, seen, call, event, orders}
-use Rattle.protocol.specs.Session.{Effect, runs, ends, effect, bufferNeed, packetLimit, packetLength, admitted, eventEffect, started, callEffect, afterEffect, given, step}
-use Rattle.protocol.specs.Record.{Item, ordered, accepted, Record, Note, note, observed, addCall, addEvent, oneIf, frames, events, pendingOrder, acked, idleUnder, idleReads, line}
+use Rattle.protocol.specs.Session.{CallResult, startScript, afterExchange, progress, begin, Running, idle, busy, Books, call, orders}
+use Rattle.protocol.specs.Session.{given, step}
+use Rattle.protocol.specs.Record.{Item, ordered, accepted, oneIf, frames, events, pendingOrder, acked, idleUnder, idleReads}
 use Rattle.protocol.specs.Laws.{split, by-write, by-read, by-pause, ack-is-ack}
 use Rattle.protocol.specs.Invariant.{dueRest, dueStep, due}
-use Rattle.protocol.specs.PollList.{EventAndRoom, idleWith}
-use Rattle.protocol.specs.Chatter.{linesFrom}
-use Rattle.protocol.specs.ChatterSame.{seenOf, seenBehind, busyIn, idle-seen}
+use Rattle.protocol.specs.Runs.{sessionAt, LeadsTo, linesFrom}
+use Rattle.protocol.specs.RunLaws.{sending-cases, reading-cases, waiting-cases, cancelling-cases, rejecting-cases, draining-cases, call-lines}
 use Rattle.slowest_call.specs.Question.{isOrder, NoneLonger, isSlow, mostSlow, mostOther, Most, MostBegun, MostStarted, MostOf}
 use Rattle.protocol.specs.Names.{openingReadTime, resetPauseTime}
 
@@ -117,9 +115,7 @@ module _ (n : ℕ) where
     place : Place phase xs
 
   abbrev KeptBy : List Item → CallResult → Type 0
-  KeptBy xs unfit = Unit {0}
-  KeptBy xs (pending x phase) = Kept (ordered x ∷ xs) phase
-  KeptBy xs (ended a) = Bounded xs
+  KeptBy xs r = LeadsTo Bounded Kept xs r
 
   still-bounded : (xs : List Item) (phase : Phase) → Kept xs phase → Bounded xs
   still-bounded xs phase g = omega (arith, g .budget)
@@ -199,16 +195,6 @@ module _ (n : ℕ) where
         (λ _. cancels rest (pkt packet) g w (omega arith))
         (λ _. goes-on (exchange (waiting code clock) rest) (pkt packet) (read clock) g (omega arith) w (refl, rw v))
 
-    first-kept : (rest : Rest) (code clock : ℕ) (packet : List ℕ) → Kept xs (exchange (reading code clock) rest) → In rest (pkt packet) (onFirstPacket code clock packet)
-    first-kept rest code clock packet g =
-        split (In rest (pkt packet)) (isEmpty packet) _ _
-        (λ _. fails rest g (g .script) (omega arith) (pkt packet) TimeOut)
-        (λ _. split (In rest (pkt packet)) (hasStart packet) _ _
-        (λ _. split (In rest (pkt packet)) (ackLed packet) _ _
-        (λ v. reads-on rest code clock packet g (g .script) (omega arith) (omega arith) v)
-        (λ _. replies rest (pkt packet) (replyOf code packet) g (g .script) (omega arith)))
-        (λ _. gives-up rest (pkt packet) FalseStart rejecting g (g .script) (omega (arith, left-slow rest FalseStart (g .left) refl)) (λ h. h) tt))
-
     idle-ack : {rest : Rest} {code clock : ℕ} (packet : List ℕ) → Kept xs (exchange (waiting code clock) rest) → ackLed packet ≡ true
         → oneIf (idleUnder (pendingOrder xs) xs (pkt packet)) ≡ 1
     idle-ack packet g v = rw (g .place .0, g .place .1, v) (either-way (eqb (frames xs) 0))
@@ -217,57 +203,37 @@ module _ (n : ℕ) where
         either-way true = refl
         either-way false = refl
 
-    later-kept : (rest : Rest) (code clock : ℕ) (packet : List ℕ) → Kept xs (exchange (waiting code clock) rest) → In rest (pkt packet) (onLaterPacket code clock packet)
-    later-kept rest code clock packet g =
-        split (In rest (pkt packet)) (isEmpty packet) _ _
-        (λ _. fails rest g (g .script) (omega arith) (pkt packet) TimeOut)
-        (λ _. split (In rest (pkt packet)) (ackLed packet) _ _
-        (λ v. reads-on rest code clock packet g (g .script) (omega arith) (omega (arith, idle-ack packet g v)) v)
-        (λ _. replies rest (pkt packet) (replyOf code packet) g (g .script) (omega arith)))
-
-    -- a false start's exchange is over, or its drain goes on
-    starts-falsely : (rest : Rest) (e : Event) → Kept xs (exchange draining rest) → In rest e (ended (failed FalseStart))
-    starts-falsely rest e g = over rest e FalseStart (g .left) (omega (arith, g .budget)) (g .script)
-
+    -- a false start's drain goes on
     drains : {step : ExchangePhase} (rest : Rest) (e : Event) (g : Kept xs (exchange step rest)) → LeftFailed FalseStart rest (g .left)
         → 2 ≤ dueStep step + oneIf (idleUnder (pendingOrder xs) xs e) → In rest e (pending drain draining)
     drains rest e g w i = goes-on (exchange draining rest) e drain g (omega arith) w refl
 
-    drained-kept : (rest : Rest) (packet : List ℕ) → Kept xs (exchange draining rest) → In rest (pkt packet) (onDrained packet)
-    drained-kept rest packet g =
-        split (In rest (pkt packet)) (isEmpty packet) _ _
-        (λ _. starts-falsely rest (pkt packet) g)
-        (λ e. let i : oneIf (idleUnder (pendingOrder xs) xs (pkt packet)) ≡ 1 = rw (g .place, e) in drains rest (pkt packet) g (g .script) (omega arith))
-
     advance-kept : (step : ExchangePhase) (rest : Rest) → Kept xs (exchange step rest) → (e : Event) → In rest e (advance step e)
     advance-kept (sending code clock) rest g =
-        by-write (In rest) unfit (λ _. tt) _ _
+        sending-cases (In rest) (λ _. tt) code clock
         (goes-on (exchange (reading code clock) rest) ok (read firstReadTime) g (omega arith) (g .script) tt)
         (gives-up rest bad Transport (cancelling Transport) g (g .script) (omega (arith, left-most rest Transport (g .left))) (λ h. h) tt)
     advance-kept (reading code clock) rest g =
-        by-read (In rest) unfit (λ _. tt) (onFirstPacket code clock) _ _ _
-        (λ p. first-kept rest code clock p g)
-        (fails rest g (g .script) (omega arith) time TimeOut)
+        reading-cases (In rest) (λ _. tt) code clock
+        (λ e. fails rest g (g .script) (omega arith) e TimeOut)
         (fails rest g (g .script) (omega arith) fail Transport)
-        tt
+        (λ p v. reads-on rest code clock p g (g .script) (omega arith) (omega arith) v)
+        (λ p. replies rest (pkt p) (replyOf code p) g (g .script) (omega arith))
+        (λ p. gives-up rest (pkt p) FalseStart rejecting g (g .script) (omega (arith, left-slow rest FalseStart (g .left) refl)) (λ h. h) tt)
     advance-kept (waiting code clock) rest g =
-        by-read (In rest) unfit (λ _. tt) (onLaterPacket code clock) _ _ _
-        (λ p. later-kept rest code clock p g)
-        (fails rest g (g .script) (omega arith) time TimeOut)
+        waiting-cases (In rest) (λ _. tt) code clock
+        (λ e. fails rest g (g .script) (omega arith) e TimeOut)
         (fails rest g (g .script) (omega arith) fail Transport)
+        (λ p v. reads-on rest code clock p g (g .script) (omega arith) (omega (arith, idle-ack p g v)) v)
+        (λ p. replies rest (pkt p) (replyOf code p) g (g .script) (omega arith))
         (cancels rest late g (g .script) (omega arith))
-    advance-kept (cancelling r) rest g =
-        by-write (In rest) unfit (λ _. tt) _ _
-        (over rest ok r (g .left) (omega (arith, g .budget)) (g .script))
-        (over rest bad r (g .left) (omega (arith, g .budget)) (g .script))
-    advance-kept rejecting rest g = by-write (In rest) unfit (λ _. tt) _ _ (drains rest ok g (g .script) (omega arith)) (drains rest bad g (g .script) (omega arith))
+    advance-kept (cancelling r) rest g = cancelling-cases (In rest) (λ _. tt) r (λ e. over rest e r (g .left) (omega (arith, g .budget)) (g .script))
+    advance-kept rejecting rest g = rejecting-cases (In rest) (λ _. tt) (λ e. drains rest e g (g .script) (omega arith))
     advance-kept draining rest g =
-        let i : oneIf (idleUnder (pendingOrder xs) xs fail) ≡ 1 = rw (g .place) in
-        by-read (In rest) unfit (λ _. tt) onDrained _ _ _
-        (λ p. drained-kept rest p g)
-        (starts-falsely rest time g)
-        (drains rest fail g (g .script) (omega arith))
-        (starts-falsely rest late g)
+        draining-cases (In rest) (λ _. tt)
+        (λ e. over rest e FalseStart (g .left) (omega (arith, g .budget)) (g .script))
+        (λ p z. let i : oneIf (idleUnder (pendingOrder xs) xs (pkt p)) ≡ 1 = rw (g .place, z) in drains rest (pkt p) g (g .script) (omega arith))
+        (let i : oneIf (idleUnder (pendingOrder xs) xs fail) ≡ 1 = rw (g .place) in drains rest fail g (g .script) (omega arith))
 
     -- the script goes on behind a phase that has one event to come
     resumes : {phase : Phase} (s : Script) (e : Event) (g : Kept xs phase) → 1 ≤ due phase → Most s (g .left) → By e (startScript s)
@@ -293,78 +259,18 @@ module _ (n : ℕ) where
 
   -- ---- any events
 
-  module _ (c : Call) where
-    abbrev Behind : List EventAndRoom → Record → Note → Session → Bool → Type 0
-    Behind es l y s mode = Bounded (seenOf mode ((seenBehind (observed l (y ∷ [])) s es) .lines))
+  kept-begin : (o : Bool) (s : Script) → MostBegun o s n → KeptBy [] (begin o s)
+  kept-begin true s w =
+      let two : 2 ≤ n = leb→le 2 n (w .0) in
+      record { left = n - 2; budget = omega arith; script = w .1; place = rw ack-is-ack }
+  kept-begin false s w = kept-start [] s n (omega arith) w
 
-    abbrev RunsOn : List EventAndRoom → Type 0
-    RunsOn es = (l : Record) (y : Note) (phase : Phase) (b : Books) → Kept (seenOf (b .padded) l) phase → Behind es l y (busyIn c phase b) (b .padded)
-
-    module _ (e : Event) (room : ℕ) (es : List EventAndRoom) (on : RunsOn es) (l : Record) (y : Note) (phase : Phase) (b : Books) (h : Kept (seenOf (b .padded) l) phase) where
-      abbrev d : Event
-      d = seen (b .padded) e
-
-      abbrev Goal : Effect → Type 0
-      Goal o = Bounded (seenOf (b .padded) ((seenBehind (addEvent e l (y ∷ []) (given o)) (afterEffect (busyIn c phase b) (event e room) o) es) .lines))
-
-      effect-goal : (r : CallResult) → KeptBy (accepted d ∷ seenOf (b .padded) l) r → Goal (effect c r)
-      effect-goal unfit k = on l y phase b h
-      effect-goal (pending x new) k = on (line 0 (ordered x) ∷ line 0 (accepted e) ∷ l) y new (bookOrder x b) k
-      effect-goal (ended a) k = rw (idle-seen (bookAnswer c a b) (line 0 (accepted e) ∷ l) (note (y .caller) (y .call) (some a) ∷ []) es) k
-
-      admitted-goal : (o : Effect) → Goal o → Goal (admitted d room o)
-      admitted-goal o g =
-          split Goal (ltb room bufferNeed) _ _ (λ _. on l y phase b h) (λ _. split Goal (ltb packetLimit (packetLength d)) _ _ (λ _. on l y phase b h) (λ _. g))
-
-      event-goal : (r : CallResult) → KeptBy (accepted d ∷ seenOf (b .padded) l) r → Goal (eventEffect c d room r)
-      event-goal unfit k = on l y phase b h
-      event-goal (pending x new) k = admitted-goal (runs c x new) (effect-goal (pending x new) k)
-      event-goal (ended a) k = admitted-goal (ends c a) (effect-goal (ended a) k)
-
-    run-on : (es : List EventAndRoom) → RunsOn es
-    run-on [] l y phase b h = still-bounded (seenOf (b .padded) l) phase h
-    run-on (e ∷ es) l y phase b h =
-        event-goal (e .event) (e .room) es (run-on es) l y phase b h (progress phase (seen (b .padded) (e .event)))
-        (kept (seenOf (b .padded) l) phase h (seen (b .padded) (e .event)))
-
-    -- ---- from the call's entry
-
-    module _ (caller room : ℕ) (es : List EventAndRoom) (b : Books) where
-      abbrev FromCall : Effect → Type 0
-      FromCall o =
-          let s = afterEffect (idleWith b) (call caller c room) o in
-          Bounded (seenOf (s .books .padded) ((seenBehind (addCall caller c [] [] (given o)) s es) .lines))
-
-      refused-from : (b : Books) (mode : Bool) → Bounded (seenOf mode ((seenBehind (observed [] []) (idleWith b) es) .lines))
-      refused-from b mode = rw (idle-seen b [] [] es) (omega arith)
-
-      result-from : (r : CallResult) → KeptBy [] r → FromCall (effect c r)
-      result-from unfit k = refused-from b (b .padded)
-      result-from (pending x phase) k = run-on es (line 0 (ordered x) ∷ []) (note caller c none) phase (bookOrder x (booksFor caller c b)) k
-      result-from (ended a) k = rw (idle-seen (bookAnswer c a (booksFor caller c b)) [] (note caller c (some a) ∷ []) es) (omega arith)
-
-      kept-begin : (o : Bool) (s : Script) → MostBegun o s n → KeptBy [] (begin o s)
-      kept-begin true s w =
-          let two : 2 ≤ n = leb→le 2 n (w .0) in
-          record { left = n - 2; budget = omega arith; script = w .1; place = rw ack-is-ack }
-      kept-begin false s w = kept-start [] s n (omega arith) w
-
-      started-from : (s : Start) → MostStarted (isOpening c) s n → FromCall (started c s)
-      started-from (refuses r) w = refused-from b (b .padded)
-      started-from (starts s) w = result-from (begin (isOpening c) s) (kept-begin (isOpening c) s w)
-
-      call-from : (isAdmitted : Bool) → MostOf c n → FromCall (callEffect isAdmitted caller c room)
-      call-from isAdmitted w =
-          split FromCall isAdmitted _ _
-          (λ _. split FromCall (ltb room bufferNeed) _ _ (λ _. refused-from b (b .padded))
-          (λ _. split FromCall (leb caller lastCaller) _ _ (λ _. started-from (startOf c) w) (λ _. refused-from b (b .padded))))
-          (λ _. refused-from b (b .padded))
-
-    -- the theorem
-    pub none-longer : MostOf c n → NoneLonger c n
-    none-longer w s caller room es a = go (s .running) (s .books) (a .order) (a .given)
-      where
-        go : (r : Running) (b : Books) (x : Order) → (step (record { running = r; books = b }) (call caller c room)) .output ≡ orders x
-            → Bounded (linesFrom (record { running = r; books = b }) caller c room es)
-        go idle b x q = call-from caller room es b (admits b c) w
-        go (busy d phase) b x q = absurd (false≢true (ap isOrder q))
+  -- the theorem
+  pub none-longer : (c : Call) → MostOf c n → NoneLonger c n
+  none-longer c w s caller room es a = go (s .running) (s .books) (a .order) (a .given)
+    where
+      go : (r : Running) (b : Books) (x : Order) → (step (sessionAt r b) (call caller c room)) .output ≡ orders x → Bounded (linesFrom (sessionAt r b) caller c room es)
+      go idle b x q =
+          call-lines Bounded Kept kept Bounded (λ xs h. h) still-bounded caller c room (omega arith)
+          (λ s e. kept-begin (isOpening c) s (subst (λ x. MostStarted (isOpening c) x n) e w)) b es
+      go (busy d phase) b x q = absurd (false≢true (ap isOrder q))

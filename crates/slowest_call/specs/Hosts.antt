@@ -11,8 +11,7 @@ use Rattle.protocol.specs.Session as Spec
 use Rattle.protocol.specs.Session.{fresh, bufferNeed, orders}
 use Rattle.protocol.specs.Record.{Item, events, idleReads}
 use Rattle.protocol.specs.Machine.{entries, stateAfter, givenOut, still-represents}
-use Rattle.protocol.specs.PollList.{EventAndRoom}
-use Rattle.protocol.specs.Chatter.{callEntries}
+use Rattle.protocol.specs.Runs.{EventAndRoom, callEntries}
 use Rattle.engine.specs.Inputs.{Input}
 use Rattle.engine.specs.Refinement.{engine}
 use Rattle.engine.specs.SessionSteps.{freshSession}

@@ -8,15 +8,29 @@ use Rattle.exchange.specs.Exchange.{Order}
 use Rattle.protocol.specs.Scripts.{Byte}
 use Rattle.protocol.specs.Calls.{Call}
 use Rattle.protocol.specs.Session.{Session, Running, idle, busy, Books, fresh, call, Output, orders, answers, rejects, bufferNeed, step, outputs, sessionAfter}
-use Rattle.protocol.specs.Record.{Item, ordered, linesOf, seenItem, events, idleReads, note, addCall, observe, line}
+use Rattle.protocol.specs.Record.{Item, ordered, accepted, Record, Note, observed, linesOf, seenItem, events, idleReads, note, addCall, observe, line}
 use Rattle.protocol.specs.Machine.{outputValues, Machine, givenOut, stateAfter, entries, same-out, still-represents}
-use Rattle.protocol.specs.PollList.{EventAndRoom, eventEntry}
-use Rattle.protocol.specs.Chatter.{callEntries, linesFrom}
+use Rattle.protocol.specs.Runs.{EventAndRoom, eventEntry, callEntries, linesFrom}
 use Rattle.slowest_call.specs.Question.{isOrder, endsAtLast, roomy, eventsOf}
-use Rattle.slowest_call.specs.Runs.{newItems, observed-items}
 use Rattle.slowest_call.specs.Kinds.{Kind, kindOf, most, start, slowest}
 use Rattle.slowest_call.specs.Weights.{none-of-kind}
 use Rattle.slowest_call.specs.Theorem.{slowest-run}
+
+-- the lines of events and of what was given out for them, on top of others
+abbrev pub newItems : {B : Type 0} → List EventAndRoom → List (Output B) → List Item → List Item
+newItems [] outs xs = xs
+newItems (e ∷ es) [] xs = xs
+newItems (e ∷ es) (orders x ∷ outs) xs = newItems es outs (ordered x ∷ accepted (e .event) ∷ xs)
+newItems (e ∷ es) (answers a ∷ outs) xs = newItems es outs (accepted (e .event) ∷ xs)
+newItems (e ∷ es) (rejects r ∷ outs) xs = newItems es outs xs
+
+pub observed-items : (es : List EventAndRoom) (outs : List (Output Byte)) (l : Record) (y : Note)
+    → linesOf 0 ((observe (observed l (y ∷ [])) (map eventEntry es) outs) .lines) ≡ newItems es outs (linesOf 0 l)
+observed-items [] outs l y = refl
+observed-items (e ∷ es) [] l y = refl
+observed-items (e ∷ es) (orders x ∷ outs) l y = observed-items es outs _ y
+observed-items (e ∷ es) (answers a ∷ outs) l y = observed-items es outs _ _
+observed-items (e ∷ es) (rejects r ∷ outs) l y = observed-items es outs l y
 
 -- the lines of an accepted call, of its entries and of what was given out for each, as a mode sees them
 abbrev pub linesGiven : {B : Type 0} → Bool → List EventAndRoom → List (Output B) → List Item

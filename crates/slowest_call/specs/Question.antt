@@ -15,8 +15,7 @@ use Rattle.protocol.specs.Calls.{Call, isOpening}
 use Rattle.protocol.specs.Starts.{Start, refuses, starts, startOf}
 use Rattle.protocol.specs.Session.{Session, Entry, call, Output, orders, answers, rejects, bufferNeed, step, outputs}
 use Rattle.protocol.specs.Record.{events, idleReads}
-use Rattle.protocol.specs.PollList.{EventAndRoom, eventWith, eventEntry}
-use Rattle.protocol.specs.Chatter.{callEntries, linesFrom}
+use Rattle.protocol.specs.Runs.{EventAndRoom, eventWith, eventEntry, callEntries, linesFrom}
 
 -- ---- the question
 

@@ -13,7 +13,7 @@ use Rattle.exchange.specs.Exchange.{Event, ok, bad, pkt, time, fail, late, slep
 use Rattle.protocol.specs.Calls.{isOpening}
 use Rattle.protocol.specs.Session.{Entry, call, event, bufferNeed, fresh, sessionAfter}
 use Rattle.protocol.specs.Record.{events}
-use Rattle.protocol.specs.Chatter.{callEntries, linesFrom}
+use Rattle.protocol.specs.Runs.{callEntries, linesFrom}
 use Rattle.protocol.specs.Sample.{formats}
 use Rattle.calls.specs.Numbers.{callOf}
 use Rattle.engine.specs.Numbers.{eventBy}

@@ -9,8 +9,8 @@ use native.Mathlib.Omega.{arith}
 use Rattle.protocol.specs.Calls.{Call, isOpening}
 use Rattle.protocol.specs.Session.{Session, fresh, bufferNeed, outputs, sessionAfter}
 use Rattle.protocol.specs.Record.{events, idleReads}
-use Rattle.protocol.specs.PollList.{EventAndRoom, refusalsIn}
-use Rattle.protocol.specs.Chatter.{linesFrom}
+use Rattle.protocol.specs.PollList.{refusalsIn}
+use Rattle.protocol.specs.Runs.{EventAndRoom, linesFrom}
 use Rattle.slowest_call.specs.Question.{Accepted, IsRun, roomy, eventsOf}
 use Rattle.slowest_call.specs.Runs.{SlowFacts, slowFacts, slowBy, is-run}
 use Rattle.slowest_call.specs.Kinds.{Kind, openingKind, versionKind, resetModeKind, setParametersKind, rfConfigurationKind, readRegisterKind, writeRegisterKind, readSingleRegisterKind, writeSingleRegisterKind, inListPassiveTargetKind, inDataExchangeKind, inCommunicateThruKind, inJumpForDepKind, tgInitTargetKind, tgSetGeneralBytesKind, tgGetInitiatorCommandKind, tgResponseToInitiatorKind, tgGetTargetStatusKind, rfFieldOffKind, detectTypeAKind, detectTypeBKind, detectTypeFKind, detectDepKind, transceiveKind, detectTypeASplitKind, readWithoutEncryptionKind, writeWithoutEncryptionKind}

@@ -4,7 +4,7 @@ pub mod type_a;
 use errors::Refusal;
 ghost use mathlib.Core.List.{[], _∷_};
 ghost use mathlib.Core.Path.{_≡_};
-ghost use Rattle.targets.specs.Bitrates.{choiceOf, coded, codeOf, isRate, parsed, sendPartOf, StartsWithRate};
+ghost use Rattle.targets.specs.Bitrates.{choiceOf, coded, codeOf, isRate, parsed, rateNumber, sendPartOf, StartsWithRate};
 ghost use Rattle.errors.specs.Choice.{inRange};
 
 // The length of a text's send part, which the text starts with.
@@ -83,19 +83,47 @@ pub fn parse(text: &[u8]) -> Parsed
     }
 }
 
-// The code of a rate of four bytes, which are compared as one number: 0x31303641 is `106A`.
-fn bitrate_code(a: u8, b: u8, c: u8, d: u8) -> Bitrate
-    ensures { λ r. ⌜ r ≡ codeOf (a ∷ b ∷ c ∷ d ∷ []) ⌝ }
+// The number that three digits write; 0, which no bitrate has, where one is no digit.
+fn bitrate_number(a: u8, b: u8, c: u8) -> u16
+    ensures { λ r. ⌜ r ≡ rateNumber a b c ⌝ }
 {
-    let number = ((a as u32 * 256 + b as u32) * 256 + c as u32) * 256 + d as u32;
+    if !in_range(a, b'0', b'9') {
+        return 0;
+    }
+    if !in_range(b, b'0', b'9') {
+        return 0;
+    }
+    if !in_range(c, b'0', b'9') {
+        return 0;
+    }
+    100 * ((a - b'0') as u16) + 10 * ((b - b'0') as u16) + (c - b'0') as u16
+}
+
+// The code of a rate of three digits, by its number and its suffix.
+fn bitrate_code(a: u8, b: u8, c: u8, suffix: u8) -> Bitrate
+    ensures { λ r. ⌜ r ≡ codeOf (a ∷ b ∷ c ∷ suffix ∷ []) ⌝ }
+{
+    let number = bitrate_number(a, b, c);
     match number {
-        0x31303641 => Bitrate::B106A,
-        0x32313246 => Bitrate::B212F,
-        0x34323446 => Bitrate::B424F,
-        0x31303642 => Bitrate::B106B,
-        0x32313242 => Bitrate::B212B,
-        0x34323442 => Bitrate::B424B,
-        0x38343842 => Bitrate::B848B,
+        106 => match suffix {
+            b'A' => Bitrate::B106A,
+            b'B' => Bitrate::B106B,
+            _ => Bitrate::Other,
+        },
+        212 => match suffix {
+            b'B' => Bitrate::B212B,
+            b'F' => Bitrate::B212F,
+            _ => Bitrate::Other,
+        },
+        424 => match suffix {
+            b'B' => Bitrate::B424B,
+            b'F' => Bitrate::B424F,
+            _ => Bitrate::Other,
+        },
+        848 => match suffix {
+            b'B' => Bitrate::B848B,
+            _ => Bitrate::Other,
+        },
         _ => Bitrate::Other,
     }
 }

@@ -15,6 +15,9 @@ abbrev μ-loop : tie.MeasureT-loop
 large-buffer-requires : tie.Need-large-buffer-requires Inv-loop μ-loop
 large-buffer-requires c κs = search needs
 
+no-packets-requires : tie.Need-no-packets-requires Inv-loop μ-loop
+no-packets-requires c κs = search needs
+
 begun-requires : tie.Need-begun-requires Inv-loop μ-loop
 begun-requires c κs = search needs
 
@@ -68,6 +71,7 @@ run-spec =
     Inv-loop
     μ-loop
     large-buffer-requires
+    no-packets-requires
     begun-requires
     nothing-requires
     loop-holds

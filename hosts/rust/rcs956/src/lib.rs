@@ -4,12 +4,12 @@
 //! that fit it, and no others; an event uses the order up and gives the next step.
 //!
 //! ```
-//! use rcs956::{Call, Reader, Refusal, Step};
+//! use rcs956::{Call, Fault, Reader, Step};
 //!
 //! let mut reader = Reader::new();
 //! let Step::Write(order) = reader.call(0, Call::Open { padded: false }) else { panic!("an opening begins with ACK") };
 //! assert_eq!(order.bytes(), [0, 0, 0xFF, 0, 0xFF, 0]);
-//! assert!(matches!(order.failed(), Step::Refused(Refusal::Transport)));
+//! assert!(matches!(order.failed(), Step::Refused(Fault::Transport)));
 //! ```
 //!
 //! A write order cannot be answered as a pause is, nor twice, and no call can be made while an order is held:
@@ -43,11 +43,13 @@ mod driver;
 #[allow(unsafe_code)]
 mod ffi;
 pub mod raw;
+mod refusal;
 mod step;
 
 pub use calls::Call;
 pub use driver::{Received, Transport, run};
-pub use step::{Answer, Drain, Lengths, Pause, Read, Reader, Refusal, Step, Write};
+pub use refusal::{Fault, Refusal};
+pub use step::{Answer, Drain, Lengths, Pause, Read, Reader, Step, Write};
 
 /// The bytes of the engine's buffer, and the most that a packet has.
 pub const BUFFER_SIZE: usize = 1024;

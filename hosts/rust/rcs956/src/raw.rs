@@ -18,9 +18,12 @@ pub mod kind {
     pub const DONE: u8 = 4;
     pub const DONE_TYPE1: u8 = 5;
     pub const NONE: u8 = 6;
+    /// The call has ended.
     pub const REFUSED: u8 = 7;
     pub const LIST_REFUSED: u8 = 8;
     pub const UID_AND_ATS: u8 = 9;
+    /// Nothing has changed.
+    pub const REFUSED_AT_ONCE: u8 = 10;
 }
 
 /// Events.

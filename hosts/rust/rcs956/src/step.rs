@@ -1,7 +1,7 @@
 //! Readers, orders and the events that fit them.
 
 use crate::raw::{self, CALLERS, Line, Outcome, RawSession, event, kind};
-use crate::{BUFFER_SIZE, Call};
+use crate::{BUFFER_SIZE, Call, Fault, Refusal};
 use std::fmt;
 
 /// One reader: its session and its buffer.
@@ -23,13 +23,15 @@ pub enum Step<'r> {
     Done(Answer<'r>),
     /// The call ended with none: no card, or no command.
     None,
-    /// Refusals 1 to 6 changed nothing: an order that was due still is, see [`Reader::due`]. Others ended the call.
-    Refused(Refusal),
-    /// A refusal above 6 ended a list; so many of its codes were finished.
+    /// The call ended with a refusal.
+    Refused(Fault),
+    /// The same of a list; so many of its codes were finished.
     ListRefused {
-        refusal: Refusal,
+        refusal: Fault,
         finished: u8,
     },
+    /// Nothing has changed: an order that was due still is, see [`Reader::due`].
+    RefusedAtOnce(Refusal),
 }
 
 /// The bytes of an answer.
@@ -65,96 +67,6 @@ pub struct Pause<'r>(Order<'r>);
 struct Order<'r> {
     reader: &'r mut Reader,
     outcome: Outcome,
-}
-
-/// Why a call or an event was refused, by document 01's words; `number` has its number.
-#[derive(Clone, Copy, Debug, PartialEq, Eq)]
-pub enum Refusal {
-    OutOfTurn,
-    ShortBuffer,
-    OverLong,
-    BadArgument,
-    Bitrate,
-    NotSendable,
-    Transport,
-    TimeOut,
-    FalseStart,
-    BrokenFrame,
-    Length,
-    FrameKind,
-    Identifier,
-    Code,
-    Status(u8),
-    ShortResponse,
-    NoCard,
-    CrcA,
-    Rate,
-    /// Both status flags of the card.
-    CardStatus(u8, u8),
-    OtherCard,
-    UidLayout,
-}
-
-/// The refusals in the order of their numbers, from 1 on.
-const REFUSALS: [Refusal; 22] = [
-    Refusal::OutOfTurn,
-    Refusal::ShortBuffer,
-    Refusal::OverLong,
-    Refusal::BadArgument,
-    Refusal::Bitrate,
-    Refusal::NotSendable,
-    Refusal::Transport,
-    Refusal::TimeOut,
-    Refusal::FalseStart,
-    Refusal::BrokenFrame,
-    Refusal::Length,
-    Refusal::FrameKind,
-    Refusal::Identifier,
-    Refusal::Code,
-    Refusal::Status(0),
-    Refusal::ShortResponse,
-    Refusal::NoCard,
-    Refusal::CrcA,
-    Refusal::Rate,
-    Refusal::CardStatus(0, 0),
-    Refusal::OtherCard,
-    Refusal::UidLayout,
-];
-
-impl Refusal {
-    /// Of a number from 1 to 22, with the status byte of 15 or both status flags of 20.
-    pub fn numbered(number: u8, status: u8, status2: u8) -> Option<Refusal> {
-        match number {
-            15 => Some(Refusal::Status(status)),
-            20 => Some(Refusal::CardStatus(status, status2)),
-            _ => REFUSALS.get(usize::from(number).checked_sub(1)?).copied(),
-        }
-    }
-
-    fn of(outcome: Outcome) -> Refusal {
-        Refusal::numbered(outcome.refusal, outcome.status, outcome.status2).expect("a refusal has 1 to 22")
-    }
-
-    pub fn number(self) -> u8 {
-        match self {
-            Refusal::Status(_) => 15,
-            Refusal::CardStatus(_, _) => 20,
-            _ => REFUSALS.iter().position(|refusal| *refusal == self).map_or(0, |k| k as u8 + 1),
-        }
-    }
-
-    /// The status byte of 15 or the first status flag of 20, else 0.
-    pub fn status(self) -> u8 {
-        match self {
-            Refusal::Status(status) | Refusal::CardStatus(status, _) => status,
-            _ => 0,
-        }
-    }
-
-    /// The second status flag of 20, else 0.
-    pub fn status2(self) -> u8 {
-        if let Refusal::CardStatus(_, status2) = self { status2 } else { 0 }
-    }
 }
 
 impl Default for Reader {
@@ -201,11 +113,12 @@ impl Reader {
     }
 
     fn step(&mut self, outcome: Outcome) -> Step<'_> {
-        if outcome.kind <= kind::PAUSE {
-            self.due = Some(outcome);
-        } else if outcome.kind != kind::REFUSED || outcome.refusal > 6 {
-            self.due = None;
+        if outcome.kind != kind::REFUSED_AT_ONCE {
+            self.due = (outcome.kind <= kind::PAUSE).then_some(outcome);
         }
+        let refusal = || Refusal::numbered(outcome.refusal).expect("a refusal at once has its number");
+        let fault =
+            || Fault::numbered(outcome.refusal, outcome.status, outcome.status2).expect("a fault has its number");
         match outcome.kind {
             kind::WRITE => Step::Write(Write(Order { reader: self, outcome })),
             kind::READ => Step::Read(Read(Order { reader: self, outcome })),
@@ -220,8 +133,9 @@ impl Reader {
                 })
             }
             kind::NONE => Step::None,
-            kind::LIST_REFUSED => Step::ListRefused { refusal: Refusal::of(outcome), finished: outcome.finished },
-            _ => Step::Refused(Refusal::of(outcome)),
+            kind::LIST_REFUSED => Step::ListRefused { refusal: fault(), finished: outcome.finished },
+            kind::REFUSED => Step::Refused(fault()),
+            _ => Step::RefusedAtOnce(refusal()),
         }
     }
 }
@@ -309,10 +223,10 @@ impl Step<'_> {
     fn outcome(&self) -> (Outcome, &[u8]) {
         let end =
             |kind| Outcome { kind, refusal: 0, status: 0, status2: 0, finished: 0, uid: 0, ats: 0, time: 0, len: 0 };
-        let refused = |why: &Refusal, kind| Outcome {
-            refusal: why.number(),
-            status: why.status(),
-            status2: why.status2(),
+        let refused = |fault: &Fault, kind| Outcome {
+            refusal: fault.number(),
+            status: fault.status(),
+            status2: fault.status2(),
             ..end(kind)
         };
         match self {
@@ -325,10 +239,11 @@ impl Step<'_> {
             }
             Step::Done(answer) => (end(if answer.type1 { kind::DONE_TYPE1 } else { kind::DONE }), answer.bytes),
             Step::None => (end(kind::NONE), &[]),
-            Step::Refused(why) => (refused(why, kind::REFUSED), &[]),
+            Step::Refused(fault) => (refused(fault, kind::REFUSED), &[]),
             Step::ListRefused { refusal, finished } => {
                 (Outcome { finished: *finished, ..refused(refusal, kind::LIST_REFUSED) }, &[])
             }
+            Step::RefusedAtOnce(why) => (Outcome { refusal: why.number(), ..end(kind::REFUSED_AT_ONCE) }, &[]),
         }
     }
 }

@@ -97,9 +97,9 @@ fn opening_read(reader: &mut Reader) -> Read<'_> {
 #[test]
 fn refused_event_leaves_the_order_due() {
     let mut reader = Reader::new();
-    assert!(matches!(opening_read(&mut reader).late(), Step::Refused(Refusal::OutOfTurn)));
+    assert!(matches!(opening_read(&mut reader).late(), Step::RefusedAtOnce(Refusal::OutOfTurn)));
     let Some(Step::Read(order)) = reader.due() else { panic!() };
-    assert!(matches!(order.packet(&[0; 1025]), Step::Refused(Refusal::OverLong)));
+    assert!(matches!(order.packet(&[0; 1025]), Step::RefusedAtOnce(Refusal::OverLong)));
     let Some(Step::Read(order)) = reader.due() else { panic!() };
     assert_eq!(order.ms(), 10);
     assert!(matches!(order.packet(&[0; 1024]), Step::Read(_)));
@@ -110,7 +110,7 @@ fn dropped_order_is_due() {
     let mut reader = Reader::new();
     assert!(reader.due().is_none());
     let _ = opening_read(&mut reader);
-    assert!(matches!(reader.call(0, Call::Open { padded: false }), Step::Refused(Refusal::OutOfTurn)));
+    assert!(matches!(reader.call(0, Call::Open { padded: false }), Step::RefusedAtOnce(Refusal::OutOfTurn)));
     let Some(Step::Read(order)) = reader.due() else { panic!() };
     let Step::Write(order) = order.timed_out() else { panic!() };
     assert_eq!(order.bytes(), [0, 0, 0xFF, 3, 0xFD, 0xD4, 0x18, 1, 0x13, 0]);
@@ -143,18 +143,20 @@ fn drains_share_their_time() {
 
 #[test]
 fn refusals_by_number() {
-    for number in 1..=22 {
-        let refusal = Refusal::numbered(number, 7, 9).unwrap();
-        assert_eq!((refusal.number(), refusal.status()), (number, if number == 15 || number == 20 { 7 } else { 0 }));
-        assert_eq!(refusal.status2(), if number == 20 { 9 } else { 0 });
+    let at_once = (0..=255).filter_map(|number| Some((number, Refusal::numbered(number)?)));
+    assert!(at_once.map(|(number, refusal)| (number, refusal.number())).eq((1..=6).map(|number| (number, number))));
+    for number in 7..=22 {
+        let fault = Fault::numbered(number, 7, 9).unwrap();
+        assert_eq!((fault.number(), fault.status()), (number, if number == 15 || number == 20 { 7 } else { 0 }));
+        assert_eq!(fault.status2(), if number == 20 { 9 } else { 0 });
     }
-    assert_eq!(Refusal::numbered(0, 0, 0), None);
-    assert_eq!(Refusal::numbered(23, 0, 0), None);
-    assert_eq!(Step::Refused(Refusal::CardStatus(0xFF, 0xA1)).to_string(), "refused 20 FFA1");
-    assert_eq!(Step::Refused(Refusal::Status(0xFE)).to_string(), "refused 15 FE");
-    assert_eq!(Step::ListRefused { refusal: Refusal::TimeOut, finished: 0 }.to_string(), "refused 8 finished 0");
+    assert_eq!((Fault::numbered(6, 0, 0), Fault::numbered(23, 0, 0)), (None, None));
+    assert_eq!(Step::RefusedAtOnce(Refusal::NotSendable).to_string(), "refused 6");
+    assert_eq!(Step::Refused(Fault::CardStatus(0xFF, 0xA1)).to_string(), "refused 20 FFA1");
+    assert_eq!(Step::Refused(Fault::Status(0xFE)).to_string(), "refused 15 FE");
+    assert_eq!(Step::ListRefused { refusal: Fault::TimeOut, finished: 0 }.to_string(), "refused 8 finished 0");
     assert_eq!(
-        Step::ListRefused { refusal: Refusal::Status(0xFE), finished: 16 }.to_string(),
+        Step::ListRefused { refusal: Fault::Status(0xFE), finished: 16 }.to_string(),
         "refused 15 FE finished 16"
     );
 }
@@ -180,7 +182,7 @@ fn session_with(opened: u8, frames: u32) -> RawSession {
 
 fn refused(number: u8) -> Outcome {
     Outcome {
-        kind: raw::kind::REFUSED,
+        kind: raw::kind::REFUSED_AT_ONCE,
         refusal: number,
         status: 0,
         status2: 0,

@@ -152,7 +152,7 @@ fn no_caller(entry: &Entry) -> bool {
     matches!(entry, Entry::Call { arguments: [.., caller], .. } if *caller > 7)
 }
 
-/// What `opened` must be behind a step that is not refused with 1 to 6: 0 once an opening has begun, and 1 once it is done.
+/// What `opened` must be behind a step that is not refused at once: 0 once an opening has begun, and 1 once it is done.
 fn opened_due(entry: &Entry, before: &RawSession, outcome: Outcome) -> u8 {
     let opening_runs = before.core.call.kind == 1;
     match outcome.kind {
@@ -178,22 +178,21 @@ fn no_mode(entry: &Entry) -> bool {
 
 /// What the session must be behind a step.
 fn session_faults(entry: &Entry, before: &RawSession, after: &RawSession, outcome: Outcome) -> Vec<&'static str> {
-    let refused = outcome.kind == kind::REFUSED;
-    let (early, ends) = (refused && outcome.refusal <= 6, outcome.kind >= kind::DONE);
+    let (at_once, ends) = (outcome.kind == kind::REFUSED_AT_ONCE, outcome.kind >= kind::DONE);
     let (running, books) = (after.core.call.kind != 0, &after.books);
     let turn = out_of_turn(entry, before);
     let checks = [
         (!in_range(before) && outcome.refusal != 1, "a session out of range is not refused with 1"),
         (turn.is_some_and(|due| due != (outcome.refusal == 1)), "a refusal 1 that is not due, or none where it is"),
-        (early && before != after, "a refusal 1 to 6 has changed the session"),
-        (ends && !early && running, "a call has ended and still runs"),
+        (at_once && before != after, "a refusal at once has changed the session"),
+        (ends && !at_once && running, "a call has ended and still runs"),
         (!ends && !running, "an order, and no call runs"),
-        (!early && after.frames != frames_due(entry, before, outcome), "the frame counts are wrong"),
+        (!at_once && after.frames != frames_due(entry, before, outcome), "the frame counts are wrong"),
         (books.caller != caller_due(entry, before, outcome), "the caller is wrong"),
-        (no_caller(entry) && !(refused && [1, 2, 4].contains(&outcome.refusal)), "a call of no caller is not refused"),
-        (!early && books.opened != opened_due(entry, before, outcome), "`opened` is wrong"),
+        (no_caller(entry) && !(at_once && [1, 2, 4].contains(&outcome.refusal)), "a call of no caller is not refused"),
+        (!at_once && books.opened != opened_due(entry, before, outcome), "`opened` is wrong"),
         (books.mode != mode_due(entry, before, outcome), "the mode is wrong"),
-        (no_mode(entry) && !(refused && [1, 2, 4].contains(&outcome.refusal)), "an opening in no mode is not refused"),
+        (no_mode(entry) && !(at_once && [1, 2, 4].contains(&outcome.refusal)), "an opening in no mode is not refused"),
     ];
     checks.iter().filter(|(fault, _)| *fault).map(|(_, text)| *text).collect()
 }
@@ -206,14 +205,14 @@ fn outcome_faults(outcome: Outcome, before: &[u8], after: &[u8]) -> Vec<&'static
     let has_bytes = parted || matches!(kind, kind::WRITE | kind::DONE | kind::DONE_TYPE1);
     let written = if has_bytes { len.min(size) } else { 0 };
     let start = &after[GUARD..GUARD + written];
-    let (refused, listed) = (kind == kind::REFUSED, kind == kind::LIST_REFUSED);
+    let (at_once, listed) = (kind == kind::REFUSED_AT_ONCE, kind == kind::LIST_REFUSED);
     let numbers = match kind {
-        kind::REFUSED => 1..=22,
-        kind::LIST_REFUSED => 7..=22,
+        kind::REFUSED | kind::LIST_REFUSED => 7..=22,
+        kind::REFUSED_AT_ONCE => 1..=6,
         _ => 0..=0,
     };
     let checks = [
-        (kind > 9, "a kind above 9"),
+        (kind > 10, "a kind above 10"),
         (!parted && (uid, ats) != (0, 0), "lengths of a UID and an ATS, and no such answer"),
         (!listed && finished != 0, "codes finished, and no list"),
         (len > size.min(1024), "more bytes than the buffer has"),
@@ -225,7 +224,7 @@ fn outcome_faults(outcome: Outcome, before: &[u8], after: &[u8]) -> Vec<&'static
         (!has_bytes && len != 0, "a length with no bytes"),
         (kind == kind::WRITE && !start.starts_with(&[0, 0, 0xFF]), "a write order of no frame"),
         (kind == kind::WRITE && len < 9 && start != [0, 0, 0xFF, 0, 0xFF, 0], "a short write order, and no ACK"),
-        (size < 1024 && !(refused && refusal <= 2), "a short buffer is not refused with 1 or 2"),
+        (size < 1024 && !(at_once && refusal <= 2), "a short buffer is not refused with 1 or 2"),
         (before[..GUARD] != after[..GUARD], "bytes before the buffer have changed"),
         (before[GUARD + written..] != after[GUARD + written..], "bytes behind the output have changed"),
     ];
