@@ -8,7 +8,7 @@ use Rattle.acceptance.specs.declared.Reached.{Reached}
 use Rattle.acceptance.specs.declared.Reached.TheVariants.{At, End, Refused}
 use Rattle.acceptance.specs.contracts.Reached.{the_type}
 
-pub no-entry : (s : Reached) → OneOf (1 ∷ 2 ∷ []) (tag_of the_type s) → on_entry s ≡ 0
-no-entry (At e) h = absurd (miss (1 ∷ 2 ∷ []) 0 tt h)
-no-entry End h = refl
-no-entry (Refused r) h = refl
+pub no_entry_lem : (s : Reached) → OneOf (1 ∷ 2 ∷ []) (tag_of the_type s) → on_entry s ≡ 0
+no_entry_lem (At e) h = absurd (miss (1 ∷ 2 ∷ []) 0 tt h)
+no_entry_lem End h = refl
+no_entry_lem (Refused r) h = refl

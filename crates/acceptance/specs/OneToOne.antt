@@ -3,16 +3,16 @@ use Rattle.std.specs.Prelude.{◌≡◌, refl, Bool, true, false, List, ◌++◌
 use Rattle.std.proofs.Common.{sym, ap, ap₂, ◌∙◌, append_assoc, arith, take_at, drop_at, ltb-true, ltb-false}
 use Rattle.errors.specs.Choice.{pick}
 use Rattle.framing.specs.Enclose.{length-head, length-frame}
-use Rattle.framing.specs.Frames.{ending, head_of, dataStart, frame_of}
+use Rattle.framing.specs.Frames.{ending, head_of, data_start_of, frame_of}
 use Rattle.framing.specs.declared.LengthEncoding.{LengthEncoding}
 use Rattle.framing.specs.declared.LengthEncoding.TheVariants.{Normal, ExtendedLittleEndian, NormalOrExtendedBigEndian}
 
 -- a longer payload's frame is longer
-start-grows : (e : LengthEncoding) (m n : ℕ) → dataStart e m + m ≡ dataStart e n + n → m ≡ n
-unfolding dataStart pick
-start-grows Normal m n h = omega arith
-start-grows ExtendedLittleEndian m n h = omega arith
-start-grows NormalOrExtendedBigEndian m n h = go (ltb m 256) (ltb n 256) refl refl h
+start_grows : (e : LengthEncoding) (m n : ℕ) → data_start_of e m + m ≡ data_start_of e n + n → m ≡ n
+unfolding data_start_of pick
+start_grows Normal m n h = omega arith
+start_grows ExtendedLittleEndian m n h = omega arith
+start_grows NormalOrExtendedBigEndian m n h = go (ltb m 256) (ltb n 256) refl refl h
   where
     go : (t u : Bool) → ltb m 256 ≡ t → ltb n 256 ≡ u → pick t 5 8 + m ≡ pick u 5 8 + n → m ≡ n
     go true true a b k = omega arith
@@ -21,15 +21,15 @@ start-grows NormalOrExtendedBigEndian m n h = go (ltb m 256) (ltb n 256) refl re
     go false false a b k = omega arith
 
 -- the payload out of its frame, by its length
-payload-in : (e : LengthEncoding) (p : List ℕ) → take (length p) (drop (dataStart e (length p)) (frame_of e p)) ≡ p
+payload_in_lem : (e : LengthEncoding) (p : List ℕ) → take (length p) (drop (data_start_of e (length p)) (frame_of e p)) ≡ p
 unfolding frame_of
-payload-in e p =
+payload_in_lem e p =
     ap (take (length p))
-    (ap (drop (dataStart e (length p))) (append_assoc (head_of e (length p)) p (ending p))
-    ∙ drop_at (head_of e (length p)) (p ++ ending p) (dataStart e (length p)) (length-head e (length p)))
+    (ap (drop (data_start_of e (length p))) (append_assoc (head_of e (length p)) p (ending p))
+    ∙ drop_at (head_of e (length p)) (p ++ ending p) (data_start_of e (length p)) (length-head e (length p)))
     ∙ take_at p (ending p) (length p) refl
 
-pub one-to-one : (e : LengthEncoding) (p q : List ℕ) → frame_of e p ≡ frame_of e q → p ≡ q
-one-to-one e p q h =
-    let l : length p ≡ length q = start-grows e (length p) (length q) (omega (arith, ap length h, length-frame e p, length-frame e q)) in
-    sym (payload-in e p) ∙ ap₂ (λ n f. take n (drop (dataStart e n) f)) l h ∙ payload-in e q
+pub one_to_one : (e : LengthEncoding) (p q : List ℕ) → frame_of e p ≡ frame_of e q → p ≡ q
+one_to_one e p q h =
+    let l : length p ≡ length q = start_grows e (length p) (length q) (omega (arith, ap length h, length-frame e p, length-frame e q)) in
+    sym (payload_in_lem e p) ∙ ap₂ (λ n f. take n (drop (data_start_of e n) f)) l h ∙ payload_in_lem e q

@@ -11,10 +11,10 @@ use Rattle.acceptance.specs.declared.Following.TheVariants.{Next, Nothing}
 use Rattle.acceptance.specs.declared.Reached.{Reached}
 use Rattle.acceptance.specs.declared.Reached.TheVariants.{At, End, Refused}
 
-unfoldable pub payloadBytes : Payload → List ℕ
-payloadBytes Empty = []
-payloadBytes (One a) = a ∷ []
-payloadBytes (Two a b) = a ∷ b ∷ []
+unfoldable pub payload_bytes : Payload → List ℕ
+payload_bytes Empty = []
+payload_bytes (One a) = a ∷ []
+payload_bytes (Two a b) = a ∷ b ∷ []
 
 -- of two lists of one length: the first byte that differs decides
 abbrev pub BytesBefore : List ℕ → List ℕ → Type 0
@@ -30,44 +30,44 @@ Before p q = (length p < length q) ⊎ ((length p ≡ length q) × BytesBefore p
 abbrev pub payloads : ℕ
 payloads = 65793
 
-abbrev pub entryCount : ℕ
-entryCount = 394758
+abbrev pub entry_count : ℕ
+entry_count = 394758
 
 -- how many short payloads are before one: its place in a setting's list
-unfoldable pub payloadNumberIn : List ℕ → ℕ
-payloadNumberIn [] = 0
-payloadNumberIn (a ∷ []) = 1 + a
-payloadNumberIn (a ∷ b ∷ l) = 257 + (256 * a + b)
+unfoldable pub payload_number_in : List ℕ → ℕ
+payload_number_in [] = 0
+payload_number_in (a ∷ []) = 1 + a
+payload_number_in (a ∷ b ∷ l) = 257 + (256 * a + b)
 
-unfoldable pub payloadNumber : Payload → ℕ
-payloadNumber p = payloadNumberIn (payloadBytes p)
+unfoldable pub payload_number : Payload → ℕ
+payload_number p = payload_number_in (payload_bytes p)
 
 -- the payload whose number is n
-unfoldable pub payloadAt : ℕ → Payload
-payloadAt n = pick (ltb n 1) Empty (pick (ltb n 257) (One (n - 1)) (Two ((n - 257) / 256) ((n - 257) % 256)))
+unfoldable pub payload_at : ℕ → Payload
+payload_at n = pick (ltb n 1) Empty (pick (ltb n 257) (One (n - 1)) (Two ((n - 257) / 256) ((n - 257) % 256)))
 
-abbrev pub entryWith : ℕ → Payload → Entry
-entryWith s p = record { setting = s; payload = p }
+abbrev pub entry_with : ℕ → Payload → Entry
+entry_with s p = record { setting = s; payload = p }
 
 -- an entry's place in the whole list
-unfoldable pub placeInList : Entry → ℕ
-placeInList e = payloads * e.setting + payloadNumber e.payload
+unfoldable pub place_in_list : Entry → ℕ
+place_in_list e = payloads * e.setting + payload_number e.payload
 
 unfoldable pub entry_at : ℕ → Entry
-entry_at n = entryWith (n / payloads) (payloadAt (n % payloads))
+entry_at n = entry_with (n / payloads) (payload_at (n % payloads))
 
 -- the first entry of a setting
-abbrev pub firstEntry : ℕ → Entry
-firstEntry s = entryWith s Empty
+abbrev pub first_entry : ℕ → Entry
+first_entry s = entry_with s Empty
 
 -- the payload whose number is n, where there is one
-unfoldable pub followingAt : ℕ → Following
-followingAt n = pick (ltb n payloads) (Next (payloadAt n)) Nothing
+unfoldable pub following_at : ℕ → Following
+following_at n = pick (ltb n payloads) (Next (payload_at n)) Nothing
 
 -- the entry at the place n; behind the last one the end
-unfoldable pub stepAt : ℕ → Reached
-stepAt n = pick (ltb n entryCount) (At (entry_at n)) End
+unfoldable pub step_at : ℕ → Reached
+step_at n = pick (ltb n entry_count) (At (entry_at n)) End
 
 -- the step from an entry: to the next place; an entry of no setting is refused, with 1
-unfoldable pub stepFrom : Entry → Reached
-stepFrom e = pick (ltb e.setting 6) (stepAt (suc (placeInList e))) (Refused OutOfTurn)
+unfoldable pub step_from : Entry → Reached
+step_from e = pick (ltb e.setting 6) (step_at (suc (place_in_list e))) (Refused OutOfTurn)

@@ -7,7 +7,7 @@ use native.Mathlib.Omega.{arith}
 use borrow.Author.Tests.{lt-ltb, le-ltb, ltb-true, ltb-false}
 use Rattle.errors.specs.Choice.{pick}
 use Rattle.errors.specs.declared.Refusal.TheVariants.{OutOfTurn}
-use Rattle.acceptance.specs.Order.{payloadBytes, payloads, entryCount, payloadNumberIn, payloadNumber, payloadAt, entryWith, placeInList, entry_at, followingAt, stepAt, stepFrom}
+use Rattle.acceptance.specs.Order.{payload_bytes, payloads, entry_count, payload_number_in, payload_number, payload_at, entry_with, place_in_list, entry_at, following_at, step_at, step_from}
 use Rattle.acceptance.specs.declared.Payload.{Payload}
 use Rattle.acceptance.specs.declared.Payload.TheVariants.{Empty, One, Two}
 use Rattle.acceptance.specs.declared.Entry.{Entry}
@@ -15,24 +15,24 @@ use Rattle.acceptance.specs.declared.Following.TheVariants.{Next, Nothing}
 use Rattle.acceptance.specs.declared.Reached.TheVariants.{At, End, Refused}
 
 -- the payload of a number, by the payload's length
-payload-empty : (n : ℕ) → n < 1 → payloadAt n ≡ Empty
-unfolding payloadAt pick
-payload-empty n h = rw (lt-ltb n 1 h)
+payload_empty : (n : ℕ) → n < 1 → payload_at n ≡ Empty
+unfolding payload_at pick
+payload_empty n h = rw (lt-ltb n 1 h)
 
-payload-one : (n : ℕ) → 1 ≤ n → n < 257 → payloadAt n ≡ One (n - 1)
-unfolding payloadAt pick
-payload-one n h k = rw (le-ltb n 1 h, lt-ltb n 257 k)
+payload_one : (n : ℕ) → 1 ≤ n → n < 257 → payload_at n ≡ One (n - 1)
+unfolding payload_at pick
+payload_one n h k = rw (le-ltb n 1 h, lt-ltb n 257 k)
 
-payload-two : (n : ℕ) → 257 ≤ n → payloadAt n ≡ Two ((n - 257) / 256) ((n - 257) % 256)
-unfolding payloadAt pick
-payload-two n h = rw (le-ltb n 1 (omega arith), le-ltb n 257 h)
+payload_two : (n : ℕ) → 257 ≤ n → payload_at n ≡ Two ((n - 257) / 256) ((n - 257) % 256)
+unfolding payload_at pick
+payload_two n h = rw (le-ltb n 1 (omega arith), le-ltb n 257 h)
 
 -- the payload whose number is n, by its bytes
-at_one : (n a : ℕ) → n ≡ 1 + a → a < 256 → payloadAt n ≡ One a
-at_one n a e h = payload-one n (omega arith) (omega arith) ∙ ap One (omega arith)
+at_one : (n a : ℕ) → n ≡ 1 + a → a < 256 → payload_at n ≡ One a
+at_one n a e h = payload_one n (omega arith) (omega arith) ∙ ap One (omega arith)
 
-at-two : (n a b : ℕ) → n ≡ 257 + (256 * a + b) → b < 256 → payloadAt n ≡ Two a b
-at-two n a b e h = payload-two n (omega arith) ∙ ap₂ Two (omega arith) (omega arith)
+at_two : (n a b : ℕ) → n ≡ 257 + (256 * a + b) → b < 256 → payload_at n ≡ Two a b
+at_two n a b e h = payload_two n (omega arith) ∙ ap₂ Two (omega arith) (omega arith)
 
 -- a payload whose elements are bytes
 abbrev pub OfBytes : Payload → Type 0
@@ -40,31 +40,31 @@ OfBytes Empty = Unit {0}
 OfBytes (One a) = a < 256
 OfBytes (Two a b) = (a < 256) × (b < 256)
 
-pub payload-of-number : (p : Payload) → OfBytes p → payloadAt (payloadNumber p) ≡ p
-unfolding payloadNumber payloadNumberIn payloadBytes
-payload-of-number Empty h = payload-empty 0 (omega arith)
-payload-of-number (One a) h = at_one (1 + a) a refl h
-payload-of-number (Two a b) h = at-two (257 + (256 * a + b)) a b refl h.1
+pub payload_of_number : (p : Payload) → OfBytes p → payload_at (payload_number p) ≡ p
+unfolding payload_number payload_number_in payload_bytes
+payload_of_number Empty h = payload_empty 0 (omega arith)
+payload_of_number (One a) h = at_one (1 + a) a refl h
+payload_of_number (Two a b) h = at_two (257 + (256 * a + b)) a b refl h.1
 
-pub number-below : (p : Payload) → OfBytes p → payloadNumber p < payloads
-unfolding payloadNumber payloadNumberIn payloadBytes
-number-below Empty h = omega arith
-number-below (One a) h = omega arith
-number-below (Two a b) h = omega (arith, h.0, h.1)
+pub number_below : (p : Payload) → OfBytes p → payload_number p < payloads
+unfolding payload_number payload_number_in payload_bytes
+number_below Empty h = omega arith
+number_below (One a) h = omega arith
+number_below (Two a b) h = omega (arith, h.0, h.1)
 
-pub number_at : (n : ℕ) → n < payloads → payloadNumber (payloadAt n) ≡ n
-unfolding payloadNumber payloadNumberIn payloadBytes payloadAt pick
+pub number_at : (n : ℕ) → n < payloads → payload_number (payload_at n) ≡ n
+unfolding payload_number payload_number_in payload_bytes payload_at pick
 number_at n h = go (ltb n 1) (ltb n 257) refl refl
   where
     go : (t u : Bool) → ltb n 1 ≡ t → ltb n 257 ≡ u
-        → payloadNumber (pick t Empty (pick u (One (n - 1)) (Two ((n - 257) / 256) ((n - 257) % 256)))) ≡ n
+        → payload_number (pick t Empty (pick u (One (n - 1)) (Two ((n - 257) / 256) ((n - 257) % 256)))) ≡ n
     go true u a b = omega (arith, ltb-true n 1 a)
     go false true a b = omega (arith, ltb-false n 1 a)
     go false false a b = omega (arith, ltb-false n 257 b)
 
-pub bytes-at : (n : ℕ) → n < payloads → OfBytes (payloadAt n)
-unfolding payloadAt pick
-bytes-at n h = go (ltb n 1) (ltb n 257) refl refl
+pub bytes_at : (n : ℕ) → n < payloads → OfBytes (payload_at n)
+unfolding payload_at pick
+bytes_at n h = go (ltb n 1) (ltb n 257) refl refl
   where
     go : (t u : Bool) → ltb n 1 ≡ t → ltb n 257 ≡ u → OfBytes (pick t Empty (pick u (One (n - 1)) (Two ((n - 257) / 256) ((n - 257) % 256))))
     go true u a b = tt
@@ -72,103 +72,103 @@ bytes-at n h = go (ltb n 1) (ltb n 257) refl refl
     go false false a b = (omega arith, omega arith)
 
 -- `payload_behind`, by the payload
-next-at : (n : ℕ) (p : Payload) → n < payloads → payloadAt n ≡ p → Next p ≡ followingAt n
-unfolding followingAt pick
+next-at : (n : ℕ) (p : Payload) → n < payloads → payload_at n ≡ p → Next p ≡ following_at n
+unfolding following_at pick
 next-at n p h e = rw (lt-ltb n payloads h, e)
 
-pub behind-empty : (p : Payload) → p ≡ Empty → Next (One 0) ≡ followingAt (suc (payloadNumber p))
-unfolding payloadNumber payloadNumberIn payloadBytes
-behind-empty p e = next-at 1 (One 0) (omega arith) (at_one 1 0 refl (omega arith)) ∙ ap (λ q. followingAt (suc (payloadNumber q))) (sym e)
+pub behind_empty : (p : Payload) → p ≡ Empty → Next (One 0) ≡ following_at (suc (payload_number p))
+unfolding payload_number payload_number_in payload_bytes
+behind_empty p e = next-at 1 (One 0) (omega arith) (at_one 1 0 refl (omega arith)) ∙ ap (λ q. following_at (suc (payload_number q))) (sym e)
 
 module _ (p : Payload) (a : ℕ) (e : p ≡ One a) where
-  pub behind-one : a < 255 → Next (One (a + 1)) ≡ followingAt (suc (payloadNumber p))
-  unfolding payloadNumber payloadNumberIn payloadBytes
+  pub behind-one : a < 255 → Next (One (a + 1)) ≡ following_at (suc (payload_number p))
+  unfolding payload_number payload_number_in payload_bytes
   behind-one h =
       next-at (suc (1 + a)) (One (a + 1)) (omega arith) (at_one (suc (1 + a)) (a + 1) (omega arith) (omega arith))
-      ∙ ap (λ q. followingAt (suc (payloadNumber q))) (sym e)
+      ∙ ap (λ q. following_at (suc (payload_number q))) (sym e)
 
-  pub behind-last-one : a ≡ 255 → Next (Two 0 0) ≡ followingAt (suc (payloadNumber p))
-  unfolding payloadNumber payloadNumberIn payloadBytes
+  pub behind-last-one : a ≡ 255 → Next (Two 0 0) ≡ following_at (suc (payload_number p))
+  unfolding payload_number payload_number_in payload_bytes
   behind-last-one h =
-      next-at (suc (1 + a)) (Two 0 0) (omega arith) (at-two (suc (1 + a)) 0 0 (omega arith) (omega arith))
-      ∙ ap (λ q. followingAt (suc (payloadNumber q))) (sym e)
+      next-at (suc (1 + a)) (Two 0 0) (omega arith) (at_two (suc (1 + a)) 0 0 (omega arith) (omega arith))
+      ∙ ap (λ q. following_at (suc (payload_number q))) (sym e)
 
 module _ (p : Payload) (a b : ℕ) (e : p ≡ Two a b) where
-  pub behind-two : a < 256 → b < 255 → Next (Two a (b + 1)) ≡ followingAt (suc (payloadNumber p))
-  unfolding payloadNumber payloadNumberIn payloadBytes
-  behind-two k h =
-      next-at (suc (257 + (256 * a + b))) (Two a (b + 1)) (omega arith) (at-two (suc (257 + (256 * a + b))) a (b + 1) (omega arith) (omega arith))
-      ∙ ap (λ q. followingAt (suc (payloadNumber q))) (sym e)
+  pub behind_two : a < 256 → b < 255 → Next (Two a (b + 1)) ≡ following_at (suc (payload_number p))
+  unfolding payload_number payload_number_in payload_bytes
+  behind_two k h =
+      next-at (suc (257 + (256 * a + b))) (Two a (b + 1)) (omega arith) (at_two (suc (257 + (256 * a + b))) a (b + 1) (omega arith) (omega arith))
+      ∙ ap (λ q. following_at (suc (payload_number q))) (sym e)
 
-  pub behind-row : a < 255 → b ≡ 255 → Next (Two (a + 1) 0) ≡ followingAt (suc (payloadNumber p))
-  unfolding payloadNumber payloadNumberIn payloadBytes
+  pub behind-row : a < 255 → b ≡ 255 → Next (Two (a + 1) 0) ≡ following_at (suc (payload_number p))
+  unfolding payload_number payload_number_in payload_bytes
   behind-row k h =
-      next-at (suc (257 + (256 * a + b))) (Two (a + 1) 0) (omega arith) (at-two (suc (257 + (256 * a + b))) (a + 1) 0 (omega arith) (omega arith))
-      ∙ ap (λ q. followingAt (suc (payloadNumber q))) (sym e)
+      next-at (suc (257 + (256 * a + b))) (Two (a + 1) 0) (omega arith) (at_two (suc (257 + (256 * a + b))) (a + 1) 0 (omega arith) (omega arith))
+      ∙ ap (λ q. following_at (suc (payload_number q))) (sym e)
 
-  pub behind-last : a ≡ 255 → b ≡ 255 → Nothing ≡ followingAt (suc (payloadNumber p))
-  unfolding payloadNumber payloadNumberIn payloadBytes followingAt pick
+  pub behind-last : a ≡ 255 → b ≡ 255 → Nothing ≡ following_at (suc (payload_number p))
+  unfolding payload_number payload_number_in payload_bytes following_at pick
   behind-last k h = rw (e, le-ltb (suc (257 + (256 * a + b))) payloads (omega arith))
 
 -- a payload that `payload_behind` is handed has a number
-pub of-bytes : (p q : Payload) → p ≡ q → OfBytes q → payloadNumber p < payloads
-of-bytes p q e h = rw e (number-below q h)
+pub of_bytes : (p q : Payload) → p ≡ q → OfBytes q → payload_number p < payloads
+of_bytes p q e h = rw e (number_below q h)
 
 -- ---- the entries
 
-pub entry-at : (n s m : ℕ) → n ≡ payloads * s + m → m < payloads → entry_at n ≡ entryWith s (payloadAt m)
+pub entry_at_lem : (n s m : ℕ) → n ≡ payloads * s + m → m < payloads → entry_at n ≡ entry_with s (payload_at m)
 unfolding entry_at
-entry-at n s m e h = ap₂ (λ k j. entryWith k (payloadAt j)) (omega arith) (omega arith)
+entry_at_lem n s m e h = ap₂ (λ k j. entry_with k (payload_at j)) (omega arith) (omega arith)
 
-followed : (n : ℕ) (p : Payload) → Next p ≡ followingAt n → (n < payloads) × (p ≡ payloadAt n)
-unfolding followingAt pick
+followed : (n : ℕ) (p : Payload) → Next p ≡ following_at n → (n < payloads) × (p ≡ payload_at n)
+unfolding following_at pick
 followed n p = go (ltb n payloads) refl
   where
-    go : (t : Bool) → ltb n payloads ≡ t → Next p ≡ pick t (Next (payloadAt n)) Nothing → (n < payloads) × (p ≡ payloadAt n)
+    go : (t : Bool) → ltb n payloads ≡ t → Next p ≡ pick t (Next (payload_at n)) Nothing → (n < payloads) × (p ≡ payload_at n)
     go true l e = (ltb-true n payloads l, cc)
     go false l e = let z : ◌≡◌ {A = ℕ} 0 1 = cc in absurd (omega arith)
 
-none-followed : (n : ℕ) → Nothing ≡ followingAt n → payloads ≤ n
-unfolding followingAt pick
-none-followed n = go (ltb n payloads) refl
+none_followed : (n : ℕ) → Nothing ≡ following_at n → payloads ≤ n
+unfolding following_at pick
+none_followed n = go (ltb n payloads) refl
   where
-    go : (t : Bool) → ltb n payloads ≡ t → Nothing ≡ pick t (Next (payloadAt n)) Nothing → payloads ≤ n
+    go : (t : Bool) → ltb n payloads ≡ t → Nothing ≡ pick t (Next (payload_at n)) Nothing → payloads ≤ n
     go true l e = let z : ◌≡◌ {A = ℕ} 0 1 = cc in absurd (omega arith)
     go false l e = ltb-false n payloads l
 
 -- the answers of `next`, by what it tested
 module _ (e : Entry) where
-  pub step-refused : 6 ≤ e.setting → Refused OutOfTurn ≡ stepFrom e
-  unfolding stepFrom pick
-  step-refused h = rw (le-ltb e.setting 6 h)
+  pub step_refused : 6 ≤ e.setting → Refused OutOfTurn ≡ step_from e
+  unfolding step_from pick
+  step_refused h = rw (le-ltb e.setting 6 h)
 
-  step-to : (n : ℕ) → e.setting < 6 → n ≡ suc (placeInList e) → stepAt n ≡ stepFrom e
-  unfolding stepFrom pick
+  step-to : (n : ℕ) → e.setting < 6 → n ≡ suc (place_in_list e) → step_at n ≡ step_from e
+  unfolding step_from pick
   step-to n h k = rw (lt-ltb e.setting 6 h, k)
 
-  pub step-within : (p : Payload) → e.setting < 6 → Next p ≡ followingAt (suc (payloadNumber e.payload)) → At (entryWith e.setting p) ≡ stepFrom e
-  unfolding stepAt placeInList pick
-  step-within p h f =
-      let n : ℕ = payloads * e.setting + suc (payloadNumber e.payload) in
-      let m = followed (suc (payloadNumber e.payload)) p f in
-      let inside : n < entryCount = omega (arith, m.0) in
-      ap (λ q. At (entryWith e.setting q)) m.1 ∙ ap At (sym (entry-at n e.setting (suc (payloadNumber e.payload)) refl m.0))
-      ∙ rw (lt-ltb n entryCount inside) at (step-to n h (omega arith))
+  pub step_within : (p : Payload) → e.setting < 6 → Next p ≡ following_at (suc (payload_number e.payload)) → At (entry_with e.setting p) ≡ step_from e
+  unfolding step_at place_in_list pick
+  step_within p h f =
+      let n : ℕ = payloads * e.setting + suc (payload_number e.payload) in
+      let m = followed (suc (payload_number e.payload)) p f in
+      let inside : n < entry_count = omega (arith, m.0) in
+      ap (λ q. At (entry_with e.setting q)) m.1 ∙ ap At (sym (entry_at_lem n e.setting (suc (payload_number e.payload)) refl m.0))
+      ∙ rw (lt-ltb n entry_count inside) at (step-to n h (omega arith))
 
-  module _ (bound : payloadNumber e.payload < payloads) (last : Nothing ≡ followingAt (suc (payloadNumber e.payload))) where
-    pub step-over : e.setting < 5 → At (entryWith (e.setting + 1) Empty) ≡ stepFrom e
-    unfolding stepAt placeInList pick
+  module _ (bound : payload_number e.payload < payloads) (last : Nothing ≡ following_at (suc (payload_number e.payload))) where
+    pub step-over : e.setting < 5 → At (entry_with (e.setting + 1) Empty) ≡ step_from e
+    unfolding step_at place_in_list pick
     step-over h =
         let n : ℕ = payloads * (e.setting + 1) + 0 in
-        let m = none-followed (suc (payloadNumber e.payload)) last in
-        let inside : n < entryCount = omega arith in
-        ap (λ q. At (entryWith (e.setting + 1) q)) (sym (payload-empty 0 (omega arith))) ∙ ap At (sym (entry-at n (e.setting + 1) 0 refl (omega arith)))
-        ∙ rw (lt-ltb n entryCount inside) at (step-to n (omega arith) (omega arith))
+        let m = none_followed (suc (payload_number e.payload)) last in
+        let inside : n < entry_count = omega arith in
+        ap (λ q. At (entry_with (e.setting + 1) q)) (sym (payload_empty 0 (omega arith))) ∙ ap At (sym (entry_at_lem n (e.setting + 1) 0 refl (omega arith)))
+        ∙ rw (lt-ltb n entry_count inside) at (step-to n (omega arith) (omega arith))
 
-    pub step_end : e.setting < 6 → 5 ≤ e.setting → End ≡ stepFrom e
-    unfolding stepAt placeInList pick
+    pub step_end : e.setting < 6 → 5 ≤ e.setting → End ≡ step_from e
+    unfolding step_at place_in_list pick
     step_end h k =
-        let n : ℕ = payloads * e.setting + suc (payloadNumber e.payload) in
-        let m = none-followed (suc (payloadNumber e.payload)) last in
-        let outside : entryCount ≤ n = omega arith in
-        rw (le-ltb n entryCount outside) at (step-to n h (omega arith))
+        let n : ℕ = payloads * e.setting + suc (payload_number e.payload) in
+        let m = none_followed (suc (payload_number e.payload)) last in
+        let outside : entry_count ≤ n = omega arith in
+        rw (le-ltb n entry_count outside) at (step-to n h (omega arith))

@@ -1,11 +1,13 @@
 // All frames of payloads of at most 2 bytes, under the six settings in turn, for acceptance tests (document 02, N12): a stepper from
 // one to the next.
+#![tactic(auto)]
+
 pub mod lines;
 
 ghost use Rattle.std.specs.Prelude.{◌≡◌, suc, ◌<◌};
-ghost use Rattle.framing.specs.Build.{returned, left, buildOf};
-ghost use Rattle.acceptance.specs.Order.{payloadBytes, payloads, payloadNumber, firstEntry, followingAt, stepFrom};
-ghost use Rattle.acceptance.specs.Steps.{entryBuilt};
+ghost use Rattle.framing.specs.Build.{returned, left, build_of};
+ghost use Rattle.acceptance.specs.Order.{payload_bytes, payloads, payload_number, first_entry, following_at, step_from};
+ghost use Rattle.acceptance.specs.Steps.{entry_built};
 
 use errors::Refusal;
 use framing::settings::Setting;
@@ -44,7 +46,7 @@ enum Following {
 }
 
 fn payload_behind(payload: Payload) -> Following
-    ensures { (result ≡ followingAt (suc (payloadNumber payload))) × (payloadNumber payload < payloads) }
+    ensures { (result ≡ following_at (suc (payload_number payload))) × (payload_number payload < payloads) }
 {
     match payload {
         Payload::Empty => Following::Next(Payload::One(0)),
@@ -68,7 +70,7 @@ fn payload_behind(payload: Payload) -> Following
 
 // Writes the payload's frame at the buffer's start.
 fn build(format: FrameFormat, payload: Payload, buffer: &mut [u8]) -> Built
-    ensures { left (returned result) buffer.new ≡ buildOf format (payloadBytes payload) buffer.old }
+    ensures { left (returned result) buffer.new ≡ build_of format (payload_bytes payload) buffer.old }
 {
     match payload {
         Payload::Empty => framing::build(format, &[], buffer),
@@ -80,7 +82,7 @@ fn build(format: FrameFormat, payload: Payload, buffer: &mut [u8]) -> Built
 impl Entry {
     // The list's first entry.
     pub fn first() -> Entry
-        ensures { result ≡ firstEntry 0 }
+        ensures { result ≡ first_entry 0 }
     {
         Entry {
             setting: 0,
@@ -90,7 +92,7 @@ impl Entry {
 
     // The entry behind this one. Behind a setting's last one stands the next setting's first.
     pub fn next(self) -> Reached
-        ensures { result ≡ stepFrom self }
+        ensures { result ≡ step_from self }
     {
         let setting = self.setting;
         let payload = self.payload;
@@ -113,7 +115,7 @@ impl Entry {
 
     // Writes the entry's frame at the buffer's start; the rest of the buffer keeps its bytes.
     pub fn frame(self, buffer: &mut [u8]) -> Built
-        ensures { left (returned result) buffer.new ≡ entryBuilt self buffer.old }
+        ensures { left (returned result) buffer.new ≡ entry_built self buffer.old }
     {
         let payload = self.payload;
         match settings::by_number(self.setting) {

@@ -1,8 +1,8 @@
 // The list as text: each entry's frame in upper-case hex, with a line feed behind it.
 ghost use Rattle.std.specs.Prelude.{◌≡◌, ◌+◌, ◌*◌, ◌/◌, ◌%◌, ◌≤◌, ◌<◌, length};
-ghost use Rattle.bench.specs.Hex.{digitsOf};
+ghost use Rattle.bench.specs.Hex.{digits_of_lem};
 ghost use Rattle.bench.specs.Texts.{over, placed, placed_at};
-ghost use Rattle.acceptance.specs.Steps.{frame_at, textLines, longestLine, Filled};
+ghost use Rattle.acceptance.specs.Steps.{frame_at, text_lines, longest_line, Filled};
 
 use super::{Entry, Reached};
 use framing::Built;
@@ -38,7 +38,7 @@ fn low(byte: u8) -> usize
 // names would be filled at each turn.
 fn put_digits(bytes: &[u8], out: &mut [u8], at: usize)
     requires { at + 2 * length bytes.now ≤ length out.old }
-    ensures { out.new ≡ over at (digitsOf bytes.now) out.old }
+    ensures { out.new ≡ over at (digits_of_lem bytes.now) out.old }
 {
     let digits = DIGITS;
     let mut i = 0;
@@ -52,8 +52,8 @@ fn put_digits(bytes: &[u8], out: &mut [u8], at: usize)
 
 // Puts the entry's line into the buffer from a place on, and gives the place behind it. An entry of no setting has none.
 fn put_line(entry: Entry, out: &mut [u8], at: usize) -> usize
-    requires { at + longestLine ≤ length out.old }
-    ensures { placed result out.new ≡ placed_at at (textLines (frame_at entry)) out.old }
+    requires { at + longest_line ≤ length out.old }
+    ensures { placed result out.new ≡ placed_at at (text_lines (frame_at entry)) out.old }
 {
     let mut frame = [0u8; LONGEST_FRAME];
     let Built::Frame(n) = entry.frame(&mut frame) else {

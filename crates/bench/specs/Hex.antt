@@ -13,36 +13,36 @@ value_of d =
     (pick (in_range 65 70 d) (d - 65 + 10)
     (pick (in_range 97 102 d) (d - 97 + 10) 16))
 
-unfoldable pub allHexDigits : List ℕ → Bool
-allHexDigits [] = true
-allHexDigits (d ∷ w) = both (ltb (value_of d) 16) (allHexDigits w)
+unfoldable pub all_hex_digits : List ℕ → Bool
+all_hex_digits [] = true
+all_hex_digits (d ∷ w) = both (ltb (value_of d) 16) (all_hex_digits w)
 
 abbrev pub dash : List ℕ
 dash = 45 ∷ []
 
 -- a word that can be read: `-`, or one or more pairs of digits
-unfoldable pub isHex : List ℕ → Bool
-isHex w = pick (same dash w) true (both (ltb 0 (length w)) (both (eqb (length w % 2) 0) (allHexDigits w)))
+unfoldable pub is_hex_of : List ℕ → Bool
+is_hex_of w = pick (same dash w) true (both (ltb 0 (length w)) (both (eqb (length w % 2) 0) (all_hex_digits w)))
 
 -- the bytes of the pairs, each with its high digit first; a word that is no pair, as `-`, has none
-unfoldable pub pairsOf : List ℕ → List ℕ
-pairsOf [] = []
-pairsOf (h ∷ []) = []
-pairsOf (h ∷ l ∷ w) = (value_of h * 16 + value_of l) ∷ pairsOf w
+unfoldable pub pairs_of : List ℕ → List ℕ
+pairs_of [] = []
+pairs_of (h ∷ []) = []
+pairs_of (h ∷ l ∷ w) = (value_of h * 16 + value_of l) ∷ pairs_of w
 
 -- what reading a word leaves: its bytes at the buffer's start, or refusal 4
 unfoldable pub read_of : List ℕ → List ℕ → Left
-read_of w b = pick (isHex w) (put_of (pairsOf w) b) (left (refused (plain 4)) b)
+read_of w b = pick (is_hex_of w) (put_of (pairs_of w) b) (left (refused (plain 4)) b)
 
 -- the digit of a value below 16: `0` to `9`, then `A` to `F`
-unfoldable pub digitOf : ℕ → ℕ
-digitOf v = pick (ltb v 10) (48 + v) (65 + (v - 10))
+unfoldable pub digit_of : ℕ → ℕ
+digit_of v = pick (ltb v 10) (48 + v) (65 + (v - 10))
 
-unfoldable pub digitsOf : List ℕ → List ℕ
-digitsOf [] = []
-digitsOf (b ∷ bs) = digitOf (b / 16) ∷ digitOf (b % 16) ∷ digitsOf bs
+unfoldable pub digits_of_lem : List ℕ → List ℕ
+digits_of_lem [] = []
+digits_of_lem (b ∷ bs) = digit_of (b / 16) ∷ digit_of (b % 16) ∷ digits_of_lem bs
 
 -- the text of some bytes
-unfoldable pub hexOf : List ℕ → List ℕ
-hexOf [] = dash
-hexOf (b ∷ bs) = digitsOf (b ∷ bs)
+unfoldable pub hex_of : List ℕ → List ℕ
+hex_of [] = dash
+hex_of (b ∷ bs) = digits_of_lem (b ∷ bs)

@@ -14,28 +14,28 @@ use Rattle.std.proofs.lemmas.List.{take-append-le}
 use Rattle.errors.specs.Choice.{pick}
 use Rattle.bytes.specs.Bytes.{index_of, index_after}
 use Rattle.bytes.specs.Bytes as bytes
-use Rattle.bench.specs.Lines.{feed, beforeFeed, NoFeed, withText, Counted, Begun, line_of, end_of, unreadOf, unreadIn, nothing, NextLine, last_of}
+use Rattle.bench.specs.Lines.{feed, before_feed, NoFeed, with_text, Counted, Begun, line_of, end_of, unread_of, unread_in, nothing, NextLine, last_of}
 use Rattle.bench.specs.declared.lines.Given.{Given}
 use Rattle.bench.specs.declared.lines.Unread.{Unread}
 use Rattle.bench.specs.declared.lines.Line.{Line}
 use Rattle.bench.specs.declared.lines.Line.TheVariants.{End}
 use Rattle.bench.specs.Texts.{over, placed, placed_at, put_at}
-use Rattle.bench.specs.TextLaws.{over-over, put-there}
+use Rattle.bench.specs.TextLaws.{over-over, put_there}
 
 -- the first line feed of a list
 whole_slice : (b : List ℕ) → bytes.slice 0 (length b) b ≡ b
 unfolding bytes.slice
 whole_slice b = take-length b
 
-pub found-feed : (b : List ℕ) (r : ℕ) → r ≡ 0 + index_of feed (bytes.slice 0 (length b) b) → r ≡ beforeFeed b
+pub found-feed : (b : List ℕ) (r : ℕ) → r ≡ 0 + index_of feed (bytes.slice 0 (length b) b) → r ≡ before_feed b
 found-feed b r e = e ∙ rw (zero-add, whole_slice b)
 
-pub none_before : (b : List ℕ) → NoFeed (take (beforeFeed b) b)
+pub none_before : (b : List ℕ) → NoFeed (take (before_feed b) b)
 unfolding index_of index_after
 none_before [] = refl
 none_before (x ∷ b) = go (eqb x feed) refl (none_before b)
   where
-    go : (t : Bool) → eqb x feed ≡ t → NoFeed (take (beforeFeed b) b) → NoFeed (take (index_after t (beforeFeed b)) (x ∷ b))
+    go : (t : Bool) → eqb x feed ≡ t → NoFeed (take (before_feed b) b) → NoFeed (take (index_after t (before_feed b)) (x ∷ b))
     go true h r = refl
     go false h r = rw h (ap suc r)
 
@@ -44,33 +44,33 @@ unfolding index_of index_after
 none_both [] b p q = q
 none_both (x ∷ a) b p q = go (eqb x feed) (λ r. none_both a b r q) p
   where
-    go : (t : Bool) → (NoFeed a → NoFeed (a ++ b)) → index_after t (beforeFeed a) ≡ suc (length a) → index_after t (beforeFeed (a ++ b)) ≡ suc (length (a ++ b))
+    go : (t : Bool) → (NoFeed a → NoFeed (a ++ b)) → index_after t (before_feed a) ≡ suc (length a) → index_after t (before_feed (a ++ b)) ≡ suc (length (a ++ b))
     go true r e = absurd (omega arith)
     go false r e = ap suc (r (omega arith))
 
-pub split-feed : (b : List ℕ) → beforeFeed b < length b → b ≡ take (beforeFeed b) b ++ (feed ∷ drop (suc (beforeFeed b)) b)
+pub split_feed : (b : List ℕ) → before_feed b < length b → b ≡ take (before_feed b) b ++ (feed ∷ drop (suc (before_feed b)) b)
 unfolding index_of index_after
-split-feed [] h = absurd (omega arith)
-split-feed (x ∷ b) h = go (eqb x feed) refl (split-feed b) h
+split_feed [] h = absurd (omega arith)
+split_feed (x ∷ b) h = go (eqb x feed) refl (split_feed b) h
   where
-    go : (t : Bool) → eqb x feed ≡ t → (beforeFeed b < length b → b ≡ take (beforeFeed b) b ++ (feed ∷ drop (suc (beforeFeed b)) b))
-        → index_after t (beforeFeed b) < suc (length b)
-        → x ∷ b ≡ take (index_after t (beforeFeed b)) (x ∷ b) ++ (feed ∷ drop (suc (index_after t (beforeFeed b))) (x ∷ b))
+    go : (t : Bool) → eqb x feed ≡ t → (before_feed b < length b → b ≡ take (before_feed b) b ++ (feed ∷ drop (suc (before_feed b)) b))
+        → index_after t (before_feed b) < suc (length b)
+        → x ∷ b ≡ take (index_after t (before_feed b)) (x ∷ b) ++ (feed ∷ drop (suc (index_after t (before_feed b))) (x ∷ b))
     go true e r k = ap (λ y. y ∷ b) (eqb-true x feed e)
     go false e r k = ap (λ y. x ∷ y) (r (omega arith))
 
 -- a line's buffer
-pub length-begin : (t l : List ℕ) → length (withText t l) ≡ length l
-unfolding withText
+pub length-begin : (t l : List ℕ) → length (with_text t l) ≡ length l
+unfolding with_text
 length-begin t l = simp (length-append, length-take, length-drop) (omega arith)
 
-begin-fits : (t l : List ℕ) → length t ≤ length l → withText t l ≡ over 0 t l
-unfolding withText over
+begin-fits : (t l : List ℕ) → length t ≤ length l → with_text t l ≡ over 0 t l
+unfolding with_text over
 begin-fits t l h = rw (take_all (length l) t h, zero-add (length t))
 
-begin-cut : (t p l : List ℕ) → length t ≤ length l → length l - length t ≤ length p → withText (t ++ take (length l - length t) p) l ≡ withText (t ++ p) l
-unfolding withText
-begin-cut t p l h k =
+begin_cut : (t p l : List ℕ) → length t ≤ length l → length l - length t ≤ length p → with_text (t ++ take (length l - length t) p) l ≡ with_text (t ++ p) l
+unfolding with_text
+begin_cut t p l h k =
     let n : ℕ = length l - length t in
     let same : length l ≡ length t + n = omega arith in
     let e : length (t ++ take n p) ≡ length l = length-append t (take n p) ∙ rw (length-take-le n p k) (omega arith) in
@@ -80,12 +80,12 @@ begin-cut t p l h k =
     ap₂ (λ x y. x ++ y) (take_all (length l) (t ++ take n p) j ∙ sym (take-append-add t p n) ∙ ap (λ k. take k (t ++ p)) (sym same))
     (drop_of_length-le l i ∙ sym (drop_of_length-le l f))
 
-pub begun-none : (l : List ℕ) → Begun [] l 0 l
-unfolding withText
-begun-none l = record { count = inl (refl, omega arith); put = rw (take-nil {A = ℕ} (length l)) }
+pub begun_none : (l : List ℕ) → Begun [] l 0 l
+unfolding with_text
+begun_none l = record { count = inl (refl, omega arith); put = rw (take-nil {A = ℕ} (length l)) }
 
-pub room-counts : (p : List ℕ) (k : ℕ) → k ≤ length p → k ≡ length (take k p)
-room-counts p k h = sym (length-take-le k p h)
+pub room_counts : (p : List ℕ) (k : ℕ) → k ≤ length p → k ≡ length (take k p)
+room_counts p k h = sym (length-take-le k p h)
 
 -- a part behind the text
 module _ (t l p m : List ℕ) (n : ℕ) (b : Begun t l n m) where
@@ -93,7 +93,7 @@ module _ (t l p m : List ℕ) (n : ℕ) (b : Begun t l n m) where
   same-room = ap length b.put ∙ length-begin t l
 
   pub add_none : length m < n → Begun (t ++ p) l n m
-  unfolding withText
+  unfolding with_text
   add_none h = go b.count
     where
       go : Counted n (length t) (length l) → Begun (t ++ p) l n m
@@ -111,30 +111,30 @@ module _ (t l p m : List ℕ) (n : ℕ) (b : Begun t l n m) where
       go (inl e) = e
       go (inr e) = absurd (omega (arith, same-room))
 
-  put-part : (q : List ℕ) → n ≤ length m → n + length q ≤ length m → over n q m ≡ withText (t ++ q) l
+  put-part : (q : List ℕ) → n ≤ length m → n + length q ≤ length m → over n q m ≡ with_text (t ++ q) l
   put-part q h k =
       let e : (n ≡ length t) × (length t ≤ length l) = fitting h in
       let room : 0 + length t + length q ≤ length l = omega (arith, same-room) in
       let all : length (t ++ q) ≤ length l = rw (length-append t q) (omega arith) in
       ap₂ (λ i x. over i q x) (e.0 ∙ sym (zero-add (length t))) (b.put ∙ begin-fits t l e.1) ∙ over-over l t q 0 room ∙ sym (begin-fits (t ++ q) l all)
 
-  pub add-cut : (r : ℕ) (o : List ℕ) → n ≤ length m → length m - n < length p → placed r o ≡ put_at n (take (length m - n) p) m
+  pub add_cut : (r : ℕ) (o : List ℕ) → n ≤ length m → length m - n < length p → placed r o ≡ put_at n (take (length m - n) p) m
       → Begun (t ++ p) l (length o + 1) o
-  add-cut r o h k e =
+  add_cut r o h k e =
       let f : (n ≡ length t) × (length t ≤ length l) = fitting h in
       let room : length m - n ≡ length l - length t = omega (arith, same-room) in
       let q : List ℕ = take (length m - n) p in
       let all : length q ≡ length m - n = length-take-le (length m - n) p (omega arith) in
-      let cut : withText (t ++ q) l ≡ withText (t ++ p) l = ap (λ k. withText (t ++ take k p) l) room ∙ begin-cut t p l f.1 (omega arith) in
-      let there : placed r o ≡ placed_at n q m = e ∙ sym (put-there q m n (omega arith)) in
-      let done : o ≡ withText (t ++ p) l = ap (λ x. x.buffer) there ∙ put-part q h (omega arith) ∙ cut in
+      let cut : with_text (t ++ q) l ≡ with_text (t ++ p) l = ap (λ k. with_text (t ++ take k p) l) room ∙ begin_cut t p l f.1 (omega arith) in
+      let there : placed r o ≡ placed_at n q m = e ∙ sym (put_there q m n (omega arith)) in
+      let done : o ≡ with_text (t ++ p) l = ap (λ x. x.buffer) there ∙ put-part q h (omega arith) ∙ cut in
       let long : length o ≡ length l = ap length done ∙ length-begin (t ++ p) l in
       record { count = inr (ap (λ k. k + 1) long, rw (length-append t p) (omega (arith, same-room))); put = done }
 
-  pub add-whole : (r : ℕ) (o : List ℕ) → n ≤ length m → length p ≤ length m - n → placed r o ≡ put_at n p m → Begun (t ++ p) l r o
-  add-whole r o h k e =
+  pub add_whole : (r : ℕ) (o : List ℕ) → n ≤ length m → length p ≤ length m - n → placed r o ≡ put_at n p m → Begun (t ++ p) l r o
+  add_whole r o h k e =
       let f : (n ≡ length t) × (length t ≤ length l) = fitting h in
-      let there : placed r o ≡ placed_at n p m = e ∙ sym (put-there p m n (omega arith)) in
+      let there : placed r o ≡ placed_at n p m = e ∙ sym (put_there p m n (omega arith)) in
       record {
         count = inl (ap (λ x. x.next) there ∙ rw (length-append t p) (omega arith), rw (length-append t p) (omega (arith, same-room)));
         put = ap (λ x. x.buffer) there ∙ put-part p h (omega arith);
@@ -142,21 +142,21 @@ module _ (t l p m : List ℕ) (n : ℕ) (b : Begun t l n m) where
 
 -- the line that is given
 module _ (t l m : List ℕ) (n : ℕ) (b : Begun t l n m) where
-  pub line-begun : line_of n m ≡ line_of (length t) l
+  pub line_begun : line_of n m ≡ line_of (length t) l
   unfolding line_of pick
-  line-begun = go b.count
+  line_begun = go b.count
     where
       go : Counted n (length t) (length l) → line_of n m ≡ line_of (length t) l
       go (inl e) = rw (same-room t l [] m n b, e.0)
       go (inr e) = rw (same-room t l [] m n b, lt-ltb (length l) n (omega arith), lt-ltb (length l) (length t) e.1)
 
-  pub end-begun : end_of n m ≡ end_of (length t) l
+  pub end_begun : end_of n m ≡ end_of (length t) l
   unfolding end_of pick
-  end-begun = go b.count
+  end_begun = go b.count
     where
       go : Counted n (length t) (length l) → end_of n m ≡ end_of (length t) l
-      go (inl e) = rw (line-begun, e.0)
-      go (inr e) = rw (line-begun, ne_eqb n 0 (λ z. omega arith), ne_eqb (length t) 0 (λ z. omega arith))
+      go (inl e) = rw (line_begun, e.0)
+      go (inr e) = rw (line_begun, ne_eqb n 0 (λ z. omega arith), ne_eqb (length t) 0 (λ z. omega arith))
 
 -- the answers of `last`
 pub last_none : (l : List ℕ) (n : ℕ) (h : Unread) → n ≡ 0 → h ≡ nothing → ◌≡◌ {A = Given} (record { line = End; unread = h }) (last_of n l)
@@ -168,11 +168,11 @@ unfolding end_of pick
 last_some l n h t e f g = rw (ne_eqb n 0 e, f, g)
 
 -- a line feed ended the line: the bytes were those of x, which has none, and of the part
-pub ended : (h came x part l m after : List ℕ) (k n : ℕ) (t : Line) → h ++ came ≡ x ++ part → NoFeed x → k ≡ beforeFeed part → k < length part
+pub ended : (h came x part l m after : List ℕ) (k n : ℕ) (t : Line) → h ++ came ≡ x ++ part → NoFeed x → k ≡ before_feed part → k < length part
     → Begun (x ++ take k part) l n m → t ≡ line_of n m → after ≡ drop (suc k) part → NextLine h l t m after
 unfolding pick
 ended h came x part l m after k n t e none is less b known rest =
-    let f : part ≡ take k part ++ (feed ∷ after) = rw (rest, is) (split-feed part (omega arith)) in
+    let f : part ≡ take k part ++ (feed ∷ after) = rw (rest, is) (split_feed part (omega arith)) in
     record {
       came = came;
       text = x ++ take k part;
@@ -180,14 +180,14 @@ ended h came x part l m after k n t e none is less b known rest =
       all = e ∙ ap (λ y. x ++ y) f ∙ sym (append_assoc x (take k part) (feed ∷ after));
       first = none_both x (take k part) none (rw is (none_before part));
       last = λ z. absurd (let y : ◌≡◌ {A = ℕ} 0 1 = cc in omega arith);
-      line = known ∙ line-begun (x ++ take k part) l m n b;
+      line = known ∙ line_begun (x ++ take k part) l m n b;
       put = b.put;
     }
 
 -- the input ended
-pub input-ended : (h came l m after : List ℕ) (n : ℕ) (t : Line) → NoFeed (h ++ came) → Begun (h ++ came) l n m → t ≡ end_of n m → after ≡ [] → NextLine h l t m after
+pub input_ended : (h came l m after : List ℕ) (n : ℕ) (t : Line) → NoFeed (h ++ came) → Begun (h ++ came) l n m → t ≡ end_of n m → after ≡ [] → NextLine h l t m after
 unfolding pick
-input-ended h came l m after n t none b known rest =
+input_ended h came l m after n t none b known rest =
     record {
       came = came;
       text = h ++ came;
@@ -195,42 +195,42 @@ input-ended h came l m after n t none b known rest =
       all = rw rest (sym (append-nil (h ++ came)));
       first = none;
       last = λ z. rest;
-      line = known ∙ end-begun (h ++ came) l m n b;
+      line = known ∙ end_begun (h ++ came) l m n b;
       put = b.put;
     }
 
 -- the unread bytes lie in the buffer
-module _ (h r : Unread) (n : ℕ) (known : r ≡ unreadOf h n) where
+module _ (h r : Unread) (n : ℕ) (known : r ≡ unread_of h n) where
   unread-by : (x y : Bool) → ltb n h.to ≡ x → ltb h.to h.from ≡ y → r ≡ pick x nothing (pick y nothing h)
-  unfolding unreadOf
+  unfolding unread_of
   unread-by x y p q = known ∙ rw (p, q)
 
-  pub unread-order : r.from ≤ r.to
+  pub unread_order : r.from ≤ r.to
   unfolding pick
-  unread-order = go (ltb n h.to) (ltb h.to h.from) refl refl
+  unread_order = go (ltb n h.to) (ltb h.to h.from) refl refl
     where
       go : (x y : Bool) → ltb n h.to ≡ x → ltb h.to h.from ≡ y → r.from ≤ r.to
       go true y p q = rw (unread-by true y p q) (omega arith)
       go false true p q = rw (unread-by false true p q) (omega arith)
       go false false p q = rw (unread-by false false p q) (ltb-false h.to h.from q)
 
-  pub unread-inside : r.to ≤ n
+  pub unread_inside : r.to ≤ n
   unfolding pick
-  unread-inside = go (ltb n h.to) (ltb h.to h.from) refl refl
+  unread_inside = go (ltb n h.to) (ltb h.to h.from) refl refl
     where
       go : (x y : Bool) → ltb n h.to ≡ x → ltb h.to h.from ≡ y → r.to ≤ n
       go true y p q = rw (unread-by true y p q) (omega arith)
       go false true p q = rw (unread-by false true p q) (omega arith)
       go false false p q = rw (unread-by false false p q) (ltb-false n h.to p)
 
-pub unread-nothing : (b : List ℕ) → unreadIn nothing b ≡ []
-unfolding unreadIn unreadOf pick
-unread-nothing b = rw (le-ltb (length b) 0 (omega arith))
+pub unread_nothing : (b : List ℕ) → unread_in nothing b ≡ []
+unfolding unread_in unread_of pick
+unread_nothing b = rw (le-ltb (length b) 0 (omega arith))
 
 -- the bytes behind k of those from one place to another, and the byte behind them
-pub unread-behind : (b : List ℕ) (f from to k : ℕ) → f ≡ from + suc k → f ≤ to → to ≤ length b → unreadIn (record { from = f; to = to }) b ≡ drop (suc k) (slice from to b)
-unfolding unreadIn unreadOf pick
-unread-behind b f from to k e h i = rw (le-ltb (length b) to i, le-ltb to f h, drop-drop (suc k) from (take to b), e)
+pub unread_behind : (b : List ℕ) (f from to k : ℕ) → f ≡ from + suc k → f ≤ to → to ≤ length b → unread_in (record { from = f; to = to }) b ≡ drop (suc k) (slice from to b)
+unfolding unread_in unread_of pick
+unread_behind b f from to k e h i = rw (le-ltb (length b) to i, le-ltb to f h, drop-drop (suc k) from (take to b), e)
 
 -- a part of a slice
 pub part_slice : (b : List ℕ) (from to : ℕ) → take (to - from) (drop from b) ≡ slice from to b

@@ -12,15 +12,15 @@ abbrev pub feed : ℕ
 feed = 10
 
 -- how many bytes stand before the first line feed: all of them where there is none
-abbrev pub beforeFeed : List ℕ → ℕ
-beforeFeed b = index_of feed b
+abbrev pub before_feed : List ℕ → ℕ
+before_feed b = index_of feed b
 
 abbrev pub NoFeed : List ℕ → Type 0
-NoFeed b = beforeFeed b ≡ length b
+NoFeed b = before_feed b ≡ length b
 
 -- a line's buffer l with the text at its start, as much of it as the buffer takes
-unfoldable pub withText : List ℕ → List ℕ → List ℕ
-withText text l = take (length l) text ++ drop (length text) l
+unfoldable pub with_text : List ℕ → List ℕ → List ℕ
+with_text text l = take (length l) text ++ drop (length text) l
 
 -- n counts k bytes for a buffer of r: it is k, or r + 1 where the buffer does not take them
 abbrev pub Counted : ℕ → ℕ → ℕ → Type 0
@@ -29,7 +29,7 @@ Counted n k r = ((n ≡ k) × (k ≤ r)) ⊎ ((n ≡ r + 1) × (r < k))
 -- the text was put into a line's buffer l, which became m, and n counts it
 pub record Begun (text l : List ℕ) (n : ℕ) (m : List ℕ) : Type 0 where
   pub count : Counted n (length text) (length l)
-  pub put : m ≡ withText text l
+  pub put : m ≡ with_text text l
 
 -- a line of n bytes, of which the buffer l has the first ones
 unfoldable pub line_of : ℕ → List ℕ → Line
@@ -46,12 +46,12 @@ abbrev pub last_of : ℕ → List ℕ → Given
 last_of n l = record { line = end_of n l; unread = nothing }
 
 -- what is unread of a buffer of n bytes: nothing where the places are none of the buffer's
-unfoldable pub unreadOf : Unread → ℕ → Unread
-unreadOf h n = pick (ltb n h.to) nothing (pick (ltb h.to h.from) nothing h)
+unfoldable pub unread_of : Unread → ℕ → Unread
+unread_of h n = pick (ltb n h.to) nothing (pick (ltb h.to h.from) nothing h)
 
 -- the unread bytes of the buffer b
-unfoldable pub unreadIn : Unread → List ℕ → List ℕ
-unreadIn h b = slice (unreadOf h (length b)).from (unreadOf h (length b)).to b
+unfoldable pub unread_in : Unread → List ℕ → List ℕ
+unread_in h b = slice (unread_of h (length b)).from (unread_of h (length b)).to b
 
 -- what is given, the buffer and the line's buffer after it
 pub record Next : Type 0 where
@@ -63,11 +63,11 @@ abbrev pub next_of : Given → List ℕ → List ℕ → Next
 next_of g b l = record { given = g; buffer = b; line = l }
 
 -- the line of the unread bytes of b, up to their line feed
-unfoldable pub unreadLine : Unread → List ℕ → List ℕ → Next
-unreadLine h b l =
-    let n : ℕ = beforeFeed (unreadIn h b) in
-    let behind : Unread = record { from = (unreadOf h (length b)).from + n + 1; to = (unreadOf h (length b)).to } in
-    next_of (record { line = line_of n l; unread = behind }) b (withText (take n (unreadIn h b)) l)
+unfoldable pub unread_line : Unread → List ℕ → List ℕ → Next
+unread_line h b l =
+    let n : ℕ = before_feed (unread_in h b) in
+    let behind : Unread = record { from = (unread_of h (length b)).from + n + 1; to = (unread_of h (length b)).to } in
+    next_of (record { line = line_of n l; unread = behind }) b (with_text (take n (unread_in h b)) l)
 
 -- Of the unread bytes and those that came from the input none is lost, and none made up: they are the text of the line, the line
 -- feed where one ended it, and what is unread afterwards. t is the line that is given, and its buffer l became m.
@@ -80,4 +80,4 @@ pub record NextLine (unread l : List ℕ) (t : Line) (m after : List ℕ) : Type
   pub first : NoFeed text
   pub last : fed ≡ false → after ≡ []
   pub line : t ≡ pick fed (line_of (length text) l) (end_of (length text) l)
-  pub put : m ≡ withText text l
+  pub put : m ≡ with_text text l

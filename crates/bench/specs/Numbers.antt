@@ -7,26 +7,26 @@ use Rattle.bench.specs.declared.number.Number.{Number}
 use Rattle.bench.specs.declared.number.Number.TheVariants.{Value, Unreadable}
 
 -- the value of a decimal digit; 10 for any other byte
-unfoldable pub digitValue : ℕ → ℕ
-digitValue d = pick (in_range 48 57 d) (d - 48) 10
+unfoldable pub digit_value_of : ℕ → ℕ
+digit_value_of d = pick (in_range 48 57 d) (d - 48) 10
 
-unfoldable pub allDecimal : List ℕ → Bool
-allDecimal [] = true
-allDecimal (d ∷ w) = both (ltb (digitValue d) 10) (allDecimal w)
+unfoldable pub all_decimal : List ℕ → Bool
+all_decimal [] = true
+all_decimal (d ∷ w) = both (ltb (digit_value_of d) 10) (all_decimal w)
 
 -- the number whose digits are n's and then those of the word
-unfoldable pub numberFrom : ℕ → List ℕ → ℕ
-numberFrom n [] = n
-numberFrom n (d ∷ w) = numberFrom (n * 10 + digitValue d) w
+unfoldable pub number_from : ℕ → List ℕ → ℕ
+number_from n [] = n
+number_from n (d ∷ w) = number_from (n * 10 + digit_value_of d) w
 
-abbrev pub numberLimit : ℕ
-numberLimit = 4294967295
+abbrev pub number_limit : ℕ
+number_limit = 4294967295
 
 unfoldable pub is_number : List ℕ → Bool
-is_number w = both (ltb 0 (length w)) (both (allDecimal w) (leb (numberFrom 0 w) numberLimit))
+is_number w = both (ltb 0 (length w)) (both (all_decimal w) (leb (number_from 0 w) number_limit))
 
 unfoldable pub number_of : List ℕ → Option ℕ
-number_of w = pick (is_number w) (some (numberFrom 0 w)) none
+number_of w = pick (is_number w) (some (number_from 0 w)) none
 
 -- what was read
 abbrev pub number_in : Number → Option ℕ

@@ -13,9 +13,9 @@ use Rattle.bench.specs.Texts.{over, put_of, Placed, placed, placed_at, put_at, A
 use Rattle.framing.specs.Build.{left}
 
 -- a turn of a loop that puts the bytes of s one by one
-pub paste-step : (d s : List ℕ) (at j k v : ℕ) (o : List ℕ) → o ≡ paste d at s j → k ≡ at + j → v ≡ get_or s j 0 → k < length d → j < length s
+pub paste_step : (d s : List ℕ) (at j k v : ℕ) (o : List ℕ) → o ≡ paste d at s j → k ≡ at + j → v ≡ get_or s j 0 → k < length d → j < length s
     → set o k v ≡ paste d at s (j + 1)
-paste-step d s at j k v o e f g h m =
+paste_step d s at j k v o e f g h m =
     let n : at + j < length d = omega arith in
     rw (e, f, g, add-one) (paste-suc d at s j 0 n m)
 
@@ -27,10 +27,10 @@ pub paste_none : (d s : List ℕ) (at n : ℕ) → n ≡ 0 → d ≡ paste d at 
 paste_none d s at n e = rw e (paste-zero d at s)
 
 -- a text that was copied through the part of the buffer from its place on
-pub over-copied : (b t part : List ℕ) (at : ℕ) → at + length t ≤ length b
+pub over_copied : (b t part : List ℕ) (at : ℕ) → at + length t ≤ length b
     → part ≡ take (length t) t ++ drop (length t) (take (length b - at) (drop at b)) → put_mid at (length b - at) b part ≡ over at t b
 unfolding over
-over-copied b t part at room e = copied b t at room part e
+over_copied b t part at room e = copied b t at room part e
 
 pub length_over : (b t : List ℕ) (at : ℕ) → at + length t ≤ length b → length (over at t b) ≡ length b
 unfolding over
@@ -50,9 +50,9 @@ over-over b t u at h =
 
 -- the answers of a function that puts a text of n bytes at the buffer's start
 module _ (t b : List ℕ) (n : ℕ) (known : n ≡ length t) where
-  pub put-short : length b < n → left (refused (plain 2)) b ≡ put_of t b
+  pub put_short : length b < n → left (refused (plain 2)) b ≡ put_of t b
   unfolding put_of pick
-  put-short h = rw (lt-ltb (length b) (length t) (omega arith))
+  put_short h = rw (lt-ltb (length b) (length t) (omega arith))
 
   pub put-done : (r : ℕ) (o : List ℕ) → n ≤ length b → placed r o ≡ placed_at 0 t b → left (answered r) o ≡ put_of t b
   unfolding put_of pick
@@ -63,18 +63,18 @@ module _ (t b : List ℕ) (n : ℕ) (known : n ≡ length t) where
 
 -- what `put_at` says of the two cases
 module _ (t b : List ℕ) (at : ℕ) where
-  pub put-none : length b < at + length t → placed at b ≡ put_at at t b
+  pub put_none : length b < at + length t → placed at b ≡ put_at at t b
   unfolding put_at pick
-  put-none h = rw (lt-ltb (length b) (at + length t) h)
+  put_none h = rw (lt-ltb (length b) (at + length t) h)
 
-  pub put-there : at + length t ≤ length b → placed_at at t b ≡ put_at at t b
+  pub put_there : at + length t ≤ length b → placed_at at t b ≡ put_at at t b
   unfolding put_at pick
-  put-there h = rw (le-ltb (length b) (at + length t) h)
+  put_there h = rw (le-ltb (length b) (at + length t) h)
 
-pub put-copied : (b t part : List ℕ) (at : ℕ) → at ≤ length b → length t ≤ length b - at
+pub put_copied : (b t part : List ℕ) (at : ℕ) → at ≤ length b → length t ≤ length b - at
     → part ≡ take (length t) t ++ drop (length t) (take (length b - at) (drop at b))
     → placed (at + length t) (put_mid at (length b - at) b part) ≡ put_at at t b
-put-copied b t part at h k e = ap (placed (at + length t)) (over-copied b t part at (omega arith) e) ∙ put-there t b at (omega arith)
+put_copied b t part at h k e = ap (placed (at + length t)) (over_copied b t part at (omega arith) e) ∙ put_there t b at (omega arith)
 
 -- the same text
 pub put_same : (t u b : List ℕ) (at : ℕ) (x : Placed) → x ≡ put_at at t b → t ≡ u → x ≡ put_at at u b
@@ -83,7 +83,7 @@ put_same t u b at x e f = rw f at e
 -- the place behind a text
 module _ (t b o : List ℕ) (at r : ℕ) (known : placed r o ≡ put_at at t b) (room : at + length t ≤ length b) where
   pub place-behind : r ≡ at + length t
-  place-behind = ap (λ p. p.next) (known ∙ sym (put-there t b at room))
+  place-behind = ap (λ p. p.next) (known ∙ sym (put_there t b at room))
 
 -- a text that was put, behind any other
 pub appended : (t o o' : List ℕ) (at r : ℕ) → placed r o' ≡ put_at at t o → Appends at t o r o'
@@ -94,31 +94,31 @@ appended t o o' at r e = record {
       let k : 0 + length s + length t ≤ length b = omega arith in
       let m : length o ≡ length b = ap length f ∙ length_over b s 0 (omega arith) in
       let n : 0 + length s + length t ≡ 0 + length (s ++ t) = rw (length-append s t) (omega arith) in
-      e ∙ sym (put-there t o at (omega arith)) ∙ ap₂ (λ i z. placed (i + length t) (over i t z)) g f ∙ ap₂ placed n (over-over b s t 0 k);
+      e ∙ sym (put_there t o at (omega arith)) ∙ ap₂ (λ i z. placed (i + length t) (over i t z)) g f ∙ ap₂ placed n (over-over b s t 0 k);
 }
 
 -- no text
-pub none-put : (o : List ℕ) (at : ℕ) → Appends at [] o at o
-none-put o at = record { behind = λ s b before h. before ∙ ap (λ x. placed_at 0 x b) (sym (append-nil s)) }
+pub none_put : (o : List ℕ) (at : ℕ) → Appends at [] o at o
+none_put o at = record { behind = λ s b before h. before ∙ ap (λ x. placed_at 0 x b) (sym (append-nil s)) }
 
 -- two texts, one behind the other
-pub both-appended : (t u o o' o'' : List ℕ) (at r r' : ℕ) → Appends at t o r o' → Appends r u o' r' o'' → Appends at (t ++ u) o r' o''
-both-appended t u o o' o'' at r r' p q = record {
+pub both_appended : (t u o o' o'' : List ℕ) (at r r' : ℕ) → Appends at t o r o' → Appends r u o' r' o'' → Appends at (t ++ u) o r' o''
+both_appended t u o o' o'' at r r' p q = record {
   behind = λ s b before h.
       let n : length (t ++ u) ≡ length t + length u = length-append t u in
       let k : length (s ++ t) + length u ≤ length b = rw (length-append s t) (omega arith) in
       q.behind (s ++ t) b (p.behind s b before (omega arith)) k ∙ ap (λ x. placed_at 0 x b) (append_assoc s t u);
 }
 
-pub then-put : (t u o o' o'' : List ℕ) (at r r' : ℕ) → Appends at t o r o' → placed r' o'' ≡ put_at r u o' → Appends at (t ++ u) o r' o''
-then-put t u o o' o'' at r r' p e = both-appended t u o o' o'' at r r' p (appended u o' o'' r r' e)
+pub then_put : (t u o o' o'' : List ℕ) (at r r' : ℕ) → Appends at t o r o' → placed r' o'' ≡ put_at r u o' → Appends at (t ++ u) o r' o''
+then_put t u o o' o'' at r r' p e = both_appended t u o o' o'' at r r' p (appended u o' o'' r r' e)
 
 -- a name and what it names, behind a text
-pub then-both : (t u v o o' o'' : List ℕ) (at r r' : ℕ) → Appends at t o r o' → Appends r (u ++ v) o' r' o'' → Appends at (t ++ u ++ v) o r' o''
-then-both t u v o o' o'' at r r' p q = rw (append_assoc t u v) (both-appended t (u ++ v) o o' o'' at r r' p q)
+pub then_both : (t u v o o' o'' : List ℕ) (at r r' : ℕ) → Appends at t o r o' → Appends r (u ++ v) o' r' o'' → Appends at (t ++ u ++ v) o r' o''
+then_both t u v o o' o'' at r r' p q = rw (append_assoc t u v) (both_appended t (u ++ v) o o' o'' at r r' p q)
 
 pub both-put : (t u o o' o'' : List ℕ) (at r r' : ℕ) → placed r o' ≡ put_at at t o → placed r' o'' ≡ put_at r u o' → Appends at (t ++ u) o r' o''
-both-put t u o o' o'' at r r' e f = then-put t u o o' o'' at r r' (appended t o o' at r e) f
+both-put t u o o' o'' at r r' e f = then_put t u o o' o'' at r r' (appended t o o' at r e) f
 
 -- a test that decides the text
 module _ (t : Bool) (a c o o' : List ℕ) (at r : ℕ) where

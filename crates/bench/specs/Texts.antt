@@ -39,10 +39,10 @@ pub record Appends (at : ℕ) (t o : List ℕ) (r : ℕ) (o' : List ℕ) : Type 
   pub behind : (s b : List ℕ) → placed at o ≡ placed_at 0 s b → length s + length t ≤ length b → placed r o' ≡ placed_at 0 (s ++ t) b
 
 -- the decimal digits of a number below 10 ^ k, the highest first, with no zero before them
-unfoldable pub decimalUnder : ℕ → ℕ → List ℕ
-decimalUnder zero n = []
-decimalUnder (suc k) n = pick (ltb n 10) ((48 + n) ∷ []) (decimalUnder k (n / 10) ++ ((48 + n % 10) ∷ []))
+unfoldable pub decimal_under : ℕ → ℕ → List ℕ
+decimal_under zero n = []
+decimal_under (suc k) n = pick (ltb n 10) ((48 + n) ∷ []) (decimal_under k (n / 10) ++ ((48 + n % 10) ∷ []))
 
 -- any number of 64 bits is below 10 ^ 20
-unfoldable pub decimalOf : ℕ → List ℕ
-decimalOf n = decimalUnder 20 n
+unfoldable pub decimal_of : ℕ → List ℕ
+decimal_of n = decimal_under 20 n

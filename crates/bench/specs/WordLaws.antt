@@ -5,7 +5,7 @@ use borrow.Author.Tests.{eq-eqb, ne_eqb}
 use Rattle.std.proofs.Math.Seq.{take-length}
 use Rattle.bytes.specs.Bytes.{index_of, index_after, slice}
 use Rattle.errors.specs.Choice.{pick}
-use Rattle.bench.specs.Words.{ahead, wordsOf}
+use Rattle.bench.specs.Words.{ahead, words_of_lem}
 
 length-ahead : (b : ℕ) (ws : List (List ℕ)) → 0 < length ws → length (ahead b ws) ≡ length ws
 unfolding ahead
@@ -23,61 +23,61 @@ later-ahead b k [] = refl
 later-ahead b k (w ∷ ws) = refl
 
 -- a line has a first word
-some_word : (l : List ℕ) → 0 < length (wordsOf l)
-unfolding wordsOf pick
+some_word : (l : List ℕ) → 0 < length (words_of_lem l)
+unfolding words_of_lem pick
 some_word [] = omega arith
 some_word (b ∷ l) = go (some_word l) (eqb b 32)
   where
-    go : 0 < length (wordsOf l) → (t : Bool) → 0 < length (pick t ([] ∷ wordsOf l) (ahead b (wordsOf l)))
+    go : 0 < length (words_of_lem l) → (t : Bool) → 0 < length (pick t ([] ∷ words_of_lem l) (ahead b (words_of_lem l)))
     go h true = omega arith
-    go h false = omega (arith, length-ahead b (wordsOf l) h)
+    go h false = omega (arith, length-ahead b (words_of_lem l) h)
 
 module _ (l : List ℕ) (i : ℕ) where
-  at-space : i < length l → get_or l i 0 ≡ 32 → wordsOf (drop i l) ≡ [] ∷ wordsOf (drop (i + 1) l)
-  unfolding wordsOf pick
+  at-space : i < length l → get_or l i 0 ≡ 32 → words_of_lem (drop i l) ≡ [] ∷ words_of_lem (drop (i + 1) l)
+  unfolding words_of_lem pick
   at-space h e = rw (drop-cons l i 0 h, eq-eqb (get_or l i 0) 32 e, add-one)
 
-  at_other : i < length l → (get_or l i 0 ≡ 32 → ⊥) → wordsOf (drop i l) ≡ ahead (get_or l i 0) (wordsOf (drop (i + 1) l))
-  unfolding wordsOf pick
+  at_other : i < length l → (get_or l i 0 ≡ 32 → ⊥) → words_of_lem (drop i l) ≡ ahead (get_or l i 0) (words_of_lem (drop (i + 1) l))
+  unfolding words_of_lem pick
   at_other h e = rw (drop-cons l i 0 h, ne_eqb (get_or l i 0) 32 e, add-one)
 
-  at-end : length l ≤ i → wordsOf (drop i l) ≡ [] ∷ []
-  unfolding wordsOf
+  at-end : length l ≤ i → words_of_lem (drop i l) ≡ [] ∷ []
+  unfolding words_of_lem
   at-end h = rw (drop_of_length-le l {i = i} h)
 
   -- n words were passed before place i
-  module _ (n : ℕ) (passed : n + length (wordsOf (drop i l)) ≡ length (wordsOf l) + 1) where
-    pub count-space : (m : ℕ) → i < length l → get_or l i 0 ≡ 32 → m ≡ n + 1 → m + length (wordsOf (drop (i + 1) l)) ≡ length (wordsOf l) + 1
-    count-space m h e g = let f = ap length (at-space h e) in omega arith
+  module _ (n : ℕ) (passed : n + length (words_of_lem (drop i l)) ≡ length (words_of_lem l) + 1) where
+    pub count_space : (m : ℕ) → i < length l → get_or l i 0 ≡ 32 → m ≡ n + 1 → m + length (words_of_lem (drop (i + 1) l)) ≡ length (words_of_lem l) + 1
+    count_space m h e g = let f = ap length (at-space h e) in omega arith
 
-    pub count-other : (m : ℕ) → i < length l → (get_or l i 0 ≡ 32 → ⊥) → m ≡ n → m + length (wordsOf (drop (i + 1) l)) ≡ length (wordsOf l) + 1
+    pub count-other : (m : ℕ) → i < length l → (get_or l i 0 ≡ 32 → ⊥) → m ≡ n → m + length (words_of_lem (drop (i + 1) l)) ≡ length (words_of_lem l) + 1
     count-other m h e g =
-        let f = ap length (at_other h e) ∙ length-ahead (get_or l i 0) (wordsOf (drop (i + 1) l)) (some_word (drop (i + 1) l)) in
+        let f = ap length (at_other h e) ∙ length-ahead (get_or l i 0) (words_of_lem (drop (i + 1) l)) (some_word (drop (i + 1) l)) in
         omega arith
 
-    pub count-end : length l ≤ i → n ≡ length (wordsOf l)
+    pub count-end : length l ≤ i → n ≡ length (words_of_lem l)
     count-end h = let f = ap length (at-end h) in omega arith
 
   -- `left` words more are to be passed to come to the word w
-  module _ (left : ℕ) (w : List ℕ) (is_IsWord : get_or (wordsOf (drop i l)) left [] ≡ w) where
-    pub start-space : (m : ℕ) → i < length l → (left ≡ 0 → ⊥) → get_or l i 0 ≡ 32 → m ≡ left - 1 → get_or (wordsOf (drop (i + 1) l)) m [] ≡ w
-    start-space m h some e g = rw g (go left some (sym (ap (λ x. get_or x left []) (at-space h e)) ∙ is_IsWord))
+  module _ (left : ℕ) (w : List ℕ) (is_IsWord : get_or (words_of_lem (drop i l)) left [] ≡ w) where
+    pub start_space : (m : ℕ) → i < length l → (left ≡ 0 → ⊥) → get_or l i 0 ≡ 32 → m ≡ left - 1 → get_or (words_of_lem (drop (i + 1) l)) m [] ≡ w
+    start_space m h some e g = rw g (go left some (sym (ap (λ x. get_or x left []) (at-space h e)) ∙ is_IsWord))
       where
-        go : (k : ℕ) → (k ≡ 0 → ⊥) → get_or ([] ∷ wordsOf (drop (i + 1) l)) k [] ≡ w → get_or (wordsOf (drop (i + 1) l)) (k - 1) [] ≡ w
+        go : (k : ℕ) → (k ≡ 0 → ⊥) → get_or ([] ∷ words_of_lem (drop (i + 1) l)) k [] ≡ w → get_or (words_of_lem (drop (i + 1) l)) (k - 1) [] ≡ w
         go zero n f = absurd (n refl)
         go (suc k) n f = let m : suc k - 1 ≡ k = omega arith in rw m f
 
-    pub start-other : (m : ℕ) → i < length l → (left ≡ 0 → ⊥) → (get_or l i 0 ≡ 32 → ⊥) → m ≡ left → get_or (wordsOf (drop (i + 1) l)) m [] ≡ w
+    pub start-other : (m : ℕ) → i < length l → (left ≡ 0 → ⊥) → (get_or l i 0 ≡ 32 → ⊥) → m ≡ left → get_or (words_of_lem (drop (i + 1) l)) m [] ≡ w
     start-other m h some e g = rw g (go left some (sym (ap (λ x. get_or x left []) (at_other h e)) ∙ is_IsWord))
       where
-        go : (k : ℕ) → (k ≡ 0 → ⊥) → get_or (ahead (get_or l i 0) (wordsOf (drop (i + 1) l))) k [] ≡ w → get_or (wordsOf (drop (i + 1) l)) k [] ≡ w
+        go : (k : ℕ) → (k ≡ 0 → ⊥) → get_or (ahead (get_or l i 0) (words_of_lem (drop (i + 1) l))) k [] ≡ w → get_or (words_of_lem (drop (i + 1) l)) k [] ≡ w
         go zero n f = absurd (n refl)
-        go (suc k) n f = sym (later-ahead (get_or l i 0) k (wordsOf (drop (i + 1) l))) ∙ f
+        go (suc k) n f = sym (later-ahead (get_or l i 0) k (words_of_lem (drop (i + 1) l))) ∙ f
 
-    pub start-here : left ≡ 0 → get_or (wordsOf (drop i l)) 0 [] ≡ w
-    start-here e = ap (λ k. get_or (wordsOf (drop i l)) k []) (sym e) ∙ is_IsWord
+    pub start_here : left ≡ 0 → get_or (words_of_lem (drop i l)) 0 [] ≡ w
+    start_here e = ap (λ k. get_or (words_of_lem (drop i l)) k []) (sym e) ∙ is_IsWord
 
-    pub start-end : length l ≤ i → get_or (wordsOf (drop i l)) 0 [] ≡ w
+    pub start-end : length l ≤ i → get_or (words_of_lem (drop i l)) 0 [] ≡ w
     start-end h = ap (λ x. get_or x 0 []) (at-end h) ∙ go left ∙ sym (ap (λ x. get_or x left []) (at-end h)) ∙ is_IsWord
       where
         go : (k : ℕ) → get_or {A = List ℕ} ([] ∷ []) 0 [] ≡ get_or ([] ∷ []) k []
@@ -85,77 +85,77 @@ module _ (l : List ℕ) (i : ℕ) where
         go (suc k) = refl
 
   -- the word w starts at place s, and no space stands before place i
-  module _ (s : ℕ) (w : List ℕ) (from : s ≤ i) (begun : take (i - s) (drop s l) ++ get_or (wordsOf (drop i l)) 0 [] ≡ w) where
-    pub end-space : i < length l → get_or l i 0 ≡ 32 → take (i - s) (drop s l) ≡ w
-    end-space h e = sym (append-nil (take (i - s) (drop s l))) ∙ ap (λ x. take (i - s) (drop s l) ++ get_or x 0 []) (sym (at-space h e)) ∙ begun
+  module _ (s : ℕ) (w : List ℕ) (from : s ≤ i) (begun : take (i - s) (drop s l) ++ get_or (words_of_lem (drop i l)) 0 [] ≡ w) where
+    pub end_space : i < length l → get_or l i 0 ≡ 32 → take (i - s) (drop s l) ≡ w
+    end_space h e = sym (append-nil (take (i - s) (drop s l))) ∙ ap (λ x. take (i - s) (drop s l) ++ get_or x 0 []) (sym (at-space h e)) ∙ begun
 
     pub end-end : length l ≤ i → take (i - s) (drop s l) ≡ w
     end-end h = sym (append-nil (take (i - s) (drop s l))) ∙ ap (λ x. take (i - s) (drop s l) ++ get_or x 0 []) (sym (at-end h)) ∙ begun
 
-    pub end-other : i < length l → (get_or l i 0 ≡ 32 → ⊥) → take (i + 1 - s) (drop s l) ++ get_or (wordsOf (drop (i + 1) l)) 0 [] ≡ w
+    pub end-other : i < length l → (get_or l i 0 ≡ 32 → ⊥) → take (i + 1 - s) (drop s l) ++ get_or (words_of_lem (drop (i + 1) l)) 0 [] ≡ w
     end-other h e =
         let m : i + 1 - s ≡ suc (i - s) = omega arith in
         let k : i - s < length (drop s l) = rw (length-drop s l) (omega arith) in
         let g : s + (i - s) ≡ i = omega arith in
         rw (m, take-suc (drop s l) (i - s) 0 k, get_or-drop s l (i - s) 0, g, append_assoc)
-        (ap (λ x. take (i - s) (drop s l) ++ x) (sym (first-ahead (get_or l i 0) (wordsOf (drop (i + 1) l))) ∙ sym (ap (λ x. get_or x 0 []) (at_other h e))) ∙ begun)
+        (ap (λ x. take (i - s) (drop s l) ++ x) (sym (first-ahead (get_or l i 0) (words_of_lem (drop (i + 1) l))) ∙ sym (ap (λ x. get_or x 0 []) (at_other h e))) ∙ begun)
 
-pub end-begin : (l : List ℕ) (s : ℕ) → take (s - s) (drop s l) ++ get_or (wordsOf (drop s l)) 0 [] ≡ get_or (wordsOf (drop s l)) 0 []
+pub end-begin : (l : List ℕ) (s : ℕ) → take (s - s) (drop s l) ++ get_or (words_of_lem (drop s l)) 0 [] ≡ get_or (words_of_lem (drop s l)) 0 []
 end-begin l s = let z : s - s ≡ 0 = omega arith in rw z
 
 -- a word is no longer than its line
-pub word-short : (l : List ℕ) (k : ℕ) → length (get_or (wordsOf l) k []) ≤ length l
-unfolding wordsOf pick
-word-short [] zero = omega arith
-word-short [] (suc k) = omega arith
-word-short (b ∷ l) k = go (word-short l) (eqb b 32) k
+pub word_short : (l : List ℕ) (k : ℕ) → length (get_or (words_of_lem l) k []) ≤ length l
+unfolding words_of_lem pick
+word_short [] zero = omega arith
+word_short [] (suc k) = omega arith
+word_short (b ∷ l) k = go (word_short l) (eqb b 32) k
   where
-    go : ((n : ℕ) → length (get_or (wordsOf l) n []) ≤ length l) → (t : Bool) (j : ℕ) → length (get_or (pick t ([] ∷ wordsOf l) (ahead b (wordsOf l))) j []) ≤ suc (length l)
+    go : ((n : ℕ) → length (get_or (words_of_lem l) n []) ≤ length l) → (t : Bool) (j : ℕ) → length (get_or (pick t ([] ∷ words_of_lem l) (ahead b (words_of_lem l))) j []) ≤ suc (length l)
     go h true zero = omega arith
     go h true (suc j) = omega (arith, h j)
-    go h false zero = omega (arith, h 0, ap length (first-ahead b (wordsOf l)))
-    go h false (suc j) = omega (arith, h (suc j), ap length (later-ahead b j (wordsOf l)))
+    go h false zero = omega (arith, h 0, ap length (first-ahead b (words_of_lem l)))
+    go h false (suc j) = omega (arith, h (suc j), ap length (later-ahead b j (words_of_lem l)))
 
 -- the words behind the first, where a space and they are left
-unfoldable pub wordsBehind : List ℕ → List (List ℕ)
-wordsBehind [] = []
-wordsBehind (b ∷ l) = wordsOf l
+unfoldable pub words_behind : List ℕ → List (List ℕ)
+words_behind [] = []
+words_behind (b ∷ l) = words_of_lem l
 
-pub words-behind : (l : List ℕ) → wordsOf l ≡ take (index_of 32 l) l ∷ wordsBehind (drop (index_of 32 l) l)
-unfolding wordsOf pick wordsBehind index_of index_after ahead
-words-behind [] = refl
-words-behind (b ∷ l) = go (words-behind l) (eqb b 32)
+pub words_behind_lem : (l : List ℕ) → words_of_lem l ≡ take (index_of 32 l) l ∷ words_behind (drop (index_of 32 l) l)
+unfolding words_of_lem pick words_behind index_of index_after ahead
+words_behind_lem [] = refl
+words_behind_lem (b ∷ l) = go (words_behind_lem l) (eqb b 32)
   where
-    go : wordsOf l ≡ take (index_of 32 l) l ∷ wordsBehind (drop (index_of 32 l) l) → (t : Bool)
-        → pick t ([] ∷ wordsOf l) (ahead b (wordsOf l)) ≡ take (index_after t (index_of 32 l)) (b ∷ l) ∷ wordsBehind (drop (index_after t (index_of 32 l)) (b ∷ l))
+    go : words_of_lem l ≡ take (index_of 32 l) l ∷ words_behind (drop (index_of 32 l) l) → (t : Bool)
+        → pick t ([] ∷ words_of_lem l) (ahead b (words_of_lem l)) ≡ take (index_after t (index_of 32 l)) (b ∷ l) ∷ words_behind (drop (index_after t (index_of 32 l)) (b ∷ l))
     go h true = refl
     go h false = ap (ahead b) h
 
 -- the word from a place to the next space, and the words behind it
 pub next_word : (l : List ℕ) (from end : ℕ) → from ≤ length l → end ≡ from + index_of 32 (slice from (length l) l)
-    → wordsOf (drop from l) ≡ take (end - from) (drop from l) ∷ wordsBehind (drop end l)
+    → words_of_lem (drop from l) ≡ take (end - from) (drop from l) ∷ words_behind (drop end l)
 unfolding slice
 next_word l from end h e =
     let all : take (length l) l ≡ l = take-length l in
     let k : ℕ = index_of 32 (drop from l) in
     let is : end ≡ from + k = e ∙ ap (λ x. from + index_of 32 (drop from x)) all in
     let size : end - from ≡ k = omega arith in
-    words-behind (drop from l) ∙ rw (size, is, drop-drop k from l)
+    words_behind_lem (drop from l) ∙ rw (size, is, drop-drop k from l)
 
 -- ---- the words of a line, by their number
 
 -- n words from the i-th on
-unfoldable pub wordsFrom : ℕ → ℕ → List (List ℕ) → List (List ℕ)
-wordsFrom i zero ws = []
-wordsFrom i (suc n) ws = get_or ws i [] ∷ wordsFrom (suc i) n ws
+unfoldable pub words_from : ℕ → ℕ → List (List ℕ) → List (List ℕ)
+words_from i zero ws = []
+words_from i (suc n) ws = get_or ws i [] ∷ words_from (suc i) n ws
 
-words-from : (n i : ℕ) (ws : List (List ℕ)) → length ws ≡ i + n → drop i ws ≡ wordsFrom i n ws
-unfolding wordsFrom
-words-from zero i ws h = drop_of_length-le ws {i = i} (omega arith)
-words-from (suc n) i ws h = drop-cons ws i [] (omega arith) ∙ ap (λ l. get_or ws i [] ∷ l) (words-from n (suc i) ws (omega arith))
+words_from_lem : (n i : ℕ) (ws : List (List ℕ)) → length ws ≡ i + n → drop i ws ≡ words_from i n ws
+unfolding words_from
+words_from_lem zero i ws h = drop_of_length-le ws {i = i} (omega arith)
+words_from_lem (suc n) i ws h = drop-cons ws i [] (omega arith) ∙ ap (λ l. get_or ws i [] ∷ l) (words_from_lem n (suc i) ws (omega arith))
 
-pub words_are : (ws : List (List ℕ)) (n : ℕ) → n ≡ length ws → (k : ℕ) → n ≡ k → ws ≡ wordsFrom 0 k ws
-words_are ws n counted k h = words-from k 0 ws (omega arith)
+pub words_are : (ws : List (List ℕ)) (n : ℕ) → n ≡ length ws → (k : ℕ) → n ≡ k → ws ≡ words_from 0 k ws
+words_are ws n counted k h = words_from_lem k 0 ws (omega arith)
 
-pub word_fits : (limit : ℕ) (l w : List ℕ) (k : ℕ) → w ≡ get_or (wordsOf l) k [] → length l ≤ limit → length w ≤ limit
-word_fits limit l w k e h = omega (arith, ap length e, word-short l k)
+pub word_fits : (limit : ℕ) (l w : List ℕ) (k : ℕ) → w ≡ get_or (words_of_lem l) k [] → length l ≤ limit → length w ≤ limit
+word_fits limit l w k e h = omega (arith, ap length e, word_short l k)

@@ -7,6 +7,6 @@ unfoldable pub ahead : ℕ → List (List ℕ) → List (List ℕ)
 ahead b [] = (b ∷ []) ∷ []
 ahead b (w ∷ ws) = (b ∷ w) ∷ ws
 
-unfoldable pub wordsOf : List ℕ → List (List ℕ)
-wordsOf [] = [] ∷ []
-wordsOf (b ∷ l) = pick (eqb b 32) ([] ∷ wordsOf l) (ahead b (wordsOf l))
+unfoldable pub words_of_lem : List ℕ → List (List ℕ)
+words_of_lem [] = [] ∷ []
+words_of_lem (b ∷ l) = pick (eqb b 32) ([] ∷ words_of_lem l) (ahead b (words_of_lem l))

@@ -1,7 +1,7 @@
 // HEX: pairs of hex digits of either case, printed in upper case. `-` stands for no bytes.
 ghost use Rattle.std.specs.Prelude.{◌≡◌, Bool, ◌+◌, ◌*◌, ◌/◌, ◌≤◌, ◌<◌, length};
 ghost use Rattle.bench.specs.Texts.{returned, over, placed, put_at};
-ghost use Rattle.bench.specs.Hex.{value_of, allHexDigits, isHex, pairsOf, read_of, digitOf, digitsOf, hexOf};
+ghost use Rattle.bench.specs.Hex.{value_of, all_hex_digits, is_hex_of, pairs_of, read_of, digit_of, digits_of_lem, hex_of};
 ghost use Rattle.framing.specs.Build.{left};
 
 use super::{Put, text};
@@ -20,7 +20,7 @@ fn value(digit: u8) -> u8
 }
 
 fn all_digits(word: &[u8]) -> bool
-    ensures { result ≡ allHexDigits word.now }
+    ensures { result ≡ all_hex_digits word.now }
 {
     let mut i = 0;
     while i < word.len() {
@@ -34,7 +34,7 @@ fn all_digits(word: &[u8]) -> bool
 
 // Whether the word can be read as HEX.
 pub fn is_hex(word: &[u8]) -> bool
-    ensures { result ≡ isHex word.now }
+    ensures { result ≡ is_hex_of word.now }
 {
     if framing::is_exactly(word, b"-") {
         return true;
@@ -49,8 +49,8 @@ pub fn is_hex(word: &[u8]) -> bool
 
 // Puts the bytes of the pairs at the buffer's start.
 fn decode(word: &[u8], out: &mut [u8])
-    requires { (isHex word.now ≡ Bool.true) × (length word.now / 2 ≤ length out.old) }
-    ensures { out.new ≡ over 0 (pairsOf word.now) out.old }
+    requires { (is_hex_of word.now ≡ Bool.true) × (length word.now / 2 ≤ length out.old) }
+    ensures { out.new ≡ over 0 (pairs_of word.now) out.old }
 {
     let n = word.len() / 2;
     let mut i = 0;
@@ -79,7 +79,7 @@ pub fn read(word: &[u8], out: &mut [u8]) -> Put
 // The upper-case digit of a value.
 fn digit(value: u8) -> u8
     requires { value < 16 }
-    ensures { result ≡ digitOf value }
+    ensures { result ≡ digit_of value }
 {
     if value < 10 {
         b'0' + value
@@ -91,7 +91,7 @@ fn digit(value: u8) -> u8
 // Puts the digits of the bytes into the buffer from a place on.
 fn put_digits(bytes: &[u8], out: &mut [u8], at: usize)
     requires { at + 2 * length bytes.now ≤ length out.old }
-    ensures { out.new ≡ over at (digitsOf bytes.now) out.old }
+    ensures { out.new ≡ over at (digits_of_lem bytes.now) out.old }
 {
     let mut i = 0;
     while i < bytes.len() {
@@ -104,7 +104,7 @@ fn put_digits(bytes: &[u8], out: &mut [u8], at: usize)
 
 // Puts the bytes as HEX into the buffer from a place on, and gives the place behind them. Where there is no room nothing is put.
 pub fn put(bytes: &[u8], out: &mut [u8], at: usize) -> usize
-    ensures { placed result out.new ≡ put_at at (hexOf bytes.now) out.old }
+    ensures { placed result out.new ≡ put_at at (hex_of bytes.now) out.old }
 {
     let n = bytes.len();
     if n == 0 {

@@ -1,4 +1,6 @@
 // What the bench programs share: the lines of their input, words, numbers, HEX, and texts, as functions on slices.
+#![tactic(auto)]
+
 pub mod hex;
 pub mod lines;
 pub mod number;

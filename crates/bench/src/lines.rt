@@ -1,7 +1,7 @@
 // The lines of standard input, one after the other, and what is written for each.
 ghost use Rattle.std.specs.Prelude.{◌≡◌, Bool, List, ◌++◌, ℕ, ◌≤◌, ◌<◌, length};
 ghost use Rattle.io.specs.Counts.{IsPrefixLen};
-ghost use Rattle.bench.specs.Lines.{Begun, NoFeed, beforeFeed, NextLine, next_of, unreadLine, unreadIn, line_of, unreadOf, last_of, nothing as nothingUnread};
+ghost use Rattle.bench.specs.Lines.{Begun, NoFeed, before_feed, NextLine, next_of, unread_line, unread_in, line_of, unread_of, last_of, nothing as nothing_unread};
 
 use super::text;
 use libc::{STDIN_FILENO, STDOUT_FILENO};
@@ -31,7 +31,7 @@ pub struct Given {
 impl Unread {
     // Nothing was read yet.
     pub fn nothing() -> Unread
-        ensures { result ≡ nothingUnread }
+        ensures { result ≡ nothing_unread }
     {
         Unread { from: 0, to: 0 }
     }
@@ -55,7 +55,7 @@ fn add(part: &[u8], line: &mut [u8], len: usize) -> usize
 
 // How many bytes stand before the first line feed: all of them where there is none.
 fn before_feed(part: &[u8]) -> usize
-    ensures { (result ≡ beforeFeed part.now) × IsPrefixLen result part.now }
+    ensures { (result ≡ before_feed part.now) × IsPrefixLen result part.now }
 {
     bytes::scan::find(part, 0, part.len(), b'\n')
 }
@@ -80,7 +80,7 @@ fn fill(buffer: &mut [u8]) -> usize
 
 // What is unread of a buffer of n bytes: nothing where the places are none of the buffer's.
 fn within(unread: Unread, n: usize) -> Unread
-    ensures { result ≡ unreadOf unread n }
+    ensures { result ≡ unread_of unread n }
 {
     if n < unread.to {
         return Unread::nothing();
@@ -111,7 +111,7 @@ fn last(len: usize, line: &[u8]) -> Given
 // A loop has to end, and nothing says that the input does: it counts its turns down from a number that no run uses up. Were it
 // used up, the line would be given as far as it was read.
 fn read_on(start: usize, buffer: &mut [u8], line: &mut [u8]) -> Given
-    ensures { (t l : List ℕ) → NoFeed t → Begun t l start line.old → NextLine t l result.line line.new (unreadIn result.unread buffer.new) }
+    ensures { (t l : List ℕ) → NoFeed t → Begun t l start line.old → NextLine t l result.line line.new (unread_in result.unread buffer.new) }
 {
     let mut len = start;
     let mut turns = u64::MAX;
@@ -138,8 +138,8 @@ fn read_on(start: usize, buffer: &mut [u8], line: &mut [u8]) -> Given
 // The input is read only where the unread bytes have no line feed. No contract can say what comes then: what is given is fixed by it, and
 // the bytes of `buffer` that are not among the unread ones afterwards are free.
 pub fn next(unread: Unread, buffer: &mut [u8], line: &mut [u8]) -> Given
-    ensures line_after { beforeFeed (unreadIn unread buffer.old) < length (unreadIn unread buffer.old) → next_of result buffer.new line.new ≡ unreadLine unread buffer.old line.old }
-    ensures next_line { NextLine (unreadIn unread buffer.old) line.old result.line line.new (unreadIn result.unread buffer.new) }
+    ensures line_after { before_feed (unread_in unread buffer.old) < length (unread_in unread buffer.old) → next_of result buffer.new line.new ≡ unread_line unread buffer.old line.old }
+    ensures next_line { NextLine (unread_in unread buffer.old) line.old result.line line.new (unread_in result.unread buffer.new) }
 {
     let rest = within(unread, buffer.len());
     let from = rest.from;

@@ -1,6 +1,6 @@
 // A number in decimal digits, read from a word.
 ghost use Rattle.std.specs.Prelude.{◌≡◌};
-ghost use Rattle.bench.specs.Numbers.{digitValue, number_of, number_in};
+ghost use Rattle.bench.specs.Numbers.{digit_value_of, number_of, number_in};
 
 #[derive(Drop)]
 pub enum Number {
@@ -12,7 +12,7 @@ const NUMBER_LIMIT: u64 = 4294967295;
 
 // The value of a decimal digit; 10 where the byte is none.
 fn digit_value(byte: u8) -> u64
-    ensures { result ≡ digitValue byte }
+    ensures { result ≡ digit_value_of byte }
 {
     match byte {
         b'0'..=b'9' => (byte - b'0') as u64,

@@ -1,6 +1,6 @@
 // Texts put into a buffer from a place on; each function gives the place behind its text. A text that has no room is not put.
 ghost use Rattle.std.specs.Prelude.{◌≡◌};
-ghost use Rattle.bench.specs.Texts.{placed, put_at, decimalOf};
+ghost use Rattle.bench.specs.Texts.{placed, put_at, decimal_of};
 
 pub fn put(text: &[u8], out: &mut [u8], at: usize) -> usize
     ensures { placed result out.new ≡ put_at at text.now out.old }
@@ -17,7 +17,7 @@ pub fn put(text: &[u8], out: &mut [u8], at: usize) -> usize
 
 // A number in decimal digits.
 pub fn put_decimal(number: u64, out: &mut [u8], at: usize) -> usize
-    ensures { placed result out.new ≡ put_at at (decimalOf number) out.old }
+    ensures { placed result out.new ≡ put_at at (decimal_of number) out.old }
 {
     let mut digits = [0u8; 20];
     let n = io::decimal(number, &mut digits);

@@ -11,106 +11,106 @@ use Rattle.errors.specs.declared.Refusal.{Refusal}
 use Rattle.framing.specs.declared.FrameFormat.{FrameFormat}
 use Rattle.framing.specs.declared.settings.Setting.{Setting}
 use Rattle.framing.specs.declared.settings.Setting.TheVariants.{Format, Nothing as NoSetting}
-use Rattle.bench.specs.Hex.{isHex, pairsOf, read_of}
-use Rattle.bench.specs.HexLaws.{length_pairs, was_read, read_count, read-into, not-read}
+use Rattle.bench.specs.Hex.{is_hex_of, pairs_of, read_of}
+use Rattle.bench.specs.HexLaws.{length_pairs, was_read, read_count, read_into, not_read}
 use Rattle.bench.specs.Texts.{returned, over, Appends}
-use Rattle.bench.specs.WordLaws.{wordsFrom, words_are}
+use Rattle.bench.specs.WordLaws.{words_from, words_are}
 use Rattle.bench.specs.declared.Put.{Put}
 use Rattle.bench.specs.declared.Put.TheVariants.{Bytes, Refused}
-use Rattle.bench_codec.specs.Codec.{lineLimit, bytesRoom, frameRoom, unreadable, settingNamed, onBytes, onFormat, onSetting, two_words, threeWords, fourWords, fiveWords, onWords, blockText, withBytes, with_blocks, withService, block_line}
-use Rattle.bench_codec.proofs.FrameLaws.{whole-text, whole-fits, whole_part}
+use Rattle.bench_codec.specs.Codec.{line_limit, bytes_room, frame_room, unreadable, setting_named, on_bytes, on_format, on_setting, two_words, three_words, four_words, five_words, on_words, block_text, with_bytes, with_blocks, with_service, block_line}
+use Rattle.bench_codec.proofs.FrameLaws.{whole_text, whole_fits, whole_part}
 use Rattle.framing.specs.Build.{left}
 
 -- the bytes of a word
-module _ (w b o : List ℕ) (r : Put) (known : left (returned r) o ≡ read_of w b) (short : length w ≤ lineLimit) (room : length b ≡ frameRoom) where
+module _ (w b o : List ℕ) (r : Put) (known : left (returned r) o ≡ read_of w b) (short : length w ≤ line_limit) (room : length b ≡ frame_room) where
   enough : length w / 2 ≤ length b
   enough = omega arith
 
-  pub read-refused : (e : Refusal) (y out z : List ℕ) (m : ℕ) → r ≡ Refused e → Appends 0 unreadable out m z → Appends 0 (pick (isHex w) y unreadable) out m z
+  pub read_refused : (e : Refusal) (y out z : List ℕ) (m : ℕ) → r ≡ Refused e → Appends 0 unreadable out m z → Appends 0 (pick (is_hex_of w) y unreadable) out m z
   unfolding pick
-  read-refused e y out z m q d = rw (not-read w b o r enough known e q) d
+  read_refused e y out z m q d = rw (not_read w b o r enough known e q) d
 
   module _ (n : ℕ) (q : r ≡ Bytes n) where
-    hex : isHex w ≡ true
+    hex : is_hex_of w ≡ true
     hex = was_read w b o r enough known n q
 
-    counted : n ≡ length (pairsOf w)
+    counted : n ≡ length (pairs_of w)
     counted = read_count w b o r enough known n q
 
-    filled : o ≡ pairsOf w ++ drop (length (pairsOf w)) b
+    filled : o ≡ pairs_of w ++ drop (length (pairs_of w)) b
     unfolding over
-    filled = read-into w b o r enough known n q ∙ ap (λ k. pairsOf w ++ drop k b) (zero-add (length (pairsOf w)))
+    filled = read_into w b o r enough known n q ∙ ap (λ k. pairs_of w ++ drop k b) (zero-add (length (pairs_of w)))
 
-    fits : length (pairsOf w) ≤ length b
+    fits : length (pairs_of w) ≤ length b
     fits = omega (arith, length_pairs w)
 
-    bytes : take n o ≡ pairsOf w
-    bytes = whole-text (pairsOf w) b o n counted filled fits
+    bytes : take n o ≡ pairs_of w
+    bytes = whole_text (pairs_of w) b o n counted filled fits
 
     pub read_fits : n ≤ length o
-    read_fits = whole-fits (pairsOf w) b o n counted filled fits
+    read_fits = whole_fits (pairs_of w) b o n counted filled fits
 
-    pub read-part : n ≡ length (take n o)
-    read-part = whole_part (pairsOf w) b o n counted filled fits
+    pub read_part : n ≡ length (take n o)
+    read_part = whole_part (pairs_of w) b o n counted filled fits
 
-    pub read_short : length (take n o) ≤ bytesRoom
+    pub read_short : length (take n o) ≤ bytes_room
     read_short = omega (arith, counted, length_pairs w, length-take n o)
 
     module _ (out z : List ℕ) (m : ℕ) where
-      pub read-bytes : (name : List ℕ) → Appends 0 (onBytes name (take n o)) out m z → Appends 0 (pick (isHex w) (onBytes name (pairsOf w)) unreadable) out m z
+      pub read_bytes_lem : (name : List ℕ) → Appends 0 (on_bytes name (take n o)) out m z → Appends 0 (pick (is_hex_of w) (on_bytes name (pairs_of w)) unreadable) out m z
       unfolding pick
-      read-bytes name e = rw hex (rw bytes at e)
+      read_bytes_lem name e = rw hex (rw bytes at e)
 
-      pub read-format : (name : List ℕ) (f : FrameFormat) → Appends 0 (onFormat name f (take n o)) out m z → Appends 0 (pick (isHex w) (onFormat name f (pairsOf w)) unreadable) out m z
+      pub read_format : (name : List ℕ) (f : FrameFormat) → Appends 0 (on_format name f (take n o)) out m z → Appends 0 (pick (is_hex_of w) (on_format name f (pairs_of w)) unreadable) out m z
       unfolding pick
-      read-format name f e = rw hex (rw bytes at e)
+      read_format name f e = rw hex (rw bytes at e)
 
-      pub then-print : (kind x y : ℕ) (idm blocks : List ℕ) → Appends 0 (blockText kind idm x y blocks (take n o)) out m z → Appends 0 (withBytes kind idm x y blocks w) out m z
+      pub then_print : (kind x y : ℕ) (idm blocks : List ℕ) → Appends 0 (block_text kind idm x y blocks (take n o)) out m z → Appends 0 (with_bytes kind idm x y blocks w) out m z
       unfolding pick
-      then-print kind x y idm blocks e = rw hex (rw bytes at e)
+      then_print kind x y idm blocks e = rw hex (rw bytes at e)
 
-      pub then-bytes : (kind x y : ℕ) (idm d : List ℕ) → Appends 0 (withBytes kind idm x y (take n o) d) out m z → Appends 0 (with_blocks kind idm x y w d) out m z
+      pub then_bytes : (kind x y : ℕ) (idm d : List ℕ) → Appends 0 (with_bytes kind idm x y (take n o) d) out m z → Appends 0 (with_blocks kind idm x y w d) out m z
       unfolding pick
-      then-bytes kind x y idm d e = rw hex (rw bytes at e)
+      then_bytes kind x y idm d e = rw hex (rw bytes at e)
 
-      pub then-service : (kind : ℕ) (s c d : List ℕ) → Appends 0 (withService kind (take n o) s c d) out m z → Appends 0 (block_line kind w s c d) out m z
+      pub then_service : (kind : ℕ) (s c d : List ℕ) → Appends 0 (with_service kind (take n o) s c d) out m z → Appends 0 (block_line kind w s c d) out m z
       unfolding pick
-      then-service kind s c d e = rw hex (rw bytes at e)
+      then_service kind s c d e = rw hex (rw bytes at e)
 
 -- the setting of a word
-module _ (v name w b z : List ℕ) (m : ℕ) (s : Setting) (known : s ≡ settingNamed v) where
-  pub no-setting : s ≡ NoSetting → Appends 0 unreadable b m z → Appends 0 (onSetting (settingNamed v) name w) b m z
-  unfolding onSetting
-  no-setting q e = rw (sym known ∙ q) e
+module _ (v name w b z : List ℕ) (m : ℕ) (s : Setting) (known : s ≡ setting_named v) where
+  pub no_setting : s ≡ NoSetting → Appends 0 unreadable b m z → Appends 0 (on_setting (setting_named v) name w) b m z
+  unfolding on_setting
+  no_setting q e = rw (sym known ∙ q) e
 
-  pub some-setting : (f : FrameFormat) → s ≡ Format f → Appends 0 (pick (isHex w) (onFormat name f (pairsOf w)) unreadable) b m z → Appends 0 (onSetting (settingNamed v) name w) b m z
-  unfolding onSetting
-  some-setting f q e = rw (sym known ∙ q) e
+  pub some_setting : (f : FrameFormat) → s ≡ Format f → Appends 0 (pick (is_hex_of w) (on_format name f (pairs_of w)) unreadable) b m z → Appends 0 (on_setting (setting_named v) name w) b m z
+  unfolding on_setting
+  some_setting f q e = rw (sym known ∙ q) e
 
 -- the words of a line, by their number
 module _ (ws : List (List ℕ)) (n : ℕ) (counted : n ≡ length ws) (b z : List ℕ) (m : ℕ) where
-  pub two-are : n ≡ 2 → (u v : List ℕ) → u ≡ get_or ws 0 [] → v ≡ get_or ws 1 [] → Appends 0 (two_words u v) b m z → Appends 0 (onWords ws) b m z
-  unfolding onWords wordsFrom
-  two-are h u v p q e = rw (words_are ws n counted 2 h) (rw (p, q) at e)
+  pub two_are : n ≡ 2 → (u v : List ℕ) → u ≡ get_or ws 0 [] → v ≡ get_or ws 1 [] → Appends 0 (two_words u v) b m z → Appends 0 (on_words ws) b m z
+  unfolding on_words words_from
+  two_are h u v p q e = rw (words_are ws n counted 2 h) (rw (p, q) at e)
 
-  pub three-are : n ≡ 3 → (u v w : List ℕ) → u ≡ get_or ws 0 [] → v ≡ get_or ws 1 [] → w ≡ get_or ws 2 [] → Appends 0 (threeWords u v w) b m z → Appends 0 (onWords ws) b m z
-  unfolding onWords wordsFrom
-  three-are h u v w p q s e = rw (words_are ws n counted 3 h) (rw (p, q, s) at e)
+  pub three_are : n ≡ 3 → (u v w : List ℕ) → u ≡ get_or ws 0 [] → v ≡ get_or ws 1 [] → w ≡ get_or ws 2 [] → Appends 0 (three_words u v w) b m z → Appends 0 (on_words ws) b m z
+  unfolding on_words words_from
+  three_are h u v w p q s e = rw (words_are ws n counted 3 h) (rw (p, q, s) at e)
 
-  pub four_are : n ≡ 4 → (u v w y : List ℕ) → u ≡ get_or ws 0 [] → v ≡ get_or ws 1 [] → w ≡ get_or ws 2 [] → y ≡ get_or ws 3 [] → Appends 0 (fourWords u v w y) b m z → Appends 0 (onWords ws) b m z
-  unfolding onWords wordsFrom
+  pub four_are : n ≡ 4 → (u v w y : List ℕ) → u ≡ get_or ws 0 [] → v ≡ get_or ws 1 [] → w ≡ get_or ws 2 [] → y ≡ get_or ws 3 [] → Appends 0 (four_words u v w y) b m z → Appends 0 (on_words ws) b m z
+  unfolding on_words words_from
   four_are h u v w y p q s t e = rw (words_are ws n counted 4 h) (rw (p, q, s, t) at e)
 
-  pub five-are : n ≡ 5 → (u v w y x : List ℕ) → u ≡ get_or ws 0 [] → v ≡ get_or ws 1 [] → w ≡ get_or ws 2 [] → y ≡ get_or ws 3 [] → x ≡ get_or ws 4 [] → Appends 0 (fiveWords u v w y x) b m z
-      → Appends 0 (onWords ws) b m z
-  unfolding onWords wordsFrom
-  five-are h u v w y x p q s t r e = rw (words_are ws n counted 5 h) (rw (p, q, s, t, r) at e)
+  pub five_are : n ≡ 5 → (u v w y x : List ℕ) → u ≡ get_or ws 0 [] → v ≡ get_or ws 1 [] → w ≡ get_or ws 2 [] → y ≡ get_or ws 3 [] → x ≡ get_or ws 4 [] → Appends 0 (five_words u v w y x) b m z
+      → Appends 0 (on_words ws) b m z
+  unfolding on_words words_from
+  five_are h u v w y x p q s t r e = rw (words_are ws n counted 5 h) (rw (p, q, s, t, r) at e)
 
-  pub others-are : (n ≡ 2 → ⊥) → (n ≡ 3 → ⊥) → (n ≡ 4 → ⊥) → (n ≡ 5 → ⊥) → Appends 0 unreadable b m z → Appends 0 (onWords ws) b m z
-  unfolding onWords
-  others-are h g f d e = go ws (λ k. h (counted ∙ k)) (λ k. g (counted ∙ k)) (λ k. f (counted ∙ k)) (λ k. d (counted ∙ k))
+  pub others_are : (n ≡ 2 → ⊥) → (n ≡ 3 → ⊥) → (n ≡ 4 → ⊥) → (n ≡ 5 → ⊥) → Appends 0 unreadable b m z → Appends 0 (on_words ws) b m z
+  unfolding on_words
+  others_are h g f d e = go ws (λ k. h (counted ∙ k)) (λ k. g (counted ∙ k)) (λ k. f (counted ∙ k)) (λ k. d (counted ∙ k))
     where
-      go : (l : List (List ℕ)) → (length l ≡ 2 → ⊥) → (length l ≡ 3 → ⊥) → (length l ≡ 4 → ⊥) → (length l ≡ 5 → ⊥) → Appends 0 (onWords l) b m z
+      go : (l : List (List ℕ)) → (length l ≡ 2 → ⊥) → (length l ≡ 3 → ⊥) → (length l ≡ 4 → ⊥) → (length l ≡ 5 → ⊥) → Appends 0 (on_words l) b m z
       go [] i j k m = e
       go (a ∷ []) i j k m = e
       go (a ∷ c ∷ []) i j k m = absurd (i refl)

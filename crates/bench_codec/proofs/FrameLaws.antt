@@ -11,11 +11,11 @@ use lib.Seq.{take_at, length-take-le}
 use Rattle.errors.specs.Choice.{pick}
 use Rattle.errors.specs.Refusals.{Returned, answered, refused, plain}
 use Rattle.errors.specs.declared.Refusal.{Refusal}
-use Rattle.framing.specs.Build.{returned as built, left, limitOf, putFrame, buildOf}
+use Rattle.framing.specs.Build.{returned as built, left, limit_of, put_frame, build_of}
 use Rattle.framing.specs.Enclose.{length-head}
-use Rattle.framing.specs.Frames.{frame_of, checksumOf, dataStart, head_of, ending, longest}
-use Rattle.framing.specs.Padded.{parsePadded}
-use Rattle.framing.specs.Parse.{parseOf, payloadOf}
+use Rattle.framing.specs.Frames.{frame_of, checksum_of, data_start_of, head_of, ending, longest}
+use Rattle.framing.specs.Padded.{parse_padded_of}
+use Rattle.framing.specs.Parse.{parse_of, payload_of}
 use Rattle.framing.specs.declared.Built.{Built}
 use Rattle.framing.specs.declared.Built.TheVariants.{Frame, Refused as NotBuilt}
 use Rattle.framing.specs.declared.FrameFormat.{FrameFormat}
@@ -25,112 +25,112 @@ use Rattle.framing.specs.declared.LengthEncoding.{LengthEncoding}
 use Rattle.framing.specs.declared.LengthEncoding.TheVariants.{Normal, ExtendedLittleEndian, NormalOrExtendedBigEndian}
 use Rattle.framing.specs.declared.padded.Padded.{Padded}
 use Rattle.crc.specs.Answers.{returned as appended, added}
-use Rattle.crc.specs.Crc.{CrcKind, crcBytes}
-use Rattle.crc.specs.Laws.{crc-length}
+use Rattle.crc.specs.Crc.{CrcKind, crc_bytes}
+use Rattle.crc.specs.Laws.{crc_length}
 use Rattle.crc.specs.declared.Added.{Added}
 use Rattle.crc.specs.declared.Added.TheVariants.{Bytes as AddedBytes, Refused as NotAdded}
-use Rattle.targets.specs.Bitrates.{ascii, parsed, sendPartOf, sendLength, isBitrate}
+use Rattle.targets.specs.Bitrates.{ascii, parsed, send_part_of, send_length, is_bitrate}
 use Rattle.targets.specs.declared.Parsed.{Parsed}
 use Rattle.targets.specs.declared.Parsed.TheVariants.{Send, Refused as NotSent}
-use Rattle.bench.specs.Hex.{hexOf}
-use Rattle.bench.specs.TextLaws.{appended as put, then-put, both-put}
-use Rattle.bench.specs.Texts.{placed, put_at, decimalOf, Appends}
-use Rattle.bench_codec.specs.Codec.{bytesRoom, frameRoom, buildText, dataText, foundText, parseText, isFrame, withZeros, paddedText, checksumText, yesOrNo, appendText, sendText, bitrateText}
+use Rattle.bench.specs.Hex.{hex_of}
+use Rattle.bench.specs.TextLaws.{appended as put, then_put, both-put}
+use Rattle.bench.specs.Texts.{placed, put_at, decimal_of, Appends}
+use Rattle.bench_codec.specs.Codec.{bytes_room, frame_room, build_text, data_text, found_text, parse_text, is_frame, with_zeros, padded_text, checksum_text, yes_or_no, append_text, send_text, bitrate_text}
 
-pub same_answer : (r s : Bool) (b o : List ℕ) (n : ℕ) → Appends 0 (yesOrNo r) b n o → r ≡ s → Appends 0 (yesOrNo s) b n o
+pub same_answer : (r s : Bool) (b o : List ℕ) (n : ℕ) → Appends 0 (yes_or_no r) b n o → r ≡ s → Appends 0 (yes_or_no s) b n o
 same_answer r s b o n e h = rw h at e
 
-pub known-yes : (t : Bool) (b o : List ℕ) (n : ℕ) → t ≡ true → placed n o ≡ put_at 0 (ascii "yes") b → Appends 0 (yesOrNo t) b n o
-known-yes t b o n h e = rw h (put (ascii "yes") b o 0 n e)
+pub known_yes : (t : Bool) (b o : List ℕ) (n : ℕ) → t ≡ true → placed n o ≡ put_at 0 (ascii "yes") b → Appends 0 (yes_or_no t) b n o
+known_yes t b o n h e = rw h (put (ascii "yes") b o 0 n e)
 
-pub known-no : (t : Bool) (b o : List ℕ) (n : ℕ) → t ≡ false → placed n o ≡ put_at 0 (ascii "no") b → Appends 0 (yesOrNo t) b n o
-known-no t b o n h e = rw h (put (ascii "no") b o 0 n e)
+pub known_no : (t : Bool) (b o : List ℕ) (n : ℕ) → t ≡ false → placed n o ≡ put_at 0 (ascii "no") b → Appends 0 (yes_or_no t) b n o
+known_no t b o n h e = rw h (put (ascii "no") b o 0 n e)
 
 -- a data frame: its kind and length, a space, its payload q
-pub data-done : (q b o o₁ o₂ : List ℕ) (n r r₁ r₂ : ℕ) → Appends 0 (ascii "data " ++ decimalOf n) b r o → placed r₁ o₁ ≡ put_at r (ascii " ") o → placed r₂ o₂ ≡ put_at r₁ (hexOf q) o₁
-    → Appends 0 (dataText n q) b r₂ o₂
-unfolding dataText
-data-done q b o o₁ o₂ n r r₁ r₂ kind space hex = then-put _ _ _ _ _ _ _ _ (then-put _ _ _ _ _ _ _ _ kind space) hex
+pub data_done : (q b o o₁ o₂ : List ℕ) (n r r₁ r₂ : ℕ) → Appends 0 (ascii "data " ++ decimal_of n) b r o → placed r₁ o₁ ≡ put_at r (ascii " ") o → placed r₂ o₂ ≡ put_at r₁ (hex_of q) o₁
+    → Appends 0 (data_text n q) b r₂ o₂
+unfolding data_text
+data_done q b o o₁ o₂ n r r₁ r₂ kind space hex = then_put _ _ _ _ _ _ _ _ (then_put _ _ _ _ _ _ _ _ kind space) hex
 
 -- what was found of a packet
-pub found-done : (p b o : List ℕ) (n : ℕ) (f k : FrameType) → f ≡ k → Appends 0 (foundText k p) b n o → Appends 0 (foundText f p) b n o
+pub found-done : (p b o : List ℕ) (n : ℕ) (f k : FrameType) → f ≡ k → Appends 0 (found_text k p) b n o → Appends 0 (found_text f p) b n o
 found-done p b o n f k q e = rw q e
 
-pub found-data : (p q b o : List ℕ) (s len k n : ℕ) (f : FrameType) → f ≡ Data s len k → q ≡ payloadOf (Data s len k) p → Appends 0 (dataText k q) b n o → Appends 0 (foundText f p) b n o
-unfolding foundText
-found-data p q b o s len k n f is payload e = rw is (rw payload at e)
+pub found_data : (p q b o : List ℕ) (s len k n : ℕ) (f : FrameType) → f ≡ Data s len k → q ≡ payload_of (Data s len k) p → Appends 0 (data_text k q) b n o → Appends 0 (found_text f p) b n o
+unfolding found_text
+found_data p q b o s len k n f is payload e = rw is (rw payload at e)
 
-pub parse-done : (f : FrameFormat) (p b o : List ℕ) (n : ℕ) (t : FrameType) → t ≡ parseOf f p → Appends 0 (foundText t p) b n o → Appends 0 (parseText f p) b n o
-unfolding parseText
-parse-done f p b o n t h e = rw h at e
+pub parse_done : (f : FrameFormat) (p b o : List ℕ) (n : ℕ) (t : FrameType) → t ≡ parse_of f p → Appends 0 (found_text t p) b n o → Appends 0 (parse_text f p) b n o
+unfolding parse_text
+parse_done f p b o n t h e = rw h at e
 
 -- with the padded mode on: what was found, a space and the number of zeros
-module _ (f : FrameFormat) (p b o : List ℕ) (n : ℕ) (a : Padded) (is : a ≡ parsePadded f true p) (found : Appends 0 (foundText a.found p) b n o) where
-  pub padded-none : isFrame a.found ≡ false → Appends 0 (paddedText f p) b n o
-  unfolding paddedText withZeros pick
-  padded-none h = rw (sym is, h) found
+module _ (f : FrameFormat) (p b o : List ℕ) (n : ℕ) (a : Padded) (is : a ≡ parse_padded_of f true p) (found : Appends 0 (found_text a.found p) b n o) where
+  pub padded_none : is_frame a.found ≡ false → Appends 0 (padded_text f p) b n o
+  unfolding padded_text with_zeros pick
+  padded_none h = rw (sym is, h) found
 
-  pub zeros-done : (o₁ o₂ : List ℕ) (n₁ n₂ : ℕ) → isFrame a.found ≡ true → placed n₁ o₁ ≡ put_at n (ascii " ") o → placed n₂ o₂ ≡ put_at n₁ (decimalOf a.zeros) o₁ → Appends 0 (paddedText f p) b n₂ o₂
-  unfolding paddedText withZeros pick
-  zeros-done o₁ o₂ n₁ n₂ h space zeros = rw (sym is, h) (then-put _ _ _ _ _ _ _ _ (then-put _ _ _ _ _ _ _ _ found space) zeros)
+  pub zeros-done : (o₁ o₂ : List ℕ) (n₁ n₂ : ℕ) → is_frame a.found ≡ true → placed n₁ o₁ ≡ put_at n (ascii " ") o → placed n₂ o₂ ≡ put_at n₁ (decimal_of a.zeros) o₁ → Appends 0 (padded_text f p) b n₂ o₂
+  unfolding padded_text with_zeros pick
+  zeros-done o₁ o₂ n₁ n₂ h space zeros = rw (sym is, h) (then_put _ _ _ _ _ _ _ _ (then_put _ _ _ _ _ _ _ _ found space) zeros)
 
-pub checksum-done : (s : ℕ) (p b o : List ℕ) (n : ℕ) → s ≡ checksumOf p → placed n o ≡ put_at 0 (hexOf (s ∷ [])) b → Appends 0 (checksumText p) b n o
-unfolding checksumText
-checksum-done s p b o n h e = put (hexOf (checksumOf p ∷ [])) b o 0 n (rw h at e)
+pub checksum_done : (s : ℕ) (p b o : List ℕ) (n : ℕ) → s ≡ checksum_of p → placed n o ≡ put_at 0 (hex_of (s ∷ [])) b → Appends 0 (checksum_text p) b n o
+unfolding checksum_text
+checksum_done s p b o n h e = put (hex_of (checksum_of p ∷ [])) b o 0 n (rw h at e)
 
 -- t, which was put at the start of a buffer b that has the room, and counted
 module _ (t b o : List ℕ) (n : ℕ) (counted : n ≡ length t) (is : o ≡ t ++ drop (length t) b) (room : length t ≤ length b) where
-  pub whole-text : take n o ≡ t
-  whole-text = ap (take n) is ∙ take_at t (drop (length t) b) n (sym counted)
+  pub whole_text : take n o ≡ t
+  whole_text = ap (take n) is ∙ take_at t (drop (length t) b) n (sym counted)
 
   pub whole_length : length o ≡ length b
   whole_length = ap length is ∙ omega (arith, length-append t (drop (length t) b), length-drop (length t) b)
 
-  pub whole-fits : n ≤ length o
-  whole-fits = omega (arith, whole_length)
+  pub whole_fits : n ≤ length o
+  whole_fits = omega (arith, whole_length)
 
   pub whole_part : n ≡ length (take n o)
-  whole_part = sym (length-take-le n o whole-fits)
+  whole_part = sym (length-take-le n o whole_fits)
 
 -- a CRC behind s, in a buffer that has the room
-module _ (k : CrcKind) (s b o : List ℕ) (r : Added) (known : ◌≡◌ {A = Returned × List ℕ} (appended r, o) (added k s b)) (short : length s ≤ bytesRoom) (room : length b ≡ frameRoom) where
-  long : length (s ++ crcBytes k s) ≡ length s + 2
-  long = length-append s (crcBytes k s) ∙ ap (λ j. length s + j) (crc-length k s)
+module _ (k : CrcKind) (s b o : List ℕ) (r : Added) (known : ◌≡◌ {A = Returned × List ℕ} (appended r, o) (added k s b)) (short : length s ≤ bytes_room) (room : length b ≡ frame_room) where
+  long : length (s ++ crc_bytes k s) ≡ length s + 2
+  long = length-append s (crc_bytes k s) ∙ ap (λ j. length s + j) (crc_length k s)
 
-  whole : ◌≡◌ {A = Returned × List ℕ} (appended r, o) (answered (length s + 2), s ++ crcBytes k s ++ drop (length s + 2) b)
+  whole : ◌≡◌ {A = Returned × List ℕ} (appended r, o) (answered (length s + 2), s ++ crc_bytes k s ++ drop (length s + 2) b)
   unfolding added pick
   whole = known ∙ rw (le-ltb (length b) (length s + 2) (omega arith))
 
-  pub append-refused : (e : Refusal) (t out z : List ℕ) (m : ℕ) → r ≡ NotAdded e → Appends 0 t out m z
-  append-refused e t out z m q =
+  pub append_refused : (e : Refusal) (t out z : List ℕ) (m : ℕ) → r ≡ NotAdded e → Appends 0 t out m z
+  append_refused e t out z m q =
       let z : ◌≡◌ {A = ℕ} 0 1 = cc (ap (λ p. p.0) whole, ap appended q) in
       absurd (omega arith)
 
   module _ (n : ℕ) (q : r ≡ AddedBytes n) where
-    count : n ≡ length (s ++ crcBytes k s)
+    count : n ≡ length (s ++ crc_bytes k s)
     count = cc (ap (λ p. p.0) whole, ap appended q, long)
 
-    filled : o ≡ s ++ crcBytes k s ++ drop (length (s ++ crcBytes k s)) b
-    filled = ap (λ p. p.1) whole ∙ ap (λ j. s ++ crcBytes k s ++ drop j b) (sym long)
+    filled : o ≡ s ++ crc_bytes k s ++ drop (length (s ++ crc_bytes k s)) b
+    filled = ap (λ p. p.1) whole ∙ ap (λ j. s ++ crc_bytes k s ++ drop j b) (sym long)
 
-    pub append-short : (t out z : List ℕ) (m : ℕ) → length o < n → Appends 0 t out m z
-    append-short t out z m h = absurd (omega (arith, whole-fits (s ++ crcBytes k s) b o n count filled (omega (arith, long))))
+    pub append_short : (t out z : List ℕ) (m : ℕ) → length o < n → Appends 0 t out m z
+    append_short t out z m h = absurd (omega (arith, whole_fits (s ++ crc_bytes k s) b o n count filled (omega (arith, long))))
 
-    pub append-done : (out z : List ℕ) (m : ℕ) → placed m z ≡ put_at 0 (hexOf (take n o)) out → Appends 0 (appendText k s) out m z
-    unfolding appendText
-    append-done out z m e = put (hexOf (s ++ crcBytes k s)) out z 0 m (rw (whole-text (s ++ crcBytes k s) b o n count filled (omega (arith, long))) at e)
+    pub append-done : (out z : List ℕ) (m : ℕ) → placed m z ≡ put_at 0 (hex_of (take n o)) out → Appends 0 (append_text k s) out m z
+    unfolding append_text
+    append-done out z m e = put (hex_of (s ++ crc_bytes k s)) out z 0 m (rw (whole_text (s ++ crc_bytes k s) b o n count filled (omega (arith, long))) at e)
 
 -- a frame in a buffer that has the room
-pub longest-65535 : (e : LengthEncoding) → longest e ≤ 65535
-longest-65535 Normal = omega arith
-longest-65535 ExtendedLittleEndian = omega arith
-longest-65535 NormalOrExtendedBigEndian = omega arith
+pub longest_65535 : (e : LengthEncoding) → longest e ≤ 65535
+longest_65535 Normal = omega arith
+longest_65535 ExtendedLittleEndian = omega arith
+longest_65535 NormalOrExtendedBigEndian = omega arith
 
-start-8 : (e : LengthEncoding) (n : ℕ) → dataStart e n ≤ 8
-unfolding dataStart pick
-start-8 Normal n = omega arith
-start-8 ExtendedLittleEndian n = omega arith
-start-8 NormalOrExtendedBigEndian n = go (ltb n 256)
+start_8 : (e : LengthEncoding) (n : ℕ) → data_start_of e n ≤ 8
+unfolding data_start_of pick
+start_8 Normal n = omega arith
+start_8 ExtendedLittleEndian n = omega arith
+start_8 NormalOrExtendedBigEndian n = go (ltb n 256)
   where
     go : (t : Bool) → pick t 5 8 ≤ 8
     go true = omega arith
@@ -140,38 +140,38 @@ pub length-frame : (e : LengthEncoding) (p : List ℕ) → length (frame_of e p)
 unfolding frame_of
 length-frame e p =
     rw (length-append (head_of e (length p) ++ p) (ending p), length-append (head_of e (length p)) p, length-head e (length p))
-    (omega (arith, start-8 e (length p)))
+    (omega (arith, start_8 e (length p)))
 
-module _ (f : FrameFormat) (p b o : List ℕ) (r : Built) (known : left (built r) o ≡ buildOf f p b) (room : length b ≡ frameRoom) where
-  over-limit : ltb (limitOf f) (length p) ≡ true → left (built r) o ≡ left (refused (plain 3)) b
-  unfolding buildOf pick
+module _ (f : FrameFormat) (p b o : List ℕ) (r : Built) (known : left (built r) o ≡ build_of f p b) (room : length b ≡ frame_room) where
+  over-limit : ltb (limit_of f) (length p) ≡ true → left (built r) o ≡ left (refused (plain 3)) b
+  unfolding build_of pick
   over-limit h = known ∙ rw h
 
-  frame-short : ltb (limitOf f) (length p) ≡ false → length (frame_of f.length p) ≤ 65545
-  unfolding limitOf
-  frame-short h = omega (arith, ltb-false (limitOf f) (length p) h, longest-65535 f.length, length-frame f.length p)
+  frame-short : ltb (limit_of f) (length p) ≡ false → length (frame_of f.length p) ≤ 65545
+  unfolding limit_of
+  frame-short h = omega (arith, ltb-false (limit_of f) (length p) h, longest_65535 f.length, length-frame f.length p)
 
-  in-limit : ltb (limitOf f) (length p) ≡ false
+  in-limit : ltb (limit_of f) (length p) ≡ false
       → left (built r) o ≡ left (answered (length (frame_of f.length p))) (frame_of f.length p ++ drop (length (frame_of f.length p)) b)
-  unfolding buildOf putFrame pick
+  unfolding build_of put_frame pick
   in-limit h = known ∙ rw (h, le-ltb (length b) (length (frame_of f.length p)) (omega (arith, frame-short h)))
 
-  pub built-refused : (e : Refusal) (out z : List ℕ) (m : ℕ) → r ≡ NotBuilt e → placed m z ≡ put_at 0 (ascii "refused 3") out → Appends 0 (buildText f p) out m z
-  unfolding buildText built pick
-  built-refused e out z m q d = go (ltb (limitOf f) (length p)) refl
+  pub built_refused : (e : Refusal) (out z : List ℕ) (m : ℕ) → r ≡ NotBuilt e → placed m z ≡ put_at 0 (ascii "refused 3") out → Appends 0 (build_text f p) out m z
+  unfolding build_text built pick
+  built_refused e out z m q d = go (ltb (limit_of f) (length p)) refl
     where
-      go : (t : Bool) → ltb (limitOf f) (length p) ≡ t → Appends 0 (pick t (ascii "refused 3") (hexOf (frame_of f.length p))) out m z
+      go : (t : Bool) → ltb (limit_of f) (length p) ≡ t → Appends 0 (pick t (ascii "refused 3") (hex_of (frame_of f.length p))) out m z
       go true h = put (ascii "refused 3") out z 0 m d
       go false h =
           let z : ◌≡◌ {A = ℕ} 0 1 = cc (ap (λ l. l.result) (in-limit h), ap built q) in
           absurd (omega arith)
 
   module _ (n : ℕ) (q : r ≡ Frame n) where
-    within : ltb (limitOf f) (length p) ≡ false
+    within : ltb (limit_of f) (length p) ≡ false
     unfolding built
-    within = go (ltb (limitOf f) (length p)) refl
+    within = go (ltb (limit_of f) (length p)) refl
       where
-        go : (t : Bool) → ltb (limitOf f) (length p) ≡ t → t ≡ false
+        go : (t : Bool) → ltb (limit_of f) (length p) ≡ t → t ≡ false
         go true h =
             let z : ◌≡◌ {A = ℕ} 0 1 = cc (ap (λ l. l.result) (over-limit h), ap built q) in
             absurd (omega arith)
@@ -185,42 +185,42 @@ module _ (f : FrameFormat) (p b o : List ℕ) (r : Built) (known : left (built r
     frame-put = ap (λ l. l.buffer) (in-limit within)
 
     pub built-fits : n ≤ length o
-    built-fits = whole-fits (frame_of f.length p) b o n frame-count frame-put (omega (arith, frame-short within))
+    built-fits = whole_fits (frame_of f.length p) b o n frame-count frame-put (omega (arith, frame-short within))
 
     pub built-part : n ≡ length (take n o)
     built-part = whole_part (frame_of f.length p) b o n frame-count frame-put (omega (arith, frame-short within))
 
-    pub built-done : (out z : List ℕ) (m : ℕ) → placed m z ≡ put_at 0 (hexOf (take n o)) out → Appends 0 (buildText f p) out m z
-    unfolding buildText pick
-    built-done out z m e = rw within (put (hexOf (frame_of f.length p)) out z 0 m (rw (whole-text (frame_of f.length p) b o n frame-count frame-put (omega (arith, frame-short within))) at e))
+    pub built-done : (out z : List ℕ) (m : ℕ) → placed m z ≡ put_at 0 (hex_of (take n o)) out → Appends 0 (build_text f p) out m z
+    unfolding build_text pick
+    built-done out z m e = rw within (put (hex_of (frame_of f.length p)) out z 0 m (rw (whole_text (frame_of f.length p) b o n frame-count frame-put (omega (arith, frame-short within))) at e))
 
 -- a bitrate's send part is no longer than the text
-send-within : (t : List ℕ) → sendLength t ≤ length t
-unfolding sendLength
-send-within [] = omega arith
-send-within (x ∷ t) = go (send-within t) (eqb x 47)
+send_within : (t : List ℕ) → send_length t ≤ length t
+unfolding send_length
+send_within [] = omega arith
+send_within (x ∷ t) = go (send_within t) (eqb x 47)
   where
-    go : sendLength t ≤ length t → (e : Bool) → mathlib.Core.Bool.cond e 0 (sendLength t + 1) ≤ suc (length t)
+    go : send_length t ≤ length t → (e : Bool) → mathlib.Core.Bool.cond e 0 (send_length t + 1) ≤ suc (length t)
     go h true = omega arith
     go h false = omega arith
 
-module _ (t b : List ℕ) (r : Parsed) (known : parsed r ≡ sendPartOf t) where
-  pub not-sent : (e : Refusal) (o : List ℕ) (m : ℕ) → r ≡ NotSent e → placed m o ≡ put_at 0 (ascii "refused 5") b → Appends 0 (bitrateText t) b m o
-  unfolding bitrateText sendText
-  not-sent e o m q d = rw (sym known ∙ ap parsed q) (put (ascii "refused 5") b o 0 m d)
+module _ (t b : List ℕ) (r : Parsed) (known : parsed r ≡ send_part_of t) where
+  pub not_sent : (e : Refusal) (o : List ℕ) (m : ℕ) → r ≡ NotSent e → placed m o ≡ put_at 0 (ascii "refused 5") b → Appends 0 (bitrate_text t) b m o
+  unfolding bitrate_text send_text
+  not_sent e o m q d = rw (sym known ∙ ap parsed q) (put (ascii "refused 5") b o 0 m d)
 
   module _ (n : ℕ) (q : r ≡ Send n) where
     sent-fits : n ≤ length t
-    unfolding sendPartOf
-    sent-fits = go (isBitrate t) (sym (ap parsed q) ∙ known)
+    unfolding send_part_of
+    sent-fits = go (is_bitrate t) (sym (ap parsed q) ∙ known)
       where
-        go : (e : Bool) → ◌≡◌ {A = Returned} (answered n) (mathlib.Core.Bool.cond e (answered (sendLength t)) (refused (plain 5))) → n ≤ length t
-        go true h = let s : n ≡ sendLength t = cc in omega (arith, send-within t)
+        go : (e : Bool) → ◌≡◌ {A = Returned} (answered n) (mathlib.Core.Bool.cond e (answered (send_length t)) (refused (plain 5))) → n ≤ length t
+        go true h = let s : n ≡ send_length t = cc in omega (arith, send_within t)
         go false h = let z : ◌≡◌ {A = ℕ} 0 1 = cc in absurd (omega arith)
 
-    pub sent-part : n ≡ length (take n t)
-    sent-part = sym (length-take-le n t sent-fits)
+    pub sent_part : n ≡ length (take n t)
+    sent_part = sym (length-take-le n t sent-fits)
 
-    pub sent-done : (o o₁ : List ℕ) (m m₁ : ℕ) → placed m o ≡ put_at 0 (ascii "ok ") b → placed m₁ o₁ ≡ put_at m (take n t) o → Appends 0 (bitrateText t) b m₁ o₁
-    unfolding bitrateText sendText
-    sent-done o o₁ m m₁ ok part = rw (sym known ∙ ap parsed q) (both-put _ _ _ _ _ _ _ _ ok part)
+    pub sent_done : (o o₁ : List ℕ) (m m₁ : ℕ) → placed m o ≡ put_at 0 (ascii "ok ") b → placed m₁ o₁ ≡ put_at m (take n t) o → Appends 0 (bitrate_text t) b m₁ o₁
+    unfolding bitrate_text send_text
+    sent_done o o₁ m m₁ ok part = rw (sym known ∙ ap parsed q) (both-put _ _ _ _ _ _ _ _ ok part)

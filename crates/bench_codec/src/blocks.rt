@@ -1,10 +1,10 @@
 // The lines of FeliCa blocks: requests and replies built, and a request taken apart.
 ghost use Rattle.std.specs.Prelude.{◌≡◌, ◌+◌, ◌*◌, ◌≤◌, length};
 ghost use Rattle.framing.specs.Build.{returned, left};
-ghost use Rattle.felica.specs.Packets.{builtOf};
-ghost use Rattle.felica.specs.Fields.{numbersOf};
+ghost use Rattle.felica.specs.Packets.{built_of};
+ghost use Rattle.felica.specs.Fields.{numbers_of};
 ghost use Rattle.bench.specs.Texts.{Appends};
-ghost use Rattle.bench_codec.specs.Codec.{lineLimit, wordText, blockFits, blockPacket, blockText, withBytes, with_blocks, withService, block_line, askedText, requestText};
+ghost use Rattle.bench_codec.specs.Codec.{line_limit, word_text, block_fits, block_packet, block_text, with_bytes, with_blocks, with_service, block_line, asked_text, request_text};
 
 use super::{room, unreadable};
 use bench::{Put, hex, text};
@@ -42,7 +42,7 @@ fn build(
     bytes: &[u8],
     packet: &mut [u8],
 ) -> Built
-    ensures { left (returned result) packet.new ≡ builtOf (blockFits kind idm.now x blocks.now bytes.now) (blockPacket kind idm.now x y blocks.now bytes.now) packet.old }
+    ensures { left (returned result) packet.new ≡ built_of (block_fits kind idm.now x blocks.now bytes.now) (block_packet kind idm.now x y blocks.now bytes.now) packet.old }
 {
     let service = big_endian_word(x, y);
     match kind {
@@ -54,7 +54,7 @@ fn build(
 }
 
 fn print(kind: u8, idm: &[u8], x: u8, y: u8, blocks: &[u8], bytes: &[u8], out: &mut [u8]) -> usize
-    ensures { Appends 0 (blockText kind idm.now x y blocks.now bytes.now) out.old result out.new }
+    ensures { Appends 0 (block_text kind idm.now x y blocks.now bytes.now) out.old result out.new }
 {
     let mut packet = [0u8; PACKET_ROOM];
     let Built::Frame(n) = build(kind, idm, x, y, blocks, bytes, &mut packet) else {
@@ -65,8 +65,8 @@ fn print(kind: u8, idm: &[u8], x: u8, y: u8, blocks: &[u8], bytes: &[u8], out: &
 
 // The word of the block data.
 fn with_bytes(kind: u8, idm: &[u8], x: u8, y: u8, blocks: &[u8], d: &[u8], out: &mut [u8]) -> usize
-    requires { length d.now ≤ lineLimit }
-    ensures { Appends 0 (withBytes kind idm.now x y blocks.now d.now) out.old result out.new }
+    requires { length d.now ≤ line_limit }
+    ensures { Appends 0 (with_bytes kind idm.now x y blocks.now d.now) out.old result out.new }
 {
     let mut bytes = room();
     let Put::Bytes(n) = hex::read(d, &mut bytes) else {
@@ -77,7 +77,7 @@ fn with_bytes(kind: u8, idm: &[u8], x: u8, y: u8, blocks: &[u8], d: &[u8], out: 
 
 // The word of the block numbers, or of a reply's block data.
 fn with_blocks(kind: u8, idm: &[u8], x: u8, y: u8, b: &[u8], d: &[u8], out: &mut [u8]) -> usize
-    requires { (length b.now ≤ lineLimit) × (length d.now ≤ lineLimit) }
+    requires { (length b.now ≤ line_limit) × (length d.now ≤ line_limit) }
     ensures { Appends 0 (with_blocks kind idm.now x y b.now d.now) out.old result out.new }
 {
     let mut blocks = room();
@@ -89,8 +89,8 @@ fn with_blocks(kind: u8, idm: &[u8], x: u8, y: u8, b: &[u8], d: &[u8], out: &mut
 
 // The WORD of the service code or the flags.
 fn with_service(kind: u8, idm: &[u8], s: &[u8], b: &[u8], d: &[u8], out: &mut [u8]) -> usize
-    requires { (length b.now ≤ lineLimit) × (length d.now ≤ lineLimit) }
-    ensures { Appends 0 (withService kind idm.now s.now b.now d.now) out.old result out.new }
+    requires { (length b.now ≤ line_limit) × (length d.now ≤ line_limit) }
+    ensures { Appends 0 (with_service kind idm.now s.now b.now d.now) out.old result out.new }
 {
     if s.len() != 4 {
         return unreadable(out);
@@ -104,7 +104,7 @@ fn with_service(kind: u8, idm: &[u8], s: &[u8], b: &[u8], d: &[u8], out: &mut [u
 
 // A line that builds a packet: IDm, service code or flags, block numbers or block data, block data.
 pub(crate) fn block_line(kind: u8, i: &[u8], s: &[u8], b: &[u8], d: &[u8], out: &mut [u8]) -> usize
-    requires { (length i.now ≤ lineLimit) × (length b.now ≤ lineLimit) × (length d.now ≤ lineLimit) }
+    requires { (length i.now ≤ line_limit) × (length b.now ≤ line_limit) × (length d.now ≤ line_limit) }
     ensures { Appends 0 (block_line kind i.now s.now b.now d.now) out.old result out.new }
 {
     let mut idm = room();
@@ -116,7 +116,7 @@ pub(crate) fn block_line(kind: u8, i: &[u8], s: &[u8], b: &[u8], d: &[u8], out: 
 
 // A space and bytes.
 fn put_word(bytes: &[u8], out: &mut [u8], at: usize) -> usize
-    ensures { Appends at (wordText bytes.now) out.old result out.new }
+    ensures { Appends at (word_text bytes.now) out.old result out.new }
 {
     let next = text::put(b" ", out, at);
     hex::put(bytes, out, next)
@@ -124,7 +124,7 @@ fn put_word(bytes: &[u8], out: &mut [u8], at: usize) -> usize
 
 // The first `count` block numbers, all four where there are more.
 fn put_numbers(asked: Asked, out: &mut [u8], at: usize) -> usize
-    ensures { Appends at (wordText (numbersOf asked)) out.old result out.new }
+    ensures { Appends at (word_text (numbers_of asked)) out.old result out.new }
 {
     let numbers = asked.numbers;
     let count = asked.count as usize;
@@ -137,7 +137,7 @@ fn put_numbers(asked: Asked, out: &mut [u8], at: usize) -> usize
 
 // IDm, service code and block numbers behind a name.
 fn put_asked(name: &[u8], idm: &[u8], asked: Asked, out: &mut [u8]) -> usize
-    ensures { Appends 0 (askedText name.now idm.now asked.service (numbersOf asked)) out.old result out.new }
+    ensures { Appends 0 (asked_text name.now idm.now asked.service (numbers_of asked)) out.old result out.new }
 {
     let service = [(asked.service / 256) as u8, (asked.service % 256) as u8];
     let first = text::put(name, out, 0);
@@ -148,7 +148,7 @@ fn put_asked(name: &[u8], idm: &[u8], asked: Asked, out: &mut [u8]) -> usize
 
 // A request taken apart.
 pub(crate) fn request(packet: &[u8], out: &mut [u8]) -> usize
-    ensures { Appends 0 (requestText packet.now) out.old result out.new }
+    ensures { Appends 0 (request_text packet.now) out.old result out.new }
 {
     match parse_request(packet) {
         Request::Read(asked) => put_asked(b"read", felica::idm(packet), asked, out),

@@ -1,10 +1,10 @@
 // The lines of frames, CRCs and bitrates. Each function puts its answer at the buffer's start, and gives its length.
 ghost use Rattle.std.specs.Prelude.{◌≡◌, List, ◌++◌, ℕ, ◌≤◌, length};
 ghost use Rattle.errors.specs.Refusals.{Returned};
-ghost use Rattle.crc.specs.Answers.{returned, added as addedTo};
-ghost use Rattle.crc.specs.Crc.{CrcKind, typeA, typeB};
-ghost use Rattle.bench.specs.Texts.{decimalOf, Appends};
-ghost use Rattle.bench_codec.specs.Codec.{bytesRoom, frameRoom, buildText, dataText, foundText, parseText, isFrame, paddedText, checksumText, yesOrNo, appendText, bitrateText, bitrateWord};
+ghost use Rattle.crc.specs.Answers.{returned, added as added_to};
+ghost use Rattle.crc.specs.Crc.{CrcKind, type_a, type_b};
+ghost use Rattle.bench.specs.Texts.{decimal_of, Appends};
+ghost use Rattle.bench_codec.specs.Codec.{bytes_room, frame_room, build_text, data_text, found_text, parse_text, is_frame, padded_text, checksum_text, yes_or_no, append_text, bitrate_text, bitrate_word};
 
 use super::{room, unreadable};
 use bench::{hex, text};
@@ -13,7 +13,7 @@ use framing::{Built, FrameFormat, FrameType};
 use targets::Parsed;
 
 pub(crate) fn build(format: FrameFormat, payload: &[u8], out: &mut [u8]) -> usize
-    ensures { Appends 0 (buildText format payload.now) out.old result out.new }
+    ensures { Appends 0 (build_text format payload.now) out.old result out.new }
 {
     let mut frame = room();
     let Built::Frame(n) = framing::build(format, payload, &mut frame) else {
@@ -24,7 +24,7 @@ pub(crate) fn build(format: FrameFormat, payload: &[u8], out: &mut [u8]) -> usiz
 
 // A word and a length.
 fn put_kind(name: &[u8], count: usize, out: &mut [u8]) -> usize
-    ensures { Appends 0 (name.now ++ decimalOf count) out.old result out.new }
+    ensures { Appends 0 (name.now ++ decimal_of count) out.old result out.new }
 {
     let at = text::put(name, out, 0);
     text::put_decimal(count as u64, out, at)
@@ -32,7 +32,7 @@ fn put_kind(name: &[u8], count: usize, out: &mut [u8]) -> usize
 
 // A data frame: its length and its payload.
 fn put_data(count: usize, payload: &[u8], out: &mut [u8]) -> usize
-    ensures { Appends 0 (dataText count payload.now) out.old result out.new }
+    ensures { Appends 0 (data_text count payload.now) out.old result out.new }
 {
     let at = put_kind(b"data ", count, out);
     let next = text::put(b" ", out, at);
@@ -41,7 +41,7 @@ fn put_data(count: usize, payload: &[u8], out: &mut [u8]) -> usize
 
 // What was found of a packet.
 fn put_found(found: FrameType, packet: &[u8], out: &mut [u8]) -> usize
-    ensures { Appends 0 (foundText found packet.now) out.old result out.new }
+    ensures { Appends 0 (found_text found packet.now) out.old result out.new }
 {
     match found {
         FrameType::Ack(n) => put_kind(b"ack ", n, out),
@@ -56,13 +56,13 @@ fn put_found(found: FrameType, packet: &[u8], out: &mut [u8]) -> usize
 }
 
 pub(crate) fn parse(format: FrameFormat, packet: &[u8], out: &mut [u8]) -> usize
-    ensures { Appends 0 (parseText format packet.now) out.old result out.new }
+    ensures { Appends 0 (parse_text format packet.now) out.old result out.new }
 {
     put_found(framing::parse(format, packet), packet, out)
 }
 
 fn is_frame(found: FrameType) -> bool
-    ensures { result ≡ isFrame found }
+    ensures { result ≡ is_frame found }
 {
     match found {
         FrameType::Ack(_) => true,
@@ -78,7 +78,7 @@ fn is_frame(found: FrameType) -> bool
 
 // The same with the padded mode on, and behind a frame the number of extra zeros.
 pub(crate) fn parse_padded(format: FrameFormat, packet: &[u8], out: &mut [u8]) -> usize
-    ensures { Appends 0 (paddedText format packet.now) out.old result out.new }
+    ensures { Appends 0 (padded_text format packet.now) out.old result out.new }
 {
     let padded = framing::padded::parse_padded(format, true, packet);
     let found = padded.found;
@@ -91,14 +91,14 @@ pub(crate) fn parse_padded(format: FrameFormat, packet: &[u8], out: &mut [u8]) -
 }
 
 pub(crate) fn checksum(bytes: &[u8], out: &mut [u8]) -> usize
-    ensures { Appends 0 (checksumText bytes.now) out.old result out.new }
+    ensures { Appends 0 (checksum_text bytes.now) out.old result out.new }
 {
     let sum = [framing::checksum(bytes)];
     hex::put(&sum, out, 0)
 }
 
 pub(crate) fn yes_or_no(yes: bool, out: &mut [u8]) -> usize
-    ensures { Appends 0 (yesOrNo yes) out.old result out.new }
+    ensures { Appends 0 (yes_or_no yes) out.old result out.new }
 {
     if yes {
         text::put(b"yes", out, 0)
@@ -109,7 +109,7 @@ pub(crate) fn yes_or_no(yes: bool, out: &mut [u8]) -> usize
 
 // Bytes to which their CRC was added, in a buffer that has the room.
 fn put_added(added: Added, frame: &[u8], out: &mut [u8]) -> usize
-    ensures { (k : CrcKind) (s b : List ℕ) → ◌≡◌ {A = Returned × List ℕ} (returned added, frame.now) (addedTo k s b) → length s ≤ bytesRoom → length b ≡ frameRoom → Appends 0 (appendText k s) out.old result out.new }
+    ensures { (k : CrcKind) (s b : List ℕ) → ◌≡◌ {A = Returned × List ℕ} (returned added, frame.now) (added_to k s b) → length s ≤ bytes_room → length b ≡ frame_room → Appends 0 (append_text k s) out.old result out.new }
 {
     let Added::Bytes(n) = added else {
         return unreadable(out);
@@ -121,8 +121,8 @@ fn put_added(added: Added, frame: &[u8], out: &mut [u8]) -> usize
 }
 
 pub(crate) fn crc_a_append(bytes: &[u8], out: &mut [u8]) -> usize
-    requires { length bytes.now ≤ bytesRoom }
-    ensures { Appends 0 (appendText typeA bytes.now) out.old result out.new }
+    requires { length bytes.now ≤ bytes_room }
+    ensures { Appends 0 (append_text type_a bytes.now) out.old result out.new }
 {
     let mut frame = room();
     let added = crc::add_crc_a(bytes, &mut frame);
@@ -130,8 +130,8 @@ pub(crate) fn crc_a_append(bytes: &[u8], out: &mut [u8]) -> usize
 }
 
 pub(crate) fn crc_b_append(bytes: &[u8], out: &mut [u8]) -> usize
-    requires { length bytes.now ≤ bytesRoom }
-    ensures { Appends 0 (appendText typeB bytes.now) out.old result out.new }
+    requires { length bytes.now ≤ bytes_room }
+    ensures { Appends 0 (append_text type_b bytes.now) out.old result out.new }
 {
     let mut frame = room();
     let added = crc::add_crc_b(bytes, &mut frame);
@@ -140,7 +140,7 @@ pub(crate) fn crc_b_append(bytes: &[u8], out: &mut [u8]) -> usize
 
 // The send part of a bitrate.
 fn send_part(rate: &[u8], out: &mut [u8]) -> usize
-    ensures { Appends 0 (bitrateText rate.now) out.old result out.new }
+    ensures { Appends 0 (bitrate_text rate.now) out.old result out.new }
 {
     let Parsed::Send(n) = targets::parse(rate) else {
         return text::put(b"refused 5", out, 0);
@@ -150,7 +150,7 @@ fn send_part(rate: &[u8], out: &mut [u8]) -> usize
 }
 
 pub(crate) fn bitrate(word: &[u8], out: &mut [u8]) -> usize
-    ensures { Appends 0 (bitrateWord word.now) out.old result out.new }
+    ensures { Appends 0 (bitrate_word word.now) out.old result out.new }
 {
     if word.len() == 0 {
         return unreadable(out);

@@ -1,12 +1,14 @@
 // The lines of the program `codec`: one line in, one line out.
+#![tactic(auto)]
+
 mod blocks;
 mod frames;
 
 ghost use Rattle.std.specs.Prelude.{◌≡◌, ◌≤◌, length};
 ghost use Rattle.bench.specs.Texts.{placed, placed_at, Appends};
-ghost use Rattle.bench.specs.Words.{wordsOf};
-ghost use Rattle.bench_codec.specs.Codec.{lineLimit, bytesRoom, frameRoom, answerRoom, settingNamed, onBytes as onBytesOf, onFormat as onFormatOf, two_words, threeWords, fourWords, fiveWords, onWords, answer_of, lineReply};
-ghost use Rattle.bench_codec.specs.Codec.{unreadable as unreadableText};
+ghost use Rattle.bench.specs.Words.{words_of_lem};
+ghost use Rattle.bench_codec.specs.Codec.{line_limit, bytes_room, frame_room, answer_room, setting_named, on_bytes as on_bytes_of, on_format as on_format_of, two_words, three_words, four_words, five_words, on_words, answer_of, line_reply};
+ghost use Rattle.bench_codec.specs.Codec.{unreadable as unreadable_text};
 
 use bench::lines::{Line, Unread};
 use bench::{Put, hex, lines, prefix, text, words};
@@ -25,20 +27,20 @@ pub const ANSWER_ROOM: usize = 262208;
 const FRAME_ROOM: usize = 131088;
 
 pub(crate) fn room() -> [u8; FRAME_ROOM]
-    ensures { length result ≡ frameRoom }
+    ensures { length result ≡ frame_room }
 {
     [0u8; FRAME_ROOM]
 }
 
 pub(crate) fn unreadable(out: &mut [u8]) -> usize
-    ensures { Appends 0 unreadableText out.old result out.new }
+    ensures { Appends 0 unreadable_text out.old result out.new }
 {
     text::put(b"refused 4", out, 0)
 }
 
 // The setting of the word: one digit from 0 to 5.
 fn setting(word: &[u8]) -> Setting
-    ensures { result ≡ settingNamed word.now }
+    ensures { result ≡ setting_named word.now }
 {
     if word.len() != 1 {
         return Setting::Nothing;
@@ -52,8 +54,8 @@ fn setting(word: &[u8]) -> Setting
 
 // A name and bytes.
 fn on_bytes(name: &[u8], bytes: &[u8], out: &mut [u8]) -> usize
-    requires { length bytes.now ≤ bytesRoom }
-    ensures { Appends 0 (onBytesOf name.now bytes.now) out.old result out.new }
+    requires { length bytes.now ≤ bytes_room }
+    ensures { Appends 0 (on_bytes_of name.now bytes.now) out.old result out.new }
 {
     if framing::is_exactly(name, b"checksum") {
         return frames::checksum(bytes, out);
@@ -78,7 +80,7 @@ fn on_bytes(name: &[u8], bytes: &[u8], out: &mut [u8]) -> usize
 
 // A name, a format and bytes.
 fn on_format(name: &[u8], format: FrameFormat, bytes: &[u8], out: &mut [u8]) -> usize
-    ensures { Appends 0 (onFormatOf name.now format bytes.now) out.old result out.new }
+    ensures { Appends 0 (on_format_of name.now format bytes.now) out.old result out.new }
 {
     if framing::is_exactly(name, b"build") {
         return frames::build(format, bytes, out);
@@ -93,7 +95,7 @@ fn on_format(name: &[u8], format: FrameFormat, bytes: &[u8], out: &mut [u8]) -> 
 }
 
 fn two_words(name: &[u8], word: &[u8], out: &mut [u8]) -> usize
-    requires { length word.now ≤ lineLimit }
+    requires { length word.now ≤ line_limit }
     ensures { Appends 0 (two_words name.now word.now) out.old result out.new }
 {
     if framing::is_exactly(name, b"bitrate") {
@@ -107,8 +109,8 @@ fn two_words(name: &[u8], word: &[u8], out: &mut [u8]) -> usize
 }
 
 fn three_words(name: &[u8], number: &[u8], word: &[u8], out: &mut [u8]) -> usize
-    requires { (length number.now ≤ lineLimit) × (length word.now ≤ lineLimit) }
-    ensures { Appends 0 (threeWords name.now number.now word.now) out.old result out.new }
+    requires { (length number.now ≤ line_limit) × (length word.now ≤ line_limit) }
+    ensures { Appends 0 (three_words name.now number.now word.now) out.old result out.new }
 {
     if framing::is_exactly(name, b"write_reply") {
         return block_line(WRITE_REPLY_PACKET, number, word, b"-", b"-", out);
@@ -124,8 +126,8 @@ fn three_words(name: &[u8], number: &[u8], word: &[u8], out: &mut [u8]) -> usize
 }
 
 fn four_words(name: &[u8], idm: &[u8], pair: &[u8], word: &[u8], out: &mut [u8]) -> usize
-    requires { (length idm.now ≤ lineLimit) × (length word.now ≤ lineLimit) }
-    ensures { Appends 0 (fourWords name.now idm.now pair.now word.now) out.old result out.new }
+    requires { (length idm.now ≤ line_limit) × (length word.now ≤ line_limit) }
+    ensures { Appends 0 (four_words name.now idm.now pair.now word.now) out.old result out.new }
 {
     if framing::is_exactly(name, b"read_request") {
         return block_line(READ_REQUEST_PACKET, idm, pair, word, b"-", out);
@@ -144,8 +146,8 @@ fn five_words(
     last: &[u8],
     out: &mut [u8],
 ) -> usize
-    requires { (length idm.now ≤ lineLimit) × (length word.now ≤ lineLimit) × (length last.now ≤ lineLimit) }
-    ensures { Appends 0 (fiveWords name.now idm.now pair.now word.now last.now) out.old result out.new }
+    requires { (length idm.now ≤ line_limit) × (length word.now ≤ line_limit) × (length last.now ≤ line_limit) }
+    ensures { Appends 0 (five_words name.now idm.now pair.now word.now last.now) out.old result out.new }
 {
     if framing::is_exactly(name, b"write_request") {
         return block_line(WRITE_REQUEST_PACKET, idm, pair, word, last, out);
@@ -154,8 +156,8 @@ fn five_words(
 }
 
 fn by_words(line: &[u8], out: &mut [u8]) -> usize
-    requires { length line.now ≤ lineLimit }
-    ensures { Appends 0 (onWords (wordsOf line.now)) out.old result out.new }
+    requires { length line.now ≤ line_limit }
+    ensures { Appends 0 (on_words (words_of_lem line.now)) out.old result out.new }
 {
     let n = words::count(line);
     let name = words::word(line, 0);
@@ -179,7 +181,7 @@ fn by_words(line: &[u8], out: &mut [u8]) -> usize
 
 // Puts the text printed for the line at the buffer's start, and gives its length.
 pub fn answer(line: &[u8], out: &mut [u8; ANSWER_ROOM]) -> usize
-    ensures { (placed result out.new ≡ placed_at 0 (answer_of line.now) out.old) × (length out.new ≡ answerRoom) }
+    ensures { (placed result out.new ≡ placed_at 0 (answer_of line.now) out.old) × (length out.new ≡ answer_room) }
 {
     if LINE_LIMIT < line.len() {
         return unreadable(out);
@@ -189,7 +191,7 @@ pub fn answer(line: &[u8], out: &mut [u8; ANSWER_ROOM]) -> usize
 
 // The answer to a line that stands at the start of `line`, with its line feed; nothing at the end of the input.
 pub fn reply(next: Line, line: &[u8], out: &mut [u8; ANSWER_ROOM]) -> usize
-    ensures { placed result out.new ≡ placed_at 0 (lineReply next line.now) out.old }
+    ensures { placed result out.new ≡ placed_at 0 (line_reply next line.now) out.old }
 {
     match next {
         Line::Text(n) => {

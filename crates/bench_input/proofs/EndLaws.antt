@@ -10,25 +10,25 @@ use lib.ListN.{length, take, drop}
 use lib.Seq.{slice, take-take, drop-drop}
 use Rattle.errors.specs.Choice.{pick}
 use Rattle.bench_input.specs.Arguments.{arguments, Read}
-use Rattle.bench_input.specs.Table.{eventsFrom, calls, happens, unreadable, said}
-use Rattle.bench_input.specs.Readings.{PutBetween, EndsFor, endedAt, stringsIn, takenIn, nextIn, TakenWithin}
+use Rattle.bench_input.specs.Table.{events_from, calls, happens, unreadable, said}
+use Rattle.bench_input.specs.Readings.{PutBetween, EndsFor, ended_at, strings_in, taken_in, next_in, TakenWithin}
 use Rattle.calls.specs.declared.start.Numbers.{Numbers}
 use Rattle.bench_input.specs.declared.Ends.{Ends}
 use Rattle.bench_input.specs.declared.letters.Taken.{Taken}
 use Rattle.bench_input.specs.declared.letters.Next.{Next}
 use Rattle.bench_input.specs.declared.letters.Next.TheVariants.{Value as NextValue, Unreadable as NoNext}
-use Rattle.bench_input.proofs.ReadLaws.{slice-none}
+use Rattle.bench_input.proofs.ReadLaws.{slice_none}
 
-pub ended-order : (c : ℕ) (e : Ends) → EndsFor c e → (e.first ≤ e.second) × (e.second ≤ e.third) × (e.third ≤ e.fourth)
-ended-order zero e h = (omega arith, omega arith, omega arith)
-ended-order (suc zero) e h = (omega arith, omega arith, omega arith)
-ended-order (suc (suc zero)) e h = (omega arith, omega arith, omega arith)
-ended-order (suc (suc (suc zero))) e h = (omega arith, omega arith, omega arith)
-ended-order (suc (suc (suc (suc zero)))) e h = (omega arith, omega arith, omega arith)
-ended-order (suc (suc (suc (suc (suc c))))) e h = absurd h
+pub ended_order : (c : ℕ) (e : Ends) → EndsFor c e → (e.first ≤ e.second) × (e.second ≤ e.third) × (e.third ≤ e.fourth)
+ended_order zero e h = (omega arith, omega arith, omega arith)
+ended_order (suc zero) e h = (omega arith, omega arith, omega arith)
+ended_order (suc (suc zero)) e h = (omega arith, omega arith, omega arith)
+ended_order (suc (suc (suc zero))) e h = (omega arith, omega arith, omega arith)
+ended_order (suc (suc (suc (suc zero)))) e h = (omega arith, omega arith, omega arith)
+ended_order (suc (suc (suc (suc (suc c))))) e h = absurd h
 
 -- so many strings were taken
-pub ended-count : (c : ℕ) (e : Ends) (b : List ℕ) → EndsFor c e → length (take c (stringsIn b e)) ≡ c
+pub ended-count : (c : ℕ) (e : Ends) (b : List ℕ) → EndsFor c e → length (take c (strings_in b e)) ≡ c
 ended-count zero e b h = refl
 ended-count (suc zero) e b h = refl
 ended-count (suc (suc zero)) e b h = refl
@@ -42,21 +42,21 @@ ended-one (suc zero) e h k = h.2
 ended-one (suc (suc c)) e h k = absurd (omega arith)
 
 -- one more string
-pub next-ended : (c end : ℕ) (e : Ends) → EndsFor c e → c < 4 → e.fourth ≤ end → EndsFor (suc c) (endedAt e c end)
-unfolding endedAt pick
+pub next-ended : (c end : ℕ) (e : Ends) → EndsFor c e → c < 4 → e.fourth ≤ end → EndsFor (suc c) (ended_at e c end)
+unfolding ended_at pick
 next-ended zero end e h k g = (refl, refl, refl)
 next-ended (suc zero) end e h k g = (omega arith, refl, refl)
 next-ended (suc (suc zero)) end e h k g = (omega arith, omega arith, refl)
 next-ended (suc (suc (suc zero))) end e h k g = (omega arith, omega arith, omega arith)
 next-ended (suc (suc (suc (suc c)))) end e h k g = absurd (omega arith)
 
-pub next-fourth : (c end : ℕ) (e : Ends) → c < 4 → (endedAt e c end).fourth ≡ end
-unfolding endedAt pick
-next-fourth zero end e h = refl
-next-fourth (suc zero) end e h = refl
-next-fourth (suc (suc zero)) end e h = refl
-next-fourth (suc (suc (suc zero))) end e h = refl
-next-fourth (suc (suc (suc (suc c)))) end e h = absurd (omega arith)
+pub next_fourth : (c end : ℕ) (e : Ends) → c < 4 → (ended_at e c end).fourth ≡ end
+unfolding ended_at pick
+next_fourth zero end e h = refl
+next_fourth (suc zero) end e h = refl
+next_fourth (suc (suc zero)) end e h = refl
+next_fourth (suc (suc (suc zero))) end e h = refl
+next_fourth (suc (suc (suc (suc c)))) end e h = absurd (omega arith)
 
 take_less : (i j : ℕ) (o b : List ℕ) → i ≤ j → take j o ≡ take j b → take i o ≡ take i b
 take_less i j o b h e = sym (take-take i j o h) ∙ ap (take i) e ∙ take-take i j b h
@@ -66,48 +66,48 @@ module _ (e : Ends) (end : ℕ) (b o : List ℕ) (kept : take e.fourth o ≡ tak
   slice_kept : (i j : ℕ) → j ≤ e.fourth → slice i j o ≡ slice i j b
   slice_kept i j h = ap (drop i) (take_less j e.fourth o b h kept)
 
-  pub next-strings : (c : ℕ) → EndsFor c e → c < 4 → take (suc c) (stringsIn o (endedAt e c end)) ≡ take c (stringsIn b e) ++ (slice e.fourth end o ∷ [])
-  unfolding endedAt pick
-  next-strings zero h k = rw h.3
-  next-strings (suc zero) h k = rw (slice_kept 0 e.first (omega arith), h.2)
-  next-strings (suc (suc zero)) h k = rw (slice_kept 0 e.first (omega arith), slice_kept e.first e.second (omega arith), h.2)
-  next-strings (suc (suc (suc zero))) h k = rw (slice_kept 0 e.first (omega arith), slice_kept e.first e.second (omega arith), slice_kept e.second e.third (omega arith), h.2)
-  next-strings (suc (suc (suc (suc c)))) h k = absurd (omega arith)
+  pub next_strings : (c : ℕ) → EndsFor c e → c < 4 → take (suc c) (strings_in o (ended_at e c end)) ≡ take c (strings_in b e) ++ (slice e.fourth end o ∷ [])
+  unfolding ended_at pick
+  next_strings zero h k = rw h.3
+  next_strings (suc zero) h k = rw (slice_kept 0 e.first (omega arith), h.2)
+  next_strings (suc (suc zero)) h k = rw (slice_kept 0 e.first (omega arith), slice_kept e.first e.second (omega arith), h.2)
+  next_strings (suc (suc (suc zero))) h k = rw (slice_kept 0 e.first (omega arith), slice_kept e.first e.second (omega arith), slice_kept e.second e.third (omega arith), h.2)
+  next_strings (suc (suc (suc (suc c)))) h k = absurd (omega arith)
 
 -- the ends with one more string, that was read behind those that were taken
-module _ (c end size : ℕ) (e e' : Ends) (b o : List ℕ) (is : e' ≡ endedAt e c end) (few : c < 4) (held : EndsFor c e) (read : PutBetween e.fourth end size b o) where
-  pub more-strings : take (c + 1) (stringsIn o e') ≡ take c (stringsIn b e) ++ (slice e.fourth end o ∷ [])
-  more-strings = rw (is, add-one) (next-strings e end b o read.kept c held few)
+module _ (c end size : ℕ) (e e' : Ends) (b o : List ℕ) (is : e' ≡ ended_at e c end) (few : c < 4) (held : EndsFor c e) (read : PutBetween e.fourth end size b o) where
+  pub more_strings : take (c + 1) (strings_in o e') ≡ take c (strings_in b e) ++ (slice e.fourth end o ∷ [])
+  more_strings = rw (is, add-one) (next_strings e end b o read.kept c held few)
 
   pub more-ended : EndsFor (c + 1) e' × (e.fourth ≤ e'.fourth) × (e'.fourth ≤ e.fourth + size) × (drop e'.fourth o ≡ drop e'.fourth b)
   more-ended =
-      let last : e'.fourth ≡ end = ap (λ (z : Ends). z.fourth) is ∙ next-fourth c end e few in
+      let last : e'.fourth ≡ end = ap (λ (z : Ends). z.fourth) is ∙ next_fourth c end e few in
       (rw (is, add-one) (next-ended c end e held few read.from), omega (arith, read.from), omega (arith, read.short), rw last read.behind)
 
 -- a line's strings, as its four
 module _ (number : ℕ) (n : Numbers) (b : List ℕ) where
-  pub said-taken : (c : ℕ) (e : Ends) → EndsFor c e
-      → pick (ltb number eventsFrom) (calls number n (slice 0 e.first b) (slice e.first e.second b) (slice e.second e.third b) (slice e.third e.fourth b))
-      (pick (ltb 1 c) unreadable (happens (number - eventsFrom) (slice 0 e.first b)))
-      ≡ said number (arguments n (take c (stringsIn b e)))
+  pub said_taken : (c : ℕ) (e : Ends) → EndsFor c e
+      → pick (ltb number events_from) (calls number n (slice 0 e.first b) (slice e.first e.second b) (slice e.second e.third b) (slice e.third e.fourth b))
+      (pick (ltb 1 c) unreadable (happens (number - events_from) (slice 0 e.first b)))
+      ≡ said number (arguments n (take c (strings_in b e)))
   unfolding said
-  said-taken zero e h = rw (slice-none 0 e.first b (omega arith), slice-none e.first e.second b (omega arith), slice-none e.second e.third b (omega arith), slice-none e.third e.fourth b (omega arith))
-  said-taken (suc zero) e h = rw (slice-none e.first e.second b (omega arith), slice-none e.second e.third b (omega arith), slice-none e.third e.fourth b (omega arith))
-  said-taken (suc (suc zero)) e h = rw (slice-none e.second e.third b (omega arith), slice-none e.third e.fourth b (omega arith))
-  said-taken (suc (suc (suc zero))) e h = rw (slice-none e.third e.fourth b (omega arith))
-  said-taken (suc (suc (suc (suc zero)))) e h = refl
-  said-taken (suc (suc (suc (suc (suc c))))) e h = absurd h
+  said_taken zero e h = rw (slice_none 0 e.first b (omega arith), slice_none e.first e.second b (omega arith), slice_none e.second e.third b (omega arith), slice_none e.third e.fourth b (omega arith))
+  said_taken (suc zero) e h = rw (slice_none e.first e.second b (omega arith), slice_none e.second e.third b (omega arith), slice_none e.third e.fourth b (omega arith))
+  said_taken (suc (suc zero)) e h = rw (slice_none e.second e.third b (omega arith), slice_none e.third e.fourth b (omega arith))
+  said_taken (suc (suc (suc zero))) e h = rw (slice_none e.third e.fourth b (omega arith))
+  said_taken (suc (suc (suc (suc zero)))) e h = refl
+  said_taken (suc (suc (suc (suc (suc c))))) e h = absurd h
 
-pub grown-at : (at size : ℕ) (b o : List ℕ) (r : Next) (t : Taken) → TakenWithin at size b o r → r ≡ NextValue t → TakenWithin at size b o (NextValue t)
-grown-at at size b o r t h e = subst (λ (q : Next). TakenWithin at size b o q) e h
+pub grown_at : (at size : ℕ) (b o : List ℕ) (r : Next) (t : Taken) → TakenWithin at size b o r → r ≡ NextValue t → TakenWithin at size b o (NextValue t)
+grown_at at size b o r t h e = subst (λ (q : Next). TakenWithin at size b o q) e h
 
 -- what was read of all words
-module _ (o : List ℕ) (r : Next) (a : Read) (known : nextIn o r some ≡ a) where
-  pub all-taken : (t : Taken) → r ≡ NextValue t → some (takenIn o t) ≡ a
-  all-taken t e = ap (λ q. nextIn o q some) (sym e) ∙ known
+module _ (o : List ℕ) (r : Next) (a : Read) (known : next_in o r some ≡ a) where
+  pub all_taken : (t : Taken) → r ≡ NextValue t → some (taken_in o t) ≡ a
+  all_taken t e = ap (λ q. next_in o q some) (sym e) ∙ known
 
-  pub none-taken : r ≡ NoNext → none ≡ a
-  none-taken e = ap (λ q. nextIn o q some) (sym e) ∙ known
+  pub none_taken : r ≡ NoNext → none ≡ a
+  none_taken e = ap (λ q. next_in o q some) (sym e) ∙ known
 
 pub drop_more : (i j : ℕ) (b o : List ℕ) → i ≤ j → drop i o ≡ drop i b → drop j o ≡ drop j b
 drop_more i j b o h e =

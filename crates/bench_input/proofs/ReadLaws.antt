@@ -14,22 +14,22 @@ use lib.Seq.{slice, take_at, drop_at, take-append-add, length-take-le, take-leng
 use Rattle.errors.specs.Choice.{pick, same}
 use Rattle.errors.specs.declared.Refusal.{Refusal}
 use Rattle.framing.specs.Copied.{copied}
-use Rattle.bench.specs.Hex.{dash, pairsOf, read_of}
-use Rattle.bench.specs.Numbers.{numberFrom, is_number, number_of, number_in}
+use Rattle.bench.specs.Hex.{dash, pairs_of, read_of}
+use Rattle.bench.specs.Numbers.{number_from, is_number, number_of, number_in}
 use Rattle.bench.specs.declared.number.Number.{Number}
 use Rattle.bench.specs.declared.number.Number.TheVariants.{Value as MsValue, Unreadable as NoMs}
-use Rattle.bench.specs.HexLaws.{length_pairs, was_read, read_count, read-into, not-read}
+use Rattle.bench.specs.HexLaws.{length_pairs, was_read, read_count, read_into, not_read}
 use Rattle.bench.specs.Texts.{returned, over}
 use Rattle.bench.specs.declared.Put.{Put}
 use Rattle.bench.specs.declared.Put.TheVariants.{Bytes, Refused}
-use Rattle.bench_input.specs.Arguments.{Read, hexArg, pairsArg, textArg, msArg}
-use Rattle.bench_input.specs.Readings.{msIn, PutBetween}
+use Rattle.bench_input.specs.Arguments.{Read, hex_arg, pairs_arg, text_arg, ms_arg}
+use Rattle.bench_input.specs.Readings.{ms_in, PutBetween}
 use Rattle.framing.specs.Build.{left}
 
 -- a word of another length than m pairs
-pub pairs-other : (w u : List ℕ) (m : ℕ) → w ≡ u → (length w ≡ 2 * m → ⊥) → (f : List ℕ → Read) → none ≡ pairsArg m u f
-unfolding pairsArg pick
-pairs-other w u m is other f = rw (ne_eqb (length u) (2 * m) (λ h. other (ap length is ∙ h)))
+pub pairs_other : (w u : List ℕ) (m : ℕ) → w ≡ u → (length w ≡ 2 * m → ⊥) → (f : List ℕ → Read) → none ≡ pairs_arg m u f
+unfolding pairs_arg pick
+pairs_other w u m is other f = rw (ne_eqb (length u) (2 * m) (λ h. other (ap length is ∙ h)))
 
 -- a buffer that the word's m bytes fill
 module _ (w u p part : List ℕ) (q : Put) (m : ℕ) (is : w ≡ u) (size : length w ≡ 2 * m) (filled : length p ≡ m) (read : left (returned q) part ≡ read_of w p) where
@@ -42,29 +42,29 @@ module _ (w u p part : List ℕ) (q : Put) (m : ℕ) (is : w ≡ u) (size : leng
   pairs-size : eqb (length u) (2 * m) ≡ true
   pairs-size = eq-eqb (length u) (2 * m) (sym (ap length is) ∙ size)
 
-  pub pairs-read : (n : ℕ) → q ≡ Bytes n → (f : List ℕ → Read) → f part ≡ pairsArg m u f
-  unfolding pairsArg hexArg pick over
-  pairs-read n given f =
-      let k : length p ≤ 0 + length (pairsOf u) = omega (arith, ap length is, length_pairs u) in
-      let e : part ≡ pairsOf u = read-into u p part q pairs-room known n given ∙ rw (drop_of_length-le p {i = 0 + length (pairsOf u)} k, append-nil) in
+  pub pairs_read : (n : ℕ) → q ≡ Bytes n → (f : List ℕ → Read) → f part ≡ pairs_arg m u f
+  unfolding pairs_arg hex_arg pick over
+  pairs_read n given f =
+      let k : length p ≤ 0 + length (pairs_of u) = omega (arith, ap length is, length_pairs u) in
+      let e : part ≡ pairs_of u = read_into u p part q pairs-room known n given ∙ rw (drop_of_length-le p {i = 0 + length (pairs_of u)} k, append-nil) in
       rw (pairs-size, was_read u p part q pairs-room known n given) (ap f e)
 
-  pub pairs-unread : (e : Refusal) → q ≡ Refused e → (f : List ℕ → Read) → none ≡ pairsArg m u f
-  unfolding pairsArg hexArg pick
-  pairs-unread e given f = rw (pairs-size, not-read u p part q pairs-room known e given)
+  pub pairs_unread : (e : Refusal) → q ≡ Refused e → (f : List ℕ → Read) → none ≡ pairs_arg m u f
+  unfolding pairs_arg hex_arg pick
+  pairs_unread e given f = rw (pairs-size, not_read u p part q pairs-room known e given)
 
 -- a list behind another
-placed-here : (a p x : List ℕ) (i n : ℕ) → length a ≡ i → n ≡ length p → slice i (i + n) (a ++ (p ++ x)) ≡ p
-placed-here a p x i n h k =
+placed_here : (a p x : List ℕ) (i n : ℕ) → length a ≡ i → n ≡ length p → slice i (i + n) (a ++ (p ++ x)) ≡ p
+placed_here a p x i n h k =
     ap (λ j. drop i (take (j + n) (a ++ (p ++ x)))) (sym h)
     ∙ ap (drop i) (take-append-add a (p ++ x) n)
     ∙ drop_at a (take n (p ++ x)) i h
     ∙ take_at p x n (sym k)
 
 -- behind a text that was copied to a place the buffer is as it was
-copied-kept : (b t : List ℕ) (at : ℕ) → at + length t ≤ length b → (part : List ℕ) → part ≡ take (length t) t ++ drop (length t) (take (length b - at) (drop at b))
+copied_kept : (b t : List ℕ) (at : ℕ) → at + length t ≤ length b → (part : List ℕ) → part ≡ take (length t) t ++ drop (length t) (take (length b - at) (drop at b))
     → drop (at + length t) (put_mid at (length b - at) b part) ≡ drop (at + length t) b
-copied-kept b t at room part e =
+copied_kept b t at room part e =
     let z : List ℕ = drop (at + length t) b in
     let l : length (take at b ++ t) ≡ at + length t = length-append (take at b) t ∙ rw (length-take-le at b (omega arith)) in
     rw (copied b t at room part e, ← append_assoc (take at b) t z) (drop_at (take at b ++ t) z (at + length t) l)
@@ -84,89 +84,89 @@ module _ (w u b part : List ℕ) (at : ℕ) (q : Put) (is : w ≡ u) (room : at 
     count-is : n ≡ length u / 2
     count-is = read_count u (take (length b - at) (drop at b)) part q behind-room known' n given ∙ length_pairs u
 
-    pub hex-read : (f : List ℕ → Read) → f (slice at (at + n) (put_mid at (length b - at) b part)) ≡ hexArg u f
-    unfolding hexArg pick over
-    hex-read f =
+    pub hex_read : (f : List ℕ → Read) → f (slice at (at + n) (put_mid at (length b - at) b part)) ≡ hex_arg u f
+    unfolding hex_arg pick over
+    hex_read f =
         let p : List ℕ = take (length b - at) (drop at b) in
-        let d : List ℕ = drop (0 + length (pairsOf u)) p in
+        let d : List ℕ = drop (0 + length (pairs_of u)) p in
         let z : List ℕ = post_of at (length b - at) b in
-        let e : part ++ z ≡ pairsOf u ++ (d ++ z) = ap (λ y. y ++ z) (read-into u p part q behind-room known' n given) ∙ append_assoc (pairsOf u) d z in
+        let e : part ++ z ≡ pairs_of u ++ (d ++ z) = ap (λ y. y ++ z) (read_into u p part q behind-room known' n given) ∙ append_assoc (pairs_of u) d z in
         let l : length (take at b) ≡ at = length-take-le at b (omega arith) in
         rw (was_read u p part q behind-room known' n given)
-        (ap f (ap (λ y. slice at (at + n) (take at b ++ y)) e ∙ placed-here (take at b) (pairsOf u) (d ++ z) at n l (count-is ∙ sym (length_pairs u))))
+        (ap f (ap (λ y. slice at (at + n) (take at b ++ y)) e ∙ placed_here (take at b) (pairs_of u) (d ++ z) at n l (count-is ∙ sym (length_pairs u))))
 
     behind-kept : drop (at + n) (put_mid at (length b - at) b part) ≡ drop (at + n) b
     unfolding over
     behind-kept =
-        let t : List ℕ = pairsOf u in
+        let t : List ℕ = pairs_of u in
         let p : List ℕ = take (length b - at) (drop at b) in
-        let e : part ≡ take (length t) t ++ drop (length t) p = read-into u p part q behind-room known' n given ∙ rw (take-length t, zero-add (length t)) in
+        let e : part ≡ take (length t) t ++ drop (length t) p = read_into u p part q behind-room known' n given ∙ rw (take-length t, zero-add (length t)) in
         let size : n ≡ length t = count-is ∙ sym (length_pairs u) in
-        rw size (copied-kept b t at (omega (arith, length_pairs u)) part e)
+        rw size (copied_kept b t at (omega (arith, length_pairs u)) part e)
 
     pub hex-behind : PutBetween at (at + n) (length u) b (put_mid at (length b - at) b part)
     hex-behind = record { from = omega arith; short = omega (arith, count-is); kept = before-kept; behind = behind-kept }
 
-    pub hex-within : at + n ≤ length b
-    hex-within = omega (arith, count-is)
+    pub hex_within : at + n ≤ length b
+    hex_within = omega (arith, count-is)
 
   module _ (e : Refusal) (given : q ≡ Refused e) where
-    pub hex-unread : (f : List ℕ → Read) → none ≡ hexArg u f
-    unfolding hexArg pick
-    hex-unread f = rw (not-read u (take (length b - at) (drop at b)) part q behind-room known' e given)
+    pub hex_unread : (f : List ℕ → Read) → none ≡ hex_arg u f
+    unfolding hex_arg pick
+    hex_unread f = rw (not_read u (take (length b - at) (drop at b)) part q behind-room known' e given)
 
 -- MS, by the number that was read of the word
 given : (ℕ → Read) → Option ℕ → Read
 given f none = none
 given f (some n) = f n
 
-ms-in : (r : Number) (f : ℕ → Read) → msIn r f ≡ given f (number_in r)
+ms_in_lem : (r : Number) (f : ℕ → Read) → ms_in r f ≡ given f (number_in r)
 unfolding given
-ms-in (MsValue n) f = refl
-ms-in NoMs f = refl
+ms_in_lem (MsValue n) f = refl
+ms_in_lem NoMs f = refl
 
-ms-arg : (w : List ℕ) (f : ℕ → Read) → given f (number_of w) ≡ msArg w f
-unfolding given number_of msArg pick
-ms-arg w f = go (is_number w)
+ms_arg_lem : (w : List ℕ) (f : ℕ → Read) → given f (number_of w) ≡ ms_arg w f
+unfolding given number_of ms_arg pick
+ms_arg_lem w f = go (is_number w)
   where
-    go : (t : Bool) → given f (pick t (some (numberFrom 0 w)) none) ≡ pick t (f (numberFrom 0 w)) none
+    go : (t : Bool) → given f (pick t (some (number_from 0 w)) none) ≡ pick t (f (number_from 0 w)) none
     go true = refl
     go false = refl
 
-pub ms-read : (w u : List ℕ) (r : Number) → w ≡ u → number_in r ≡ number_of w → (f : ℕ → Read) → msIn r f ≡ msArg u f
-ms-read w u r is known f = ms-in r f ∙ ap (given f) known ∙ ms-arg w f ∙ ap (λ x. msArg x f) is
+pub ms_read : (w u : List ℕ) (r : Number) → w ≡ u → number_in r ≡ number_of w → (f : ℕ → Read) → ms_in r f ≡ ms_arg u f
+ms_read w u r is known f = ms_in_lem r f ∙ ap (given f) known ∙ ms_arg_lem w f ∙ ap (λ x. ms_arg x f) is
 
 -- a BITRATE that was copied into the buffer b, or was not
 module _ (w u : List ℕ) (is : w ≡ u) where
-  pub text-empty : (f : List ℕ → Read) → length w ≡ 0 → none ≡ textArg u f
-  unfolding textArg pick
-  text-empty f h = rw (← is, eq-eqb (length w) 0 h)
+  pub text_empty : (f : List ℕ → Read) → length w ≡ 0 → none ≡ text_arg u f
+  unfolding text_arg pick
+  text_empty f h = rw (← is, eq-eqb (length w) 0 h)
 
-  pub text-dash : (f : List ℕ → Read) → (length w ≡ 0 → ⊥) → same dash w ≡ true → f [] ≡ textArg u f
-  unfolding textArg pick
-  text-dash f more h = rw (← is, ne_eqb (length w) 0 more, h)
+  pub text_dash : (f : List ℕ → Read) → (length w ≡ 0 → ⊥) → same dash w ≡ true → f [] ≡ text_arg u f
+  unfolding text_arg pick
+  text_dash f more h = rw (← is, ne_eqb (length w) 0 more, h)
 
-  pub text-room : (b : List ℕ) (at : ℕ) → at + length u ≤ length b → length w ≤ length (take (length b - at) (drop at b))
-  text-room b at room = simp (length-take, length-drop) (omega (arith, ap length is))
+  pub text_room : (b : List ℕ) (at : ℕ) → at + length u ≤ length b → length w ≤ length (take (length b - at) (drop at b))
+  text_room b at room = simp (length-take, length-drop) (omega (arith, ap length is))
 
   module _ (b part : List ℕ) (at : ℕ) (room : at + length u ≤ length b) (e : part ≡ take (length w) w ++ drop (length w) (take (length b - at) (drop at b))) where
     text-inside : at + length w ≤ length b
     text-inside = omega (arith, ap length is)
 
-    pub text-read : (f : List ℕ → Read) → (length w ≡ 0 → ⊥) → same dash w ≡ false → f (slice at (at + length w) (put_mid at (length b - at) b part)) ≡ textArg u f
-    unfolding textArg pick
-    text-read f more h =
+    pub text_read : (f : List ℕ → Read) → (length w ≡ 0 → ⊥) → same dash w ≡ false → f (slice at (at + length w) (put_mid at (length b - at) b part)) ≡ text_arg u f
+    unfolding text_arg pick
+    text_read f more h =
         let l : length (take at b) ≡ at = length-take-le at b (omega arith) in
         let here : slice at (at + length w) (put_mid at (length b - at) b part) ≡ w
-        = ap (slice at (at + length w)) (copied b w at text-inside part e) ∙ placed-here (take at b) w (drop (at + length w) b) at (length w) l refl in
+        = ap (slice at (at + length w)) (copied b w at text-inside part e) ∙ placed_here (take at b) w (drop (at + length w) b) at (length w) l refl in
         rw (← is, ne_eqb (length w) 0 more, h) (ap f here)
 
-    pub text-between : PutBetween at (at + length w) (length u) b (put_mid at (length b - at) b part)
-    text-between = record { from = omega arith; short = omega (arith, ap length is); kept = take_put at (length b - at) b part (omega arith); behind = copied-kept b w at text-inside part e }
+    pub text_between : PutBetween at (at + length w) (length u) b (put_mid at (length b - at) b part)
+    text_between = record { from = omega arith; short = omega (arith, ap length is); kept = take_put at (length b - at) b part (omega arith); behind = copied_kept b w at text-inside part e }
 
 -- an absent argument has no bytes
-pub slice-none : (i j : ℕ) (b : List ℕ) → j ≤ i → slice i j b ≡ []
-slice-none i j b h =
+pub slice_none : (i j : ℕ) (b : List ℕ) → j ≤ i → slice i j b ≡ []
+slice_none i j b h =
     let short : length (take j b) ≤ i = simp (length-take) (omega arith) in
     drop_of_length-le (take j b) {i = i} short
 
@@ -174,5 +174,5 @@ pub none_stays : (at size : ℕ) (b : List ℕ) → PutBetween at at size b b
 none_stays at size b = record { from = omega arith; short = omega arith; kept = refl; behind = refl }
 
 -- bytes that are no whole groups
-pub not-whole : (at end size : ℕ) (o : List ℕ) → end ≤ length o → ((end - at) % size ≡ 0 → ⊥) → length (slice at end o) % size ≡ 0 → ⊥
-not-whole at end size o inside h e = h (ap (λ n. n % size) (sym (length-slice at end o inside)) ∙ e)
+pub not_whole : (at end size : ℕ) (o : List ℕ) → end ≤ length o → ((end - at) % size ≡ 0 → ⊥) → length (slice at end o) % size ≡ 0 → ⊥
+not_whole at end size o inside h e = h (ap (λ n. n % size) (sym (length-slice at end o inside)) ∙ e)

@@ -10,35 +10,35 @@ use lib.Dec.{eqb}
 use lib.ListN.{length, get_or, drop, drop_of_length-le}
 use lib.Seq.{drop-cons}
 use Rattle.errors.specs.Choice.{pick}
-use Rattle.bench.specs.Words.{ahead, wordsOf}
-use Rattle.bench_input.specs.Arguments.{Arguments, Read, word_at, lineLimit, bytesRoom}
-use Rattle.bench_input.specs.Letters.{argument, argumentsOf, noNumbers, no_arguments}
-use Rattle.bench_input.specs.Readings.{EndsFor, takenIn, nextIn, TakenWithin, Takes}
+use Rattle.bench.specs.Words.{ahead, words_of_lem}
+use Rattle.bench_input.specs.Arguments.{Arguments, Read, word_at, line_limit, bytes_room}
+use Rattle.bench_input.specs.Letters.{argument, arguments_of, no_numbers, no_arguments}
+use Rattle.bench_input.specs.Readings.{EndsFor, taken_in, next_in, TakenWithin, Takes}
 use Rattle.bench_input.specs.declared.letters.Taken.{Taken}
 use Rattle.bench_input.specs.declared.letters.Next.{Next}
 use Rattle.bench_input.specs.declared.letters.Next.TheVariants.{Value as NextValue, Unreadable as NoNext}
-use Rattle.bench_input.proofs.EndLaws.{grown-at, drop_more}
+use Rattle.bench_input.proofs.EndLaws.{grown_at, drop_more}
 
-unfoldable pub totalLength : List (List ℕ) → ℕ
-totalLength [] = 0
-totalLength (w ∷ ws) = length w + totalLength ws
+unfoldable pub total_length : List (List ℕ) → ℕ
+total_length [] = 0
+total_length (w ∷ ws) = length w + total_length ws
 
-total-ahead : (b : ℕ) (ws : List (List ℕ)) → totalLength (ahead b ws) ≤ suc (totalLength ws)
-unfolding ahead totalLength
+total-ahead : (b : ℕ) (ws : List (List ℕ)) → total_length (ahead b ws) ≤ suc (total_length ws)
+unfolding ahead total_length
 total-ahead b [] = omega arith
 total-ahead b (w ∷ ws) = omega arith
 
-pub total-words : (l : List ℕ) → totalLength (wordsOf l) ≤ length l
-unfolding wordsOf pick totalLength
-total-words [] = omega arith
-total-words (b ∷ l) = go (total-words l) (eqb b 32)
+pub total_words : (l : List ℕ) → total_length (words_of_lem l) ≤ length l
+unfolding words_of_lem pick total_length
+total_words [] = omega arith
+total_words (b ∷ l) = go (total_words l) (eqb b 32)
   where
-    go : totalLength (wordsOf l) ≤ length l → (t : Bool) → totalLength (pick t ([] ∷ wordsOf l) (ahead b (wordsOf l))) ≤ suc (length l)
+    go : total_length (words_of_lem l) ≤ length l → (t : Bool) → total_length (pick t ([] ∷ words_of_lem l) (ahead b (words_of_lem l))) ≤ suc (length l)
     go h true = omega arith
-    go h false = omega (arith, total-ahead b (wordsOf l))
+    go h false = omega (arith, total-ahead b (words_of_lem l))
 
-pub total-at : (ws : List (List ℕ)) (k : ℕ) → length (get_or ws k []) + totalLength (drop (suc k) ws) ≤ totalLength (drop k ws)
-unfolding totalLength
+pub total-at : (ws : List (List ℕ)) (k : ℕ) → length (get_or ws k []) + total_length (drop (suc k) ws) ≤ total_length (drop k ws)
+unfolding total_length
 total-at [] zero = omega arith
 total-at [] (suc k) = omega arith
 total-at (w ∷ ws) zero = omega arith
@@ -48,50 +48,50 @@ total-at (w ∷ ws) (suc k) = total-at ws k
 pub record LettersBegun (l letters b o : List ℕ) (t : Taken) (k : ℕ) : Type 0 where
   pub inside : k ≤ length letters
   pub held : EndsFor t.count t.ends
-  pub says : argumentsOf letters (drop 1 (wordsOf l)) no_arguments ≡ argumentsOf (drop k letters) (drop (k + 1) (wordsOf l)) (takenIn o t)
-  pub room : t.ends.fourth + totalLength (drop (k + 1) (wordsOf l)) ≤ length l
+  pub says : arguments_of letters (drop 1 (words_of_lem l)) no_arguments ≡ arguments_of (drop k letters) (drop (k + 1) (words_of_lem l)) (taken_in o t)
+  pub room : t.ends.fourth + total_length (drop (k + 1) (words_of_lem l)) ≤ length l
   pub behind : drop t.ends.fourth o ≡ drop t.ends.fourth b
-  pub size : length o ≡ bytesRoom
+  pub size : length o ≡ bytes_room
 
 abbrev nothing : Taken
-nothing = record { numbers = noNumbers; count = 0; ends = record { first = 0; second = 0; third = 0; fourth = 0 } }
+nothing = record { numbers = no_numbers; count = 0; ends = record { first = 0; second = 0; third = 0; fourth = 0 } }
 
-pub begin : (l letters b : List ℕ) → length b ≡ bytesRoom → LettersBegun l letters b b nothing 0
-begin l letters b h = record { inside = omega arith; held = (refl, refl, refl, refl); says = refl; room = omega (arith, total-words l, total-at (wordsOf l) 0); behind = refl; size = h }
+pub begin : (l letters b : List ℕ) → length b ≡ bytes_room → LettersBegun l letters b b nothing 0
+begin l letters b h = record { inside = omega arith; held = (refl, refl, refl, refl); says = refl; room = omega (arith, total_words l, total-at (words_of_lem l) 0); behind = refl; size = h }
 
-module _ (l letters b o : List ℕ) (t : Taken) (k : ℕ) (i : LettersBegun l letters b o t k) (words : length letters + 1 ≡ length (wordsOf l)) where
+module _ (l letters b o : List ℕ) (t : Taken) (k : ℕ) (i : LettersBegun l letters b o t k) (words : length letters + 1 ≡ length (words_of_lem l)) where
   -- nothing is left
-  pub all_read : length letters ≤ k → some (takenIn o t) ≡ argumentsOf letters (drop 1 (wordsOf l)) no_arguments
-  unfolding argumentsOf
-  all_read h = sym (i.says ∙ rw (drop_of_length-le letters {i = k} h, drop_of_length-le (wordsOf l) {i = k + 1} (omega arith)))
+  pub all_read : length letters ≤ k → some (taken_in o t) ≡ arguments_of letters (drop 1 (words_of_lem l)) no_arguments
+  unfolding arguments_of
+  all_read h = sym (i.says ∙ rw (drop_of_length-le letters {i = k} h, drop_of_length-le (words_of_lem l) {i = k + 1} (omega arith)))
 
   module _ (more : k < length letters) where
-    pub next_fits : length l ≤ lineLimit → t.ends.fourth + length (word_at l (k + 1)) ≤ length o
-    next_fits h = omega (arith, i.room, i.size, total-at (wordsOf l) (k + 1))
+    pub next_fits : length l ≤ line_limit → t.ends.fourth + length (word_at l (k + 1)) ≤ length o
+    next_fits h = omega (arith, i.room, i.size, total-at (words_of_lem l) (k + 1))
 
-    next_word : (a : Arguments) → argumentsOf (drop k letters) (drop (k + 1) (wordsOf l)) a
-        ≡ argument (get_or letters k 0) (word_at l (k + 1)) a (λ z. argumentsOf (drop (k + 1) letters) (drop (k + 1 + 1) (wordsOf l)) z)
-    unfolding argumentsOf
+    next_word : (a : Arguments) → arguments_of (drop k letters) (drop (k + 1) (words_of_lem l)) a
+        ≡ argument (get_or letters k 0) (word_at l (k + 1)) a (λ z. arguments_of (drop (k + 1) letters) (drop (k + 1 + 1) (words_of_lem l)) z)
+    unfolding arguments_of
     next_word a =
-        ap₂ (λ ls ws. argumentsOf ls ws a)
+        ap₂ (λ ls ws. arguments_of ls ws a)
         (drop-cons letters k 0 more ∙ ap (λ n. get_or letters k 0 ∷ drop n letters) (sym (add-one k)))
-        (drop-cons (wordsOf l) (k + 1) [] (omega arith) ∙ ap (λ n. word_at l (k + 1) ∷ drop n (wordsOf l)) (sym (add-one (k + 1))))
+        (drop-cons (words_of_lem l) (k + 1) [] (omega arith) ∙ ap (λ n. word_at l (k + 1) ∷ drop n (words_of_lem l)) (sym (add-one (k + 1))))
 
     module _ (o' : List ℕ) (r : Next) (read : Takes (get_or letters k 0) (word_at l (k + 1)) t o o' r) where
       abbrev later : Arguments → Read
-      later z = argumentsOf (drop (k + 1) letters) (drop (k + 1 + 1) (wordsOf l)) z
+      later z = arguments_of (drop (k + 1) letters) (drop (k + 1 + 1) (words_of_lem l)) z
 
-      pub next-none : r ≡ NoNext → none ≡ argumentsOf letters (drop 1 (wordsOf l)) no_arguments
-      next-none e = ap (λ q. nextIn o' q later) (sym e) ∙ read.says later ∙ sym (i.says ∙ next_word (takenIn o t))
+      pub next_none : r ≡ NoNext → none ≡ arguments_of letters (drop 1 (words_of_lem l)) no_arguments
+      next_none e = ap (λ q. next_in o' q later) (sym e) ∙ read.says later ∙ sym (i.says ∙ next_word (taken_in o t))
 
-      pub next-begun : length o' ≡ length o → (u : Taken) → r ≡ NextValue u → LettersBegun l letters b o' u (k + 1)
-      next-begun same u e =
-          let g : TakenWithin t.ends.fourth (length (word_at l (k + 1))) o o' (NextValue u) = grown-at _ _ o o' r u read.inOrder e in
+      pub next_begun : length o' ≡ length o → (u : Taken) → r ≡ NextValue u → LettersBegun l letters b o' u (k + 1)
+      next_begun same u e =
+          let g : TakenWithin t.ends.fourth (length (word_at l (k + 1))) o o' (NextValue u) = grown_at _ _ o o' r u read.in_order_of e in
           record {
             inside = omega arith;
             held = g.0;
-            says = i.says ∙ next_word (takenIn o t) ∙ sym (read.says later) ∙ ap (λ q. nextIn o' q later) e;
-            room = omega (arith, i.room, total-at (wordsOf l) (k + 1), ap (λ n. totalLength (drop n (wordsOf l))) (add-one (k + 1)));
+            says = i.says ∙ next_word (taken_in o t) ∙ sym (read.says later) ∙ ap (λ q. next_in o' q later) e;
+            room = omega (arith, i.room, total-at (words_of_lem l) (k + 1), ap (λ n. total_length (drop n (words_of_lem l))) (add-one (k + 1)));
             behind = g.3 ∙ drop_more t.ends.fourth u.ends.fourth b o g.1 i.behind;
             size = same ∙ i.size;
           }

@@ -3,12 +3,12 @@ use Rattle.std.specs.Prelude.{◌≡◌, List, [], ◌∷◌, ℕ, zero, suc, �
 use Rattle.std.proofs.Math.Option.{Option, none, some}
 use Rattle.std.proofs.Math.Seq.{slice}
 use Rattle.errors.specs.Choice.{pick}
-use Rattle.bench.specs.Hex.{digitsOf}
+use Rattle.bench.specs.Hex.{digits_of_lem}
 use Rattle.bench.specs.declared.number.Number.{Number}
 use Rattle.bench.specs.declared.number.Number.TheVariants.{Value as MsValue, Unreadable as NoMs}
 use Rattle.bench.specs.declared.Put.{Put}
 use Rattle.bench.specs.declared.Put.TheVariants.{Bytes, Refused}
-use Rattle.bench_input.specs.Arguments.{Arguments, arguments, Read, bytesRoom}
+use Rattle.bench_input.specs.Arguments.{Arguments, arguments, Read, bytes_room}
 use Rattle.bench_input.specs.Letters.{argument}
 use Rattle.bench_input.specs.Table.{LineRow, table, row_at, Said, calls, happens, unreadable}
 use Rattle.calls.specs.declared.start.Numbers.{Numbers}
@@ -29,16 +29,16 @@ use Rattle.bench_input.specs.declared.letters.Next.TheVariants.{Value as NextVal
 use Rattle.bench_input.specs.declared.table.RowFound.{RowFound}
 use Rattle.bench_input.specs.declared.table.RowFound.TheVariants.{At, Nothing}
 
-abbrev pub inputIn : List ℕ → Input → Said
-inputIn b (Call number n e) =
+abbrev pub input_in : List ℕ → Input → Said
+input_in b (Call number n e) =
     calls number n (slice 0 e.first b) (slice e.first e.second b) (slice e.second e.third b) (slice e.third e.fourth b)
-inputIn b (Event number n) = happens number (slice 0 n b)
-inputIn b Unreadable = unreadable
+input_in b (Event number n) = happens number (slice 0 n b)
+input_in b Unreadable = unreadable
 
 -- the ends follow a place, each behind the one before, all in the buffer and none behind the line's length k; b became o, and is as it was
 -- behind the last
 abbrev pub StringsInOrder : ℕ → ℕ → List ℕ → List ℕ → List ℕ → Type 0
-StringsInOrder k at [] b o = (at ≤ k) × (at ≤ bytesRoom) × (drop at o ≡ drop at b)
+StringsInOrder k at [] b o = (at ≤ k) × (at ≤ bytes_room) × (drop at o ≡ drop at b)
 StringsInOrder k at (i ∷ ends) b o = (at ≤ i) × StringsInOrder k i ends b o
 
 -- what holds of the ends and of the buffer: nothing where the line cannot be read
@@ -49,33 +49,33 @@ EndsInOrder k Unreadable b o = Unit {0}
 
 -- what a line of k bytes says was read, with the bytes of its arguments in the buffer b, which became o
 pub record Reads (k : ℕ) (b o : List ℕ) (r : Input) (s : Said) : Type 0 where
-  pub says : inputIn o r ≡ s
-  pub inOrder : EndsInOrder k r b o
+  pub says : input_in o r ≡ s
+  pub in_order_of : EndsInOrder k r b o
 
 -- what is read with an argument that was read
-abbrev pub byteIn : Byte → (ℕ → Read) → Read
-byteIn (ByteValue n) f = f n
-byteIn NoByte f = none
+abbrev pub byte_in : Byte → (ℕ → Read) → Read
+byte_in (ByteValue n) f = f n
+byte_in NoByte f = none
 
 abbrev pub word_in : Word → (ℕ → Read) → Read
 word_in (WordValue n) f = f n
 word_in NoWord f = none
 
-abbrev pub msIn : Number → (ℕ → Read) → Read
-msIn (MsValue n) f = f n
-msIn NoMs f = none
+abbrev pub ms_in : Number → (ℕ → Read) → Read
+ms_in (MsValue n) f = f n
+ms_in NoMs f = none
 
-abbrev pub waitIn : Wait → (ℕ → ℕ → Read) → Read
-waitIn (WaitValue given ms) f = f given ms
-waitIn NoWait f = none
+abbrev pub wait_in : Wait → (ℕ → ℕ → Read) → Read
+wait_in (WaitValue given ms) f = f given ms
+wait_in NoWait f = none
 
-abbrev pub readNumbersIn : ReadNumbers → (Numbers → Read) → Read
-readNumbersIn (NumberValue n) f = f n
-readNumbersIn NoNumber f = none
+abbrev pub read_numbers_in : ReadNumbers → (Numbers → Read) → Read
+read_numbers_in (NumberValue n) f = f n
+read_numbers_in NoNumber f = none
 
-abbrev pub hexIn : ℕ → Put → List ℕ → (List ℕ → Read) → Read
-hexIn at (Bytes n) b f = f (slice at n b)
-hexIn at (Refused e) b f = none
+abbrev pub hex_in : ℕ → Put → List ℕ → (List ℕ → Read) → Read
+hex_in at (Bytes n) b f = f (slice at n b)
+hex_in at (Refused e) b f = none
 
 -- a word of some size was read from a place to an end: what stands before it and behind it in the buffer b is in o too
 pub record PutBetween (at end size : ℕ) (b o : List ℕ) : Type 0 where
@@ -98,22 +98,22 @@ EndsFor (suc (suc (suc (suc zero)))) e = (e.first ≤ e.second) × (e.second ≤
 EndsFor (suc (suc (suc (suc (suc n))))) e = ⊥
 
 -- one more, behind so many, ends at a place
-unfoldable pub endedAt : Ends → ℕ → ℕ → Ends
-endedAt e count end =
+unfoldable pub ended_at : Ends → ℕ → ℕ → Ends
+ended_at e count end =
     pick (ltb 2 count) (record { first = e.first; second = e.second; third = e.third; fourth = end })
     (pick (ltb 1 count) (record { first = e.first; second = e.second; third = end; fourth = end })
     (pick (ltb 0 count) (record { first = e.first; second = end; third = end; fourth = end })
     (record { first = end; second = end; third = end; fourth = end })))
 
-abbrev pub stringsIn : List ℕ → Ends → List (List ℕ)
-stringsIn b e = slice 0 e.first b ∷ slice e.first e.second b ∷ slice e.second e.third b ∷ slice e.third e.fourth b ∷ []
+abbrev pub strings_in : List ℕ → Ends → List (List ℕ)
+strings_in b e = slice 0 e.first b ∷ slice e.first e.second b ∷ slice e.second e.third b ∷ slice e.third e.fourth b ∷ []
 
-abbrev pub takenIn : List ℕ → Taken → Arguments
-takenIn b t = arguments t.numbers (take t.count (stringsIn b t.ends))
+abbrev pub taken_in : List ℕ → Taken → Arguments
+taken_in b t = arguments t.numbers (take t.count (strings_in b t.ends))
 
-abbrev pub nextIn : List ℕ → Next → (Arguments → Read) → Read
-nextIn b (NextValue t) f = f (takenIn b t)
-nextIn b NoNext f = none
+abbrev pub next_in : List ℕ → Next → (Arguments → Read) → Read
+next_in b (NextValue t) f = f (taken_in b t)
+next_in b NoNext f = none
 
 -- what was taken with one more word of some size, from the place `at` on
 abbrev pub TakenWithin : ℕ → ℕ → List ℕ → List ℕ → Next → Type 0
@@ -122,17 +122,17 @@ TakenWithin at size b o NoNext = Unit {0}
 
 -- a word w was read by its letter, behind what was taken before
 pub record Takes (letter : ℕ) (w : List ℕ) (t : Taken) (b o : List ℕ) (r : Next) : Type 0 where
-  pub says : (f : Arguments → Read) → nextIn o r f ≡ argument letter w (takenIn b t) f
-  pub inOrder : TakenWithin t.ends.fourth (length w) b o r
+  pub says : (f : Arguments → Read) → next_in o r f ≡ argument letter w (taken_in b t) f
+  pub in_order_of : TakenWithin t.ends.fourth (length w) b o r
 
 -- the rows as words of a text: each is its name, its letters and its number as BYTE
 unfoldable pub texts : List LineRow → List (List ℕ)
 texts [] = []
-texts (r ∷ rows) = r.name ∷ r.letters ∷ digitsOf (r.number ∷ []) ∷ texts rows
+texts (r ∷ rows) = r.name ∷ r.letters ∷ digits_of_lem (r.number ∷ []) ∷ texts rows
 
-abbrev pub rowFoundIn : RowFound → Option LineRow
-rowFoundIn (At i) = some (row_at i)
-rowFoundIn Nothing = none
+abbrev pub row_found_in : RowFound → Option LineRow
+row_found_in (At i) = some (row_at i)
+row_found_in Nothing = none
 
 abbrev pub RowWithin : RowFound → Type 0
 RowWithin (At i) = i < length table

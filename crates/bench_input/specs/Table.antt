@@ -5,9 +5,9 @@ use Rattle.std.proofs.Math.Option.{Option, none, some}
 use Rattle.errors.specs.Choice.{pick, same}
 use Rattle.framing.specs.Lists.{both}
 use Rattle.targets.specs.Bitrates.{ascii}
-use Rattle.bench.specs.Words.{wordsOf}
-use Rattle.bench_input.specs.Arguments.{Arguments, Read, lineLimit, word_at}
-use Rattle.bench_input.specs.Letters.{argumentsOf, no_arguments}
+use Rattle.bench.specs.Words.{words_of_lem}
+use Rattle.bench_input.specs.Arguments.{Arguments, Read, line_limit, word_at}
+use Rattle.bench_input.specs.Letters.{arguments_of, no_arguments}
 use Rattle.calls.specs.declared.start.Numbers.{Numbers}
 
 pub record LineRow : Type 0 where
@@ -19,8 +19,8 @@ abbrev pub row : List ℕ → List ℕ → ℕ → LineRow
 row name letters number = record { name = name; letters = letters; number = number }
 
 -- a call has its number, and an event its number behind 128
-abbrev pub eventsFrom : ℕ
-eventsFrom = 128
+abbrev pub events_from : ℕ
+events_from = 128
 
 unfoldable pub table : List LineRow
 table =
@@ -70,12 +70,12 @@ abbrev pub row_at : ℕ → LineRow
 row_at k = get_or table k no_row
 
 -- the row of a name and a number of words
-unfoldable pub isFor : LineRow → List ℕ → ℕ → Bool
-isFor r name n = both (same r.name name) (eqb (length r.letters + 1) n)
+unfoldable pub is_for_of : LineRow → List ℕ → ℕ → Bool
+is_for_of r name n = both (same r.name name) (eqb (length r.letters + 1) n)
 
-unfoldable pub rowFor : List LineRow → List ℕ → ℕ → Option LineRow
-rowFor [] name n = none
-rowFor (r ∷ rows) name n = pick (isFor r name n) (some r) (rowFor rows name n)
+unfoldable pub row_for : List LineRow → List ℕ → ℕ → Option LineRow
+row_for [] name n = none
+row_for (r ∷ rows) name n = pick (is_for_of r name n) (some r) (row_for rows name n)
 
 -- a call by its number, with four byte strings; an event by its number, with its packet's bytes; or a line that cannot be read
 pub data Said : Type 0 where
@@ -89,17 +89,17 @@ string a k = get_or a.strings k []
 
 unfoldable pub said : ℕ → Arguments → Said
 said number a =
-    pick (ltb number eventsFrom) (calls number a.numbers (string a 0) (string a 1) (string a 2) (string a 3))
-    (pick (ltb 1 (length a.strings)) unreadable (happens (number - eventsFrom) (string a 0)))
+    pick (ltb number events_from) (calls number a.numbers (string a 0) (string a 1) (string a 2) (string a 3))
+    (pick (ltb 1 (length a.strings)) unreadable (happens (number - events_from) (string a 0)))
 
 abbrev pub said_of : ℕ → Read → Said
 said_of number none = unreadable
 said_of number (some a) = said number a
 
 -- the words of a line, by their row
-abbrev pub byRow : Option LineRow → List (List ℕ) → Said
-byRow none ws = unreadable
-byRow (some r) ws = said_of r.number (argumentsOf r.letters (drop 1 ws) no_arguments)
+abbrev pub by_row : Option LineRow → List (List ℕ) → Said
+by_row none ws = unreadable
+by_row (some r) ws = said_of r.number (arguments_of r.letters (drop 1 ws) no_arguments)
 
 unfoldable pub input_of : List ℕ → Said
-input_of l = pick (ltb lineLimit (length l)) unreadable (byRow (rowFor table (word_at l 0) (length (wordsOf l))) (wordsOf l))
+input_of l = pick (ltb line_limit (length l)) unreadable (by_row (row_for table (word_at l 0) (length (words_of_lem l))) (words_of_lem l))

@@ -1,7 +1,7 @@
 // The arguments of a line: its k-th word, the name being word 0, as a number or as bytes.
 ghost use Rattle.std.specs.Prelude.{◌≡◌, List, ℕ, ◌+◌, ◌*◌, ◌≤◌, ◌<◌, length};
-ghost use Rattle.bench_input.specs.Arguments.{Read, word_at, byteArg, flagArg, wordArg, msArg, hexArg, wholeArg, textArg, is_none, hexOrNone, presentArg, nameArg, waitArg};
-ghost use Rattle.bench_input.specs.Readings.{byteIn, word_in, msIn, waitIn, hexIn, Behind};
+ghost use Rattle.bench_input.specs.Arguments.{Read, word_at, byte_arg, flag_arg, word_arg, ms_arg, hex_arg, whole_arg, text_arg, is_none, hex_or_none, present_arg, name_arg, wait_arg};
+ghost use Rattle.bench_input.specs.Readings.{byte_in, word_in, ms_in, wait_in, hex_in, Behind};
 
 use bench::number::Number;
 use bench::{Put, hex, number, words};
@@ -31,7 +31,7 @@ const WAIT_LIMIT: u32 = 65535;
 
 // BYTE: one pair.
 pub(crate) fn read_byte(line: &[u8], k: usize) -> Byte
-    ensures { (f : ℕ → Read) → byteIn result f ≡ byteArg (word_at line.now k) f }
+    ensures { (f : ℕ → Read) → byte_in result f ≡ byte_arg (word_at line.now k) f }
 {
     let word = words::word(line, k);
     if word.len() == 2 {
@@ -52,7 +52,7 @@ fn joined(high: u8, low: u8) -> u16
 
 // WORD: two pairs, high byte first.
 pub(crate) fn read_word(line: &[u8], k: usize) -> Word
-    ensures { (f : ℕ → Read) → word_in result f ≡ wordArg (word_at line.now k) f }
+    ensures { (f : ℕ → Read) → word_in result f ≡ word_arg (word_at line.now k) f }
 {
     let word = words::word(line, k);
     if word.len() == 4 {
@@ -67,7 +67,7 @@ pub(crate) fn read_word(line: &[u8], k: usize) -> Word
 
 // MS: a number.
 pub(crate) fn read_ms(line: &[u8], k: usize) -> Number
-    ensures { (f : ℕ → Read) → msIn result f ≡ msArg (word_at line.now k) f }
+    ensures { (f : ℕ → Read) → ms_in result f ≡ ms_arg (word_at line.now k) f }
 {
     number::read(words::word(line, k))
 }
@@ -75,7 +75,7 @@ pub(crate) fn read_ms(line: &[u8], k: usize) -> Number
 // HEX: puts its bytes into the buffer from a place on, and gives the place behind them.
 pub(crate) fn read_hex(line: &[u8], k: usize, bytes: &mut [u8], at: usize) -> Put
     requires { at + length (word_at line.now k) ≤ length bytes.old }
-    ensures by_index { (f : List ℕ → Read) → hexIn at result bytes.new f ≡ hexArg (word_at line.now k) f }
+    ensures by_index { (f : List ℕ → Read) → hex_in at result bytes.new f ≡ hex_arg (word_at line.now k) f }
     ensures behind { Behind at result (length (word_at line.now k)) bytes.old bytes.new }
 {
     let Put::Bytes(n) = hex::read(words::word(line, k), &mut bytes[at..]) else {
@@ -87,7 +87,7 @@ pub(crate) fn read_hex(line: &[u8], k: usize, bytes: &mut [u8], at: usize) -> Pu
 // HEX of whole groups of so many bytes, from a place on.
 pub(crate) fn read_whole(line: &[u8], k: usize, bytes: &mut [u8], at: usize, size: usize) -> Put
     requires { (0 < size) × (at + length (word_at line.now k) ≤ length bytes.old) }
-    ensures by_index { (f : List ℕ → Read) → hexIn at result bytes.new f ≡ wholeArg size (word_at line.now k) f }
+    ensures by_index { (f : List ℕ → Read) → hex_in at result bytes.new f ≡ whole_arg size (word_at line.now k) f }
     ensures behind { Behind at result (length (word_at line.now k)) bytes.old bytes.new }
 {
     let Put::Bytes(end) = read_hex(line, k, bytes, at) else {
@@ -102,7 +102,7 @@ pub(crate) fn read_whole(line: &[u8], k: usize, bytes: &mut [u8], at: usize, siz
 // BITRATE, from a place on.
 pub(crate) fn read_text(line: &[u8], k: usize, bytes: &mut [u8], at: usize) -> Put
     requires { at + length (word_at line.now k) ≤ length bytes.old }
-    ensures by_index { (f : List ℕ → Read) → hexIn at result bytes.new f ≡ textArg (word_at line.now k) f }
+    ensures by_index { (f : List ℕ → Read) → hex_in at result bytes.new f ≡ text_arg (word_at line.now k) f }
     ensures behind { Behind at result (length (word_at line.now k)) bytes.old bytes.new }
 {
     let word = words::word(line, k);
@@ -126,7 +126,7 @@ fn is_none(line: &[u8], k: usize) -> bool
 // HEX, or `none` for no bytes, from a place on.
 pub(crate) fn read_hex_or_none(line: &[u8], k: usize, bytes: &mut [u8], at: usize) -> Put
     requires { at + length (word_at line.now k) ≤ length bytes.old }
-    ensures by_index { (f : List ℕ → Read) → hexIn at result bytes.new f ≡ hexOrNone (word_at line.now k) f }
+    ensures by_index { (f : List ℕ → Read) → hex_in at result bytes.new f ≡ hex_or_none (word_at line.now k) f }
     ensures behind { Behind at result (length (word_at line.now k)) bytes.old bytes.new }
 {
     if is_none(line, k) {
@@ -137,7 +137,7 @@ pub(crate) fn read_hex_or_none(line: &[u8], k: usize, bytes: &mut [u8], at: usiz
 
 // 00 or 01.
 pub(crate) fn read_flag(line: &[u8], k: usize) -> Byte
-    ensures { (f : ℕ → Read) → byteIn result f ≡ flagArg (word_at line.now k) f }
+    ensures { (f : ℕ → Read) → byte_in result f ≡ flag_arg (word_at line.now k) f }
 {
     let Byte::Value(flag) = read_byte(line, k) else {
         return Byte::Unreadable;
@@ -150,7 +150,7 @@ pub(crate) fn read_flag(line: &[u8], k: usize) -> Byte
 
 // This word: 1.
 pub(crate) fn read_name(line: &[u8], k: usize, name: &[u8]) -> Byte
-    ensures { (f : ℕ → Read) → byteIn result f ≡ nameArg name.now (word_at line.now k) f }
+    ensures { (f : ℕ → Read) → byte_in result f ≡ name_arg name.now (word_at line.now k) f }
 {
     if framing::is_exactly(words::word(line, k), name) {
         return Byte::Value(1);
@@ -160,7 +160,7 @@ pub(crate) fn read_name(line: &[u8], k: usize, name: &[u8]) -> Byte
 
 // Whether a HEX is present: 1 or 0.
 pub(crate) fn read_presence(line: &[u8], k: usize) -> Byte
-    ensures { (f : ℕ → Read) → byteIn result f ≡ presentArg (word_at line.now k) f }
+    ensures { (f : ℕ → Read) → byte_in result f ≡ present_arg (word_at line.now k) f }
 {
     if is_none(line, k) {
         return Byte::Value(0);
@@ -173,7 +173,7 @@ pub(crate) fn read_presence(line: &[u8], k: usize) -> Byte
 
 // MS of at most 65535, or `none`.
 pub(crate) fn read_wait(line: &[u8], k: usize) -> Wait
-    ensures { (f : ℕ → ℕ → Read) → waitIn result f ≡ waitArg (word_at line.now k) f }
+    ensures { (f : ℕ → ℕ → Read) → wait_in result f ≡ wait_arg (word_at line.now k) f }
 {
     if is_none(line, k) {
         return Wait::Value(0, 0);

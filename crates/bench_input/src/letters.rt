@@ -1,10 +1,10 @@
 // The words of a line behind its name, each read by its letter.
 ghost use Rattle.std.specs.Prelude.{◌≡◌, List, ℕ, ◌+◌, ◌≤◌, ◌<◌, length, drop};
 ghost use Rattle.std.proofs.Math.Option.{some};
-ghost use Rattle.bench.specs.Words.{wordsOf};
-ghost use Rattle.bench_input.specs.Arguments.{Read, word_at, lineLimit, bytesRoom};
-ghost use Rattle.bench_input.specs.Letters.{withMs, withWord, withX, withY, numberArg, stringArg, argumentsOf, no_arguments, firstNumberLetter};
-ghost use Rattle.bench_input.specs.Readings.{byteIn, word_in, msIn, waitIn, readNumbersIn, hexIn, Behind, EndsFor, endedAt, nextIn, TakenWithin, Takes};
+ghost use Rattle.bench.specs.Words.{words_of_lem};
+ghost use Rattle.bench_input.specs.Arguments.{Read, word_at, line_limit, bytes_room};
+ghost use Rattle.bench_input.specs.Letters.{with_ms, with_word, with_x, with_y, number_arg, string_arg, arguments_of, no_arguments, first_number_letter};
+ghost use Rattle.bench_input.specs.Readings.{byte_in, word_in, ms_in, wait_in, read_numbers_in, hex_in, Behind, EndsFor, ended_at, next_in, TakenWithin, Takes};
 
 use super::arguments::{Byte, Wait, Word};
 use super::{Ends, arguments};
@@ -38,7 +38,7 @@ pub enum Next {
 const STRINGS: usize = 4;
 
 fn with_x(numbers: Numbers, value: Byte) -> ReadNumbers
-    ensures { (f : Numbers → Read) → readNumbersIn result f ≡ byteIn value (λ v. f (withX v numbers)) }
+    ensures { (f : Numbers → Read) → read_numbers_in result f ≡ byte_in value (λ v. f (with_x v numbers)) }
 {
     let Byte::Value(x) = value else {
         return ReadNumbers::Unreadable;
@@ -49,7 +49,7 @@ fn with_x(numbers: Numbers, value: Byte) -> ReadNumbers
 }
 
 fn with_y(numbers: Numbers, value: Byte) -> ReadNumbers
-    ensures { (f : Numbers → Read) → readNumbersIn result f ≡ byteIn value (λ v. f (withY v numbers)) }
+    ensures { (f : Numbers → Read) → read_numbers_in result f ≡ byte_in value (λ v. f (with_y v numbers)) }
 {
     let Byte::Value(y) = value else {
         return ReadNumbers::Unreadable;
@@ -60,7 +60,7 @@ fn with_y(numbers: Numbers, value: Byte) -> ReadNumbers
 }
 
 fn with_word(numbers: Numbers, value: Word) -> ReadNumbers
-    ensures { (f : Numbers → Read) → readNumbersIn result f ≡ word_in value (λ v. f (withWord v numbers)) }
+    ensures { (f : Numbers → Read) → read_numbers_in result f ≡ word_in value (λ v. f (with_word v numbers)) }
 {
     let Word::Value(word) = value else {
         return ReadNumbers::Unreadable;
@@ -71,7 +71,7 @@ fn with_word(numbers: Numbers, value: Word) -> ReadNumbers
 }
 
 fn with_wait(numbers: Numbers, value: Wait) -> ReadNumbers
-    ensures { (f : Numbers → Read) → readNumbersIn result f ≡ waitIn value (λ given v. f (withY given (withWord v numbers))) }
+    ensures { (f : Numbers → Read) → read_numbers_in result f ≡ wait_in value (λ given v. f (with_y given (with_word v numbers))) }
 {
     let Wait::Value(given, ms) = value else {
         return ReadNumbers::Unreadable;
@@ -83,7 +83,7 @@ fn with_wait(numbers: Numbers, value: Wait) -> ReadNumbers
 }
 
 fn with_limit(numbers: Numbers, value: Wait) -> ReadNumbers
-    ensures { (f : Numbers → Read) → readNumbersIn result f ≡ waitIn value (λ given v. f (withY given (withMs v numbers))) }
+    ensures { (f : Numbers → Read) → read_numbers_in result f ≡ wait_in value (λ given v. f (with_y given (with_ms v numbers))) }
 {
     let Wait::Value(given, ms) = value else {
         return ReadNumbers::Unreadable;
@@ -95,7 +95,7 @@ fn with_limit(numbers: Numbers, value: Wait) -> ReadNumbers
 }
 
 fn with_ms(numbers: Numbers, value: Number) -> ReadNumbers
-    ensures { (f : Numbers → Read) → readNumbersIn result f ≡ msIn value (λ v. f (withMs v numbers)) }
+    ensures { (f : Numbers → Read) → read_numbers_in result f ≡ ms_in value (λ v. f (with_ms v numbers)) }
 {
     let Number::Value(ms) = value else {
         return ReadNumbers::Unreadable;
@@ -107,7 +107,7 @@ fn with_ms(numbers: Numbers, value: Number) -> ReadNumbers
 
 // A number, by its letter.
 fn read_number(letter: u8, line: &[u8], k: usize, numbers: Numbers) -> ReadNumbers
-    ensures { (f : Numbers → Read) → readNumbersIn result f ≡ numberArg letter (word_at line.now k) numbers f }
+    ensures { (f : Numbers → Read) → read_numbers_in result f ≡ number_arg letter (word_at line.now k) numbers f }
 {
     match letter {
         b'x' => with_x(numbers, arguments::read_byte(line, k)),
@@ -127,7 +127,7 @@ fn read_number(letter: u8, line: &[u8], k: usize, numbers: Numbers) -> ReadNumbe
 // The bytes of a byte string, by its letter, from a place on.
 fn string(letter: u8, line: &[u8], k: usize, bytes: &mut [u8], at: usize) -> Put
     requires { at + length (word_at line.now k) ≤ length bytes.old }
-    ensures by_index { (f : List ℕ → Read) → hexIn at result bytes.new f ≡ stringArg letter (word_at line.now k) f }
+    ensures by_index { (f : List ℕ → Read) → hex_in at result bytes.new f ≡ string_arg letter (word_at line.now k) f }
     ensures behind { Behind at result (length (word_at line.now k)) bytes.old bytes.new }
 {
     match letter {
@@ -142,7 +142,7 @@ fn string(letter: u8, line: &[u8], k: usize, bytes: &mut [u8], at: usize) -> Put
 
 // The ends with one more byte string behind so many.
 fn with_end(ends: Ends, count: usize, end: usize) -> Ends
-    ensures { result ≡ endedAt ends count end }
+    ensures { result ≡ ended_at ends count end }
 {
     let mut next = ends;
     next.fourth = end;
@@ -163,7 +163,7 @@ fn with_end(ends: Ends, count: usize, end: usize) -> Ends
 
 // One more byte string behind those that were taken.
 fn with_string(letter: u8, line: &[u8], k: usize, taken: Taken, bytes: &mut [u8]) -> Next
-    requires { (letter < firstNumberLetter) × EndsFor taken.count taken.ends × (taken.ends.fourth + length (word_at line.now k) ≤ length bytes.old) }
+    requires { (letter < first_number_letter) × EndsFor taken.count taken.ends × (taken.ends.fourth + length (word_at line.now k) ≤ length bytes.old) }
     ensures { Takes letter (word_at line.now k) taken bytes.old bytes.new result }
 {
     let numbers = taken.numbers;
@@ -184,7 +184,7 @@ fn with_string(letter: u8, line: &[u8], k: usize, taken: Taken, bytes: &mut [u8]
 
 // One more number.
 fn with_number(letter: u8, line: &[u8], k: usize, taken: Taken) -> Next
-    requires { (firstNumberLetter ≤ letter) × EndsFor taken.count taken.ends }
+    requires { (first_number_letter ≤ letter) × EndsFor taken.count taken.ends }
     ensures { (b : List ℕ) → Takes letter (word_at line.now k) taken b b result }
 {
     let ends = taken.ends;
@@ -212,8 +212,8 @@ fn argument(letter: u8, line: &[u8], k: usize, taken: Taken, bytes: &mut [u8]) -
 
 // All words behind the name.
 pub(crate) fn read(line: &[u8], letters: &[u8], bytes: &mut [u8]) -> Next
-    requires { (length line.now ≤ lineLimit) × (length bytes.old ≡ bytesRoom) × (length letters.now + 1 ≡ length (wordsOf line.now)) }
-    ensures some_after { nextIn bytes.new result some ≡ argumentsOf letters.now (drop 1 (wordsOf line.now)) no_arguments }
+    requires { (length line.now ≤ line_limit) × (length bytes.old ≡ bytes_room) × (length letters.now + 1 ≡ length (words_of_lem line.now)) }
+    ensures some_after { next_in bytes.new result some ≡ arguments_of letters.now (drop 1 (words_of_lem line.now)) no_arguments }
     ensures taken_within { TakenWithin 0 (length line.now) bytes.old bytes.new result }
 {
     let mut taken = Taken {

@@ -1,15 +1,17 @@
 // A line of the program `session`, read: a call or an event. The bytes of its BITRATE and HEX arguments stand one behind the
 // other at the start of a lent buffer, and a call has the places where they end.
+#![tactic(auto)]
+
 mod arguments;
 mod letters;
 mod table;
 
 ghost use Rattle.std.specs.Prelude.{◌≡◌, List, ℕ, ◌≤◌, length, drop};
 ghost use Rattle.std.proofs.Math.Seq.{slice};
-ghost use Rattle.bench.specs.Words.{wordsOf};
-ghost use Rattle.bench_input.specs.Arguments.{word_at, lineLimit, bytesRoom};
-ghost use Rattle.bench_input.specs.Table.{table as table_of, rowFor, said, byRow, input_of};
-ghost use Rattle.bench_input.specs.Readings.{EndsFor, takenIn, texts, inputIn, EndsInOrder, Reads};
+ghost use Rattle.bench.specs.Words.{words_of_lem};
+ghost use Rattle.bench_input.specs.Arguments.{word_at, line_limit, bytes_room};
+ghost use Rattle.bench_input.specs.Table.{table as table_of, row_for, said, by_row, input_of};
+ghost use Rattle.bench_input.specs.Readings.{EndsFor, taken_in, texts, input_in, EndsInOrder, Reads};
 
 use arguments::Byte;
 use bench::words;
@@ -66,8 +68,8 @@ pub fn slice(bytes: &[u8], from: usize, to: usize) -> &[u8]
 // What was taken, as the call or the event of a number.
 fn call_or_event(number: u8, taken: Taken) -> Input
     requires { EndsFor taken.count taken.ends }
-    ensures by_index { (b : List ℕ) → inputIn b result ≡ said number (takenIn b taken) }
-    ensures by_index_2 { (k : ℕ) (b o : List ℕ) → (taken.ends.fourth ≤ k) → (taken.ends.fourth ≤ bytesRoom) → drop taken.ends.fourth o ≡ drop taken.ends.fourth b → EndsInOrder k result b o }
+    ensures by_index { (b : List ℕ) → input_in b result ≡ said number (taken_in b taken) }
+    ensures by_index_2 { (k : ℕ) (b o : List ℕ) → (taken.ends.fourth ≤ k) → (taken.ends.fourth ≤ bytes_room) → drop taken.ends.fourth o ≡ drop taken.ends.fourth b → EndsInOrder k result b o }
 {
     let ends = taken.ends;
     let numbers = taken.numbers;
@@ -82,8 +84,8 @@ fn call_or_event(number: u8, taken: Taken) -> Input
 
 // Reads a line by the table.
 fn by_table(table: &[u8], line: &[u8], bytes: &mut [u8]) -> Input
-    requires { (wordsOf table.now ≡ texts table_of) × (length line.now ≤ lineLimit) × (length bytes.old ≡ bytesRoom) }
-    ensures { Reads (length line.now) bytes.old bytes.new result (byRow (rowFor table_of (word_at line.now 0) (length (wordsOf line.now))) (wordsOf line.now)) }
+    requires { (words_of_lem table.now ≡ texts table_of) × (length line.now ≤ line_limit) × (length bytes.old ≡ bytes_room) }
+    ensures { Reads (length line.now) bytes.old bytes.new result (by_row (row_for table_of (word_at line.now 0) (length (words_of_lem line.now))) (words_of_lem line.now)) }
 {
     let RowFound::At(i) = table::row(table, line) else {
         return Input::Unreadable;

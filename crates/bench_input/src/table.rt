@@ -1,9 +1,9 @@
 // The table of lines: three words for each, its name, a letter for each word behind the name, and its number as BYTE.
 ghost use Rattle.std.specs.Prelude.{◌≡◌, ◌<◌, length};
-ghost use Rattle.bench.specs.Words.{wordsOf};
+ghost use Rattle.bench.specs.Words.{words_of_lem};
 ghost use Rattle.bench_input.specs.Arguments.{word_at};
-ghost use Rattle.bench_input.specs.Table.{table as table_of, row_at, isFor, rowFor};
-ghost use Rattle.bench_input.specs.Readings.{texts, rowFoundIn, RowWithin};
+ghost use Rattle.bench_input.specs.Table.{table as table_of, row_at, is_for_of, row_for};
+ghost use Rattle.bench_input.specs.Readings.{texts, row_found_in, RowWithin};
 
 use bench::words;
 
@@ -55,8 +55,8 @@ pub enum RowFound {
 
 // Whether the row i has the line's name and number of words.
 fn is_for(table: &[u8], i: usize, name: &[u8], n: usize) -> bool
-    requires { (wordsOf table.now ≡ texts table_of) × (i < length table_of) }
-    ensures { result ≡ isFor (row_at i) name.now n }
+    requires { (words_of_lem table.now ≡ texts table_of) × (i < length table_of) }
+    ensures { result ≡ is_for_of (row_at i) name.now n }
 {
     if framing::is_exactly(name, words::word(table, 3 * i)) {
         words::word(table, 3 * i + 1).len() + 1 == n
@@ -66,8 +66,8 @@ fn is_for(table: &[u8], i: usize, name: &[u8], n: usize) -> bool
 }
 
 pub(crate) fn row(table: &[u8], line: &[u8]) -> RowFound
-    requires { wordsOf table.now ≡ texts table_of }
-    ensures { (rowFoundIn result ≡ rowFor table_of (word_at line.now 0) (length (wordsOf line.now))) × RowWithin result }
+    requires { words_of_lem table.now ≡ texts table_of }
+    ensures { (row_found_in result ≡ row_for table_of (word_at line.now 0) (length (words_of_lem line.now))) × RowWithin result }
 {
     let name = words::word(line, 0);
     let n = words::count(line);

@@ -1,11 +1,13 @@
 // The lines of the program `session`: a call or an event in, an order or an answer out.
+#![tactic(auto)]
+
 pub mod output;
 
 ghost use Rattle.core.specs.Prelude.{◌≡◌, ◌+◌, ◌≤◌, length, slice_set};
 ghost use Rattle.engine.specs.SessionSteps.{stepped};
-ghost use Rattle.bench_input.specs.Readings.{inputIn};
-ghost use Rattle.bench_session.specs.Outputs.{outRoom, textLimit};
-ghost use Rattle.bench_session.specs.Answers.{saidStep, afterLine, answer_of, lineReply};
+ghost use Rattle.bench_input.specs.Readings.{input_in};
+ghost use Rattle.bench_session.specs.Outputs.{out_room, text_limit};
+ghost use Rattle.bench_session.specs.Answers.{said_step, after_line, answer_of, line_reply};
 ghost use Rattle.bench.specs.Lines.{feed};
 
 use bench::lines::{Line, Unread};
@@ -49,7 +51,7 @@ fn called(
     bytes: &[u8],
     buffer: &mut [u8],
 ) -> Step
-    ensures { stepped result buffer.new ≡ saidStep session (inputIn bytes.now (Input.Call number numbers ends)) buffer.old }
+    ensures { stepped result buffer.new ≡ said_step session (input_in bytes.now (Input.Call number numbers ends)) buffer.old }
 {
     let first = slice(bytes, 0, ends.first);
     let second = slice(bytes, ends.first, ends.second);
@@ -60,7 +62,7 @@ fn called(
 
 // What the engine does with an event, whose packet has n bytes.
 fn on_event(session: Session, number: u8, n: usize, bytes: &[u8], buffer: &mut [u8]) -> Step
-    ensures { stepped result buffer.new ≡ saidStep session (inputIn bytes.now (Input.Event number n)) buffer.old }
+    ensures { stepped result buffer.new ≡ said_step session (input_in bytes.now (Input.Event number n)) buffer.old }
 {
     let Known::Is(event) = by_number::event_by(number) else {
         return unreadable(session);
@@ -70,7 +72,7 @@ fn on_event(session: Session, number: u8, n: usize, bytes: &[u8], buffer: &mut [
 
 // What the engine does with what was read.
 pub fn step(session: Session, input: Input, bytes: &[u8], buffer: &mut [u8]) -> Step
-    ensures { stepped result buffer.new ≡ saidStep session (inputIn bytes.now input) buffer.old }
+    ensures { stepped result buffer.new ≡ said_step session (input_in bytes.now input) buffer.old }
 {
     match input {
         Input::Call(number, numbers, ends) => {
@@ -83,7 +85,7 @@ pub fn step(session: Session, input: Input, bytes: &[u8], buffer: &mut [u8]) -> 
 
 // The same, of what was read into an array.
 fn step_read(session: Session, input: Input, bytes: &[u8; BYTES_ROOM], buffer: &mut [u8]) -> Step
-    ensures { stepped result buffer.new ≡ saidStep session (inputIn bytes.now input) buffer.old }
+    ensures { stepped result buffer.new ≡ said_step session (input_in bytes.now input) buffer.old }
 {
     step(session, input, bytes, buffer)
 }
@@ -95,7 +97,7 @@ pub fn answer(
     buffer: &mut [u8; BUFFER_SIZE],
     out: &mut [u8; OUT_ROOM],
 ) -> Answered
-    ensures { (afterLine result.session result.len buffer.new out.new ≡ answer_of session line.now buffer.old out.old) × (result.len ≤ textLimit) × (length out.new ≡ outRoom) }
+    ensures { (after_line result.session result.len buffer.new out.new ≡ answer_of session line.now buffer.old out.old) × (result.len ≤ text_limit) × (length out.new ≡ out_room) }
 {
     let mut bytes = [0u8; BYTES_ROOM];
     let input = bench_input::read(line, &mut bytes);
@@ -117,7 +119,7 @@ pub fn reply(
     buffer: &mut [u8; BUFFER_SIZE],
     out: &mut [u8; OUT_ROOM],
 ) -> Answered
-    ensures { (afterLine result.session result.len buffer.new out.new ≡ lineReply session next line.now buffer.old out.old) × (length out.old ≡ outRoom → length out.new ≡ outRoom) }
+    ensures { (after_line result.session result.len buffer.new out.new ≡ line_reply session next line.now buffer.old out.old) × (length out.old ≡ out_room → length out.new ≡ out_room) }
 {
     match next {
         Line::Text(n) => {
@@ -134,8 +136,8 @@ pub fn reply(
 
 // A line feed behind the text.
 fn fed(answer: Answered, out: &mut [u8; OUT_ROOM]) -> Answered
-    requires { (answer.len ≤ textLimit) × (length out.old ≡ outRoom) }
-    ensures { (result.session ≡ answer.session) × (result.len ≡ answer.len + 1) × (out.new ≡ slice_set out.old answer.len feed) × (length out.new ≡ outRoom) }
+    requires { (answer.len ≤ text_limit) × (length out.old ≡ out_room) }
+    ensures { (result.session ≡ answer.session) × (result.len ≡ answer.len + 1) × (out.new ≡ slice_set out.old answer.len feed) × (length out.new ≡ out_room) }
 {
     let n = answer.len;
     let session = answer.session;

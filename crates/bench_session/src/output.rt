@@ -1,8 +1,8 @@
 // What is printed for an order or an answer.
 ghost use Rattle.core.specs.Prelude.{◌≡◌, ◌≤◌, ◌++◌, length};
-ghost use Rattle.bench.specs.Texts.{placed, placed_at, decimalOf, Appends};
-ghost use Rattle.bench.specs.Hex.{hexOf};
-ghost use Rattle.bench_session.specs.Outputs.{outRoom, textLimit, doneText, type1Text, lengthsText, refusedText, listRefusedText, text_of};
+ghost use Rattle.bench.specs.Texts.{placed, placed_at, decimal_of, Appends};
+ghost use Rattle.bench.specs.Hex.{hex_of};
+ghost use Rattle.bench_session.specs.Outputs.{out_room, text_limit, done_text, type1_text, lengths_text, refused_text, list_refused_text, text_of};
 
 use super::{BUFFER_SIZE, OUT_ROOM};
 use bench::{hex, prefix, text};
@@ -11,7 +11,7 @@ use errors::{CARD_STATUS_NUMBER, Numbered, STATUS_NUMBER};
 use framing::ACK_SIZE;
 
 fn put_named(name: &[u8], bytes: &[u8], out: &mut [u8]) -> usize
-    ensures { Appends 0 (name.now ++ hexOf bytes.now) out.old result out.new }
+    ensures { Appends 0 (name.now ++ hex_of bytes.now) out.old result out.new }
 {
     let at = text::put(name, out, 0);
     hex::put(bytes, out, at)
@@ -19,7 +19,7 @@ fn put_named(name: &[u8], bytes: &[u8], out: &mut [u8]) -> usize
 
 // A name and a number behind the text that ends at a place.
 fn put_number(name: &[u8], number: u64, out: &mut [u8], at: usize) -> usize
-    ensures { Appends at (name.now ++ decimalOf number) out.old result out.new }
+    ensures { Appends at (name.now ++ decimal_of number) out.old result out.new }
 {
     let behind = text::put(name, out, at);
     text::put_decimal(number, out, behind)
@@ -27,7 +27,7 @@ fn put_number(name: &[u8], number: u64, out: &mut [u8], at: usize) -> usize
 
 // An answer's bytes; `done` alone where it has none.
 fn put_done(bytes: &[u8], out: &mut [u8]) -> usize
-    ensures { Appends 0 (doneText bytes.now) out.old result out.new }
+    ensures { Appends 0 (done_text bytes.now) out.old result out.new }
 {
     if bytes.len() == 0 {
         return text::put(b"done", out, 0);
@@ -37,7 +37,7 @@ fn put_done(bytes: &[u8], out: &mut [u8]) -> usize
 
 // A Type 1 answer's bytes, of which there are always some.
 fn put_type1(bytes: &[u8], out: &mut [u8]) -> usize
-    ensures { Appends 0 (type1Text bytes.now) out.old result out.new }
+    ensures { Appends 0 (type1_text bytes.now) out.old result out.new }
 {
     let at = put_named(b"done ", bytes, out);
     text::put(b" type1", out, at)
@@ -45,7 +45,7 @@ fn put_type1(bytes: &[u8], out: &mut [u8]) -> usize
 
 // An answer's bytes, of which there are always some, and the lengths of the UID and the ATS among them.
 fn put_lengths(bytes: &[u8], uid: u8, ats: u8, out: &mut [u8]) -> usize
-    ensures { Appends 0 (lengthsText bytes.now uid ats) out.old result out.new }
+    ensures { Appends 0 (lengths_text bytes.now uid ats) out.old result out.new }
 {
     let at = put_named(b"done ", bytes, out);
     let behind = put_number(b" uid ", uid as u64, out, at);
@@ -54,7 +54,7 @@ fn put_lengths(bytes: &[u8], uid: u8, ats: u8, out: &mut [u8]) -> usize
 
 // A refusal's number, and the status of 15 or both status flags of 20.
 fn put_refused(numbered: Numbered, out: &mut [u8]) -> usize
-    ensures { Appends 0 (refusedText numbered) out.old result out.new }
+    ensures { Appends 0 (refused_text numbered) out.old result out.new }
 {
     let at = put_number(b"refused ", numbered.number as u64, out, 0);
     if numbered.number == STATUS_NUMBER {
@@ -72,7 +72,7 @@ fn put_refused(numbered: Numbered, out: &mut [u8]) -> usize
 
 // The refusal that ends a list, and how many of its codes were finished.
 fn put_list_refused(numbered: Numbered, finished: u8, out: &mut [u8]) -> usize
-    ensures { Appends 0 (listRefusedText numbered finished) out.old result out.new }
+    ensures { Appends 0 (list_refused_text numbered finished) out.old result out.new }
 {
     let at = put_refused(numbered, out);
     put_number(b" finished ", finished as u64, out, at)
@@ -99,7 +99,7 @@ fn put_output(output: Output, bytes: &[u8], out: &mut [u8]) -> usize
 
 // Puts the text of an output, whose bytes stand at the start of `buffer`, at the start of `out`, and gives its length.
 pub fn print(output: Output, buffer: &[u8; BUFFER_SIZE], out: &mut [u8; OUT_ROOM]) -> usize
-    ensures { (placed result out.new ≡ placed_at 0 (text_of output buffer.now) out.old) × (result ≤ textLimit) × (length out.new ≡ outRoom) }
+    ensures { (placed result out.new ≡ placed_at 0 (text_of output buffer.now) out.old) × (result ≤ text_limit) × (length out.new ≡ out_room) }
 {
     put_output(output, buffer, out)
 }

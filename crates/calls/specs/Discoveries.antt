@@ -5,52 +5,52 @@ use Rattle.std.specs.Prelude.{◌||◌, true, List, [], ◌∷◌, ◌++◌, ℕ
 use Rattle.errors.specs.Choice.{pick}
 use Rattle.errors.specs.declared.Fault.TheVariants.{Status, ShortResponse, NoCard}
 use Rattle.exchange.specs.Packets.{Reply}
-use Rattle.protocol.specs.Scripts.{own, done, nothing, refused, Script, finish, command, fieldPause, either, refuse, ifElse, rest}
-use Rattle.protocol.specs.Rules.{anyNonzero, statusByte}
-use Rattle.protocol.specs.Arguments.{jumpData, word, shortestAtrReq, nfcid3Size, activeByte, nfcid3Offset}
-use Rattle.protocol.specs.Discovery.{detectTypeB, detectTypeF, detectDep, wakeUp, foundB, poll, noPartner as noPartnerScript}
+use Rattle.protocol.specs.Scripts.{own, done, nothing, refused, Script, finish, command, field_pause, either, refuse, if_else, rest}
+use Rattle.protocol.specs.Rules.{any_nonzero_of, status_byte}
+use Rattle.protocol.specs.Arguments.{jump_data, word, shortest_atr_req, nfcid3_size, active_byte, nfcid3_offset}
+use Rattle.protocol.specs.Discovery.{detect_type_b_of, detect_type_f_of, detect_dep_of, wake_up, found_b, poll, no_partner_of as no_partner_script}
 use Rattle.stages.specs.Stages.{send}
-use Rattle.chipset.specs.Responses.{foundWritten}
-use Rattle.discovery.specs.Decisions.{typeBCommand, isoDep, listedB, wokenUp, typeBDecision, typeBFailure, typeFCommand, txControlRead, polled, typeFDecision, depCommand, noPartner, jumpedTo, depDecision, jumpFailure, depFailure}
-use Rattle.calls.specs.Tables.{commandOf, isResetOf, decidedOf, failedOf}
-use Rattle.calls.specs.Refines.{Refines, refines-keep, refines-put, refines-pause, Awaits, refines-if, refines-status, ending, none_found, refusal, by_length, go_on}
+use Rattle.chipset.specs.Responses.{found_written_of}
+use Rattle.discovery.specs.Decisions.{type_b_command, iso_dep_of, listed_b_of, woken_up, type_b_decision, type_b_failure, type_f_command, tx_control_read, polled, type_f_decision, dep_command, no_partner_of, jumped_to, dep_decision, jump_failure, dep_failure}
+use Rattle.calls.specs.Tables.{command_of, is_reset_of, decided_of, failed_of}
+use Rattle.calls.specs.Refines.{Refines, refines_keep, refines_put, refines_pause, Awaits, refines_if, refines_status, ending, none_found, refusal, by_length, go_on}
 use Rattle.protocol.specs.Values.{rest-values}
-use Rattle.protocol.specs.Names.{ciuMode, commandClock, inJumpForDepClock, inListPassiveTargetClock, registerWriteFailed, registersClock, rfNotActivated, timeoutStatus, typeBClock, listedIdmOffset, pmmEnd, protocolOffset, wupbCode, wupbParameter, noDetectSync, atrResCmd0, atrResCmd1, oneTarget, txRfEn}
-use Rattle.protocol.specs.Calls.{inCommunicateThruCode, inJumpForDepCode, inListPassiveTargetCode, readRegisterCode, rfConfigurationCode, writeRegisterCode}
-use Rattle.discovery.specs.Kinds.{typeBKind, typeFKind, depKind, listStage, deselectStage, wakeUpStage, fieldStage, rfOnStage, pollStage, depTimeoutsStage, jumpStage, writeModeStage}
+use Rattle.protocol.specs.Names.{ciu_mode, command_clock, in_jump_for_dep_clock, in_list_passive_target_clock, register_write_failed, registers_clock, rf_not_activated, timeout_status, type_b_clock, listed_idm_offset, pmm_end, protocol_offset, wupb_code, wupb_parameter, no_detect_sync, atr_res_cmd0, atr_res_cmd1, one_target, tx_rf_en}
+use Rattle.protocol.specs.Calls.{in_communicate_thru_code, in_jump_for_dep_code, in_list_passive_target_code, read_register_code, rf_configuration_code, write_register_code}
+use Rattle.discovery.specs.Kinds.{type_b_kind, type_f_kind, dep_kind, list_stage, deselect_stage, wake_up_stage, field_stage, rf_on_stage, poll_stage, dep_timeouts_stage, jump_stage, write_mode_stage}
 
 -- ---- Type B
 
 module _ (afi : ℕ) where
   abbrev wakes : List ℕ
-  wakes = wupbCode ∷ afi ∷ wupbParameter ∷ []
+  wakes = wupb_code ∷ afi ∷ wupb_parameter ∷ []
 
   typeB-2 : (found : List ℕ)
-      → Awaits typeBKind wakeUpStage 0 wakes found (either (λ bs. ifElse (eqb (statusByte bs) 0) (finish (done (rest 2 bs 1))) (finish nothing)) (λ _. finish nothing))
-  unfolding decidedOf failedOf typeBDecision wokenUp typeBFailure pick
+      → Awaits type_b_kind wake_up_stage 0 wakes found (either (λ bs. if_else (eqb (status_byte bs) 0) (finish (done (rest 2 bs 1))) (finish nothing)) (λ _. finish nothing))
+  unfolding decided_of failed_of type_b_decision woken_up type_b_failure pick
   typeB-2 found = record {
-    answered = λ cs few. refines-if (eqb (statusByte cs) 0) (λ _. ending _ (ap done (rest-values 2 cs 1))) (λ _. none_found);
+    answered = λ cs few. refines_if (eqb (status_byte cs) 0) (λ _. ending _ (ap done (rest-values 2 cs 1))) (λ _. none_found);
     failing = λ r. none_found;
   }
 
-  typeB-1 : (found : List ℕ) → Awaits typeBKind deselectStage 0 wakes found (λ _. wakeUp afi)
-  unfolding decidedOf failedOf typeBDecision typeBFailure commandOf isResetOf typeBCommand pick
+  typeB-1 : (found : List ℕ) → Awaits type_b_kind deselect_stage 0 wakes found (λ _. wake_up afi)
+  unfolding decided_of failed_of type_b_decision type_b_failure command_of is_reset_of type_b_command pick
   typeB-1 found = record {
-    answered = λ cs few. go_on wakeUpStage inCommunicateThruCode typeBClock _ refl refl refl (typeB-2 found);
-    failing = λ r. go_on wakeUpStage inCommunicateThruCode typeBClock _ refl refl refl (typeB-2 found);
+    answered = λ cs few. go_on wake_up_stage in_communicate_thru_code type_b_clock _ refl refl refl (typeB-2 found);
+    failing = λ r. go_on wake_up_stage in_communicate_thru_code type_b_clock _ refl refl refl (typeB-2 found);
   }
 
   typeB-0 : (code : ℕ) (found : List ℕ)
-      → Awaits typeBKind listStage 0 (oneTarget ∷ code ∷ afi ∷ []) found (either (λ list. ifElse (eqb (get_or list 0 0) 0) (finish nothing) (ifElse (ltb (length list) 2) (refuse ShortResponse) (foundB afi list))) refuse)
-  unfolding decidedOf failedOf typeBDecision typeBFailure listedB isoDep commandOf isResetOf typeBCommand pick
+      → Awaits type_b_kind list_stage 0 (one_target ∷ code ∷ afi ∷ []) found (either (λ list. if_else (eqb (get_or list 0 0) 0) (finish nothing) (if_else (ltb (length list) 2) (refuse ShortResponse) (found_b afi list))) refuse)
+  unfolding decided_of failed_of type_b_decision type_b_failure listed_b_of iso_dep_of command_of is_reset_of type_b_command pick
   typeB-0 code found = record {
     answered = λ cs few.
-        refines-if (eqb (get_or cs 0 0) 0) (λ _. none_found)
+        refines_if (eqb (get_or cs 0 0) 0) (λ _. none_found)
         (λ _. by_length cs 2
-        (λ _. refines-if (ltb (length cs) (protocolOffset + 1)) (λ _. none_found)
-        (λ _. refines-if (eqb (get_or cs protocolOffset 0 % 2) 1)
-        (λ _. refines-if (eqb (get_or cs protocolOffset 0 / 8 % 2) 0)
-        (λ _. refines-put deselectStage _ _ (omega arith) (go_on deselectStage inCommunicateThruCode typeBClock _ refl refl refl (typeB-1 found))) (λ _. none_found))
+        (λ _. refines_if (ltb (length cs) (protocol_offset + 1)) (λ _. none_found)
+        (λ _. refines_if (eqb (get_or cs protocol_offset 0 % 2) 1)
+        (λ _. refines_if (eqb (get_or cs protocol_offset 0 / 8 % 2) 0)
+        (λ _. refines_put deselect_stage _ _ (omega arith) (go_on deselect_stage in_communicate_thru_code type_b_clock _ refl refl refl (typeB-1 found))) (λ _. none_found))
         (λ _. none_found))));
     failing = λ r. refusal r;
   }
@@ -60,74 +60,74 @@ module _ (afi : ℕ) where
 module _ (code : ℕ) (req : List ℕ) where
   -- the poll is command j of the call
   typeF-2 : (j : ℕ) (found : List ℕ)
-      → Awaits typeFKind pollStage 0 (oneTarget ∷ code ∷ req) found (either (λ list. ifElse (eqb (get_or list 0 0) 0) (refuse NoCard) (ifElse (ltb (length list) 2) (refuse ShortResponse) (ifElse (ltb (length list) pmmEnd) (refuse ShortResponse) (finish (done (rest j list listedIdmOffset)))))) refuse)
-  unfolding decidedOf failedOf typeFDecision polled pick
+      → Awaits type_f_kind poll_stage 0 (one_target ∷ code ∷ req) found (either (λ list. if_else (eqb (get_or list 0 0) 0) (refuse NoCard) (if_else (ltb (length list) 2) (refuse ShortResponse) (if_else (ltb (length list) pmm_end) (refuse ShortResponse) (finish (done (rest j list listed_idm_offset)))))) refuse)
+  unfolding decided_of failed_of type_f_decision polled pick
   typeF-2 j found = record {
     answered = λ cs few.
-        refines-if (eqb (get_or cs 0 0) 0) (λ _. refusal NoCard)
-        (λ _. by_length cs 2 (λ _. by_length cs pmmEnd (λ _. ending _ (ap done (rest-values j cs listedIdmOffset)))));
+        refines_if (eqb (get_or cs 0 0) 0) (λ _. refusal NoCard)
+        (λ _. by_length cs 2 (λ _. by_length cs pmm_end (λ _. ending _ (ap done (rest-values j cs listed_idm_offset)))));
     failing = λ r. refusal r;
   }
 
-  typeF-1 : (found : List ℕ) → Awaits typeFKind rfOnStage 0 (oneTarget ∷ code ∷ req) found (either (λ _. fieldPause (poll 2 code req)) refuse)
-  unfolding decidedOf failedOf typeFDecision commandOf isResetOf typeFCommand pick
+  typeF-1 : (found : List ℕ) → Awaits type_f_kind rf_on_stage 0 (one_target ∷ code ∷ req) found (either (λ _. field_pause (poll 2 code req)) refuse)
+  unfolding decided_of failed_of type_f_decision command_of is_reset_of type_f_command pick
   typeF-1 found = record {
-    answered = λ cs few. refines-pause pollStage _ refl (go_on pollStage inListPassiveTargetCode inListPassiveTargetClock _ refl refl refl (typeF-2 2 found));
+    answered = λ cs few. refines_pause poll_stage _ refl (go_on poll_stage in_list_passive_target_code in_list_passive_target_clock _ refl refl refl (typeF-2 2 found));
     failing = λ r. refusal r;
   }
 
   typeF-0 : (found : List ℕ)
-      → Awaits typeFKind fieldStage 0 (oneTarget ∷ code ∷ req) found (either (λ bs. ifElse (ltb (length bs) 1) (refuse ShortResponse) (ifElse (eqb (get_or bs 0 0 % txRfEn) 0) (command rfConfigurationCode commandClock (0x01 ∷ 0x01 ∷ []) (either (λ _. fieldPause (poll 2 code req)) refuse)) (poll 1 code req))) refuse)
-  unfolding decidedOf failedOf typeFDecision txControlRead commandOf isResetOf typeFCommand pick
+      → Awaits type_f_kind field_stage 0 (one_target ∷ code ∷ req) found (either (λ bs. if_else (ltb (length bs) 1) (refuse ShortResponse) (if_else (eqb (get_or bs 0 0 % tx_rf_en) 0) (command rf_configuration_code command_clock (0x01 ∷ 0x01 ∷ []) (either (λ _. field_pause (poll 2 code req)) refuse)) (poll 1 code req))) refuse)
+  unfolding decided_of failed_of type_f_decision tx_control_read command_of is_reset_of type_f_command pick
   typeF-0 found = record {
     answered = λ cs few.
         by_length cs 1
-        (λ _. refines-if (eqb (get_or cs 0 0 % txRfEn) 0) (λ _. go_on rfOnStage rfConfigurationCode commandClock _ refl refl refl (typeF-1 found)) (λ _. go_on pollStage inListPassiveTargetCode inListPassiveTargetClock _ refl refl refl (typeF-2 1 found)));
+        (λ _. refines_if (eqb (get_or cs 0 0 % tx_rf_en) 0) (λ _. go_on rf_on_stage rf_configuration_code command_clock _ refl refl refl (typeF-1 found)) (λ _. go_on poll_stage in_list_passive_target_code in_list_passive_target_clock _ refl refl refl (typeF-2 1 found)));
     failing = λ r. refusal r;
   }
 
 -- ---- DEP
 
-abbrev modeWritten : List ℕ → Reply → Script
-modeWritten list = either (λ bs. ifElse (anyNonzero bs) (refuse (Status registerWriteFailed)) (finish (done (own atrResCmd0 ∷ own atrResCmd1 ∷ rest 1 list 2)))) refuse
+abbrev mode_written : List ℕ → Reply → Script
+mode_written list = either (λ bs. if_else (any_nonzero_of bs) (refuse (Status register_write_failed)) (finish (done (own atr_res_cmd0 ∷ own atr_res_cmd1 ∷ rest 1 list 2)))) refuse
 
-dep-2 : (pending list : List ℕ) → Awaits depKind writeModeStage 0 pending (atrResCmd0 ∷ atrResCmd1 ∷ drop 2 list) (modeWritten list)
-unfolding decidedOf failedOf depDecision foundWritten depFailure pick
-dep-2 pending list = record {
+dep_2 : (pending list : List ℕ) → Awaits dep_kind write_mode_stage 0 pending (atr_res_cmd0 ∷ atr_res_cmd1 ∷ drop 2 list) (mode_written list)
+unfolding decided_of failed_of dep_decision found_written_of dep_failure pick
+dep_2 pending list = record {
   answered = λ cs few.
-      refines-if (anyNonzero cs) (λ _. refusal (Status registerWriteFailed)) (λ _. ending _ (ap (λ l. done (atrResCmd0 ∷ atrResCmd1 ∷ l)) (rest-values 1 list 2)));
+      refines_if (any_nonzero_of cs) (λ _. refusal (Status register_write_failed)) (λ _. ending _ (ap (λ l. done (atr_res_cmd0 ∷ atr_res_cmd1 ∷ l)) (rest-values 1 list 2)));
   failing = λ r. refusal r;
 }
 
-dep-1 : (pending found : List ℕ)
-    → Awaits depKind jumpStage 0 pending found (either (λ bs. ifElse (eqb (statusByte bs) 0) (ifElse (ltb (length bs) 2) (refuse ShortResponse) (command writeRegisterCode registersClock (word ciuMode ++ (noDetectSync ∷ [])) (modeWritten bs))) (noPartnerScript (Status (statusByte bs)))) noPartnerScript)
-unfolding decidedOf failedOf depDecision jumpedTo depFailure jumpFailure noPartner commandOf isResetOf depCommand pick
-dep-1 pending found = record {
+dep_1 : (pending found : List ℕ)
+    → Awaits dep_kind jump_stage 0 pending found (either (λ bs. if_else (eqb (status_byte bs) 0) (if_else (ltb (length bs) 2) (refuse ShortResponse) (command write_register_code registers_clock (word ciu_mode ++ (no_detect_sync ∷ [])) (mode_written bs))) (no_partner_script (Status (status_byte bs)))) no_partner_script)
+unfolding decided_of failed_of dep_decision jumped_to dep_failure jump_failure no_partner_of command_of is_reset_of dep_command pick
+dep_1 pending found = record {
   answered = λ cs few.
-      refines-if (eqb (statusByte cs) 0) (λ _. by_length cs 2 (λ _. refines-keep writeModeStage _ _ (omega (arith, length-drop 2 cs)) (go_on writeModeStage writeRegisterCode registersClock _ refl refl refl (dep-2 pending cs))))
-      (λ _. refines-if (eqb (statusByte cs) timeoutStatus || eqb (statusByte cs) rfNotActivated) (λ _. none_found) (λ _. refusal (Status (statusByte cs))));
-  failing = λ r. refines-status r (λ k e. refines-if (eqb k timeoutStatus || eqb k rfNotActivated) (λ _. none_found) (λ _. ending (refused r) (ap refused e))) (refusal r);
+      refines_if (eqb (status_byte cs) 0) (λ _. by_length cs 2 (λ _. refines_keep write_mode_stage _ _ (omega (arith, length-drop 2 cs)) (go_on write_mode_stage write_register_code registers_clock _ refl refl refl (dep_2 pending cs))))
+      (λ _. refines_if (eqb (status_byte cs) timeout_status || eqb (status_byte cs) rf_not_activated) (λ _. none_found) (λ _. refusal (Status (status_byte cs))));
+  failing = λ r. refines_status r (λ k e. refines_if (eqb k timeout_status || eqb k rf_not_activated) (λ _. none_found) (λ _. ending (refused r) (ap refused e))) (refusal r);
 }
 
-dep-0 : (code : ℕ) (nfcid3 gi found : List ℕ)
-    → Awaits depKind depTimeoutsStage 0 (jumpData (activeByte true) code [] nfcid3 gi) found (either (λ _. command inJumpForDepCode inJumpForDepClock (jumpData (activeByte true) code [] nfcid3 gi) (either (λ bs. ifElse (eqb (statusByte bs) 0) (ifElse (ltb (length bs) 2) (refuse ShortResponse) (command writeRegisterCode registersClock (word ciuMode ++ (noDetectSync ∷ [])) (modeWritten bs))) (noPartnerScript (Status (statusByte bs)))) noPartnerScript)) refuse)
-unfolding decidedOf failedOf depDecision depFailure commandOf isResetOf depCommand pick
-dep-0 code nfcid3 gi found = record {
-  answered = λ cs few. go_on jumpStage inJumpForDepCode inJumpForDepClock _ refl refl refl (dep-1 (jumpData (activeByte true) code [] nfcid3 gi) found);
+dep_0 : (code : ℕ) (nfcid3 gi found : List ℕ)
+    → Awaits dep_kind dep_timeouts_stage 0 (jump_data (active_byte true) code [] nfcid3 gi) found (either (λ _. command in_jump_for_dep_code in_jump_for_dep_clock (jump_data (active_byte true) code [] nfcid3 gi) (either (λ bs. if_else (eqb (status_byte bs) 0) (if_else (ltb (length bs) 2) (refuse ShortResponse) (command write_register_code registers_clock (word ciu_mode ++ (no_detect_sync ∷ [])) (mode_written bs))) (no_partner_script (Status (status_byte bs)))) no_partner_script)) refuse)
+unfolding decided_of failed_of dep_decision dep_failure command_of is_reset_of dep_command pick
+dep_0 code nfcid3 gi found = record {
+  answered = λ cs few. go_on jump_stage in_jump_for_dep_code in_jump_for_dep_clock _ refl refl refl (dep_1 (jump_data (active_byte true) code [] nfcid3 gi) found);
   failing = λ r. refusal r;
 }
 
 -- ---- each from its first command on
 
-pub typeB-refines : (code afi : ℕ) (found : List ℕ) → Refines typeBKind 0 (oneTarget ∷ code ∷ afi ∷ []) found (send listStage) (detectTypeB code afi)
-unfolding commandOf isResetOf typeBCommand pick
-typeB-refines code afi found = go_on listStage inListPassiveTargetCode inListPassiveTargetClock _ refl refl refl (typeB-0 afi code found)
+pub type_b_refines : (code afi : ℕ) (found : List ℕ) → Refines type_b_kind 0 (one_target ∷ code ∷ afi ∷ []) found (send list_stage) (detect_type_b_of code afi)
+unfolding command_of is_reset_of type_b_command pick
+type_b_refines code afi found = go_on list_stage in_list_passive_target_code in_list_passive_target_clock _ refl refl refl (typeB-0 afi code found)
 
-pub typeF-refines : (code : ℕ) (req found : List ℕ) → Refines typeFKind 0 (oneTarget ∷ code ∷ req) found (send fieldStage) (detectTypeF code req)
-unfolding commandOf isResetOf typeFCommand pick
-typeF-refines code req found = go_on fieldStage readRegisterCode registersClock _ refl refl refl (typeF-0 code req found)
+pub type_f_refines : (code : ℕ) (req found : List ℕ) → Refines type_f_kind 0 (one_target ∷ code ∷ req) found (send field_stage) (detect_type_f_of code req)
+unfolding command_of is_reset_of type_f_command pick
+type_f_refines code req found = go_on field_stage read_register_code registers_clock _ refl refl refl (typeF-0 code req found)
 
-pub dep-refines : (code : ℕ) (req found : List ℕ)
-    → Refines depKind 0 (jumpData (activeByte true) code [] (take nfcid3Size (drop nfcid3Offset req)) (drop shortestAtrReq req)) found (send depTimeoutsStage) (detectDep code req)
-unfolding commandOf isResetOf depCommand pick
-dep-refines code req found = go_on depTimeoutsStage rfConfigurationCode commandClock _ refl refl refl (dep-0 code (take nfcid3Size (drop nfcid3Offset req)) (drop shortestAtrReq req) found)
+pub dep_refines : (code : ℕ) (req found : List ℕ)
+    → Refines dep_kind 0 (jump_data (active_byte true) code [] (take nfcid3_size (drop nfcid3_offset req)) (drop shortest_atr_req req)) found (send dep_timeouts_stage) (detect_dep_of code req)
+unfolding command_of is_reset_of dep_command pick
+dep_refines code req found = go_on dep_timeouts_stage rf_configuration_code command_clock _ refl refl refl (dep_0 code (take nfcid3_size (drop nfcid3_offset req)) (drop shortest_atr_req req) found)

@@ -1,9 +1,11 @@
 // The calls by their kinds: the command of each stage, and what follows each reply. How each starts, by its number, is in start.rt.
+#![tactic(auto)]
+
 pub mod start;
 
 ghost use Rattle.std.specs.Prelude.{List, ◌≡◌, ℕ};
 ghost use Rattle.stages.specs.Decided.{DecisionRefines, Sends};
-ghost use Rattle.calls.specs.Tables.{commandOf, isResetOf, decidedOf, failedOf};
+ghost use Rattle.calls.specs.Tables.{command_of, is_reset_of, decided_of, failed_of};
 
 use chipset::{
     ALL_BYTES_KIND, EXCHANGED_DATA_KIND, FIRST_BYTE_KIND, INITIATOR_COMMAND_KIND, JUMP_KIND,
@@ -29,7 +31,7 @@ pub const LAST_STAGE: u8 = RF_CFG_STAGE;
 
 // The command of a stage; `cursor` is where the call stands in a list of its own, and `pending` is the pending command.
 pub fn command(kind: u8, stage: u8, cursor: u8, pending: &[u8]) -> Command
-    ensures { Sends result pending.now (commandOf kind stage cursor pending.now) }
+    ensures { Sends result pending.now (command_of kind stage cursor pending.now) }
 {
     match kind {
         OPENING_KIND => device::command(stage),
@@ -45,7 +47,7 @@ pub fn command(kind: u8, stage: u8, cursor: u8, pending: &[u8]) -> Command
 
 // The command of a stage is a reset's: behind its exchange follow ACK and a pause, whatever came of it.
 pub fn is_reset(kind: u8, stage: u8) -> bool
-    ensures { result ≡ isResetOf kind stage }
+    ensures { result ≡ is_reset_of kind stage }
 {
     if kind == OPENING_KIND {
         device::is_reset(stage)
@@ -63,7 +65,7 @@ pub fn decided(
     found: &[u8],
     response: &[u8],
 ) -> Decision
-    ensures { DecisionRefines found.now response.now result (decidedOf kind stage cursor pending.now found.now response.now) }
+    ensures { DecisionRefines found.now response.now result (decided_of kind stage cursor pending.now found.now response.now) }
 {
     match kind {
         OPENING_KIND => device::decided(stage, found, response),
@@ -101,7 +103,7 @@ pub fn failed(
     found: &[u8],
     fault: Fault,
 ) -> Decision
-    ensures { (b : List ℕ) → DecisionRefines found.now b result (failedOf kind stage cursor pending.now found.now fault) }
+    ensures { (b : List ℕ) → DecisionRefines found.now b result (failed_of kind stage cursor pending.now found.now fault) }
 {
     match kind {
         TYPE_A_KIND => type_a::failed(stage, fault),

@@ -1,11 +1,11 @@
 // How each call starts, by its number: its first command, for which bytes are put by, or its refusal at once.
 ghost use Rattle.std.specs.Prelude.{Bool, List, ◌≡◌, ℕ, ◌≤◌, ◌<◌};
 ghost use Rattle.stages.specs.Starts.{Starts};
-ghost use Rattle.device.specs.Transceive.{timeoutOf};
-ghost use Rattle.protocol.specs.Arguments.{flag, msOf, isLongWait};
-ghost use Rattle.protocol.specs.Calls.{device, readWithoutEncryption, writeWithoutEncryption, timed};
-ghost use Rattle.calls.specs.Numbers.{call_of, initiatorCalls, targetCalls, deviceCalls, blockCalls};
-ghost use Rattle.calls.specs.Firsts.{startFor, start_by};
+ghost use Rattle.device.specs.Transceive.{timeout_of};
+ghost use Rattle.protocol.specs.Arguments.{flag, ms_of, is_long_wait};
+ghost use Rattle.protocol.specs.Calls.{device, read_without_encryption, write_without_encryption, timed};
+ghost use Rattle.calls.specs.Numbers.{call_of, initiator_calls, target_calls, device_calls, block_calls};
+ghost use Rattle.calls.specs.Firsts.{start_for, start_by};
 
 use chipset::{general, initiator, registers, target};
 use device::blocks::{read_without_encryption, write_without_encryption};
@@ -100,7 +100,7 @@ const MS_VALUES: u32 = 65536;
 
 // The calls below an initiator's: the chip's version, mode, parameters and registers.
 fn chip(number: u8, numbers: Numbers, first: &[u8], command: &mut [u8; DATA_LIMIT]) -> Start
-    requires { number < initiatorCalls }
+    requires { number < initiator_calls }
     ensures { (second third fourth : List ℕ) → Starts result command.old command.new (start_by (call_of number numbers first.now second third fourth)) }
 {
     let x = numbers.x;
@@ -135,7 +135,7 @@ fn as_initiator(
     fourth: &[u8],
     command: &mut [u8; DATA_LIMIT],
 ) -> Start
-    requires { (initiatorCalls ≤ number) × (number < targetCalls) }
+    requires { (initiator_calls ≤ number) × (number < target_calls) }
     ensures { Starts result command.old command.new (start_by (call_of number numbers first.now second.now third.now fourth.now)) }
 {
     let ms = numbers.ms;
@@ -159,7 +159,7 @@ fn as_initiator(
 
 // What a target does, and the field.
 fn as_target(number: u8, numbers: Numbers, first: &[u8], command: &mut [u8; DATA_LIMIT]) -> Start
-    requires { (targetCalls ≤ number) × (number < deviceCalls) }
+    requires { (target_calls ≤ number) × (number < device_calls) }
     ensures { (second third fourth : List ℕ) → Starts result command.old command.new (start_by (call_of number numbers first.now second third fourth)) }
 {
     let ms = numbers.ms;
@@ -174,7 +174,7 @@ fn as_target(number: u8, numbers: Numbers, first: &[u8], command: &mut [u8; DATA
 
 // The ms of transceive, where they are given.
 fn timeout(given: bool, ms: u16) -> Timeout
-    ensures { timeoutOf result ≡ msOf given ms }
+    ensures { timeout_of result ≡ ms_of given ms }
 {
     if given {
         Timeout::Ms(ms)
@@ -185,20 +185,20 @@ fn timeout(given: bool, ms: u16) -> Timeout
 
 // More ms are given than there may be.
 fn is_long_wait(given: bool, ms: u32) -> bool
-    ensures { result ≡ isLongWait given ms }
+    ensures { result ≡ is_long_wait given ms }
 {
     if given { MOST_MS < ms } else { false }
 }
 
 // The ms of a read or a write of FeliCa blocks.
 fn block_timeout(given: bool, ms: u32) -> Timeout
-    ensures { isLongWait given ms ≡ Bool.false → timeoutOf result ≡ msOf given ms }
+    ensures { is_long_wait given ms ≡ Bool.false → timeout_of result ≡ ms_of given ms }
 {
     timeout(given, (ms % MS_VALUES) as u16)
 }
 
 fn read_blocks(numbers: Numbers, idm: &[u8], blocks: &[u8], command: &mut [u8; DATA_LIMIT]) -> Start
-    ensures { Starts result command.old command.new (startFor (timed (flag numbers.y) numbers.ms (device (readWithoutEncryption idm.now numbers.word blocks.now (msOf (flag numbers.y) numbers.ms))))) }
+    ensures { Starts result command.old command.new (start_for (timed (flag numbers.y) numbers.ms (device (read_without_encryption idm.now numbers.word blocks.now (ms_of (flag numbers.y) numbers.ms))))) }
 {
     let service = numbers.word;
     let ms = numbers.ms;
@@ -217,7 +217,7 @@ fn write_blocks(
     bytes: &[u8],
     command: &mut [u8; DATA_LIMIT],
 ) -> Start
-    ensures { Starts result command.old command.new (startFor (timed (flag numbers.y) numbers.ms (device (writeWithoutEncryption idm.now numbers.word blocks.now bytes.now (msOf (flag numbers.y) numbers.ms))))) }
+    ensures { Starts result command.old command.new (start_for (timed (flag numbers.y) numbers.ms (device (write_without_encryption idm.now numbers.word blocks.now bytes.now (ms_of (flag numbers.y) numbers.ms))))) }
 {
     let service = numbers.word;
     let ms = numbers.ms;
@@ -238,7 +238,7 @@ fn later(
     third: &[u8],
     command: &mut [u8; DATA_LIMIT],
 ) -> Start
-    requires { blockCalls ≤ number }
+    requires { block_calls ≤ number }
     ensures { (fourth : List ℕ) → Starts result command.old command.new (start_by (call_of number numbers first.now second.now third.now fourth)) }
 {
     match number {
@@ -257,7 +257,7 @@ fn on_device(
     third: &[u8],
     command: &mut [u8; DATA_LIMIT],
 ) -> Start
-    requires { deviceCalls ≤ number }
+    requires { device_calls ≤ number }
     ensures { (fourth : List ℕ) → Starts result command.old command.new (start_by (call_of number numbers first.now second.now third.now fourth)) }
 {
     let word = numbers.word;

@@ -42,12 +42,12 @@ abbrev members : List Member
 members = member (array_field u8-field 4060) ∷ member (array_field u8-field 18504) ∷ member (array_field u8-field 36468) ∷ member N.the_field ∷ []
 
 -- the machine value of a state
-abbrev pub mN : State → Val
-mN s = LL.val N.the_type N'.the_laws s
+abbrev pub m_n : State → Val
+m_n s = LL.val N.the_type N'.the_laws s
 
 -- a state is a value of its type
 abbrev pub Fits : State → Type 0
-Fits s = Is N.the_row s (mN s ∷ [])
+Fits s = Is N.the_row s (m_n s ∷ [])
 
 module _ (b o : ℕ) where
   abbrev pub Array₀ : List ℕ → Fml
@@ -60,7 +60,7 @@ module _ (b o : ℕ) where
   Array₂ xs = (mem (Array u8 36468)).own_at xs b (o + 22564)
 
   abbrev pub Cell : State → Fml
-  Cell s = fat full_share N'.mir b (o + 59032) (mN s)
+  Cell s = fat full_share N'.mir b (o + 59032) (m_n s)
 
 module _ {M : Type 1} {𝓤 : Ura M} (𝓛 : Logic 𝓤) (b o : ℕ) where
   abbrev pub Back : SProp 𝓤
@@ -80,7 +80,7 @@ module _ {M : Type 1} {𝓤 : Ura M} (𝓛 : Logic 𝓤) (b o : ℕ) where
       rewrite ! 3 (λ (zs : List ℕ). ‵ (Array₀ b o zs)) (map-id d.cards) refl $ rewrite ! 2 (λ (zs : List ℕ). ‵ (Array₁ b o zs)) (map-id d.sent) refl $ rewrite ! 1 (λ (zs : List ℕ). ‵ (Array₂ b o zs)) (map-id d.replies) refl $
       -- the state's cell
       fpick ! (λ vs. fsplit ! $ spelt ! N.the_row (Is N.the_row) (shows 𝓛 N.the_row) (LL.vals N.the_type N'.the_laws) (LL.tells N.the_type N'.the_laws) full_share d.state vs b (o + 59032) $
-      use1 𝓛 (‵ (Cell b o d.state)) (𝓛.laws.raw_at full_share N'.mir b (o + 59032) (mN d.state)) $ move ! (1 ∷ []) $ peeks ! N.the_row (Is N.the_row) (shows 𝓛 N.the_row) d.state (mN d.state ∷ []) (λ is. drop ! $
+      use1 𝓛 (‵ (Cell b o d.state)) (𝓛.laws.raw_at full_share N'.mir b (o + 59032) (m_n d.state)) $ move ! (1 ∷ []) $ peeks ! N.the_row (Is N.the_row) (shows 𝓛 N.the_row) d.state (m_n d.state ∷ []) (λ is. drop ! $
       move ! (3 ∷ 2 ∷ 1 ∷ []) $ frame ! $ frame ! $ frame ! $ check ! is $ done !))
 
   pub together : (d : Chip) → Fits d.state → ent 𝓤 (sep 𝓤 ⟦ Array₀ b o d.cards ⟧ (sep 𝓤 ⟦ Array₁ b o d.sent ⟧ (sep 𝓤 ⟦ Array₂ b o d.replies ⟧ (sep 𝓤 ⟦ Cell b o d.state ⟧ (Back 𝓛 b o))))) ⟦ (mem T.the_row).own_at d b o ⟧
@@ -88,8 +88,8 @@ module _ {M : Type 1} {𝓤 : Ura M} (𝓛 : Logic 𝓤) (b o : ℕ) where
   together d is =
       qed 𝓛 (‵ (Array₀ b o d.cards) ∷ ‵ (Array₁ b o d.sent) ∷ ‵ (Array₂ b o d.replies) ∷ ‵ (Cell b o d.state) ∷ raw (Back 𝓛 b o) ∷ []) ∵
       rewrite ! 0 (λ (zs : List ℕ). ‵ (Array₀ b o zs)) (sym (map-id d.cards)) refl $ rewrite ! 1 (λ (zs : List ℕ). ‵ (Array₁ b o zs)) (sym (map-id d.sent)) refl $ rewrite ! 2 (λ (zs : List ℕ). ‵ (Array₂ b o zs)) (sym (map-id d.replies)) refl $
-      owned ! N.the_row (Is N.the_row) (LL.makes N.the_type N'.the_plain 𝓛) d.state (mN d.state ∷ []) is $ move ! (4 ∷ 0 ∷ []) $ use1 𝓛 (‵ (cell_at full_share (N.the_row).mir (mN d.state ∷ []) b (o + 59032))) (𝓛.laws.at_raw full_share N'.mir b (o + 59032) (mN d.state)) $ fjoin ! $
-      fpack ! (List Val) (λ us. fsep (cell_at full_share (N.the_row).mir us b (o + 59032)) ((N.the_row).own_val d.state us)) (mN d.state ∷ []) $ nothing ! $ move ! (1 ∷ 0 ∷ []) $ fjoin ! $ move ! (3 ∷ 0 ∷ []) $ fjoin ! $ move ! (2 ∷ 0 ∷ []) $ fjoin ! $ move ! (1 ∷ 0 ∷ []) $ fjoin ! $
+      owned ! N.the_row (Is N.the_row) (LL.makes N.the_type N'.the_plain 𝓛) d.state (m_n d.state ∷ []) is $ move ! (4 ∷ 0 ∷ []) $ use1 𝓛 (‵ (cell_at full_share (N.the_row).mir (m_n d.state ∷ []) b (o + 59032))) (𝓛.laws.at_raw full_share N'.mir b (o + 59032) (m_n d.state)) $ fjoin ! $
+      fpack ! (List Val) (λ us. fsep (cell_at full_share (N.the_row).mir us b (o + 59032)) ((N.the_row).own_val d.state us)) (m_n d.state ∷ []) $ nothing ! $ move ! (1 ∷ 0 ∷ []) $ fjoin ! $ move ! (3 ∷ 0 ∷ []) $ fjoin ! $ move ! (2 ∷ 0 ∷ []) $ fjoin ! $ move ! (1 ∷ 0 ∷ []) $ fjoin ! $
       move ! (1 ∷ []) $ use1 𝓛 (raw (wand 𝓤 ⟦ parts_at full_share members 0 ((T.the_type).to d) b o ⟧ ⟦ (mem T.the_row).own_at d b o ⟧))
       (all_e 𝓤 (λ (a : Denots (rows_of members)). wand 𝓤 ⟦ parts_at full_share members 0 a b o ⟧ ⟦ part_at (Struct (shape T.the_type)) full_share a b o ⟧) ((T.the_type).to d)) $ move ! (1 ∷ 0 ∷ []) $
       use2 𝓛 (‵ ((mem T.the_row).own_at d b o)) (apply∗ 𝓤 ⟦ parts_at full_share members 0 ((T.the_type).to d) b o ⟧ ⟦ (mem T.the_row).own_at d b o ⟧) $ done !

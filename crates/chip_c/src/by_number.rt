@@ -1,9 +1,9 @@
 // A card by the numbers of its kind and bitrate, and a step on memory that is lent to be written.
 ghost use Rattle.std.specs.Prelude.{◌≡◌};
 ghost use Rattle.simulated_chip.specs.Memory.{kind_at};
-ghost use Rattle.simulated_chip.specs.Additions.{afterAddition, addCardIn};
-ghost use Rattle.simulated_chip.specs.Steps.{afterStep, stepIn};
-ghost use Rattle.chip_c.specs.Numbers.{rateBy, bitrateBy};
+ghost use Rattle.simulated_chip.specs.Additions.{after_addition, add_card_in};
+ghost use Rattle.simulated_chip.specs.Steps.{after_step, step_in};
+ghost use Rattle.chip_c.specs.Numbers.{rate_by_of, bitrate_by_of};
 
 use simulated_chip::add::AddEffect;
 use simulated_chip::chip::{State, StepEffect};
@@ -24,7 +24,7 @@ fn kind_by(number: u8) -> Kind
 
 // A bitrate has its code's number; no other number is one that a kind takes.
 fn rate_by(number: u8) -> Bitrate
-    ensures { result ≡ rateBy number }
+    ensures { result ≡ rate_by_of number }
 {
     match number {
         names::CODE_106A => Bitrate::B106A,
@@ -37,7 +37,7 @@ fn rate_by(number: u8) -> Bitrate
 
 // A kind that there is not has no bitrate, so that a card of it is refused as one with a bitrate that is not of its kind.
 fn bitrate_by(kind: u8, number: u8) -> Bitrate
-    ensures { result ≡ bitrateBy kind number }
+    ensures { result ≡ bitrate_by_of kind number }
 {
     if kind <= names::DEP_NUMBER {
         return rate_by(number);
@@ -55,7 +55,7 @@ pub fn add_card(
     listed: &[u8],
     atqb: &[u8],
 ) -> AddEffect
-    ensures { afterAddition result.state cards.new sent.new replies.new result.addition ≡ addCardIn state cards.old sent.old replies.old (kind_at kind) (bitrateBy kind bitrate) listed.now atqb.now }
+    ensures { after_addition result.state cards.new sent.new replies.new result.addition ≡ add_card_in state cards.old sent.old replies.old (kind_at kind) (bitrate_by_of kind bitrate) listed.now atqb.now }
 {
     state.add_card(
         cards,
@@ -76,7 +76,7 @@ pub fn step(
     written: &[u8],
     buffer: &mut [u8],
 ) -> StepEffect
-    ensures { (afterStep result.state result.answer buffer.new ≡ stepIn state cards.old sent.old replies.old written.now buffer.old) × (cards.new ≡ cards.old) × (sent.new ≡ sent.old) × (replies.new ≡ replies.old) }
+    ensures { (after_step result.state result.answer buffer.new ≡ step_in state cards.old sent.old replies.old written.now buffer.old) × (cards.new ≡ cards.old) × (sent.new ≡ sent.old) × (replies.new ≡ replies.old) }
 {
     state.step(cards, sent, replies, written, buffer)
 }

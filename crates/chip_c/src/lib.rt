@@ -1,10 +1,12 @@
 // The C interface of the chip with its field of cards, as include/rcs956_chip.h describes it: the chip is updated in place.
+#![tactic(auto)]
+
 pub mod by_number;
 pub mod outcome;
 
 ghost use Rattle.std.specs.Prelude.{◌≡◌};
-ghost use Rattle.simulated_chip.specs.Steps.{freshChipMemory};
-ghost use Rattle.chip_c.specs.Outcomes.{report, reportStep, cardReport, replyReport, stepReport};
+ghost use Rattle.simulated_chip.specs.Steps.{fresh_chip_memory};
+ghost use Rattle.chip_c.specs.Outcomes.{report, report_step, card_report, reply_report, step_report};
 
 use outcome::Outcome;
 use simulated_chip::chip::Chip;
@@ -12,7 +14,7 @@ use simulated_chip::chip::Chip;
 // An empty field, and the chip as at its start.
 #[unsafe(no_mangle)]
 pub extern "C" fn rcs956_chip_fresh() -> Chip
-    ensures { result ≡ freshChipMemory }
+    ensures { result ≡ fresh_chip_memory }
 {
     Chip::fresh()
 }
@@ -26,7 +28,7 @@ pub extern "C" fn rcs956_chip_add_card(
     listed: &[u8],
     atqb: &[u8],
 ) -> Outcome
-    ensures { report chip.new result ≡ cardReport chip.old kind bitrate listed.now atqb.now }
+    ensures { report chip.new result ≡ card_report chip.old kind bitrate listed.now atqb.now }
 {
     let state = chip.state;
     let effect = by_number::add_card(
@@ -47,7 +49,7 @@ pub extern "C" fn rcs956_chip_add_card(
 // A reply more of the card added last.
 #[unsafe(no_mangle)]
 pub extern "C" fn rcs956_chip_add_reply(chip: &mut Chip, bytes: &[u8], reply: &[u8]) -> Outcome
-    ensures { report chip.new result ≡ replyReport chip.old bytes.now reply.now }
+    ensures { report chip.new result ≡ reply_report chip.old bytes.now reply.now }
 {
     let state = chip.state;
     let effect = state.add_reply(
@@ -65,7 +67,7 @@ pub extern "C" fn rcs956_chip_add_reply(chip: &mut Chip, bytes: &[u8], reply: &[
 // The bytes that the host wrote: nothing, or ACK and the packet at the buffer's start.
 #[unsafe(no_mangle)]
 pub extern "C" fn rcs956_chip_step(chip: &mut Chip, written: &[u8], buffer: &mut [u8]) -> Outcome
-    ensures { reportStep chip.new result buffer.new ≡ stepReport chip.old written.now buffer.old }
+    ensures { report_step chip.new result buffer.new ≡ step_report chip.old written.now buffer.old }
 {
     let state = chip.state;
     let effect = by_number::step(

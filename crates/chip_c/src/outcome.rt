@@ -1,6 +1,6 @@
 // What the host is given, in numbers.
 ghost use Rattle.std.specs.Prelude.{◌≡◌};
-ghost use Rattle.chip_c.specs.Outcomes.{outcomeOf, additionOutcome};
+ghost use Rattle.chip_c.specs.Outcomes.{outcome_of, addition_outcome};
 
 use simulated_chip::add::Addition;
 use simulated_chip::chip::Answer;
@@ -15,7 +15,7 @@ pub struct Outcome {
 
 impl Outcome {
     pub fn of(answer: Answer) -> Outcome
-        ensures { result ≡ outcomeOf answer }
+        ensures { result ≡ outcome_of answer }
     {
         match answer {
             Answer::Nothing => Outcome {
@@ -37,7 +37,7 @@ impl Outcome {
     }
 
     pub fn of_addition(addition: Addition) -> Outcome
-        ensures { result ≡ additionOutcome addition }
+        ensures { result ≡ addition_outcome addition }
     {
         match addition {
             Addition::Added => Outcome {

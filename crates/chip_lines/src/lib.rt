@@ -1,16 +1,18 @@
 // The lines of the program `chip`: cards and replies for the field, and the bytes that a host wrote, in; the packets that the chip sends, out.
+#![tactic(auto)]
+
 mod print;
 mod words_of;
 
 ghost use Rattle.std.specs.Prelude.{◌≡◌, [], ◌∷◌, ◌≤◌, length};
 ghost use Rattle.bench.specs.Lines.{feed};
 ghost use Rattle.bench.specs.Texts.{Appends};
-ghost use Rattle.bench.specs.Words.{wordsOf};
-ghost use Rattle.chip_protocol.specs.Names.{longestPacket};
+ghost use Rattle.bench.specs.Words.{words_of_lem};
+ghost use Rattle.chip_protocol.specs.Names.{longest_packet};
 ghost use Rattle.simulated_chip.specs.Steps.{zeros};
-ghost use Rattle.chip_lines.specs.ChipLines.{lineLimit, bytesRoom, frame, hexed, bitrateNamed, cardLine, replyLine, onWords, chipLineOf};
-ghost use Rattle.chip_lines.specs.Lines.{answerRoom, refusedText, answerTo, afterLine, lineReply};
-ghost use Rattle.chip_lines.specs.Readings.{chipOf, Prints, Answers};
+ghost use Rattle.chip_lines.specs.ChipLines.{line_limit, bytes_room, frame, hexed, bitrate_named_of, card_line_of, reply_line_of, on_words, chip_line_of};
+ghost use Rattle.chip_lines.specs.Lines.{answer_room, refused_text, answer_to, after_line, line_reply};
+ghost use Rattle.chip_lines.specs.Readings.{chip_of, Prints, Answers};
 
 use bench::lines::{Line, Unread};
 use bench::{Put, hex, lines, prefix, text, words};
@@ -36,20 +38,20 @@ pub struct Answered {
 }
 
 fn room() -> [u8; BYTES_ROOM]
-    ensures { length result ≡ bytesRoom }
+    ensures { length result ≡ bytes_room }
 {
     [0u8; BYTES_ROOM]
 }
 
 fn packet_room() -> [u8; PACKET_SIZE]
-    ensures { result ≡ zeros longestPacket }
+    ensures { result ≡ zeros longest_packet }
 {
     [0u8; PACKET_SIZE]
 }
 
 // A line that cannot be read: the chip stays as it was.
 pub(crate) fn unreadable(state: State, out: &mut [u8]) -> Answered
-    ensures { (result.state ≡ state) × Prints (refusedText Refusal.BadArgument) result.len out.old out.new }
+    ensures { (result.state ≡ state) × Prints (refused_text Refusal.BadArgument) result.len out.old out.new }
 {
     let len = print::put_refused(Refusal::BadArgument, out);
     Answered { state, len }
@@ -57,7 +59,7 @@ pub(crate) fn unreadable(state: State, out: &mut [u8]) -> Answered
 
 // The bitrates that a discovery takes, by their texts.
 fn bitrate_named(word: &[u8]) -> Bitrate
-    ensures { result ≡ bitrateNamed word.now }
+    ensures { result ≡ bitrate_named_of word.now }
 {
     if framing::is_exactly(word, b"106A") {
         return Bitrate::B106A;
@@ -86,8 +88,8 @@ pub(crate) fn card_line(
     last: &[u8],
     out: &mut [u8],
 ) -> Answered
-    requires { (length word.now ≤ lineLimit) × (length last.now ≤ lineLimit) }
-    ensures { Answers (answerTo (chipOf state cards.old sent.old replies.old) (cardLine kind rate.now word.now last.now)) (chipOf result.state cards.new sent.new replies.new) result.len out.old out.new }
+    requires { (length word.now ≤ line_limit) × (length last.now ≤ line_limit) }
+    ensures { Answers (answer_to (chip_of state cards.old sent.old replies.old) (card_line_of kind rate.now word.now last.now)) (chip_of result.state cards.new sent.new replies.new) result.len out.old out.new }
 {
     let mut list_data = room();
     let Put::Bytes(n) = hex::read(word, &mut list_data) else {
@@ -123,8 +125,8 @@ pub(crate) fn reply_line(
     last: &[u8],
     out: &mut [u8],
 ) -> Answered
-    requires { (length word.now ≤ lineLimit) × (length last.now ≤ lineLimit) }
-    ensures { Answers (answerTo (chipOf state cards.old sent.old replies.old) (replyLine word.now last.now)) (chipOf result.state cards.new sent.new replies.new) result.len out.old out.new }
+    requires { (length word.now ≤ line_limit) × (length last.now ≤ line_limit) }
+    ensures { Answers (answer_to (chip_of state cards.old sent.old replies.old) (reply_line_of word.now last.now)) (chip_of result.state cards.new sent.new replies.new) result.len out.old out.new }
 {
     let mut bytes = room();
     let Put::Bytes(n) = hex::read(word, &mut bytes) else {
@@ -150,8 +152,8 @@ pub(crate) fn frame_line(
     word: &[u8],
     out: &mut [u8],
 ) -> Answered
-    requires { length word.now ≤ lineLimit }
-    ensures { Answers (answerTo (chipOf state cards.now sent.now replies.now) (hexed word.now (λ p. frame p))) (chipOf result.state cards.now sent.now replies.now) result.len out.old out.new }
+    requires { length word.now ≤ line_limit }
+    ensures { Answers (answer_to (chip_of state cards.now sent.now replies.now) (hexed word.now (λ p. frame p))) (chip_of result.state cards.now sent.now replies.now) result.len out.old out.new }
 {
     let mut written = room();
     let Put::Bytes(n) = hex::read(word, &mut written) else {
@@ -173,8 +175,8 @@ fn by_words(
     line: &[u8],
     out: &mut [u8],
 ) -> Answered
-    requires { length line.now ≤ lineLimit }
-    ensures { Answers (answerTo (chipOf state cards.old sent.old replies.old) (onWords (wordsOf line.now))) (chipOf result.state cards.new sent.new replies.new) result.len out.old out.new }
+    requires { length line.now ≤ line_limit }
+    ensures { Answers (answer_to (chip_of state cards.old sent.old replies.old) (on_words (words_of_lem line.now))) (chip_of result.state cards.new sent.new replies.new) result.len out.old out.new }
 {
     let n = words::count(line);
     let name = words::word(line, 0);
@@ -221,7 +223,7 @@ pub fn answer(
     line: &[u8],
     out: &mut [u8],
 ) -> Answered
-    ensures { Answers (answerTo (chipOf state cards.old sent.old replies.old) (chipLineOf line.now)) (chipOf result.state cards.new sent.new replies.new) result.len out.old out.new }
+    ensures { Answers (answer_to (chip_of state cards.old sent.old replies.old) (chip_line_of line.now)) (chip_of result.state cards.new sent.new replies.new) result.len out.old out.new }
 {
     if LINE_LIMIT < line.len() {
         return unreadable(state, out);
@@ -248,8 +250,8 @@ pub fn reply(
     line: &[u8],
     out: &mut [u8; ANSWER_ROOM],
 ) -> Answered
-    ensures out_after { afterLine (chipOf result.state cards.new sent.new replies.new) result.len out.new ≡ lineReply (chipOf state cards.old sent.old replies.old) next line.now out.old }
-    ensures out_len { length out.old ≡ answerRoom → length out.new ≡ answerRoom }
+    ensures out_after { after_line (chip_of result.state cards.new sent.new replies.new) result.len out.new ≡ line_reply (chip_of state cards.old sent.old replies.old) next line.now out.old }
+    ensures out_len { length out.old ≡ answer_room → length out.new ≡ answer_room }
 {
     match next {
         Line::Text(n) => {

@@ -1,5 +1,5 @@
 // What is printed for an addition to the field, and for the bytes that the host wrote. Each function gives the length of its text.
-ghost use Rattle.chip_lines.specs.Lines.{refusedText, additionText, sentText};
+ghost use Rattle.chip_lines.specs.Lines.{refused_text, addition_text, sent_text};
 ghost use Rattle.chip_lines.specs.Readings.{Prints};
 
 use bench::{hex, prefix, text};
@@ -10,7 +10,7 @@ use simulated_chip::chip::Answer;
 use simulated_chip::names::PACKET_SIZE;
 
 pub(crate) fn put_refused(refusal: Refusal, out: &mut [u8]) -> usize
-    ensures { Prints (refusedText refusal) result out.old out.new }
+    ensures { Prints (refused_text refusal) result out.old out.new }
 {
     let numbered = refusal.numbered();
     let at = text::put(b"refused ", out, 0);
@@ -18,7 +18,7 @@ pub(crate) fn put_refused(refusal: Refusal, out: &mut [u8]) -> usize
 }
 
 pub(crate) fn put_addition(addition: Addition, out: &mut [u8]) -> usize
-    ensures { Prints (additionText addition) result out.old out.new }
+    ensures { Prints (addition_text addition) result out.old out.new }
 {
     match addition {
         Addition::Added => text::put(b"ok", out, 0),
@@ -28,7 +28,7 @@ pub(crate) fn put_addition(addition: Addition, out: &mut [u8]) -> usize
 
 // The packets that the chip sends: ACK, and the one at the start of `buffer`.
 pub(crate) fn put_sent(answer: Answer, buffer: &[u8; PACKET_SIZE], out: &mut [u8]) -> usize
-    ensures { Prints (sentText answer buffer.now) result out.old out.new }
+    ensures { Prints (sent_text answer buffer.now) result out.old out.new }
 {
     match answer {
         Answer::Nothing => text::put(b"-", out, 0),

@@ -1,8 +1,8 @@
 // A line by the number of its words.
 ghost use Rattle.std.specs.Prelude.{List, ℕ, ◌≤◌, length};
-ghost use Rattle.chip_lines.specs.ChipLines.{lineLimit, one_word, two_words, threeWords, fourWords, fiveWords};
-ghost use Rattle.chip_lines.specs.Lines.{answerTo};
-ghost use Rattle.chip_lines.specs.Readings.{chipOf, Answers};
+ghost use Rattle.chip_lines.specs.ChipLines.{line_limit, one_word, two_words, three_words, four_words, five_words};
+ghost use Rattle.chip_lines.specs.Lines.{answer_to};
+ghost use Rattle.chip_lines.specs.Readings.{chip_of, Answers};
 
 use super::{Answered, card_line, frame_line, reply_line, unreadable};
 use bench::text;
@@ -11,7 +11,7 @@ use simulated_chip::chip::State;
 use simulated_chip::names::{CARDS_SIZE, REPLY_MEMORY_SIZE, SENT_MEMORY_SIZE};
 
 pub(crate) fn one(state: State, name: &[u8], out: &mut [u8]) -> Answered
-    ensures { (cards sent replies : List ℕ) → Answers (answerTo (chipOf state cards sent replies) (one_word name.now)) (chipOf result.state cards sent replies) result.len out.old out.new }
+    ensures { (cards sent replies : List ℕ) → Answers (answer_to (chip_of state cards sent replies) (one_word name.now)) (chip_of result.state cards sent replies) result.len out.old out.new }
 {
     if framing::is_exactly(name, b"fresh") {
         let len = text::put(b"ok", out, 0);
@@ -32,8 +32,8 @@ pub(crate) fn two(
     word: &[u8],
     out: &mut [u8],
 ) -> Answered
-    requires { length word.now ≤ lineLimit }
-    ensures { Answers (answerTo (chipOf state cards.now sent.now replies.now) (two_words name.now word.now)) (chipOf result.state cards.now sent.now replies.now) result.len out.old out.new }
+    requires { length word.now ≤ line_limit }
+    ensures { Answers (answer_to (chip_of state cards.now sent.now replies.now) (two_words name.now word.now)) (chip_of result.state cards.now sent.now replies.now) result.len out.old out.new }
 {
     if framing::is_exactly(name, b"frame") {
         return frame_line(state, cards, sent, replies, word, out);
@@ -51,8 +51,8 @@ pub(crate) fn three(
     last: &[u8],
     out: &mut [u8],
 ) -> Answered
-    requires { (length word.now ≤ lineLimit) × (length last.now ≤ lineLimit) }
-    ensures { Answers (answerTo (chipOf state cards.old sent.old replies.old) (threeWords name.now word.now last.now)) (chipOf result.state cards.new sent.new replies.new) result.len out.old out.new }
+    requires { (length word.now ≤ line_limit) × (length last.now ≤ line_limit) }
+    ensures { Answers (answer_to (chip_of state cards.old sent.old replies.old) (three_words name.now word.now last.now)) (chip_of result.state cards.new sent.new replies.new) result.len out.old out.new }
 {
     if framing::is_exactly(name, b"reply") {
         return reply_line(state, cards, sent, replies, word, last, out);
@@ -71,8 +71,8 @@ pub(crate) fn four(
     word: &[u8],
     out: &mut [u8],
 ) -> Answered
-    requires { length word.now ≤ lineLimit }
-    ensures { Answers (answerTo (chipOf state cards.old sent.old replies.old) (fourWords name.now kind.now rate.now word.now)) (chipOf result.state cards.new sent.new replies.new) result.len out.old out.new }
+    requires { length word.now ≤ line_limit }
+    ensures { Answers (answer_to (chip_of state cards.old sent.old replies.old) (four_words name.now kind.now rate.now word.now)) (chip_of result.state cards.new sent.new replies.new) result.len out.old out.new }
 {
     if framing::is_exactly(name, b"card") {
         if framing::is_exactly(kind, b"A") {
@@ -131,8 +131,8 @@ pub(crate) fn five(
     last: &[u8],
     out: &mut [u8],
 ) -> Answered
-    requires { (length word.now ≤ lineLimit) × (length last.now ≤ lineLimit) }
-    ensures { Answers (answerTo (chipOf state cards.old sent.old replies.old) (fiveWords name.now kind.now rate.now word.now last.now)) (chipOf result.state cards.new sent.new replies.new) result.len out.old out.new }
+    requires { (length word.now ≤ line_limit) × (length last.now ≤ line_limit) }
+    ensures { Answers (answer_to (chip_of state cards.old sent.old replies.old) (five_words name.now kind.now rate.now word.now last.now)) (chip_of result.state cards.new sent.new replies.new) result.len out.old out.new }
 {
     if framing::is_exactly(name, b"card") {
         if framing::is_exactly(kind, b"B") {

@@ -6,20 +6,20 @@ use Rattle.std.proofs.Math.Option.{Option, none, some}
 use Rattle.errors.specs.Choice.{pick}
 use Rattle.errors.specs.declared.Refusal.TheVariants.{OverLong, Bitrate as BadBitrate, BadArgument}
 use Rattle.framing.specs.Lists.{both}
-use Rattle.targets.specs.Bitrates.{Choice, choice_of, chosen, byBitrate, byCode}
+use Rattle.targets.specs.Bitrates.{Choice, choice_of, chosen, by_bitrate, by_code_of}
 use Rattle.targets.specs.declared.Bitrate.{Bitrate}
 use Rattle.targets.specs.declared.Bitrate.TheVariants.{B106A, B212F, B424F, B106B, B212B, B424B, B848B, Other}
-use Rattle.protocol.specs.Scripts.{Script, ifElse}
-use Rattle.protocol.specs.Arguments.{atrReqFits, shortestAtrReq, longestAtrReq}
+use Rattle.protocol.specs.Scripts.{Script, if_else}
+use Rattle.protocol.specs.Arguments.{atr_req_fits, shortest_atr_req, longest_atr_req}
 use Rattle.protocol.specs.Calls.{reader, device, transceive}
 use Rattle.protocol.specs.Discovery as discovery
-use Rattle.protocol.specs.Starts.{Start, refuses, starts, start_of, codeFor, asserted, dataLimit, typeACode, typeBCode, typeFCode, depCode, is106A, type2SelRes, clockOf, transceiveStart}
-use Rattle.chip_protocol.specs.Field.{isBitrateOf, brTy, isType2At}
+use Rattle.protocol.specs.Starts.{Start, refuses, starts, start_of, code_for, asserted, data_limit, type_a_code, type_b_code, type_f_code, dep_code, is106a, type2_sel_res, clock_of, transceive_start}
+use Rattle.chip_protocol.specs.Field.{is_bitrate_of, br_ty, is_type2_at}
 use Rattle.chip_protocol.specs.declared.Kind.{Kind}
 use Rattle.chip_protocol.specs.declared.Kind.TheVariants.{TypeA, TypeB, TypeF, Dep}
-use Rattle.chip_protocol.specs.Answers.{selResOf}
+use Rattle.chip_protocol.specs.Answers.{sel_res_of}
 use Rattle.chip_protocol.specs.Script.{AllBytes, Sends}
-use Rattle.chip_protocol.specs.Sent.{thru-sends, type-2-sends}
+use Rattle.chip_protocol.specs.Sent.{thru_sends, type_2_sends}
 
 abbrev is_refused : Start → Bool
 is_refused (refuses r) = true
@@ -28,14 +28,14 @@ is_refused (starts x) = false
 -- ---- bitrates
 
 -- the codes that the discoveries send
-abbrev pub takenBy : Kind → Bitrate → Option ℕ
-takenBy TypeA r = typeACode r
-takenBy TypeB r = typeBCode r
-takenBy TypeF r = typeFCode r
-takenBy Dep r = depCode r
+abbrev pub taken_by : Kind → Bitrate → Option ℕ
+taken_by TypeA r = type_a_code r
+taken_by TypeB r = type_b_code r
+taken_by TypeF r = type_f_code r
+taken_by Dep r = dep_code r
 
 -- they are the chip's
-code_of : (k : Kind) (r : Bitrate) → takenBy k r ≡ cond (isBitrateOf k r) (some (brTy r)) none
+code_of : (k : Kind) (r : Bitrate) → taken_by k r ≡ cond (is_bitrate_of k r) (some (br_ty r)) none
 code_of TypeA B106A = refl
 code_of TypeA B212F = refl
 code_of TypeA B424F = refl
@@ -69,90 +69,90 @@ code_of Dep B424B = refl
 code_of Dep B848B = refl
 code_of Dep Other = refl
 
-pub code-byte : (r : Bitrate) → brTy r < 256
-code-byte B106A = omega arith
-code-byte B212F = omega arith
-code-byte B424F = omega arith
-code-byte B106B = omega arith
-code-byte B212B = omega arith
-code-byte B424B = omega arith
-code-byte B848B = omega arith
-code-byte Other = omega arith
+pub code_byte : (r : Bitrate) → br_ty r < 256
+code_byte B106A = omega arith
+code_byte B212F = omega arith
+code_byte B424F = omega arith
+code_byte B106B = omega arith
+code_byte B212B = omega arith
+code_byte B424B = omega arith
+code_byte B848B = omega arith
+code_byte Other = omega arith
 
 module _ (k : Kind) (text : List ℕ) (rate : Bitrate) (named : choice_of text ≡ chosen rate) (f : ℕ → Start) where
   -- the bitrate of an accepted discovery is one of its kind
-  pub taken_of : (x : Script) → codeFor (takenBy k) text f ≡ starts x → isBitrateOf k rate ≡ true
-  taken_of x e = go (isBitrateOf k rate) refl
+  pub taken_of : (x : Script) → code_for (taken_by k) text f ≡ starts x → is_bitrate_of k rate ≡ true
+  taken_of x e = go (is_bitrate_of k rate) refl
     where
-      go : (t : Bool) → isBitrateOf k rate ≡ t → t ≡ true
+      go : (t : Bool) → is_bitrate_of k rate ≡ t → t ≡ true
       go true p = refl
       go false p =
-          let refused : codeFor (takenBy k) text f ≡ refuses BadBitrate = rw (named, code_of k rate, p) in
+          let refused : code_for (taken_by k) text f ≡ refuses BadBitrate = rw (named, code_of k rate, p) in
           absurd (false≢true (sym (ap is_refused (sym refused ∙ e))))
 
   -- and it is sent by its code
-  pub begins-with : isBitrateOf k rate ≡ true → codeFor (takenBy k) text f ≡ f (brTy rate)
-  begins-with t = rw (named, code_of k rate, t)
+  pub begins_with : is_bitrate_of k rate ≡ true → code_for (taken_by k) text f ≡ f (br_ty rate)
+  begins_with t = rw (named, code_of k rate, t)
 
 -- an argument that is asserted
-pub asserted-holds : (t : Bool) (s : Start) (x : Script) → asserted t s ≡ starts x → (t ≡ true) × (s ≡ starts x)
-asserted-holds true s x e = (refl, e)
-asserted-holds false s x e = absurd (false≢true (sym (ap is_refused e)))
+pub asserted_holds : (t : Bool) (s : Start) (x : Script) → asserted t s ≡ starts x → (t ≡ true) × (s ≡ starts x)
+asserted_holds true s x e = (refl, e)
+asserted_holds false s x e = absurd (false≢true (sym (ap is_refused e)))
 
 both_right : (a b : Bool) → both a b ≡ true → b ≡ true
 both_right true b h = h
 both_right false b h = absurd (false≢true h)
 
-pub atr-req-short : (atrReq : List ℕ) → atrReqFits atrReq ≡ true → length atrReq ≤ longestAtrReq
-atr-req-short atrReq h = leb-true (length atrReq) longestAtrReq (both_right (leb shortestAtrReq (length atrReq)) (leb (length atrReq) longestAtrReq) h)
+pub atr_req_short : (atrReq : List ℕ) → atr_req_fits atrReq ≡ true → length atrReq ≤ longest_atr_req
+atr_req_short atrReq h = leb-true (length atrReq) longest_atr_req (both_right (leb shortest_atr_req (length atrReq)) (leb (length atrReq) longest_atr_req) h)
 
 -- ---- transceive
 
-and-false : (t : Bool) → (t && false) ≡ false
-and-false true = refl
-and-false false = refl
+and_false : (t : Bool) → (t && false) ≡ false
+and_false true = refl
+and_false false = refl
 
-pick-and : (t u : Bool) → (t && u) ≡ pick t u false
+pick_and : (t u : Bool) → (t && u) ≡ pick t u false
 unfolding pick
-pick-and true u = refl
-pick-and false u = refl
+pick_and true u = refl
+pick_and false u = refl
 
 -- to the card's own SEL_RES: a Type 2 card is one to the reader, too
-is-type-2 : (k : Kind) (r : Bitrate) (l : List ℕ) → (is106A r && type2SelRes (selResOf k l)) ≡ isType2At k r l
-is-type-2 TypeA r l = pick-and (is106A r) (type2SelRes (selResOf TypeA l))
-is-type-2 TypeB r l = and-false (is106A r)
-is-type-2 TypeF r l = and-false (is106A r)
-is-type-2 Dep r l = and-false (is106A r)
+is_type_2 : (k : Kind) (r : Bitrate) (l : List ℕ) → (is106a r && type2_sel_res (sel_res_of k l)) ≡ is_type2_at k r l
+is_type_2 TypeA r l = pick_and (is106a r) (type2_sel_res (sel_res_of TypeA l))
+is_type_2 TypeB r l = and_false (is106a r)
+is_type_2 TypeF r l = and_false (is106a r)
+is_type_2 Dep r l = and_false (is106a r)
 
 -- the clock of a transceive is never 0
-pub clock-runs : (ms : Option ℕ) → eqb (clockOf ms) 0 ≡ false
-clock-runs none = refl
-clock-runs (some ms) = ne_eqb (ms + 100) 0 (λ e. omega arith)
+pub clock_runs : (ms : Option ℕ) → eqb (clock_of ms) 0 ≡ false
+clock_runs none = refl
+clock_runs (some ms) = ne_eqb (ms + 100) 0 (λ e. omega arith)
 
 module _ (k : Kind) (r : Bitrate) (l text bytes : List ℕ) (ms : Option ℕ) (named : choice_of text ≡ chosen r) where
-  abbrev pub transceiveScript : Script
-  transceiveScript = ifElse (isType2At k r l) (discovery.transceiveType2 bytes (clockOf ms)) (discovery.transceiveThru bytes (clockOf ms))
+  abbrev pub transceive_script : Script
+  transceive_script = if_else (is_type2_at k r l) (discovery.transceive_type2 bytes (clock_of ms)) (discovery.transceive_thru bytes (clock_of ms))
 
-  whole : start_of (reader (device (transceive text (selResOf k l) false bytes ms)))
-      ≡ cond (ltb dataLimit (length bytes)) (refuses OverLong) (starts transceiveScript)
-  whole = rw (named, is-type-2 k r l) refl
+  whole : start_of (reader (device (transceive text (sel_res_of k l) false bytes ms)))
+      ≡ cond (ltb data_limit (length bytes)) (refuses OverLong) (starts transceive_script)
+  whole = rw (named, is_type_2 k r l) refl
 
-  pub transceive-short : (x : Script) → start_of (reader (device (transceive text (selResOf k l) false bytes ms))) ≡ starts x → ltb dataLimit (length bytes) ≡ false
-  transceive-short x e = go (ltb dataLimit (length bytes)) (sym whole ∙ e)
+  pub transceive_short : (x : Script) → start_of (reader (device (transceive text (sel_res_of k l) false bytes ms))) ≡ starts x → ltb data_limit (length bytes) ≡ false
+  transceive_short x e = go (ltb data_limit (length bytes)) (sym whole ∙ e)
     where
-      go : (t : Bool) → cond t (refuses OverLong) (starts transceiveScript) ≡ starts x → t ≡ false
+      go : (t : Bool) → cond t (refuses OverLong) (starts transceive_script) ≡ starts x → t ≡ false
       go true e = absurd (false≢true (sym (ap is_refused e)))
       go false e = refl
 
-  pub transceive-begins : ltb dataLimit (length bytes) ≡ false → start_of (reader (device (transceive text (selResOf k l) false bytes ms))) ≡ starts transceiveScript
-  transceive-begins h = whole ∙ rw h refl
+  pub transceive_begins : ltb data_limit (length bytes) ≡ false → start_of (reader (device (transceive text (sel_res_of k l) false bytes ms))) ≡ starts transceive_script
+  transceive_begins h = whole ∙ rw h refl
 
-  pub transceive-sends : ltb dataLimit (length bytes) ≡ false → AllBytes bytes → Sends transceiveScript
-  transceive-sends h all = go (isType2At k r l)
+  pub transceive_sends : ltb data_limit (length bytes) ≡ false → AllBytes bytes → Sends transceive_script
+  transceive_sends h all = go (is_type2_at k r l)
     where
-      short : length bytes ≤ dataLimit
-      short = ltb-false dataLimit (length bytes) h
+      short : length bytes ≤ data_limit
+      short = ltb-false data_limit (length bytes) h
 
-      go : (t : Bool) → Sends (ifElse t (discovery.transceiveType2 bytes (clockOf ms)) (discovery.transceiveThru bytes (clockOf ms)))
-      go true = type-2-sends (clockOf ms) bytes (clock-runs ms) all short
-      go false = thru-sends (clockOf ms) bytes (clock-runs ms) all short
+      go : (t : Bool) → Sends (if_else t (discovery.transceive_type2 bytes (clock_of ms)) (discovery.transceive_thru bytes (clock_of ms)))
+      go true = type_2_sends (clock_of ms) bytes (clock_runs ms) all short
+      go false = thru_sends (clock_of ms) bytes (clock_runs ms) all short

@@ -3,175 +3,175 @@ use Rattle.std.specs.Prelude.{◌≡◌, refl, true, false, List, [], ℕ, ◌+�
 use Rattle.std.proofs.Common.{sym, ap, ◌∙◌, subst}
 use Rattle.std.proofs.Math.Option.{Option, none, some}
 use Rattle.framing.specs.Lists.{Bytes}
-use Rattle.felica.specs.Checks.{readCheck, writeCheck}
-use Rattle.felica.specs.Packets.{readRequest, writeRequest, requestFits, writeFits}
+use Rattle.felica.specs.Checks.{read_check, write_check}
+use Rattle.felica.specs.Packets.{read_request_of, write_request_of, request_fits, write_fits_of}
 use Rattle.targets.specs.Bitrates.{choice_of, chosen}
 use Rattle.targets.specs.declared.Bitrate.{Bitrate}
 use Rattle.exchange.specs.Exchange.{Event}
 use Rattle.protocol.specs.Scripts.{Script, Answer, done}
-use Rattle.protocol.specs.Arguments.{atrReqFits}
-use Rattle.protocol.specs.Blocks.{readBlocks, writeBlocks}
-use Rattle.protocol.specs.Calls.{opening, reader, ReaderCall, device, detectTypeA, detectTypeB, detectTypeF, detectDep, transceive, readWithoutEncryption, writeWithoutEncryption, paddedMode}
-use Rattle.protocol.specs.Device.{deviceNew}
+use Rattle.protocol.specs.Arguments.{atr_req_fits}
+use Rattle.protocol.specs.Blocks.{read_blocks, write_blocks}
+use Rattle.protocol.specs.Calls.{opening, reader, ReaderCall, device, detect_type_a_of, detect_type_b_of, detect_type_f_of, detect_dep_of, transceive, read_without_encryption, write_without_encryption, padded_mode}
+use Rattle.protocol.specs.Device.{device_new}
 use Rattle.protocol.specs.Discovery as discovery
-use Rattle.protocol.specs.Discovery.{sensfReq}
+use Rattle.protocol.specs.Discovery.{sensf_req}
 use Rattle.protocol.specs.Machine.{Machine}
 use Rattle.protocol.specs.Session.{Session, event}
-use Rattle.protocol.specs.Starts.{start_of, starts, clockOf, limited, codeFor}
-use Rattle.chip_protocol.specs.Names.{firmwareVersion}
-use Rattle.chip_protocol.specs.Field.{Card, isBitrateOf, brTy, replyTo, isType2Card, FieldFits}
-use Rattle.chip_protocol.specs.Chip.{ChipState, cardAt, firstPlace}
+use Rattle.protocol.specs.Starts.{start_of, starts, clock_of, limited, code_for}
+use Rattle.chip_protocol.specs.Names.{firmware_version}
+use Rattle.chip_protocol.specs.Field.{Card, is_bitrate_of, br_ty, reply_to, is_type2_card, FieldFits}
+use Rattle.chip_protocol.specs.Chip.{ChipState, card_at, first_place_of}
 use Rattle.chip_protocol.specs.declared.Kind.{Kind}
 use Rattle.chip_protocol.specs.declared.Kind.TheVariants.{TypeA, TypeB, TypeF, Dep}
-use Rattle.chip_protocol.specs.Channel.{simulated, asIs, Channel, channel, End, callRun}
-use Rattle.chip_protocol.specs.Search.{finds-first}
+use Rattle.chip_protocol.specs.Channel.{simulated, as_is, Channel, channel, End, call_run}
+use Rattle.chip_protocol.specs.Search.{finds_first}
 use Rattle.chip_protocol.specs.First.{First}
-use Rattle.chip_protocol.specs.Answers.{answerA, answerB, answerF, answerDep, eventsA, eventsB, eventsF, eventsDep, openingAnswer, openingEvents, selResOf, handedOut, transceiveEvents, answerRead, answerWrite}
+use Rattle.chip_protocol.specs.Answers.{answer_a, answer_b, answer_f, answer_dep, events_a, events_b, events_f, events_dep, opening_answer, opening_events, sel_res_of, handed_out, transceive_events, answer_read, answer_write}
 use Rattle.chip_protocol.specs.Claim.{PacketsFit, Reached, Accepted, Ready, EndsWith}
-use Rattle.chip_protocol.specs.Intact.{bytes-all}
-use Rattle.chip_protocol.specs.Machines.{accepted-script}
-use Rattle.chip_protocol.specs.Sent.{opening-sends, type-a-sends, type-b-sends, type-f-sends, dep-sends, read-sends, write-sends}
-use Rattle.chip_protocol.specs.Requests.{read-bytes, read_short, write_bytes, write-short}
+use Rattle.chip_protocol.specs.Intact.{bytes_all}
+use Rattle.chip_protocol.specs.Machines.{accepted_script}
+use Rattle.chip_protocol.specs.Sent.{opening_sends, type_a_sends, type_b_sends, type_f_sends, dep_sends, read_sends, write_sends}
+use Rattle.chip_protocol.specs.Requests.{read_bytes_lem, read_short, write_bytes, write_short}
 use Rattle.chip_protocol.specs.Script.{Sends}
-use Rattle.chip_protocol.specs.Begins.{takenBy, taken_of, begins-with, code-byte, asserted-holds, atr-req-short, clock-runs, transceiveScript, transceive-short, transceive-begins, transceive-sends}
-use Rattle.chip_protocol.specs.Found.{Comes, first_fits, found-a, found-b, found-f, found-dep}
-use Rattle.chip_protocol.specs.Handed.{found-opening, transceive-comes, read-comes, write-comes}
-use Rattle.chip_protocol.specs.Fits.{crc-of-reply}
-use Rattle.chip_protocol.specs.Ends.{ends-call, ends-opening}
+use Rattle.chip_protocol.specs.Begins.{taken_by, taken_of, begins_with, code_byte, asserted_holds, atr_req_short, clock_runs, transceive_script, transceive_short, transceive_begins, transceive_sends}
+use Rattle.chip_protocol.specs.Found.{Comes, first_fits, found_a_lem, found_b_lem, found_f, found_dep}
+use Rattle.chip_protocol.specs.Handed.{found_opening, transceive_comes, read_comes, write_comes}
+use Rattle.chip_protocol.specs.Fits.{crc_of_reply}
+use Rattle.chip_protocol.specs.Ends.{ends_call, ends_opening}
 
 -- the bitrate of an accepted discovery is one of its kind
 module _ (M : Machine) (room : ℕ) (give : ℕ → Event → M.Input) (gives : (n : ℕ) (e : Event) → M.entry (give n e) ≡ event e room)
     (s : M.State) (reached : Reached M s) (i : M.Input) (text : List ℕ) (rate : Bitrate) (named : choice_of text ≡ chosen rate) where
-  pub taken-a : Accepted M room s i (reader (device (detectTypeA text []))) → isBitrateOf TypeA rate ≡ true
-  taken-a acc =
-      let begins = accepted-script M room s i (reader (device (detectTypeA text []))) reached acc in
-      taken_of TypeA text rate named (λ code. starts (discovery.detectTypeA code [])) begins.0 begins.1
+  pub taken_a : Accepted M room s i (reader (device (detect_type_a_of text []))) → is_bitrate_of TypeA rate ≡ true
+  taken_a acc =
+      let begins = accepted_script M room s i (reader (device (detect_type_a_of text []))) reached acc in
+      taken_of TypeA text rate named (λ code. starts (discovery.detect_type_a_of code [])) begins.0 begins.1
 
-  pub taken-b : (sensbReq : List ℕ) → Accepted M room s i (reader (device (detectTypeB text sensbReq))) → isBitrateOf TypeB rate ≡ true
-  taken-b sensbReq acc =
-      let begins = accepted-script M room s i (reader (device (detectTypeB text sensbReq))) reached acc in
-      taken_of TypeB text rate named (λ code. starts (discovery.detectTypeB code (get_or sensbReq 0 0))) begins.0 begins.1
+  pub taken_b : (sensbReq : List ℕ) → Accepted M room s i (reader (device (detect_type_b_of text sensbReq))) → is_bitrate_of TypeB rate ≡ true
+  taken_b sensbReq acc =
+      let begins = accepted_script M room s i (reader (device (detect_type_b_of text sensbReq))) reached acc in
+      taken_of TypeB text rate named (λ code. starts (discovery.detect_type_b_of code (get_or sensbReq 0 0))) begins.0 begins.1
 
-  pub taken-f : (request slots : ℕ) → Accepted M room s i (reader (device (detectTypeF text 0xFFFF request slots))) → isBitrateOf TypeF rate ≡ true
-  taken-f request slots acc =
-      let begins = accepted-script M room s i (reader (device (detectTypeF text 0xFFFF request slots))) reached acc in
-      taken_of TypeF text rate named (λ code. starts (discovery.detectTypeF code (sensfReq 0xFFFF request slots))) begins.0 begins.1
+  pub taken_f : (request slots : ℕ) → Accepted M room s i (reader (device (detect_type_f_of text 0xFFFF request slots))) → is_bitrate_of TypeF rate ≡ true
+  taken_f request slots acc =
+      let begins = accepted_script M room s i (reader (device (detect_type_f_of text 0xFFFF request slots))) reached acc in
+      taken_of TypeF text rate named (λ code. starts (discovery.detect_type_f_of code (sensf_req 0xFFFF request slots))) begins.0 begins.1
 
   -- and ATR_REQ fits
-  pub fits-dep : (atrReq : List ℕ) → Accepted M room s i (reader (device (detectDep text atrReq))) → (atrReqFits atrReq ≡ true) × (isBitrateOf Dep rate ≡ true)
-  fits-dep atrReq acc =
-      let begins = accepted-script M room s i (reader (device (detectDep text atrReq))) reached acc in
-      let holds = asserted-holds (atrReqFits atrReq) (codeFor (takenBy Dep) text (λ code. starts (discovery.detectDep code atrReq))) begins.0 begins.1 in
-      (holds.0, taken_of Dep text rate named (λ code. starts (discovery.detectDep code atrReq)) begins.0 holds.1)
+  pub fits_dep : (atrReq : List ℕ) → Accepted M room s i (reader (device (detect_dep_of text atrReq))) → (atr_req_fits atrReq ≡ true) × (is_bitrate_of Dep rate ≡ true)
+  fits_dep atrReq acc =
+      let begins = accepted_script M room s i (reader (device (detect_dep_of text atrReq))) reached acc in
+      let holds = asserted_holds (atr_req_fits atrReq) (code_for (taken_by Dep) text (λ code. starts (discovery.detect_dep_of code atrReq))) begins.0 begins.1 in
+      (holds.0, taken_of Dep text rate named (λ code. starts (discovery.detect_dep_of code atrReq)) begins.0 holds.1)
 
-  pub taken-dep : (atrReq : List ℕ) → Accepted M room s i (reader (device (detectDep text atrReq))) → isBitrateOf Dep rate ≡ true
-  taken-dep atrReq acc = (fits-dep atrReq acc).1
+  pub taken_dep : (atrReq : List ℕ) → Accepted M room s i (reader (device (detect_dep_of text atrReq))) → is_bitrate_of Dep rate ≡ true
+  taken_dep atrReq acc = (fits_dep atrReq acc).1
 
 module _ (M : Machine) (room : ℕ) (give : ℕ → Event → M.Input) (gives : (n : ℕ) (e : Event) → M.entry (give n e) ≡ event e room)
     (s : M.State) (reached : Reached M s) (i : M.Input) (l : Channel simulated) (m : ℕ) where
   -- the run of the call i, for so many events and m more
   abbrev pub run_of : ℕ → End M simulated give
-  run_of n = callRun M simulated give (n + m) s l i
+  run_of n = call_run M simulated give (n + m) s l i
 
   abbrev field : List Card
   field = l.chip.field
 
   -- it ends with this answer, m events being left; then nothing is unread, the field is as it was, and this card is found
   abbrev pub Ends : ℕ → Answer ℕ → Option Card → Type 0
-  Ends n a o = EndsWith simulated asIs M room give (run_of n) a field o m
+  Ends n a o = EndsWith simulated as_is M room give (run_of n) a field o m
 
   -- ---- an opening
-  pub opening-succeeds : (mode : ℕ) → FieldFits field → PacketsFit l.unread → Accepted M room s i (opening mode)
-      → Ends (openingEvents + length l.unread) (openingAnswer firmwareVersion) none
-  opening-succeeds mode fits short acc =
-      let begins = accepted-script M room s i (opening mode) reached acc in
-      ends-opening M room give gives s i mode l.chip l.unread (openingAnswer firmwareVersion) _ 34 deviceNew m reached acc fits short
-      (rw (asserted-holds (leb mode paddedMode) (starts deviceNew) begins.0 begins.1).0) opening-sends (found-opening l.chip) refl
+  pub opening_succeeds : (mode : ℕ) → FieldFits field → PacketsFit l.unread → Accepted M room s i (opening mode)
+      → Ends (opening_events + length l.unread) (opening_answer firmware_version) none
+  opening_succeeds mode fits short acc =
+      let begins = accepted_script M room s i (opening mode) reached acc in
+      ends_opening M room give gives s i mode l.chip l.unread (opening_answer firmware_version) _ 34 device_new m reached acc fits short
+      (rw (asserted_holds (leb mode padded_mode) (starts device_new) begins.0 begins.1).0) opening_sends (found_opening l.chip) refl
 
   -- a call of an open reader, with nothing unread
-  called : (d : ReaderCall) (x : Script) (n : ℕ) (a : Answer ℕ) (u : ChipState) (o : Option Card) → Ready simulated asIs M room give l → Accepted M room s i (reader d) → start_of (reader d) ≡ starts x
-      → Sends x → Comes x l.chip a u n → u.field ≡ field → cardAt field u.found ≡ o → Ends n a o
+  called : (d : ReaderCall) (x : Script) (n : ℕ) (a : Answer ℕ) (u : ChipState) (o : Option Card) → Ready simulated as_is M room give l → Accepted M room s i (reader d) → start_of (reader d) ≡ starts x
+      → Sends x → Comes x l.chip a u n → u.field ≡ field → card_at field u.found ≡ o → Ends n a o
   called d x n a u o ready acc begins sends comes same found =
-      let h = ends-call M room give gives s i d l.chip a u n x m reached acc ready.fits begins sends comes same in
+      let h = ends_call M room give gives s i d l.chip a u n x m reached acc ready.fits begins sends comes same in
       subst (λ (v : Option Card). Ends n a v) found
-      (subst (λ (q : List (List ℕ)). EndsWith simulated asIs M room give (callRun M simulated give (n + m) s (channel simulated l.chip q) i) a field (cardAt field u.found) m) (sym ready.unread) h)
+      (subst (λ (q : List (List ℕ)). EndsWith simulated as_is M room give (call_run M simulated give (n + m) s (channel simulated l.chip q) i) a field (card_at field u.found) m) (sym ready.unread) h)
 
-  module _ (ready : Ready simulated asIs M room give l) (text : List ℕ) (rate : Bitrate) (named : choice_of text ≡ chosen rate) (o : Option Card) where
+  module _ (ready : Ready simulated as_is M room give l) (text : List ℕ) (rate : Bitrate) (named : choice_of text ≡ chosen rate) (o : Option Card) where
     -- ---- the discoveries
-    pub finds-a : Accepted M room s i (reader (device (detectTypeA text []))) → First TypeA rate field o → Ends (eventsA o) (answerA o) o
-    finds-a acc first =
-        let taken = taken-a M room give gives s reached i text rate named acc in
-        let found = finds-first TypeA rate taken field o first in
-        called (device (detectTypeA text [])) (discovery.detectTypeA (brTy rate) []) (eventsA o) (answerA o) _ o ready acc
-        (begins-with TypeA text rate named (λ code. starts (discovery.detectTypeA code [])) taken) (type-a-sends (brTy rate) (code-byte rate))
-        (found-a (brTy rate) l.chip o found (first_fits TypeA rate field o ready.fits first)) refl found
+    pub finds_a : Accepted M room s i (reader (device (detect_type_a_of text []))) → First TypeA rate field o → Ends (events_a o) (answer_a o) o
+    finds_a acc first =
+        let taken = taken_a M room give gives s reached i text rate named acc in
+        let found = finds_first TypeA rate taken field o first in
+        called (device (detect_type_a_of text [])) (discovery.detect_type_a_of (br_ty rate) []) (events_a o) (answer_a o) _ o ready acc
+        (begins_with TypeA text rate named (λ code. starts (discovery.detect_type_a_of code [])) taken) (type_a_sends (br_ty rate) (code_byte rate))
+        (found_a_lem (br_ty rate) l.chip o found (first_fits TypeA rate field o ready.fits first)) refl found
 
-    pub finds-b : (sensbReq : List ℕ) → get_or sensbReq 0 0 ≡ 0 → Accepted M room s i (reader (device (detectTypeB text sensbReq)))
-        → First TypeB rate field o → Ends (eventsB o) (answerB o) o
-    finds-b sensbReq afi acc first =
-        let taken = taken-b M room give gives s reached i text rate named sensbReq acc in
-        let found = finds-first TypeB rate taken field o first in
-        called (device (detectTypeB text sensbReq)) (discovery.detectTypeB (brTy rate) 0) (eventsB o) (answerB o) _ o ready acc
-        (begins-with TypeB text rate named (λ code. starts (discovery.detectTypeB code (get_or sensbReq 0 0))) taken ∙ ap (λ n. starts (discovery.detectTypeB (brTy rate) n)) afi)
-        (type-b-sends (brTy rate) (code-byte rate)) (found-b (brTy rate) l.chip o found (first_fits TypeB rate field o ready.fits first)) refl found
+    pub finds_b : (sensbReq : List ℕ) → get_or sensbReq 0 0 ≡ 0 → Accepted M room s i (reader (device (detect_type_b_of text sensbReq)))
+        → First TypeB rate field o → Ends (events_b o) (answer_b o) o
+    finds_b sensbReq afi acc first =
+        let taken = taken_b M room give gives s reached i text rate named sensbReq acc in
+        let found = finds_first TypeB rate taken field o first in
+        called (device (detect_type_b_of text sensbReq)) (discovery.detect_type_b_of (br_ty rate) 0) (events_b o) (answer_b o) _ o ready acc
+        (begins_with TypeB text rate named (λ code. starts (discovery.detect_type_b_of code (get_or sensbReq 0 0))) taken ∙ ap (λ n. starts (discovery.detect_type_b_of (br_ty rate) n)) afi)
+        (type_b_sends (br_ty rate) (code_byte rate)) (found_b_lem (br_ty rate) l.chip o found (first_fits TypeB rate field o ready.fits first)) refl found
 
-    pub finds-f : (request slots : ℕ) → request < 256 → slots < 256 → Accepted M room s i (reader (device (detectTypeF text 0xFFFF request slots)))
-        → First TypeF rate field o → Ends (eventsF l.chip.isRfFieldOn) (answerF o) o
-    finds-f request slots x y acc first =
-        let taken = taken-f M room give gives s reached i text rate named request slots acc in
-        let found = finds-first TypeF rate taken field o first in
-        called (device (detectTypeF text 0xFFFF request slots)) (discovery.detectTypeF (brTy rate) (sensfReq 0xFFFF request slots)) (eventsF l.chip.isRfFieldOn) (answerF o) _ o ready acc
-        (begins-with TypeF text rate named (λ code. starts (discovery.detectTypeF code (sensfReq 0xFFFF request slots))) taken)
-        (type-f-sends (brTy rate) request slots (code-byte rate) x y) (found-f (brTy rate) request slots l.chip o found (first_fits TypeF rate field o ready.fits first)) refl found
+    pub finds_f : (request slots : ℕ) → request < 256 → slots < 256 → Accepted M room s i (reader (device (detect_type_f_of text 0xFFFF request slots)))
+        → First TypeF rate field o → Ends (events_f l.chip.is_rf_field_on) (answer_f o) o
+    finds_f request slots x y acc first =
+        let taken = taken_f M room give gives s reached i text rate named request slots acc in
+        let found = finds_first TypeF rate taken field o first in
+        called (device (detect_type_f_of text 0xFFFF request slots)) (discovery.detect_type_f_of (br_ty rate) (sensf_req 0xFFFF request slots)) (events_f l.chip.is_rf_field_on) (answer_f o) _ o ready acc
+        (begins_with TypeF text rate named (λ code. starts (discovery.detect_type_f_of code (sensf_req 0xFFFF request slots))) taken)
+        (type_f_sends (br_ty rate) request slots (code_byte rate) x y) (found_f (br_ty rate) request slots l.chip o found (first_fits TypeF rate field o ready.fits first)) refl found
 
-    pub finds-dep : (atrReq : List ℕ) → Bytes atrReq → Accepted M room s i (reader (device (detectDep text atrReq)))
-        → First Dep rate field o → Ends (eventsDep o) (answerDep o) o
-    finds-dep atrReq bytes acc first =
-        let holds = fits-dep M room give gives s reached i text rate named atrReq acc in
+    pub finds_dep : (atrReq : List ℕ) → Bytes atrReq → Accepted M room s i (reader (device (detect_dep_of text atrReq)))
+        → First Dep rate field o → Ends (events_dep o) (answer_dep o) o
+    finds_dep atrReq bytes acc first =
+        let holds = fits_dep M room give gives s reached i text rate named atrReq acc in
         let taken = holds.1 in
-        let found = finds-first Dep rate taken field o first in
-        called (device (detectDep text atrReq)) (discovery.detectDep (brTy rate) atrReq) (eventsDep o) (answerDep o) _ o ready acc
-        (rw holds.0 (begins-with Dep text rate named (λ code. starts (discovery.detectDep code atrReq)) taken))
-        (dep-sends (brTy rate) atrReq (code-byte rate) (bytes-all atrReq bytes) (atr-req-short atrReq holds.0)) (found-dep (brTy rate) atrReq l.chip o found) refl found
+        let found = finds_first Dep rate taken field o first in
+        called (device (detect_dep_of text atrReq)) (discovery.detect_dep_of (br_ty rate) atrReq) (events_dep o) (answer_dep o) _ o ready acc
+        (rw holds.0 (begins_with Dep text rate named (λ code. starts (discovery.detect_dep_of code atrReq)) taken))
+        (dep_sends (br_ty rate) atrReq (code_byte rate) (bytes_all atrReq bytes) (atr_req_short atrReq holds.0)) (found_dep (br_ty rate) atrReq l.chip o found) refl found
 
   -- ---- to the card found
-  module _ (ready : Ready simulated asIs M room give l) (c : Card) (found : cardAt field l.chip.found ≡ some c) (reply : List ℕ) where
-    pub hands_out : (text bytes : List ℕ) (ms : Option ℕ) → choice_of text ≡ chosen c.bitrate → Bytes bytes → replyTo c.replies bytes ≡ some reply
-        → Accepted M room s i (reader (device (transceive text (selResOf c.kind c.listData) false bytes ms)))
-        → Ends transceiveEvents (done (handedOut (isType2Card c) reply)) (some c)
+  module _ (ready : Ready simulated as_is M room give l) (c : Card) (found : card_at field l.chip.found ≡ some c) (reply : List ℕ) where
+    pub hands_out : (text bytes : List ℕ) (ms : Option ℕ) → choice_of text ≡ chosen c.bitrate → Bytes bytes → reply_to c.replies bytes ≡ some reply
+        → Accepted M room s i (reader (device (transceive text (sel_res_of c.kind c.list_data) false bytes ms)))
+        → Ends transceive_events (done (handed_out (is_type2_card c) reply)) (some c)
     hands_out text bytes ms named all stated acc =
-        let d : ReaderCall = device (transceive text (selResOf c.kind c.listData) false bytes ms) in
-        let begins = accepted-script M room s i (reader d) reached acc in
-        let short = transceive-short c.kind c.bitrate c.listData text bytes ms named begins.0 begins.1 in
-        called d (transceiveScript c.kind c.bitrate c.listData text bytes ms named) transceiveEvents (done (handedOut (isType2Card c) reply)) l.chip (some c) ready acc
-        (transceive-begins c.kind c.bitrate c.listData text bytes ms named short)
-        (transceive-sends c.kind c.bitrate c.listData text bytes ms named short (bytes-all bytes all))
-        (transceive-comes l.chip c bytes reply found stated (clockOf ms) (isType2Card c) (crc-of-reply field l.chip.found c bytes reply ready.fits found stated)) refl found
+        let d : ReaderCall = device (transceive text (sel_res_of c.kind c.list_data) false bytes ms) in
+        let begins = accepted_script M room s i (reader d) reached acc in
+        let short = transceive_short c.kind c.bitrate c.list_data text bytes ms named begins.0 begins.1 in
+        called d (transceive_script c.kind c.bitrate c.list_data text bytes ms named) transceive_events (done (handed_out (is_type2_card c) reply)) l.chip (some c) ready acc
+        (transceive_begins c.kind c.bitrate c.list_data text bytes ms named short)
+        (transceive_sends c.kind c.bitrate c.list_data text bytes ms named short (bytes_all bytes all))
+        (transceive_comes l.chip c bytes reply found stated (clock_of ms) (is_type2_card c) (crc_of_reply field l.chip.found c bytes reply ready.fits found stated)) refl found
 
-    pub answered-read : (idm blocks : List ℕ) (service : ℕ) (ms : Option ℕ) → service < 65536 → Bytes idm → Bytes blocks → replyTo c.replies (readRequest idm service blocks) ≡ some reply
-        → Accepted M room s i (reader (device (readWithoutEncryption idm service blocks ms)))
-        → Ends transceiveEvents (answerRead (length blocks) reply (readCheck idm (length blocks) reply)) (some c)
-    answered-read idm blocks service ms known bi bb stated acc =
-        let d : ReaderCall = device (readWithoutEncryption idm service blocks ms) in
-        let begins = accepted-script M room s i (reader d) reached acc in
-        let holds = (asserted-holds (requestFits idm blocks) (starts (readBlocks idm service blocks (clockOf ms))) begins.0 begins.1).0 in
-        called d (readBlocks idm service blocks (clockOf ms)) transceiveEvents (answerRead (length blocks) reply (readCheck idm (length blocks) reply)) l.chip (some c) ready acc
+    pub answered_read : (idm blocks : List ℕ) (service : ℕ) (ms : Option ℕ) → service < 65536 → Bytes idm → Bytes blocks → reply_to c.replies (read_request_of idm service blocks) ≡ some reply
+        → Accepted M room s i (reader (device (read_without_encryption idm service blocks ms)))
+        → Ends transceive_events (answer_read (length blocks) reply (read_check idm (length blocks) reply)) (some c)
+    answered_read idm blocks service ms known bi bb stated acc =
+        let d : ReaderCall = device (read_without_encryption idm service blocks ms) in
+        let begins = accepted_script M room s i (reader d) reached acc in
+        let holds = (asserted_holds (request_fits idm blocks) (starts (read_blocks idm service blocks (clock_of ms))) begins.0 begins.1).0 in
+        called d (read_blocks idm service blocks (clock_of ms)) transceive_events (answer_read (length blocks) reply (read_check idm (length blocks) reply)) l.chip (some c) ready acc
         (rw holds)
-        (read-sends idm service blocks (clockOf ms) (clock-runs ms) (read-bytes service idm blocks known (bytes-all idm bi) (bytes-all blocks bb) holds)
-        (read_short service idm blocks known (bytes-all idm bi) (bytes-all blocks bb) holds))
-        (read-comes l.chip c reply idm blocks service (clockOf ms) found stated) refl found
+        (read_sends idm service blocks (clock_of ms) (clock_runs ms) (read_bytes_lem service idm blocks known (bytes_all idm bi) (bytes_all blocks bb) holds)
+        (read_short service idm blocks known (bytes_all idm bi) (bytes_all blocks bb) holds))
+        (read_comes l.chip c reply idm blocks service (clock_of ms) found stated) refl found
 
-    pub answered-write : (idm blocks bytes : List ℕ) (service : ℕ) (ms : Option ℕ) → service < 65536 → Bytes idm → Bytes blocks → Bytes bytes
-        → replyTo c.replies (writeRequest idm service blocks bytes) ≡ some reply
-        → Accepted M room s i (reader (device (writeWithoutEncryption idm service blocks bytes ms)))
-        → Ends transceiveEvents (answerWrite (writeCheck idm reply)) (some c)
-    answered-write idm blocks bytes service ms known bi bb all stated acc =
-        let d : ReaderCall = device (writeWithoutEncryption idm service blocks bytes ms) in
-        let begins = accepted-script M room s i (reader d) reached acc in
-        let holds = (asserted-holds (writeFits idm blocks bytes) (starts (writeBlocks idm service blocks bytes (clockOf ms))) begins.0 begins.1).0 in
-        called d (writeBlocks idm service blocks bytes (clockOf ms)) transceiveEvents (answerWrite (writeCheck idm reply)) l.chip (some c) ready acc
+    pub answered_write : (idm blocks bytes : List ℕ) (service : ℕ) (ms : Option ℕ) → service < 65536 → Bytes idm → Bytes blocks → Bytes bytes
+        → reply_to c.replies (write_request_of idm service blocks bytes) ≡ some reply
+        → Accepted M room s i (reader (device (write_without_encryption idm service blocks bytes ms)))
+        → Ends transceive_events (answer_write (write_check idm reply)) (some c)
+    answered_write idm blocks bytes service ms known bi bb all stated acc =
+        let d : ReaderCall = device (write_without_encryption idm service blocks bytes ms) in
+        let begins = accepted_script M room s i (reader d) reached acc in
+        let holds = (asserted_holds (write_fits_of idm blocks bytes) (starts (write_blocks idm service blocks bytes (clock_of ms))) begins.0 begins.1).0 in
+        called d (write_blocks idm service blocks bytes (clock_of ms)) transceive_events (answer_write (write_check idm reply)) l.chip (some c) ready acc
         (rw holds)
-        (write-sends idm service blocks (clockOf ms) (clock-runs ms) bytes
-        (write_bytes service idm blocks known (bytes-all idm bi) (bytes-all blocks bb) bytes holds (bytes-all bytes all))
-        (write-short service idm blocks known (bytes-all idm bi) (bytes-all blocks bb) bytes holds))
-        (write-comes l.chip c reply idm blocks service (clockOf ms) found bytes stated) refl found
+        (write_sends idm service blocks (clock_of ms) (clock_runs ms) bytes
+        (write_bytes service idm blocks known (bytes_all idm bi) (bytes_all blocks bb) bytes holds (bytes_all bytes all))
+        (write_short service idm blocks known (bytes_all idm bi) (bytes_all blocks bb) bytes holds))
+        (write_comes l.chip c reply idm blocks service (clock_of ms) found bytes stated) refl found

@@ -3,7 +3,7 @@ use Rattle.std.specs.Prelude.{List, [], ◌∷◌, ◌++◌, ℕ, zero, suc}
 use Rattle.exchange.specs.Exchange.{Order, write, read, drain, pause, Event, ok, pkt, time, slept}
 use Rattle.protocol.specs.Session.{Output, orders, answers, rejects}
 use Rattle.protocol.specs.Machine.{Machine}
-use Rattle.chip_protocol.specs.Chip.{ChipState, chipStep}
+use Rattle.chip_protocol.specs.Chip.{ChipState, chip_step}
 
 -- ---- the chip's end: for the bytes that the host wrote, the packets that it sends, and its state then
 
@@ -13,11 +13,11 @@ pub record Chip : Type 1 where
   pub next : State → List ℕ → State
 
 abbrev pub simulated : Chip
-simulated = record { State = ChipState; packets = λ s written. (chipStep s written).packets; next = λ s written. (chipStep s written).state }
+simulated = record { State = ChipState; packets = λ s written. (chip_step s written).packets; next = λ s written. (chip_step s written).state }
 
 -- each of its states says itself
-abbrev pub asIs : ChipState → ChipState
-asIs s = s
+abbrev pub as_is : ChipState → ChipState
+as_is s = s
 
 -- ---- the channel: the chip, and the packets that it sent and that are not yet read
 
@@ -29,26 +29,26 @@ module _ (C : Chip) where
   abbrev pub channel : C.State → List (List ℕ) → Channel
   channel s q = record { chip = s; unread = q }
 
-  abbrev pub nextPacket : List (List ℕ) → Event
-  nextPacket [] = time
-  nextPacket (p ∷ q) = pkt p
+  abbrev pub next_packet : List (List ℕ) → Event
+  next_packet [] = time
+  next_packet (p ∷ q) = pkt p
 
-  abbrev pub behindNext : List (List ℕ) → List (List ℕ)
-  behindNext [] = []
-  behindNext (p ∷ q) = q
+  abbrev pub behind_next : List (List ℕ) → List (List ℕ)
+  behind_next [] = []
+  behind_next (p ∷ q) = q
 
   -- a write succeeds; a read or a drain gets the next packet, and times out where there is none; a pause is over
-  abbrev pub eventFor : Channel → Order → Event
-  eventFor l (write bytes) = ok
-  eventFor l (read ms) = nextPacket l.unread
-  eventFor l drain = nextPacket l.unread
-  eventFor l (pause us) = slept
+  abbrev pub event_for : Channel → Order → Event
+  event_for l (write bytes) = ok
+  event_for l (read ms) = next_packet l.unread
+  event_for l drain = next_packet l.unread
+  event_for l (pause us) = slept
 
-  abbrev pub channelAfter : Channel → Order → Channel
-  channelAfter l (write bytes) = channel (C.next l.chip bytes) (l.unread ++ C.packets l.chip bytes)
-  channelAfter l (read ms) = channel l.chip (behindNext l.unread)
-  channelAfter l drain = channel l.chip (behindNext l.unread)
-  channelAfter l (pause us) = l
+  abbrev pub channel_after : Channel → Order → Channel
+  channel_after l (write bytes) = channel (C.next l.chip bytes) (l.unread ++ C.packets l.chip bytes)
+  channel_after l (read ms) = channel l.chip (behind_next l.unread)
+  channel_after l drain = channel l.chip (behind_next l.unread)
+  channel_after l (pause us) = l
 
 -- ---- a run: while the reader orders, and for so many events at most, it is given what its order gets
 
@@ -67,8 +67,8 @@ module _ (M : Machine) (C : Chip) (give : ℕ → Event → M.Input) where
   run zero s l out = end s l out zero
   run (suc n) s l (answers a) = end s l (answers a) (suc n)
   run (suc n) s l (rejects r) = end s l (rejects r) (suc n)
-  run (suc n) s l (orders x) = run n (M.act s (give n (eventFor C l x))).state (channelAfter C l x) (M.act s (give n (eventFor C l x))).output
+  run (suc n) s l (orders x) = run n (M.act s (give n (event_for C l x))).state (channel_after C l x) (M.act s (give n (event_for C l x))).output
 
   -- a call, and then so many events at most
-  abbrev pub callRun : ℕ → M.State → Channel C → M.Input → End
-  callRun n s l i = run n (M.act s i).state l (M.act s i).output
+  abbrev pub call_run : ℕ → M.State → Channel C → M.Input → End
+  call_run n s l i = run n (M.act s i).state l (M.act s i).output

@@ -5,92 +5,92 @@ use Rattle.std.proofs.Common.{arith}
 use borrow.Author.Tests.{eq-eqb}
 use Rattle.framing.specs.Enclose.{length-frame, start-most}
 use Rattle.framing.specs.Exact.{sof-frame}
-use Rattle.framing.specs.Commands.{commandIn}
+use Rattle.framing.specs.Commands.{command_in}
 use Rattle.framing.specs.Frames.{ack, frame_of}
-use Rattle.framing.specs.Intact.{Filled, rcs956Frame, bytes-cons, bytes-nil, frame-filled, built-intact, frame-not-ack}
+use Rattle.framing.specs.Intact.{Filled, rcs956_frame, bytes_cons, bytes_nil, frame_filled, built_intact, frame_not_ack}
 use Rattle.framing.specs.Intact as framing
 use Rattle.framing.specs.Lists.{Bytes, starts}
-use Rattle.framing.specs.Names.{longestExtended}
+use Rattle.framing.specs.Names.{longest_extended}
 use Rattle.framing.specs.Padded.{unpadded}
 use Rattle.framing.specs.Unpadded.{unpadded-start}
 use Rattle.framing.specs.declared.LengthEncoding.TheVariants.{NormalOrExtendedBigEndian}
-use Rattle.exchange.specs.Packets.{commandFrame, payloadReply, replyOf, hasStart, ackLed, is_empty, errorIdentifier}
-use Rattle.exchange.specs.Rules.{not-empty}
-use Rattle.protocol.specs.Session.{packetLimit}
-use Rattle.chip_protocol.specs.Names.{longestResponse}
-use Rattle.chip_protocol.specs.Packets.{Response, responds, syntaxError, payloadFor, responsePacket, ResponseFits}
+use Rattle.exchange.specs.Packets.{command_frame, payload_reply, reply_of, has_start, ack_led, is_empty, error_identifier}
+use Rattle.exchange.specs.Rules.{not_empty}
+use Rattle.protocol.specs.Session.{packet_limit}
+use Rattle.chip_protocol.specs.Names.{longest_response}
+use Rattle.chip_protocol.specs.Packets.{Response, responds, syntax_error, payload_for, response_packet, ResponseFits}
 use Rattle.chip_protocol.specs.Script.{replied, AllBytes}
 
-pub all-bytes : (l : List ℕ) → AllBytes l → Bytes l
-all-bytes [] h zero = omega arith
-all-bytes [] h (suc k) = omega arith
-all-bytes (b ∷ l) h zero = h.0
-all-bytes (b ∷ l) h (suc k) = all-bytes l h.1 k
+pub all_bytes_lem : (l : List ℕ) → AllBytes l → Bytes l
+all_bytes_lem [] h zero = omega arith
+all_bytes_lem [] h (suc k) = omega arith
+all_bytes_lem (b ∷ l) h zero = h.0
+all_bytes_lem (b ∷ l) h (suc k) = all_bytes_lem l h.1 k
 
-pub bytes-all : (l : List ℕ) → Bytes l → AllBytes l
-bytes-all [] h = tt
-bytes-all (b ∷ l) h = (h zero, bytes-all l (λ k. h (suc k)))
+pub bytes_all : (l : List ℕ) → Bytes l → AllBytes l
+bytes_all [] h = tt
+bytes_all (b ∷ l) h = (h zero, bytes_all l (λ k. h (suc k)))
 
 -- ---- from the chip to the host
 
-payload-length : (code : ℕ) (r : Response) → ResponseFits r → length (payloadFor code r) ≤ longestResponse + 2
-payload-length code (responds bytes) h = omega (arith, h.1)
-payload-length code syntaxError h = omega arith
+payload_length : (code : ℕ) (r : Response) → ResponseFits r → length (payload_for code r) ≤ longest_response + 2
+payload_length code (responds bytes) h = omega (arith, h.1)
+payload_length code syntax_error h = omega arith
 
-payload-some : (code : ℕ) (r : Response) → length (payloadFor code r) ≡ 0 → ⊥
-payload-some code (responds bytes) e = omega arith
-payload-some code syntaxError e = omega arith
+payload_some : (code : ℕ) (r : Response) → length (payload_for code r) ≡ 0 → ⊥
+payload_some code (responds bytes) e = omega arith
+payload_some code syntax_error e = omega arith
 
-payload-filled : (code : ℕ) (r : Response) → ResponseFits r → Filled (rcs956Frame (payloadFor code r)) (payloadFor code r)
-payload-filled code (responds bytes) h = built-intact code bytes h.0 (omega (arith, h.1))
-payload-filled code syntaxError h = frame-filled (errorIdentifier ∷ []) (bytes-cons errorIdentifier [] (omega arith) bytes-nil) (omega arith)
+payload_filled : (code : ℕ) (r : Response) → ResponseFits r → Filled (rcs956_frame (payload_for code r)) (payload_for code r)
+payload_filled code (responds bytes) h = built_intact code bytes h.0 (omega (arith, h.1))
+payload_filled code syntax_error h = frame_filled (error_identifier ∷ []) (bytes_cons error_identifier [] (omega arith) bytes_nil) (omega arith)
 
-payload-reply : (code : ℕ) (r : Response) → payloadReply code (payloadFor code r) ≡ replied r
-payload-reply code (responds bytes) = rw (eq-eqb ((code + 1) % 256) ((code + 1) % 256) refl)
-payload-reply code syntaxError = refl
+payload_reply_lem : (code : ℕ) (r : Response) → payload_reply code (payload_for code r) ≡ replied r
+payload_reply_lem code (responds bytes) = rw (eq-eqb ((code + 1) % 256) ((code + 1) % 256) refl)
+payload_reply_lem code syntax_error = refl
 
 module _ (code : ℕ) (r : Response) (fits : ResponseFits r) where
   abbrev packet : List ℕ
-  packet = rcs956Frame (payloadFor code r)
+  packet = rcs956_frame (payload_for code r)
 
   -- for every command: its response, and the status of the error frame
-  pub response-intact : replyOf code (responsePacket code r) ≡ replied r
-  unfolding replyOf responsePacket
-  response-intact =
-      let f = payload-filled code r fits in
-      rw (f.parsed, eq-eqb (length packet) (length packet) refl, f.carried) (payload-reply code r)
+  pub response_intact : reply_of code (response_packet code r) ≡ replied r
+  unfolding reply_of response_packet
+  response_intact =
+      let f = payload_filled code r fits in
+      rw (f.parsed, eq-eqb (length packet) (length packet) refl, f.carried) (payload_reply_lem code r)
 
-  pub response-short : length (responsePacket code r) ≤ packetLimit
-  unfolding responsePacket
-  response-short =
-      omega (arith, length-frame NormalOrExtendedBigEndian (payloadFor code r), start-most NormalOrExtendedBigEndian (length (payloadFor code r)), payload-length code r fits)
+  pub response_short : length (response_packet code r) ≤ packet_limit
+  unfolding response_packet
+  response_short =
+      omega (arith, length-frame NormalOrExtendedBigEndian (payload_for code r), start-most NormalOrExtendedBigEndian (length (payload_for code r)), payload_length code r fits)
 
-  pub response-not-ack : ackLed (responsePacket code r) ≡ false
-  unfolding ackLed responsePacket
-  response-not-ack = frame-not-ack (payloadFor code r) (payload-some code r)
+  pub response_not_ack : ack_led (response_packet code r) ≡ false
+  unfolding ack_led response_packet
+  response_not_ack = frame_not_ack (payload_for code r) (payload_some code r)
 
-  pub response-not-empty : is_empty (responsePacket code r) ≡ false
-  unfolding responsePacket
-  response-not-empty = not-empty packet (λ e. omega (arith, length-frame NormalOrExtendedBigEndian (payloadFor code r)))
+  pub response_not_empty : is_empty (response_packet code r) ≡ false
+  unfolding response_packet
+  response_not_empty = not_empty packet (λ e. omega (arith, length-frame NormalOrExtendedBigEndian (payload_for code r)))
 
-  pub response-unpadded : unpadded (responsePacket code r) ≡ responsePacket code r
-  unfolding responsePacket
-  response-unpadded = unpadded-start packet (sof-frame NormalOrExtendedBigEndian (payloadFor code r))
+  pub response_unpadded : unpadded (response_packet code r) ≡ response_packet code r
+  unfolding response_packet
+  response_unpadded = unpadded-start packet (sof-frame NormalOrExtendedBigEndian (payload_for code r))
 
 -- ---- from the host to the chip
 
-pub command-heard : (code : ℕ) (bytes : List ℕ) → Bytes (code ∷ bytes) → length bytes ≤ 512 → commandIn (commandFrame code bytes) ≡ code ∷ bytes
-unfolding commandFrame
-command-heard code bytes b h = framing.command-heard code bytes b (omega arith)
+pub command_heard : (code : ℕ) (bytes : List ℕ) → Bytes (code ∷ bytes) → length bytes ≤ 512 → command_in (command_frame code bytes) ≡ code ∷ bytes
+unfolding command_frame
+command_heard code bytes b h = framing.command_heard code bytes b (omega arith)
 
 -- ---- ACK
 
-pub ack-led : ackLed ack ≡ true
-unfolding ackLed starts
-ack-led = refl
+pub ack_led_lem : ack_led ack ≡ true
+unfolding ack_led starts
+ack_led_lem = refl
 
-pub ack-start : hasStart ack ≡ true
-unfolding hasStart starts
+pub ack-start : has_start ack ≡ true
+unfolding has_start starts
 ack-start = refl
 
 pub ack-unpadded : unpadded ack ≡ ack

@@ -1,57 +1,57 @@
 -- The kinds of a call of one command, by the rule for its response (src/lib.rt).
 use Rattle.std.specs.Prelude.{ℕ}
-use Rattle.protocol.specs.Rules.{Rule, version, noBytes, all_bytes, registersWritten, firstByte, listedTarget, exchangedData, thru, jump, status, initiatorCommand, targetStatus}
+use Rattle.protocol.specs.Rules.{Rule, version, no_bytes_of, all_bytes, registers_written, first_byte_of, listed_target, exchanged_data, thru, jump, status, initiator_command, target_status}
 
-abbrev pub versionKind : ℕ
-versionKind = 2
+abbrev pub version_kind : ℕ
+version_kind = 2
 
 -- its response is not looked at
-abbrev pub resetModeKind : ℕ
-resetModeKind = 3
+abbrev pub reset_mode_kind : ℕ
+reset_mode_kind = 3
 
-abbrev pub noBytesKind : ℕ
-noBytesKind = 4
+abbrev pub no_bytes_kind : ℕ
+no_bytes_kind = 4
 
-abbrev pub allBytesKind : ℕ
-allBytesKind = 5
+abbrev pub all_bytes_kind : ℕ
+all_bytes_kind = 5
 
-abbrev pub registersWrittenKind : ℕ
-registersWrittenKind = 6
+abbrev pub registers_written_kind : ℕ
+registers_written_kind = 6
 
-abbrev pub firstByteKind : ℕ
-firstByteKind = 7
+abbrev pub first_byte_kind : ℕ
+first_byte_kind = 7
 
-abbrev pub listedTargetKind : ℕ
-listedTargetKind = 8
+abbrev pub listed_target_kind : ℕ
+listed_target_kind = 8
 
-abbrev pub exchangedDataKind : ℕ
-exchangedDataKind = 9
+abbrev pub exchanged_data_kind : ℕ
+exchanged_data_kind = 9
 
-abbrev pub thruKind : ℕ
-thruKind = 10
+abbrev pub thru_kind : ℕ
+thru_kind = 10
 
-abbrev pub jumpKind : ℕ
-jumpKind = 11
+abbrev pub jump_kind : ℕ
+jump_kind = 11
 
-abbrev pub statusKind : ℕ
-statusKind = 12
+abbrev pub status_kind : ℕ
+status_kind = 12
 
-abbrev pub initiatorCommandKind : ℕ
-initiatorCommandKind = 13
+abbrev pub initiator_command_kind : ℕ
+initiator_command_kind = 13
 
-abbrev pub targetStatusKind : ℕ
-targetStatusKind = 14
+abbrev pub target_status_kind : ℕ
+target_status_kind = 14
 
 abbrev pub kind_of : Rule → ℕ
-kind_of version = versionKind
-kind_of noBytes = noBytesKind
-kind_of all_bytes = allBytesKind
-kind_of registersWritten = registersWrittenKind
-kind_of firstByte = firstByteKind
-kind_of listedTarget = listedTargetKind
-kind_of exchangedData = exchangedDataKind
-kind_of thru = thruKind
-kind_of jump = jumpKind
-kind_of status = statusKind
-kind_of initiatorCommand = initiatorCommandKind
-kind_of targetStatus = targetStatusKind
+kind_of version = version_kind
+kind_of no_bytes_of = no_bytes_kind
+kind_of all_bytes = all_bytes_kind
+kind_of registers_written = registers_written_kind
+kind_of first_byte_of = first_byte_kind
+kind_of listed_target = listed_target_kind
+kind_of exchanged_data = exchanged_data_kind
+kind_of thru = thru_kind
+kind_of jump = jump_kind
+kind_of status = status_kind
+kind_of initiator_command = initiator_command_kind
+kind_of target_status = target_status_kind

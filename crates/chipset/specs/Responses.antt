@@ -4,48 +4,48 @@ use Rattle.errors.specs.Choice.{pick}
 use Rattle.errors.specs.declared.Fault.TheVariants.{Status, ShortResponse, Rate}
 use Rattle.protocol.specs.Scripts.{Answer, done, nothing, refused}
 use Rattle.stages.specs.Stages.{Decision, ends, refuse}
-use Rattle.protocol.specs.Rules.{anyNonzero, statusByte, maskedStatus, moreFlag, sendIndex, receiveIndex, rate}
+use Rattle.protocol.specs.Rules.{any_nonzero_of, status_byte, masked_status, more_flag, send_index, receive_index, rate}
 use Rattle.protocol.specs.Arguments.{word}
-use Rattle.protocol.specs.Names.{noData, registerWriteFailed, versionNeed}
+use Rattle.protocol.specs.Names.{no_data, register_write_failed, version_need}
 
 -- at least n bytes, else 16; a status of 0, else 15
-unfoldable pub withLength : List ℕ → ℕ → Answer ℕ → Answer ℕ
-withLength bs n a = pick (ltb (length bs) n) (refused ShortResponse) a
+unfoldable pub with_length : List ℕ → ℕ → Answer ℕ → Answer ℕ
+with_length bs n a = pick (ltb (length bs) n) (refused ShortResponse) a
 
-unfoldable pub withStatus : List ℕ → Answer ℕ → Answer ℕ
-withStatus bs a = pick (eqb (statusByte bs) 0) a (refused (Status (statusByte bs)))
+unfoldable pub with_status : List ℕ → Answer ℕ → Answer ℕ
+with_status bs a = pick (eqb (status_byte bs) 0) a (refused (Status (status_byte bs)))
 
-unfoldable pub versionAnswer : List ℕ → Answer ℕ
-versionAnswer bs = withLength bs versionNeed (done (take 3 bs))
+unfoldable pub version_answer : List ℕ → Answer ℕ
+version_answer bs = with_length bs version_need (done (take 3 bs))
 
-unfoldable pub writtenAnswer : List ℕ → Answer ℕ
-writtenAnswer bs = pick (anyNonzero bs) (refused (Status registerWriteFailed)) (done [])
+unfoldable pub written_answer : List ℕ → Answer ℕ
+written_answer bs = pick (any_nonzero_of bs) (refused (Status register_write_failed)) (done [])
 
 -- the last command of a call: the answer is what was found
-unfoldable pub foundWritten : List ℕ → List ℕ → Decision
-foundWritten found bs = pick (anyNonzero bs) (refuse (Status registerWriteFailed)) (ends (done found))
+unfoldable pub found_written_of : List ℕ → List ℕ → Decision
+found_written_of found bs = pick (any_nonzero_of bs) (refuse (Status register_write_failed)) (ends (done found))
 
-unfoldable pub firstAnswer : List ℕ → Answer ℕ
-firstAnswer bs = withLength bs 1 (done (take 1 bs))
+unfoldable pub first_answer : List ℕ → Answer ℕ
+first_answer bs = with_length bs 1 (done (take 1 bs))
 
-unfoldable pub listAnswer : List ℕ → Answer ℕ
-listAnswer bs = pick (eqb (get_or bs 0 0) 0) nothing (withLength bs 2 (done (drop 2 bs)))
+unfoldable pub list_answer : List ℕ → Answer ℕ
+list_answer bs = pick (eqb (get_or bs 0 0) 0) nothing (with_length bs 2 (done (drop 2 bs)))
 
-unfoldable pub exchangeAnswer : List ℕ → Answer ℕ
-exchangeAnswer bs =
-    pick (eqb (length bs) 0) (refused (Status noData))
-    (pick (eqb (maskedStatus bs) 0) (done (drop 1 bs ++ (moreFlag bs ∷ []))) (refused (Status (maskedStatus bs))))
+unfoldable pub exchange_answer : List ℕ → Answer ℕ
+exchange_answer bs =
+    pick (eqb (length bs) 0) (refused (Status no_data))
+    (pick (eqb (masked_status bs) 0) (done (drop 1 bs ++ (more_flag bs ∷ []))) (refused (Status (masked_status bs))))
 
-unfoldable pub jumpAnswer : List ℕ → Answer ℕ
-jumpAnswer bs = withStatus bs (withLength bs 2 (done (drop 2 bs)))
+unfoldable pub jump_answer : List ℕ → Answer ℕ
+jump_answer bs = with_status bs (with_length bs 2 (done (drop 2 bs)))
 
-unfoldable pub initiatorAnswer : List ℕ → Answer ℕ
-initiatorAnswer bs = pick (eqb (statusByte bs) 0) (done (drop 1 bs)) nothing
+unfoldable pub initiator_answer : List ℕ → Answer ℕ
+initiator_answer bs = pick (eqb (status_byte bs) 0) (done (drop 1 bs)) nothing
 
-unfoldable pub targetAnswer : List ℕ → Answer ℕ
-targetAnswer bs =
-    withLength bs 2
+unfoldable pub target_answer : List ℕ → Answer ℕ
+target_answer bs =
+    with_length bs 2
     (pick (eqb (get_or bs 0 0) 1)
-    (pick (ltb 2 (sendIndex bs)) (refused Rate)
-    (pick (ltb 2 (receiveIndex bs)) (refused Rate) (done (get_or bs 0 0 ∷ (word (rate (sendIndex bs)) ++ word (rate (receiveIndex bs)))))))
+    (pick (ltb 2 (send_index bs)) (refused Rate)
+    (pick (ltb 2 (receive_index bs)) (refused Rate) (done (get_or bs 0 0 ∷ (word (rate (send_index bs)) ++ word (rate (receive_index bs)))))))
     (done (get_or bs 0 0 ∷ 0 ∷ 0 ∷ 0 ∷ 0 ∷ [])))

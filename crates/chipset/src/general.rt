@@ -1,9 +1,9 @@
 // get_firmware_version, reset_mode, parameters and RF configuration (chipset.rs): the data that each sends, and its response.
-ghost use Rattle.protocol.specs.Calls.{version, resetMode, setParameters, rfConfiguration, rfFieldOff};
+ghost use Rattle.protocol.specs.Calls.{version, reset_mode_of, set_parameters_of, rf_configuration_of, rf_field_off_of};
 ghost use Rattle.stages.specs.Decided.{AnswerRefines, Commands};
 ghost use Rattle.stages.specs.Starts.{Starts};
-ghost use Rattle.chipset.specs.Commands.{first_of, resetCommand};
-ghost use Rattle.chipset.specs.Responses.{versionAnswer};
+ghost use Rattle.chipset.specs.Commands.{first_of, reset_command};
+ghost use Rattle.chipset.specs.Responses.{version_answer};
 
 use super::response::part;
 use super::{NO_BYTES_KIND, RESET_MODE_KIND, VERSION_KIND, clock};
@@ -71,7 +71,7 @@ pub fn get_firmware_version(command: &mut [u8; DATA_LIMIT]) -> Start
 }
 
 pub fn get_firmware_version_response(response: &[u8]) -> Decision
-    ensures { AnswerRefines response.now result (versionAnswer response.now) }
+    ensures { AnswerRefines response.now result (version_answer response.now) }
 {
     if response.len() < VERSION_NEED {
         Decision::Refused(Fault::ShortResponse)
@@ -82,28 +82,28 @@ pub fn get_firmware_version_response(response: &[u8]) -> Decision
 
 // The reset's command is that of its kind's stage 0; its response is not looked at.
 pub fn reset_mode(command: &mut [u8; DATA_LIMIT]) -> Start
-    ensures { Starts result command.old command.new (first_of resetMode) }
+    ensures { Starts result command.old command.new (first_of reset_mode_of) }
 {
     let n = put_two(&[], &[], command);
     start::staged(RESET_MODE_KIND, n)
 }
 
 pub fn reset_mode_command() -> Command
-    ensures { Commands result resetCommand }
+    ensures { Commands result reset_command }
 {
     let bytes = [RESET_MODE_DATA, 0, 0, 0, 0, 0, 0, 0, 0, 0, 0, 0];
     Command::fixed(RESET_MODE_CODE, clock::COMMAND_CLOCK, bytes, 1)
 }
 
 pub fn set_parameters(flags: u8, command: &mut [u8; DATA_LIMIT]) -> Start
-    ensures { Starts result command.old command.new (first_of (setParameters flags)) }
+    ensures { Starts result command.old command.new (first_of (set_parameters_of flags)) }
 {
     let n = put_two(&[flags], &[], command);
     start::first_command(NO_BYTES_KIND, SET_PARAMETERS_CODE, clock::COMMAND_CLOCK, n)
 }
 
 pub fn rf_configuration(item: u8, config: &[u8], command: &mut [u8; DATA_LIMIT]) -> Start
-    ensures { Starts result command.old command.new (first_of (rfConfiguration item config.now)) }
+    ensures { Starts result command.old command.new (first_of (rf_configuration_of item config.now)) }
 {
     let n = put_two(&[item], config, command);
     start::first_command(
@@ -115,7 +115,7 @@ pub fn rf_configuration(item: u8, config: &[u8], command: &mut [u8; DATA_LIMIT])
 }
 
 pub fn rf_field_off(command: &mut [u8; DATA_LIMIT]) -> Start
-    ensures { Starts result command.old command.new (first_of rfFieldOff) }
+    ensures { Starts result command.old command.new (first_of rf_field_off_of) }
 {
     let n = put_two(&[RF_FIELD_ITEM, FIELD_OFF], &[], command);
     start::first_command(

@@ -1,12 +1,12 @@
 // What an initiator does (chipset.rs): the data that each command sends, and its response.
 ghost use Rattle.std.specs.Prelude.{◌≡◌, ◌≤◌, drop};
 ghost use Rattle.protocol.specs.Scripts.{done};
-ghost use Rattle.protocol.specs.Arguments.{bit as bit_of, activeByte};
-ghost use Rattle.protocol.specs.Calls.{inListPassiveTarget, inDataExchange, inCommunicateThru, inJumpForDep};
+ghost use Rattle.protocol.specs.Arguments.{bit as bit_of, active_byte};
+ghost use Rattle.protocol.specs.Calls.{in_list_passive_target_of, in_data_exchange_of, in_communicate_thru_of, in_jump_for_dep};
 ghost use Rattle.stages.specs.Decided.{AnswerRefines};
 ghost use Rattle.stages.specs.Starts.{Starts};
 ghost use Rattle.chipset.specs.Commands.{first_of};
-ghost use Rattle.chipset.specs.Responses.{withStatus, listAnswer, exchangeAnswer, jumpAnswer};
+ghost use Rattle.chipset.specs.Responses.{with_status, list_answer, exchange_answer, jump_answer};
 
 use super::response::from;
 use super::{EXCHANGED_DATA_KIND, JUMP_KIND, LISTED_TARGET_KIND, THRU_KIND, clock, err};
@@ -38,7 +38,7 @@ pub fn in_list_passive_target(
     initiator: &[u8],
     command: &mut [u8; DATA_LIMIT],
 ) -> Start
-    ensures { Starts result command.old command.new (first_of (inListPassiveTarget max_tg bitrate initiator.now)) }
+    ensures { Starts result command.old command.new (first_of (in_list_passive_target_of max_tg bitrate initiator.now)) }
 {
     let n = put_two(&[max_tg, bitrate], initiator, command);
     start::first_command(
@@ -51,7 +51,7 @@ pub fn in_list_passive_target(
 
 // NbTg and Tg are left out.
 pub fn in_list_passive_target_response(response: &[u8]) -> Decision
-    ensures { AnswerRefines response.now result (listAnswer response.now) }
+    ensures { AnswerRefines response.now result (list_answer response.now) }
 {
     if byte_or(response, 0, 0) == 0 {
         return Decision::Nothing;
@@ -64,7 +64,7 @@ pub fn in_list_passive_target_response(response: &[u8]) -> Decision
 }
 
 pub fn in_data_exchange(bytes: &[u8], ms: u32, command: &mut [u8; DATA_LIMIT]) -> Start
-    ensures { Starts result command.old command.new (first_of (inDataExchange bytes.now ms)) }
+    ensures { Starts result command.old command.new (first_of (in_data_exchange_of bytes.now ms)) }
 {
     let n = put_two(&[TARGET_NUMBER], bytes, command);
     start::first_command(EXCHANGED_DATA_KIND, IN_DATA_EXCHANGE_CODE, ms, n)
@@ -72,7 +72,7 @@ pub fn in_data_exchange(bytes: &[u8], ms: u32, command: &mut [u8; DATA_LIMIT]) -
 
 // The status is masked, and the more flag stands behind the data.
 pub fn in_data_exchange_response(response: &[u8]) -> Decision
-    ensures { AnswerRefines response.now result (exchangeAnswer response.now) }
+    ensures { AnswerRefines response.now result (exchange_answer response.now) }
 {
     if response.len() == 0 {
         return Decision::Refused(Fault::Status(err::NO_DATA));
@@ -88,7 +88,7 @@ pub fn in_data_exchange_response(response: &[u8]) -> Decision
 }
 
 pub fn in_communicate_thru(bytes: &[u8], ms: u32, command: &mut [u8; DATA_LIMIT]) -> Start
-    ensures { Starts result command.old command.new (first_of (inCommunicateThru bytes.now ms)) }
+    ensures { Starts result command.old command.new (first_of (in_communicate_thru_of bytes.now ms)) }
 {
     let n = put_two(&[], bytes, command);
     start::first_command(THRU_KIND, IN_COMMUNICATE_THRU_CODE, ms, n)
@@ -96,7 +96,7 @@ pub fn in_communicate_thru(bytes: &[u8], ms: u32, command: &mut [u8; DATA_LIMIT]
 
 // The status is not masked.
 pub fn in_communicate_thru_response(response: &[u8]) -> Decision
-    ensures { AnswerRefines response.now result (withStatus response.now (done (drop 1 response.now))) }
+    ensures { AnswerRefines response.now result (with_status response.now (done (drop 1 response.now))) }
 {
     let status = byte_or(response, 0, err::NO_DATA);
     if status == 0 {
@@ -114,7 +114,7 @@ fn bit(bytes: &[u8]) -> u8
 }
 
 fn active_byte(active: bool) -> u8
-    ensures { result ≡ activeByte active }
+    ensures { result ≡ active_byte active }
 {
     if active { 1 } else { 0 }
 }
@@ -127,7 +127,7 @@ pub fn in_jump_for_dep(
     gi: &[u8],
     command: &mut [u8; DATA_LIMIT],
 ) -> Start
-    ensures { Starts result command.old command.new (first_of (inJumpForDep active br passive.now nfcid3.now gi.now)) }
+    ensures { Starts result command.old command.new (first_of (in_jump_for_dep active br passive.now nfcid3.now gi.now)) }
 {
     let nf = bit(passive) + 2 * bit(nfcid3) + 4 * bit(gi);
     let head = [active_byte(active), br, nf];
@@ -142,7 +142,7 @@ pub fn in_jump_for_dep(
 
 // Status and Tg are left out.
 pub fn in_jump_for_dep_response(response: &[u8]) -> Decision
-    ensures { AnswerRefines response.now result (jumpAnswer response.now) }
+    ensures { AnswerRefines response.now result (jump_answer response.now) }
 {
     let status = byte_or(response, 0, err::NO_DATA);
     if status == 0 {

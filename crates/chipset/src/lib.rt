@@ -1,4 +1,6 @@
 // The public commands of chipset.rs: the data that each sends, and what its response comes to.
+#![tactic(auto)]
+
 pub mod ciu;
 pub mod clock;
 pub mod err;

@@ -2,13 +2,13 @@
 ghost use Rattle.std.specs.Prelude.{List, [], ◌∷◌, ◌++◌, ◌≡◌, ℕ, ◌≤◌, ◌%◌, eqb, leb, length, get_or};
 ghost use Rattle.framing.specs.Lists.{both};
 ghost use Rattle.protocol.specs.Scripts.{done};
-ghost use Rattle.protocol.specs.Rules.{rate as rateOf};
-ghost use Rattle.protocol.specs.Arguments.{word, initFits};
-ghost use Rattle.protocol.specs.Calls.{tgInitTarget, tgSetGeneralBytes, tgGetInitiatorCommand, tgResponseToInitiator, tgGetTargetStatus};
+ghost use Rattle.protocol.specs.Rules.{rate as rate_of};
+ghost use Rattle.protocol.specs.Arguments.{word, init_fits};
+ghost use Rattle.protocol.specs.Calls.{tg_init_target, tg_set_general_bytes, tg_get_initiator_command, tg_response_to_initiator, tg_get_target_status};
 ghost use Rattle.stages.specs.Decided.{AnswerRefines};
 ghost use Rattle.stages.specs.Starts.{Starts};
 ghost use Rattle.chipset.specs.Commands.{first_of};
-ghost use Rattle.chipset.specs.Responses.{withStatus, initiatorAnswer, targetAnswer};
+ghost use Rattle.chipset.specs.Responses.{with_status, initiator_answer, target_answer};
 
 use super::response::{from, part};
 use super::{ALL_BYTES_KIND, INITIATOR_COMMAND_KIND, STATUS_KIND, TARGET_STATUS_KIND, clock, err};
@@ -43,7 +43,7 @@ const FELICA_SIZE: usize = 18;
 const NFCID3_SIZE: usize = 10;
 
 fn init_fits(mode: u8, mifare: &[u8], felica: &[u8], nfcid3t: &[u8]) -> bool
-    ensures { result ≡ initFits mode mifare.now felica.now nfcid3t.now }
+    ensures { result ≡ init_fits mode mifare.now felica.now nfcid3t.now }
 {
     if is_mode(mode) {
         if mifare.len() == MIFARE_SIZE {
@@ -69,7 +69,7 @@ pub fn tg_init_target(
     ms: u32,
     command: &mut [u8; DATA_LIMIT],
 ) -> Start
-    ensures { Starts result command.old command.new (first_of (tgInitTarget mode mifare.now felica.now nfcid3t.now gt.now ms)) }
+    ensures { Starts result command.old command.new (first_of (tg_init_target mode mifare.now felica.now nfcid3t.now gt.now ms)) }
 {
     if init_fits(mode, mifare, felica, nfcid3t) {
         let n = put_all(&[mode], mifare, felica, nfcid3t, gt, command);
@@ -80,7 +80,7 @@ pub fn tg_init_target(
 }
 
 pub fn tg_set_general_bytes(gb: &[u8], command: &mut [u8; DATA_LIMIT]) -> Start
-    ensures { Starts result command.old command.new (first_of (tgSetGeneralBytes gb.now)) }
+    ensures { Starts result command.old command.new (first_of (tg_set_general_bytes gb.now)) }
 {
     let n = put_two(&[], gb, command);
     start::first_command(
@@ -92,7 +92,7 @@ pub fn tg_set_general_bytes(gb: &[u8], command: &mut [u8; DATA_LIMIT]) -> Start
 }
 
 pub fn tg_get_initiator_command(ms: u32, command: &mut [u8; DATA_LIMIT]) -> Start
-    ensures { Starts result command.old command.new (first_of (tgGetInitiatorCommand ms)) }
+    ensures { Starts result command.old command.new (first_of (tg_get_initiator_command ms)) }
 {
     let n = put_two(&[], &[], command);
     start::first_command(INITIATOR_COMMAND_KIND, TG_GET_INITIATOR_COMMAND_CODE, ms, n)
@@ -100,7 +100,7 @@ pub fn tg_get_initiator_command(ms: u32, command: &mut [u8; DATA_LIMIT]) -> Star
 
 // None on any other status.
 pub fn tg_get_initiator_command_response(response: &[u8]) -> Decision
-    ensures { AnswerRefines response.now result (initiatorAnswer response.now) }
+    ensures { AnswerRefines response.now result (initiator_answer response.now) }
 {
     if byte_or(response, 0, err::NO_DATA) == 0 {
         from(response, 1)
@@ -110,7 +110,7 @@ pub fn tg_get_initiator_command_response(response: &[u8]) -> Decision
 }
 
 pub fn tg_response_to_initiator(bytes: &[u8], command: &mut [u8; DATA_LIMIT]) -> Start
-    ensures { Starts result command.old command.new (first_of (tgResponseToInitiator bytes.now)) }
+    ensures { Starts result command.old command.new (first_of (tg_response_to_initiator bytes.now)) }
 {
     let n = put_two(&[], bytes, command);
     start::first_command(
@@ -123,7 +123,7 @@ pub fn tg_response_to_initiator(bytes: &[u8], command: &mut [u8; DATA_LIMIT]) ->
 
 // Of tg_set_general_bytes and tg_response_to_initiator.
 pub fn status_response(response: &[u8]) -> Decision
-    ensures { AnswerRefines response.now result (withStatus response.now (done [])) }
+    ensures { AnswerRefines response.now result (with_status response.now (done [])) }
 {
     let status = byte_or(response, 0, err::NO_DATA);
     if status == 0 {
@@ -134,7 +134,7 @@ pub fn status_response(response: &[u8]) -> Decision
 }
 
 pub fn tg_get_target_status(command: &mut [u8; DATA_LIMIT]) -> Start
-    ensures { Starts result command.old command.new (first_of tgGetTargetStatus) }
+    ensures { Starts result command.old command.new (first_of tg_get_target_status) }
 {
     let n = put_two(&[], &[], command);
     start::first_command(
@@ -147,7 +147,7 @@ pub fn tg_get_target_status(command: &mut [u8; DATA_LIMIT]) -> Start
 
 // A rate by its index.
 fn rate(index: u8) -> u16
-    ensures { result ≡ rateOf index }
+    ensures { result ≡ rate_of index }
 {
     if index == 0 {
         return 106;
@@ -177,7 +177,7 @@ fn with_rates(send: u16, receive: u16) -> Decision
 }
 
 pub fn tg_get_target_status_response(response: &[u8]) -> Decision
-    ensures { AnswerRefines response.now result (targetAnswer response.now) }
+    ensures { AnswerRefines response.now result (target_answer response.now) }
 {
     if response.len() < 2 {
         return Decision::Refused(Fault::ShortResponse);

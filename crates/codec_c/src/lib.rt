@@ -1,10 +1,12 @@
 // The C interface of frames and CRCs, as include/rcs956_codec.h describes it. An answer is 0, or document 01's number of a refusal.
+#![tactic(auto)]
+
 ghost use Rattle.std.specs.Prelude.{◌≡◌};
-ghost use Rattle.crc.specs.Crc.{typeA, typeB, checks};
+ghost use Rattle.crc.specs.Crc.{type_a, type_b, checks};
 ghost use Rattle.errors.specs.Refusals.{numbered};
-ghost use Rattle.framing.specs.Frames.{checksumOf};
+ghost use Rattle.framing.specs.Frames.{checksum_of};
 ghost use Rattle.framing.specs.Settings.{setting_of};
-ghost use Rattle.codec_c.specs.Answers.{written, buildFor, appendB, found, frameFound, parseAnswer, parseFor, parsedPadded, paddedFor};
+ghost use Rattle.codec_c.specs.Answers.{written, build_for, append_b, found, frame_found, parse_answer, parse_for, parsed_padded, padded_for};
 
 use crc::Added;
 use errors::Refusal;
@@ -30,7 +32,7 @@ fn refusal_number(refusal: Refusal) -> u8
 
 // The kind is 0 for no frame, 1 for Ack, 2 for Error, 3 for Data.
 fn encode(parsed: FrameType) -> Found
-    ensures { result ≡ frameFound parsed }
+    ensures { result ≡ frame_found parsed }
 {
     match parsed {
         FrameType::Ack(frame) => Found {
@@ -63,7 +65,7 @@ fn encode(parsed: FrameType) -> Found
 // The byte that brings the sum of the bytes to a multiple of 256.
 #[unsafe(no_mangle)]
 pub extern "C" fn rcs956_checksum(bytes: &[u8]) -> u8
-    ensures { result ≡ checksumOf bytes.now }
+    ensures { result ≡ checksum_of bytes.now }
 {
     framing::checksum(bytes)
 }
@@ -76,7 +78,7 @@ pub extern "C" fn rcs956_frame_build(
     buffer: &mut [u8],
     count: &mut usize,
 ) -> u8
-    ensures { written result buffer.new count.new ≡ buildFor (setting_of setting) payload.now buffer.old count.old }
+    ensures { written result buffer.new count.new ≡ build_for (setting_of setting) payload.now buffer.old count.old }
 {
     let Setting::Format(format) = framing::settings::by_number(setting) else {
         return refusal_number(Refusal::BadArgument);
@@ -100,7 +102,7 @@ pub extern "C" fn rcs956_frame_parse(
     len: &mut usize,
     frame: &mut usize,
 ) -> u8
-    ensures { parseAnswer result (found kind.new start.new len.new frame.new) ≡ parseFor (setting_of setting) packet.now (found kind.old start.old len.old frame.old) }
+    ensures { parse_answer result (found kind.new start.new len.new frame.new) ≡ parse_for (setting_of setting) packet.now (found kind.old start.old len.old frame.old) }
 {
     let Setting::Format(format) = framing::settings::by_number(setting) else {
         return refusal_number(Refusal::BadArgument);
@@ -125,7 +127,7 @@ pub extern "C" fn rcs956_frame_parse_padded(
     frame: &mut usize,
     zeros: &mut usize,
 ) -> u8
-    ensures { parsedPadded result (found kind.new start.new len.new frame.new) zeros.new ≡ paddedFor (setting_of setting) packet.now (found kind.old start.old len.old frame.old) zeros.old }
+    ensures { parsed_padded result (found kind.new start.new len.new frame.new) zeros.new ≡ padded_for (setting_of setting) packet.now (found kind.old start.old len.old frame.old) zeros.old }
 {
     let Setting::Format(format) = framing::settings::by_number(setting) else {
         return refusal_number(Refusal::BadArgument);
@@ -144,7 +146,7 @@ pub extern "C" fn rcs956_frame_parse_padded(
 // Whether the last two bytes are the CRC_A of those before them.
 #[unsafe(no_mangle)]
 pub extern "C" fn rcs956_crc_a_check(bytes: &[u8]) -> bool
-    ensures { result ≡ checks typeA bytes.now }
+    ensures { result ≡ checks type_a bytes.now }
 {
     crc::check_crc_a(bytes)
 }
@@ -152,7 +154,7 @@ pub extern "C" fn rcs956_crc_a_check(bytes: &[u8]) -> bool
 // The same of CRC_B.
 #[unsafe(no_mangle)]
 pub extern "C" fn rcs956_crc_b_check(bytes: &[u8]) -> bool
-    ensures { result ≡ checks typeB bytes.now }
+    ensures { result ≡ checks type_b bytes.now }
 {
     crc::check_crc_b(bytes)
 }
@@ -160,7 +162,7 @@ pub extern "C" fn rcs956_crc_b_check(bytes: &[u8]) -> bool
 // Writes the bytes and their CRC_B to the start of `out`, and their number to `count`. A refusal writes nothing.
 #[unsafe(no_mangle)]
 pub extern "C" fn rcs956_crc_b_append(bytes: &[u8], out: &mut [u8], count: &mut usize) -> u8
-    ensures { written result out.new count.new ≡ appendB bytes.now out.old count.old }
+    ensures { written result out.new count.new ≡ append_b bytes.now out.old count.old }
 {
     match crc::add_crc_b(bytes, out) {
         Added::Bytes(n) => {

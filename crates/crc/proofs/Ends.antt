@@ -12,7 +12,7 @@ use lib.Seq.{drop-cons, take-length, take-append_seam, drop-append-add, drop-dro
 use borrow.Author.Tests.{lt-ltb, le-ltb}
 use Rattle.errors.specs.Refusals.{Returned, answered, refused, plain}
 use Rattle.errors.specs.Choice.{pick, same}
-use Rattle.crc.specs.Crc.{CrcKind, crcOf, crcBytes, checks}
+use Rattle.crc.specs.Crc.{CrcKind, crc_of, crc_bytes, checks}
 use Rattle.crc.specs.Answers.{added}
 
 module _ (k : CrcKind) (s : List ℕ) where
@@ -29,9 +29,9 @@ module _ (k : CrcKind) (s : List ℕ) where
       ∙ ap (◌∷◌ (get_or s (suc (length s - 2)) 0)) (drop_of_length-le s {i = suc (suc (length s - 2))} (omega arith))))
 
   -- x is the CRC of all bytes but the last two
-  module _ (x : ℕ) (e : x ≡ crcOf k (take (length s - 2) s)) (b : x < 2 ^ 16) (h : 2 ≤ length s) where
+  module _ (x : ℕ) (e : x ≡ crc_of k (take (length s - 2) s)) (b : x < 2 ^ 16) (h : 2 ≤ length s) where
     pub compared : checks k s ≡ (eqb (get_or s (length s - 2) 0) (x % 256) && eqb (get_or s (length s - 2 + 1) 0) (x / 256))
-    unfolding checks pick same crcBytes
+    unfolding checks pick same crc_bytes
     compared =
         let d : x / 256 % 256 ≡ x / 256 = omega arith in
         rw (le-ltb (length s) 2 h, last-two h, ← e, d, and-true)
@@ -54,9 +54,9 @@ module _ (k : CrcKind) (s out : List ℕ) where
         (ap (drop (length s + 2)) d ∙ drop-append-add s (drop (length s) out) 2 ∙ drop-drop 2 (length s) out))
 
     -- x is the CRC of s
-    pub written : (x : ℕ) → x ≡ crcOf k s → x < 2 ^ 16
+    pub written : (x : ℕ) → x ≡ crc_of k s → x < 2 ^ 16
         → ◌≡◌ {A = Returned × List ℕ} (answered (length s + 2), set (set o (length s) (x % 256)) (length s + 1) (x / 256)) (added k s out)
-    unfolding added pick crcBytes
+    unfolding added pick crc_bytes
     written x e b =
         let d : x / 256 % 256 ≡ x / 256 = omega arith in
         rw (le-ltb (length out) (length s + 2) h, ← e, d, stored (x % 256) (x / 256))

@@ -3,7 +3,7 @@
 use Rattle.std.specs.Prelude.{List, ◌++◌, ℕ, ◌+◌, ltb, length, drop}
 use Rattle.errors.specs.Refusals.{Returned, answered, refused, plain, numbered}
 use Rattle.errors.specs.Choice.{pick}
-use Rattle.crc.specs.Crc.{CrcKind, crcBytes}
+use Rattle.crc.specs.Crc.{CrcKind, crc_bytes}
 use Rattle.crc.specs.declared.Added.{Added}
 use Rattle.crc.specs.declared.Added.TheVariants.{Bytes, Refused}
 
@@ -16,4 +16,4 @@ unfoldable pub added : CrcKind → List ℕ → List ℕ → Returned × List �
 added k s out =
     pick (ltb (length out) (length s + 2))
     (refused (plain 2), out)
-    (answered (length s + 2), s ++ crcBytes k s ++ drop (length s + 2) out)
+    (answered (length s + 2), s ++ crc_bytes k s ++ drop (length s + 2) out)

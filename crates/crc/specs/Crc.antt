@@ -10,13 +10,13 @@ unfoldable pub polynomial : ℕ
 polynomial = 2 ^ (15 - 12) + 2 ^ (15 - 5) + 2 ^ (15 - 0)
 
 -- A bit: the register shifts by one, and where the bit that leaves it differs from the one that comes, the polynomial is added.
-unfoldable pub bitIn : ℕ → ℕ → ℕ
-bitIn register bit = bit_xor (register / 2) (bit_xor (register % 2) bit * polynomial)
+unfoldable pub bit_in : ℕ → ℕ → ℕ
+bit_in register bit = bit_xor (register / 2) (bit_xor (register % 2) bit * polynomial)
 
 -- The register after a list of bits.
-unfoldable pub bitsIn : ℕ → List ℕ → ℕ
-bitsIn register [] = register
-bitsIn register (b ∷ bs) = bitsIn (bitIn register b) bs
+unfoldable pub bits_in : ℕ → List ℕ → ℕ
+bits_in register [] = register
+bits_in register (b ∷ bs) = bits_in (bit_in register b) bs
 
 -- The n low bits of x, lowest first.
 unfoldable pub bits : ℕ → ℕ → List ℕ
@@ -24,36 +24,36 @@ bits zero x = []
 bits (suc n) x = x % 2 ∷ bits n (x / 2)
 
 -- The register after a list of bytes.
-unfoldable pub registerAfter : ℕ → List ℕ → ℕ
-registerAfter register [] = register
-registerAfter register (b ∷ bs) = registerAfter (bitsIn register (bits 8 b)) bs
+unfoldable pub register_after : ℕ → List ℕ → ℕ
+register_after register [] = register
+register_after register (b ∷ bs) = register_after (bits_in register (bits 8 b)) bs
 
 -- The two kinds differ in the register's initial value, and in whether the result is inverted.
 pub record CrcKind : Type 0 where
   pub initial : ℕ
   pub inverted : Bool
 
-abbrev pub crcKind : ℕ → Bool → CrcKind
-crcKind initial inverted = record { initial = initial; inverted = inverted }
+abbrev pub crc_kind : ℕ → Bool → CrcKind
+crc_kind initial inverted = record { initial = initial; inverted = inverted }
 
-abbrev pub typeA : CrcKind
-typeA = crcKind 0x6363 false
+abbrev pub type_a : CrcKind
+type_a = crc_kind 0x6363 false
 
-abbrev pub typeB : CrcKind
-typeB = crcKind 0xFFFF true
+abbrev pub type_b : CrcKind
+type_b = crc_kind 0xFFFF true
 
 -- Inverted: each of the register's 16 bits is the other.
 unfoldable pub result : Bool → ℕ → ℕ
 result true register = 0xFFFF - register
 result false register = register
 
-unfoldable pub crcOf : CrcKind → List ℕ → ℕ
-crcOf k s = result k.inverted (registerAfter k.initial s)
+unfoldable pub crc_of : CrcKind → List ℕ → ℕ
+crc_of k s = result k.inverted (register_after k.initial s)
 
 -- The CRC as it is sent: two bytes, the low one first.
-unfoldable pub crcBytes : CrcKind → List ℕ → List ℕ
-crcBytes k s = crcOf k s % 256 ∷ crcOf k s / 256 % 256 ∷ []
+unfoldable pub crc_bytes : CrcKind → List ℕ → List ℕ
+crc_bytes k s = crc_of k s % 256 ∷ crc_of k s / 256 % 256 ∷ []
 
 -- The last two bytes are the CRC of all before them. Under two bytes: no.
 unfoldable pub checks : CrcKind → List ℕ → Bool
-checks k s = pick (ltb (length s) 2) false (same (drop (length s - 2) s) (crcBytes k (take (length s - 2) s)))
+checks k s = pick (ltb (length s) 2) false (same (drop (length s - 2) s) (crc_bytes k (take (length s - 2) s)))

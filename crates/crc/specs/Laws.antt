@@ -2,18 +2,18 @@
 -- Assumes nothing.
 use Rattle.std.specs.Prelude.{◌≡◌, refl, Bool, true, false, ◌&&◌, List, ◌++◌, ℕ, ◌+◌, ◌-◌, ltb, length, take}
 use Rattle.std.proofs.Common.{sym, ap, ◌∙◌, arith, length-append, take-append-drop, take_at, drop_at, le-ltb}
-use Rattle.errors.specs.Choice.{pick, same_self, same-is}
-use Rattle.crc.specs.Crc.{CrcKind, crcBytes, checks}
+use Rattle.errors.specs.Choice.{pick, same_self, same_is}
+use Rattle.crc.specs.Crc.{CrcKind, crc_bytes, checks}
 
-pub crc-length : (k : CrcKind) (s : List ℕ) → length (crcBytes k s) ≡ 2
-unfolding crcBytes
-crc-length k s = refl
+pub crc_length : (k : CrcKind) (s : List ℕ) → length (crc_bytes k s) ≡ 2
+unfolding crc_bytes
+crc_length k s = refl
 
-pub own-checks : (k : CrcKind) (s : List ℕ) → checks k (s ++ crcBytes k s) ≡ true
+pub own_checks : (k : CrcKind) (s : List ℕ) → checks k (s ++ crc_bytes k s) ≡ true
 unfolding checks pick
-own-checks k s =
-    let e : length (s ++ crcBytes k s) ≡ length s + 2 = length-append s (crcBytes k s) ∙ ap (◌+◌ (length s)) (crc-length k s) in
-    rw (le-ltb (length (s ++ crcBytes k s)) 2 (omega arith), e, take_at s (crcBytes k s) (length s + 2 - 2) (omega arith), drop_at s (crcBytes k s) (length s + 2 - 2) (omega arith)) (same_self (crcBytes k s))
+own_checks k s =
+    let e : length (s ++ crc_bytes k s) ≡ length s + 2 = length-append s (crc_bytes k s) ∙ ap (◌+◌ (length s)) (crc_length k s) in
+    rw (le-ltb (length (s ++ crc_bytes k s)) 2 (omega arith), e, take_at s (crc_bytes k s) (length s + 2 - 2) (omega arith), drop_at s (crc_bytes k s) (length s + 2 - 2) (omega arith)) (same_self (crc_bytes k s))
 
 pub and_parts : (a b : Bool) → (a && b) ≡ true → (a ≡ true) × (b ≡ true)
 and_parts true b e = (refl, e)
@@ -24,8 +24,8 @@ unfolding pick
 not_short true b e = cc
 not_short false b e = e
 
-pub checked : (k : CrcKind) (s : List ℕ) → checks k s ≡ true → s ≡ take (length s - 2) s ++ crcBytes k (take (length s - 2) s)
+pub checked : (k : CrcKind) (s : List ℕ) → checks k s ≡ true → s ≡ take (length s - 2) s ++ crc_bytes k (take (length s - 2) s)
 unfolding checks
 checked k s e =
     sym (take-append-drop (length s - 2) s)
-    ∙ ap (◌++◌ (take (length s - 2) s)) (same-is _ _ (not_short (ltb (length s) 2) _ e))
+    ∙ ap (◌++◌ (take (length s - 2) s)) (same_is _ _ (not_short (ltb (length s) 2) _ e))

@@ -1,41 +1,41 @@
 -- What a line shows of a fault, by what the engine gave out.
 use Rattle.core.specs.Prelude.{Bool, true, false}
 use Rattle.std.proofs.Math.Option.{Option, none, some}
-use Rattle.errors.specs.Refusals.{numbered, faultNumbered}
+use Rattle.errors.specs.Refusals.{numbered, fault_numbered}
 use Rattle.errors.specs.declared.Numbered.{Numbered}
 use Rattle.engine.specs.declared.core.Output.{Output}
 use Rattle.engine.specs.declared.core.Output.TheVariants.{Ack, Command, Read, Drain, Pause, Done, Type1, UidAndAts, Nothing, Failed, FailedAfter, Refused}
 use Rattle.cut_lines.specs.declared.shown.Shown.{Shown}
 use Rattle.cut_lines.specs.declared.shown.Shown.TheVariants.{Refusal, Other}
 
-abbrev pub shownIn : Shown → Option Numbered
-shownIn (Refusal n) = some n
-shownIn Other = none
+abbrev pub shown_in : Shown → Option Numbered
+shown_in (Refusal n) = some n
+shown_in Other = none
 
-abbrev pub refusedBy : Output → Option Numbered
-refusedBy Ack = none
-refusedBy (Command n) = none
-refusedBy (Read ms) = none
-refusedBy Drain = none
-refusedBy (Pause us) = none
-refusedBy (Done n) = none
-refusedBy (Type1 n) = none
-refusedBy (UidAndAts n uid ats) = none
-refusedBy Nothing = none
-refusedBy (Failed r) = some (faultNumbered r)
-refusedBy (FailedAfter r n) = some (faultNumbered r)
-refusedBy (Refused r) = some (numbered r)
+abbrev pub refused_by : Output → Option Numbered
+refused_by Ack = none
+refused_by (Command n) = none
+refused_by (Read ms) = none
+refused_by Drain = none
+refused_by (Pause us) = none
+refused_by (Done n) = none
+refused_by (Type1 n) = none
+refused_by (UidAndAts n uid ats) = none
+refused_by Nothing = none
+refused_by (Failed r) = some (fault_numbered r)
+refused_by (FailedAfter r n) = some (fault_numbered r)
+refused_by (Refused r) = some (numbered r)
 
-abbrev pub atOnceBy : Output → Bool
-atOnceBy Ack = false
-atOnceBy (Command n) = false
-atOnceBy (Read ms) = false
-atOnceBy Drain = false
-atOnceBy (Pause us) = false
-atOnceBy (Done n) = false
-atOnceBy (Type1 n) = false
-atOnceBy (UidAndAts n uid ats) = false
-atOnceBy Nothing = false
-atOnceBy (Failed r) = false
-atOnceBy (FailedAfter r n) = false
-atOnceBy (Refused r) = true
+abbrev pub at_once_by : Output → Bool
+at_once_by Ack = false
+at_once_by (Command n) = false
+at_once_by (Read ms) = false
+at_once_by Drain = false
+at_once_by (Pause us) = false
+at_once_by (Done n) = false
+at_once_by (Type1 n) = false
+at_once_by (UidAndAts n uid ats) = false
+at_once_by Nothing = false
+at_once_by (Failed r) = false
+at_once_by (FailedAfter r n) = false
+at_once_by (Refused r) = true

@@ -1,12 +1,12 @@
 // The lines of a script, each read once.
 ghost use Rattle.core.specs.Prelude.{◌≡◌, ℕ, ◌+◌, ◌≤◌, length, take};
 ghost use Rattle.std.proofs.Math.Seq.{slice};
-ghost use Rattle.bench_input.specs.Arguments.{bytesRoom};
-ghost use Rattle.bench_input.specs.Readings.{inputIn};
+ghost use Rattle.bench_input.specs.Arguments.{bytes_room};
+ghost use Rattle.bench_input.specs.Readings.{input_in};
 ghost use Rattle.bench_input.specs.Table.{input_of};
 ghost use Rattle.bench.specs.Texts.{placed, put_at};
-ghost use Rattle.cut_script.specs.Answer.{scriptLimit, lineCountLimit};
-ghost use Rattle.cut_lines.specs.Readings.{usedBy, behindFeed, EntriesOf};
+ghost use Rattle.cut_script.specs.Answer.{script_limit, line_count_limit};
+ghost use Rattle.cut_lines.specs.Readings.{used_by, behind_feed, EntriesOf};
 
 use super::LINE_COUNT_LIMIT;
 use bench::{prefix, text};
@@ -29,7 +29,7 @@ pub struct Entries {
 }
 
 fn no_entries() -> Entries
-    ensures { length result.at ≡ lineCountLimit }
+    ensures { length result.at ≡ line_count_limit }
 {
     let entry = Entry {
         input: Input::Unreadable,
@@ -44,7 +44,7 @@ fn no_entries() -> Entries
 
 // How many bytes the byte strings of a line take.
 fn used(input: Input) -> usize
-    ensures { result ≡ usedBy input }
+    ensures { result ≡ used_by input }
 {
     match input {
         Input::Call(_, _, ends) => ends.fourth,
@@ -56,7 +56,7 @@ fn used(input: Input) -> usize
 // The first n bytes of an array, put from a place on.
 fn put(n: usize, strings: &[u8; BYTES_ROOM], bytes: &mut [u8], at: usize) -> usize
     ensures bytes_after { placed result bytes.new ≡ put_at at (take n strings.now) bytes.old }
-    ensures strings_len { length strings.now ≡ bytesRoom }
+    ensures strings_len { length strings.now ≡ bytes_room }
 {
     text::put(prefix(n, strings), bytes, at)
 }
@@ -65,7 +65,7 @@ fn put(n: usize, strings: &[u8; BYTES_ROOM], bytes: &mut [u8], at: usize) -> usi
 fn read_line(line: &[u8], bytes: &mut [u8], at: usize) -> Input
     requires { at + length line.now ≤ length bytes.old }
     ensures bytes_unchanged { (take at bytes.new ≡ take at bytes.old) × (length bytes.new ≡ length bytes.old) }
-    ensures by_index { (to : ℕ) → at + length line.now ≤ to → inputIn (slice at to bytes.new) result ≡ input_of line.now }
+    ensures by_index { (to : ℕ) → at + length line.now ≤ to → input_in (slice at to bytes.new) result ≡ input_of line.now }
 {
     let mut strings = [0u8; BYTES_ROOM];
     let input = bench_input::read(line, &mut strings);
@@ -73,9 +73,9 @@ fn read_line(line: &[u8], bytes: &mut [u8], at: usize) -> Input
     input
 }
 
-// Reads the lines of a script that is not over-long.
+// Reads the lines of a script that is not over_long_lem.
 pub(crate) fn read(script: &[u8], bytes: &mut [u8]) -> Entries
-    requires { (length script.now ≤ length bytes.old) × (length script.now ≤ scriptLimit) }
+    requires { (length script.now ≤ length bytes.old) × (length script.now ≤ script_limit) }
     ensures { EntriesOf script.now bytes.new result × (length bytes.new ≡ length bytes.old) }
 {
     let mut entries = no_entries();
@@ -104,7 +104,7 @@ pub(crate) fn read(script: &[u8], bytes: &mut [u8]) -> Entries
 
 // The place behind the line feed at a place, or the end where there is none.
 fn behind(stop: usize, len: usize) -> usize
-    ensures { result ≡ behindFeed stop len }
+    ensures { result ≡ behind_feed stop len }
 {
     if stop < len { stop + 1 } else { len }
 }

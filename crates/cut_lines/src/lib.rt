@@ -1,11 +1,13 @@
 // Document 02, N14: a fault script, cut down to its shortest end that still shows its fault.
+#![tactic(auto)]
+
 mod entries;
 mod program;
 mod runs;
 mod shown;
 
 ghost use Rattle.core.specs.Prelude.{◌≡◌, length};
-ghost use Rattle.cut_script.specs.Answer.{scriptLimit, cut_of};
+ghost use Rattle.cut_script.specs.Answer.{script_limit, cut_of};
 ghost use Rattle.cut_lines.specs.Readings.{answer_in};
 
 pub use program::run;
@@ -25,7 +27,7 @@ pub enum Stretch {
 }
 
 fn room() -> [u8; SCRIPT_LIMIT]
-    ensures { length result ≡ scriptLimit }
+    ensures { length result ≡ script_limit }
 {
     [0; SCRIPT_LIMIT]
 }

@@ -1,14 +1,14 @@
 // The program `cut`: a script on standard input, the stretch or a refusal on standard output.
 ghost use Rattle.core.specs.Prelude.{◌≡◌, ◌≤◌, length};
 ghost use Rattle.bench.specs.Texts.{placed, placed_at};
-ghost use Rattle.cut_script.specs.Answer.{scriptLimit, cut_of, writtenFor};
+ghost use Rattle.cut_script.specs.Answer.{script_limit, cut_of, written_for};
 
 use super::{Stretch, cut};
 use bench::{lines, text};
 use bench_input::slice;
 use libc::STDIN_FILENO;
 
-// One byte more than a script may have tells one that is over-long.
+// One byte more than a script may have tells one that is over_long_lem.
 const INPUT_ROOM: usize = 65537;
 
 fn room() -> [u8; INPUT_ROOM]
@@ -31,7 +31,7 @@ fn read_rest() {
 
 // Puts what is written for a script at the start of `out`, which has room for the longest script.
 pub fn put_cut(script: &[u8], out: &mut [u8]) -> usize
-    ensures { scriptLimit ≤ length out.old → placed result out.new ≡ placed_at 0 (writtenFor script.now (cut_of script.now)) out.old }
+    ensures { script_limit ≤ length out.old → placed result out.new ≡ placed_at 0 (written_for script.now (cut_of script.now)) out.old }
 {
     match cut(script) {
         Stretch::From(place) => text::put(slice(script, place, script.len()), out, 0),
@@ -40,7 +40,7 @@ pub fn put_cut(script: &[u8], out: &mut [u8]) -> usize
     }
 }
 
-// Cuts standard input down, which is read to its end even where it is over-long. `put_cut` has the contract of what is written; free is what the
+// Cuts standard input down, which is read to its end even where it is over_long_lem. `put_cut` has the contract of what is written; free is what the
 // operating system reads and writes.
 pub fn run() {
     let mut input = room();

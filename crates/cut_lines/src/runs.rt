@@ -2,13 +2,13 @@
 ghost use Rattle.core.specs.Prelude.{◌≡◌, ℕ, ◌-◌, ◌<◌, ◌≤◌, true, List, length};
 ghost use Rattle.std.proofs.Math.Option.{some};
 ghost use Rattle.std.proofs.Math.Seq.{slice};
-ghost use Rattle.bench_input.specs.Readings.{inputIn};
+ghost use Rattle.bench_input.specs.Readings.{input_in};
 ghost use Rattle.bench_input.specs.Table.{Said};
-ghost use Rattle.cut_script.specs.Answer.{lineCountLimit};
-ghost use Rattle.cut_script.specs.Bench.{isOpening, bench};
+ghost use Rattle.cut_script.specs.Answer.{line_count_limit};
+ghost use Rattle.cut_script.specs.Bench.{is_opening, bench};
 ghost use Rattle.cut_script.specs.Cut.{Shortest};
-ghost use Rattle.cut_lines.specs.Shown.{shownIn};
-ghost use Rattle.cut_lines.specs.Runs.{Acts, Skips, Overtakes, Holds, RunShows, StretchTried, lastShown};
+ghost use Rattle.cut_lines.specs.Shown.{shown_in};
+ghost use Rattle.cut_lines.specs.Runs.{Acts, Skips, Overtakes, Holds, RunShows, StretchTried, last_shown};
 
 use super::entries::{Entries, Entry};
 use super::shown;
@@ -22,7 +22,7 @@ use engine::session::{Session, Step};
 use errors::Numbered;
 
 fn is_opening(input: Input) -> bool
-    ensures { (b : List ℕ) → isOpening (inputIn b input) ≡ result }
+    ensures { (b : List ℕ) → is_opening (input_in b input) ≡ result }
 {
     match input {
         Input::Call(number, _, _) => number == OPEN_CALL,
@@ -45,7 +45,7 @@ fn is_skipped(core: Core, input: Input) -> bool
 
 // A line's step.
 fn act(session: Session, entry: Entry, bytes: &[u8]) -> Step
-    ensures { Acts session (inputIn (slice entry.from entry.to bytes.now) entry.input) result }
+    ensures { Acts session (input_in (slice entry.from entry.to bytes.now) entry.input) result }
 {
     let mut buffer = [0u8; BUFFER_SIZE];
     let input = entry.input;
@@ -72,7 +72,7 @@ fn is_overtaken(stop: usize, m: usize, input: Input, output: Output) -> bool
 // What the last line of the stretch from line `from` on shows. Nothing where an opening behind line `stop` is taken before: the stretch from
 // there on does the same.
 fn run(entries: Entries, from: usize, stop: usize, bytes: &[u8]) -> Shown
-    requires { (from < entries.count) × (entries.count ≤ lineCountLimit) }
+    requires { (from < entries.count) × (entries.count ≤ line_count_limit) }
     ensures { (xs : List Said) → Holds entries bytes.now xs → RunShows stop xs from result }
 {
     let last = entries.count - 1;
@@ -103,15 +103,15 @@ fn run(entries: Entries, from: usize, stop: usize, bytes: &[u8]) -> Shown
 
 // What the last line of the whole script shows.
 pub(crate) fn whole(entries: Entries, bytes: &[u8]) -> Shown
-    requires { (0 < entries.count) × (entries.count ≤ lineCountLimit) }
-    ensures { (xs : List Said) → Holds entries bytes.now xs → shownIn result ≡ lastShown xs 0 }
+    requires { (0 < entries.count) × (entries.count ≤ line_count_limit) }
+    ensures { (xs : List Said) → Holds entries bytes.now xs → shown_in result ≡ last_shown xs 0 }
 {
     run(entries, 0, entries.count, bytes)
 }
 
 // The stretch from line i on shows the fault. It need not be run where it begins with no opening and has a line more.
 fn shows(entries: Entries, i: usize, bytes: &[u8], fault: Numbered) -> bool
-    requires { (i < entries.count) × (entries.count ≤ lineCountLimit) }
+    requires { (i < entries.count) × (entries.count ≤ line_count_limit) }
     ensures { (xs : List Said) → Holds entries bytes.now xs → StretchTried xs i fault result }
 {
     let entry = entries.at[i];
@@ -126,9 +126,9 @@ fn shows(entries: Entries, i: usize, bytes: &[u8], fault: Numbered) -> bool
 
 // The line at which the shortest stretch starts: the script's last lines are tried one after the other, and its first one is left.
 pub(crate) fn shortest(entries: Entries, bytes: &[u8], fault: Numbered) -> usize
-    requires { (0 < entries.count) × (entries.count ≤ lineCountLimit) }
+    requires { (0 < entries.count) × (entries.count ≤ line_count_limit) }
     ensures upper_bound { result < entries.count }
-    ensures shortest { (xs : List Said) → Holds entries bytes.now xs → lastShown xs 0 ≡ some fault → Shortest bench xs (length xs - result) }
+    ensures shortest { (xs : List Said) → Holds entries bytes.now xs → last_shown xs 0 ≡ some fault → Shortest bench xs (length xs - result) }
 {
     let mut i = entries.count - 1;
     while 0 < i {

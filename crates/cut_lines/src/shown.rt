@@ -1,8 +1,8 @@
 // What the last line of a list prints, as far as a fault is told by it.
 ghost use Rattle.core.specs.Prelude.{◌≡◌};
 ghost use Rattle.std.proofs.Math.Option.{some};
-ghost use Rattle.cut_script.specs.Bench.{sameNumbered, sameRefusal};
-ghost use Rattle.cut_lines.specs.Shown.{shownIn, refusedBy, atOnceBy};
+ghost use Rattle.cut_script.specs.Bench.{same_numbered, same_refusal};
+ghost use Rattle.cut_lines.specs.Shown.{shown_in, refused_by, at_once_by};
 
 use engine::core::Output;
 use errors::{CARD_STATUS_NUMBER, Numbered, STATUS_NUMBER};
@@ -16,7 +16,7 @@ pub enum Shown {
 
 impl Shown {
     pub(crate) fn of(output: Output) -> Shown
-        ensures { shownIn result ≡ refusedBy output }
+        ensures { shown_in result ≡ refused_by output }
     {
         match output {
             Output::Failed(fault) => Shown::Refusal(fault.numbered()),
@@ -28,7 +28,7 @@ impl Shown {
 
     // The same refusal as another.
     pub(crate) fn is(self, fault: Numbered) -> bool
-        ensures { result ≡ sameRefusal (some fault) (shownIn self) }
+        ensures { result ≡ same_refusal (some fault) (shown_in self) }
     {
         match self {
             Shown::Refusal(numbered) => same(fault, numbered),
@@ -39,7 +39,7 @@ impl Shown {
 
 // The same number, of 15 the same status, of 20 the same two flags.
 fn same(a: Numbered, b: Numbered) -> bool
-    ensures { result ≡ sameNumbered a b }
+    ensures { result ≡ same_numbered a b }
 {
     if a.number != b.number {
         return false;
@@ -58,7 +58,7 @@ fn same(a: Numbered, b: Numbered) -> bool
 
 // Refused at once.
 pub(crate) fn is_at_once(output: Output) -> bool
-    ensures { result ≡ atOnceBy output }
+    ensures { result ≡ at_once_by output }
 {
     match output {
         Output::Refused(_) => true,

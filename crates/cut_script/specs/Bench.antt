@@ -2,59 +2,59 @@
 use Rattle.std.specs.Prelude.{Bool, true, false, List, map, ℕ, eqb, take}
 use Rattle.std.proofs.Math.Option.{Option, none, some}
 use Rattle.errors.specs.Choice.{pick}
-use Rattle.errors.specs.Refusals.{numbered, faultNumbered, statusNumber, cardStatusNumber}
+use Rattle.errors.specs.Refusals.{numbered, fault_numbered, status_number, card_status_number}
 use Rattle.errors.specs.declared.Numbered.{Numbered}
 use Rattle.framing.specs.Lists.{both}
-use Rattle.protocol.specs.Scripts.{Answer, done, type1, uidAndAts, nothing, refused, refusedAfter}
+use Rattle.protocol.specs.Scripts.{Answer, done, type1, uid_and_ats, nothing, refused, refused_after}
 use Rattle.protocol.specs.Session.{Session, fresh, Output, orders, answers, rejects}
-use Rattle.protocol.specs.Machine.{outputValues}
-use Rattle.bench.specs.Lines.{feed, beforeFeed}
+use Rattle.protocol.specs.Machine.{output_values}
+use Rattle.bench.specs.Lines.{feed, before_feed}
 use Rattle.bench_input.specs.Table.{Said, calls, happens, unreadable, input_of}
-use Rattle.bench_session.specs.Sessions.{lineStep}
+use Rattle.bench_session.specs.Sessions.{line_step}
 use Rattle.cut_script.specs.LineSession.{LineSession}
 use Rattle.cut_script.specs.ScriptLines.{lines_of}
 
-abbrev pub isOpening : Said → Bool
-isOpening (calls number n first second third fourth) = eqb number 0
-isOpening (happens number packet) = false
-isOpening unreadable = false
+abbrev pub is_opening : Said → Bool
+is_opening (calls number n first second third fourth) = eqb number 0
+is_opening (happens number packet) = false
+is_opening unreadable = false
 
 -- ---- the refusal that is printed: a list's without the number of codes finished
 
-abbrev pub refusedIn : Answer ℕ → Option Numbered
-refusedIn (done bytes) = none
-refusedIn (type1 bytes) = none
-refusedIn (uidAndAts bytes uid ats) = none
-refusedIn nothing = none
-refusedIn (refused r) = some (faultNumbered r)
-refusedIn (refusedAfter r n) = some (faultNumbered r)
+abbrev pub refused_in : Answer ℕ → Option Numbered
+refused_in (done bytes) = none
+refused_in (type1 bytes) = none
+refused_in (uid_and_ats bytes uid ats) = none
+refused_in nothing = none
+refused_in (refused r) = some (fault_numbered r)
+refused_in (refused_after r n) = some (fault_numbered r)
 
-abbrev pub refusalOf : Output ℕ → Option Numbered
-refusalOf (orders x) = none
-refusalOf (answers a) = refusedIn a
-refusalOf (rejects r) = some (numbered r)
+abbrev pub refusal_of : Output ℕ → Option Numbered
+refusal_of (orders x) = none
+refusal_of (answers a) = refused_in a
+refusal_of (rejects r) = some (numbered r)
 
 abbrev pub is_some : {A : Type 0} → Option A → Bool
 is_some none = false
 is_some (some x) = true
 
 -- refused at once; a later end of a call is none
-abbrev pub isAtOnce : Output ℕ → Bool
-isAtOnce (orders x) = false
-isAtOnce (answers a) = false
-isAtOnce (rejects r) = true
+abbrev pub is_at_once : Output ℕ → Bool
+is_at_once (orders x) = false
+is_at_once (answers a) = false
+is_at_once (rejects r) = true
 
 -- the same number, of 15 the same status, of 20 the same two flags
-unfoldable pub sameNumbered : Numbered → Numbered → Bool
-sameNumbered a b =
+unfoldable pub same_numbered : Numbered → Numbered → Bool
+same_numbered a b =
     both (eqb a.number b.number)
-    (pick (eqb a.number statusNumber) (eqb a.status b.status)
-    (pick (eqb a.number cardStatusNumber) (both (eqb a.status b.status) (eqb a.status2 b.status2)) true))
+    (pick (eqb a.number status_number) (eqb a.status b.status)
+    (pick (eqb a.number card_status_number) (both (eqb a.status b.status) (eqb a.status2 b.status2)) true))
 
-abbrev pub sameRefusal : Option Numbered → Option Numbered → Bool
-sameRefusal none o = false
-sameRefusal (some a) none = false
-sameRefusal (some a) (some b) = sameNumbered a b
+abbrev pub same_refusal : Option Numbered → Option Numbered → Bool
+same_refusal none o = false
+same_refusal (some a) none = false
+same_refusal (some a) (some b) = same_numbered a b
 
 -- ---- the session of lines
 
@@ -64,25 +64,25 @@ bench = record {
   Line = Said;
   Out = Output ℕ;
   fresh = fresh;
-  act = λ m l. ((lineStep m l).state, outputValues (lineStep m l).output);
-  isOpening = isOpening;
-  isRefusal = λ o. is_some (refusalOf o);
-  isAtOnce = isAtOnce;
-  sameRefusal = λ o p. sameRefusal (refusalOf o) (refusalOf p);
+  act = λ m l. ((line_step m l).state, output_values (line_step m l).output);
+  is_opening = is_opening;
+  is_refusal = λ o. is_some (refusal_of o);
+  is_at_once = is_at_once;
+  same_refusal = λ o p. same_refusal (refusal_of o) (refusal_of p);
 }
 
 -- ---- a script
 
-abbrev pub isFeed : ℕ → Bool
-isFeed b = eqb b feed
+abbrev pub is_feed : ℕ → Bool
+is_feed b = eqb b feed
 
 -- a line ends with a line feed, or at the script's end where a rest without one is not empty
-abbrev pub scriptLines : List ℕ → List (List ℕ)
-scriptLines s = lines_of isFeed s
+abbrev pub script_lines : List ℕ → List (List ℕ)
+script_lines s = lines_of is_feed s
 
 -- what a line says is read without its line feed
-abbrev pub lineSays : List ℕ → Said
-lineSays l = input_of (take (beforeFeed l) l)
+abbrev pub line_says : List ℕ → Said
+line_says l = input_of (take (before_feed l) l)
 
 abbrev pub script : List ℕ → List Said
-script s = map lineSays (scriptLines s)
+script s = map line_says (script_lines s)

@@ -11,16 +11,16 @@ ending k xs = drop (length xs - k) xs
 module _ (M : LineSession) where
   abbrev pub refuses : Option M.Out → Bool
   refuses none = false
-  refuses (some o) = M.isRefusal o
+  refuses (some o) = M.is_refusal o
 
-  abbrev pub sameOut : Option M.Out → Option M.Out → Bool
-  sameOut none o = false
-  sameOut (some o) none = false
-  sameOut (some o) (some p) = M.sameRefusal o p
+  abbrev pub same_out_of : Option M.Out → Option M.Out → Bool
+  same_out_of none o = false
+  same_out_of (some o) none = false
+  same_out_of (some o) (some p) = M.same_refusal o p
 
   -- the lines ys print from fresh what the script does
   abbrev pub shows : List M.Line → List M.Line → Bool
-  shows xs ys = sameOut (prints M M.fresh xs) (prints M M.fresh ys)
+  shows xs ys = same_out_of (prints M M.fresh xs) (prints M M.fresh ys)
 
   -- the script's last line prints a refusal
   abbrev pub Faulty : List M.Line → Type 0
@@ -28,18 +28,18 @@ module _ (M : LineSession) where
 
   -- the last k lines are the shortest that do
   pub record Shortest (xs : List M.Line) (k : ℕ) : Type 0 where
-    pub some-line : 1 ≤ k
+    pub some_line : 1 ≤ k
     pub within : k ≤ length xs
     pub same : shows xs (ending k xs) ≡ true
-    pub none-shorter : (j : ℕ) → 1 ≤ j → j < k → shows xs (ending j xs) ≡ false
+    pub none_shorter : (j : ℕ) → 1 ≤ j → j < k → shows xs (ending j xs) ≡ false
 
   -- how many lines: the first of 1, 2, .. that shows it
-  abbrev pub shortestCount : List M.Line → ℕ
-  shortestCount xs = first (length xs) 1 (λ k. shows xs (ending k xs))
+  abbrev pub shortest_count : List M.Line → ℕ
+  shortest_count xs = first (length xs) 1 (λ k. shows xs (ending k xs))
 
   -- a line that a fresh session is moved by: an opening that it does not refuse at once
   abbrev pub starts : M.Line → Bool
-  starts l = M.isOpening l && not (M.isAtOnce (says M M.fresh l))
+  starts l = M.is_opening l && not (M.is_at_once (says M M.fresh l))
 
   abbrev pub begins : List M.Line → Bool
   begins [] = false

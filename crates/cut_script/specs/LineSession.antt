@@ -8,10 +8,10 @@ pub record LineSession : Type 1 where
   pub Out : Type 0
   pub fresh : State
   pub act : State → Line → State × Out
-  pub isOpening : Line → Bool
-  pub isRefusal : Out → Bool
-  pub isAtOnce : Out → Bool  -- refused at once
-  pub sameRefusal : Out → Out → Bool
+  pub is_opening : Line → Bool
+  pub is_refusal : Out → Bool
+  pub is_at_once : Out → Bool  -- refused at once
+  pub same_refusal : Out → Out → Bool
 
 module _ (M : LineSession) where
   abbrev pub next : M.State → M.Line → M.State
@@ -22,12 +22,12 @@ module _ (M : LineSession) where
 
   pub record Lawful : Type 0 where
     -- a line refused at once leaves the session
-    pub kept : (s : M.State) (l : M.Line) → M.isAtOnce (says s l) ≡ true → next s l ≡ s
+    pub kept : (s : M.State) (l : M.Line) → M.is_at_once (says s l) ≡ true → next s l ≡ s
     -- a line that is no opening leaves a fresh session fresh
-    pub closed : (l : M.Line) → M.isOpening l ≡ false → next M.fresh l ≡ M.fresh
-    pub itself : (o : M.Out) → M.isRefusal o ≡ true → M.sameRefusal o o ≡ true
+    pub closed : (l : M.Line) → M.is_opening l ≡ false → next M.fresh l ≡ M.fresh
+    pub itself : (o : M.Out) → M.is_refusal o ≡ true → M.same_refusal o o ≡ true
     -- an opening that is taken makes all new
-    pub resets : (s : M.State) (l : M.Line) → M.isOpening l ≡ true → M.isAtOnce (says s l) ≡ false → next s l ≡ next M.fresh l
+    pub resets : (s : M.State) (l : M.Line) → M.is_opening l ≡ true → M.is_at_once (says s l) ≡ false → next s l ≡ next M.fresh l
 
   -- the state after a list of lines
   abbrev pub after : M.State → List M.Line → M.State

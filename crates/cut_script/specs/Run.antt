@@ -3,7 +3,7 @@ use Rattle.std.specs.Prelude.{◌≡◌, refl, true, false, List, [], ◌∷◌,
 use Rattle.std.proofs.Common.{sym, ap, ◌∙◌, arith, length-drop, drop-drop}
 use Rattle.std.proofs.Math.Option.{some}
 use Rattle.cut_script.specs.LineSession.{LineSession, Lawful, next, says, after, prints}
-use Rattle.cut_script.specs.Loop.{NoneFrom, loop-tried}
+use Rattle.cut_script.specs.Loop.{NoneFrom, loop_tried}
 
 module _ (M : LineSession) where
   -- the state of the stretch from line i on when it comes to line m
@@ -23,8 +23,8 @@ module _ (M : LineSession) where
       let r : 0 + n ≡ n = omega arith in
       rw q (rw r at (one_more d (next M s l) n zero ls (omega arith)))
 
-  pub run-goes-on : (d : M.Line) (xs : List M.Line) (i m : ℕ) → i ≤ m → m < length xs → reached xs i (suc m) ≡ next M (reached xs i m) (get_or xs m d)
-  run-goes-on d xs i m a b =
+  pub run_goes_on : (d : M.Line) (xs : List M.Line) (i m : ℕ) → i ≤ m → m < length xs → reached xs i (suc m) ≡ next M (reached xs i m) (get_or xs m d)
+  run_goes_on d xs i m a b =
       let q : suc m - i ≡ suc (m - i) = omega arith in
       let r : i + (m - i) ≡ m = omega arith in
       rw q (rw r at (one_more d M.fresh (m - i) i xs (omega arith)))
@@ -52,16 +52,16 @@ module _ (M : LineSession) where
 
   -- ---- given up: the run is where a shorter stretch's run is
 
-  pub loop-caught : (xs : List M.Line) (i j m : ℕ) → NoneFrom M xs (suc i) → i < j → j ≤ m → m < length xs → reached xs i m ≡ reached xs j m → NoneFrom M xs i
-  loop-caught xs i j m n a b c e =
+  pub loop_caught : (xs : List M.Line) (i j m : ℕ) → NoneFrom M xs (suc i) → i < j → j ≤ m → m < length xs → reached xs i m ≡ reached xs j m → NoneFrom M xs i
+  loop_caught xs i j m n a b c e =
       let r = prints-from xs i m (omega arith) c ∙ ap (λ s. prints M s (drop m xs)) e ∙ sym (prints-from xs j m b c) in
-      loop-tried M xs i n (rw r (n.none_from j a (omega arith)))
+      loop_tried M xs i n (rw r (n.none_from j a (omega arith)))
 
   first-line : (d : M.Line) (xs : List M.Line) (j : ℕ) → j < length xs → reached xs j (suc j) ≡ next M M.fresh (get_or xs j d)
-  first-line d xs j l = run-goes-on d xs j j (omega arith) l ∙ ap (λ s. next M s (get_or xs j d)) (run-starts xs j)
+  first-line d xs j l = run_goes_on d xs j j (omega arith) l ∙ ap (λ s. next M s (get_or xs j d)) (run-starts xs j)
 
   -- a run that takes a further opening is where the stretch from there on is, if a line follows
-  pub loop-overtaken : Lawful M → (d : M.Line) (xs : List M.Line) (i j : ℕ) → NoneFrom M xs (suc i) → i < j → suc j < length xs
-      → M.isOpening (get_or xs j d) ≡ true → M.isAtOnce (says M (reached xs i j) (get_or xs j d)) ≡ false → NoneFrom M xs i
-  loop-overtaken L d xs i j n a b o t =
-      loop-caught xs i j (suc j) n a (omega arith) b (run-goes-on d xs i j (omega arith) (omega arith) ∙ L.resets (reached xs i j) (get_or xs j d) o t ∙ sym (first-line d xs j (omega arith)))
+  pub loop_overtaken : Lawful M → (d : M.Line) (xs : List M.Line) (i j : ℕ) → NoneFrom M xs (suc i) → i < j → suc j < length xs
+      → M.is_opening (get_or xs j d) ≡ true → M.is_at_once (says M (reached xs i j) (get_or xs j d)) ≡ false → NoneFrom M xs i
+  loop_overtaken L d xs i j n a b o t =
+      loop_caught xs i j (suc j) n a (omega arith) b (run_goes_on d xs i j (omega arith) (omega arith) ∙ L.resets (reached xs i j) (get_or xs j d) o t ∙ sym (first-line d xs j (omega arith)))

@@ -13,11 +13,11 @@ module _ {A : Type 0} where
   glue b [] = (b ∷ []) ∷ []
   glue b (l ∷ ls) = (b ∷ l) ∷ ls
 
-module _ {A : Type 0} (isFeed : A → Bool) where
+module _ {A : Type 0} (is_feed : A → Bool) where
   -- each ends with a line feed; the last one may lack it, and is not empty
   abbrev pub lines_of : List A → List (List A)
   lines_of [] = []
-  lines_of (b ∷ bs) = cond (isFeed b) ((b ∷ []) ∷ lines_of bs) (glue b (lines_of bs))
+  lines_of (b ∷ bs) = cond (is_feed b) ((b ∷ []) ∷ lines_of bs) (glue b (lines_of bs))
 
   -- where line i begins
   abbrev pub place : List A → ℕ → ℕ
@@ -27,21 +27,21 @@ module _ {A : Type 0} (isFeed : A → Bool) where
   joined-glue b [] = refl
   joined-glue b (l ∷ ls) = refl
 
-  pub joined-lines : (s : List A) → joined (lines_of s) ≡ s
-  joined-lines [] = refl
-  joined-lines (b ∷ bs) =
-      let r = joined-lines bs in
-      decide (isFeed b) (λ e. rw (e, r)) (λ e. rw (e, joined-glue b (lines_of bs), r))
+  pub joined_lines : (s : List A) → joined (lines_of s) ≡ s
+  joined_lines [] = refl
+  joined_lines (b ∷ bs) =
+      let r = joined_lines bs in
+      decide (is_feed b) (λ e. rw (e, r)) (λ e. rw (e, joined-glue b (lines_of bs), r))
 
   joined-append : (a b : List (List A)) → joined (a ++ b) ≡ joined a ++ joined b
   joined-append [] b = refl
   joined-append (l ∷ a) b = rw (joined-append a b) (sym (append_assoc l (joined a) (joined b)))
 
   -- the stretch from line i on is the script's end from a place on
-  pub stretch-bytes : (s : List A) (i : ℕ) → drop (place s i) s ≡ joined (drop i (lines_of s))
-  stretch-bytes s i =
+  pub stretch_bytes : (s : List A) (i : ℕ) → drop (place s i) s ≡ joined (drop i (lines_of s))
+  stretch_bytes s i =
       let ls = lines_of s in
-      let q : joined (take i ls) ++ joined (drop i ls) ≡ s = sym (joined-append (take i ls) (drop i ls)) ∙ ap joined (take-append-drop i ls) ∙ joined-lines s in
+      let q : joined (take i ls) ++ joined (drop i ls) ≡ s = sym (joined-append (take i ls) (drop i ls)) ∙ ap joined (take-append-drop i ls) ∙ joined_lines s in
       ap (drop (place s i)) (sym q) ∙ drop_at (joined (take i ls)) (joined (drop i ls)) (place s i) refl
 
   drop-glue : (b : A) (i : ℕ) (ls : List (List A)) → drop (suc i) (glue b ls) ≡ drop (suc i) ls
@@ -51,12 +51,12 @@ module _ {A : Type 0} (isFeed : A → Bool) where
   read_again : (s : List A) (i : ℕ) → lines_of (joined (drop i (lines_of s))) ≡ drop i (lines_of s)
   read_again [] zero = refl
   read_again [] (suc i) = refl
-  read_again (b ∷ bs) zero = ap lines_of (joined-lines (b ∷ bs))
+  read_again (b ∷ bs) zero = ap lines_of (joined_lines (b ∷ bs))
   read_again (b ∷ bs) (suc i) =
       let r = read_again bs i in
       let t = read_again bs (suc i) in
-      decide (isFeed b) (λ e. rw e r) (λ e. rw (e, drop-glue b i (lines_of bs)) t)
+      decide (is_feed b) (λ e. rw e r) (λ e. rw (e, drop-glue b i (lines_of bs)) t)
 
   -- and read as a script of its own it has just those lines
-  pub stretch-lines : (s : List A) (i : ℕ) → lines_of (drop (place s i) s) ≡ drop i (lines_of s)
-  stretch-lines s i = ap lines_of (stretch-bytes s i) ∙ read_again s i
+  pub stretch_lines : (s : List A) (i : ℕ) → lines_of (drop (place s i) s) ≡ drop i (lines_of s)
+  stretch_lines s i = ap lines_of (stretch_bytes s i) ∙ read_again s i

@@ -1,5 +1,7 @@
 // Many scripts from standard input, each cut down by itself. Before a script stands a line with its number of bytes; a line is printed for
 // each: where its stretch starts, or the refusal.
+#![tactic(auto)]
+
 ghost use Rattle.std.specs.Prelude.{◌≡◌, ◌≤◌, ◌<◌, length};
 
 use cut_lines::{Stretch, cut};

@@ -5,79 +5,79 @@ use Rattle.std.proofs.Math.Option.{Option, none, some}
 use Rattle.errors.specs.Choice.{pick}
 use Rattle.errors.specs.declared.Fault.TheVariants.{Status, CrcA}
 use Rattle.errors.specs.declared.Refusal.TheVariants.{NotSendable, Bitrate as BadBitrate}
-use Rattle.crc.specs.Crc.{typeA as crcA, checks}
-use Rattle.targets.specs.Bitrates.{choice_of, byBitrate}
-use Rattle.targets.specs.TypeA.{isType2}
+use Rattle.crc.specs.Crc.{type_a as crc_a, checks}
+use Rattle.targets.specs.Bitrates.{choice_of, by_bitrate}
+use Rattle.targets.specs.TypeA.{is_type2}
 use Rattle.targets.specs.declared.Bitrate.{Bitrate}
 use Rattle.protocol.specs.Scripts.{Answer, done, refused}
-use Rattle.protocol.specs.Rules.{maskedStatus}
-use Rattle.protocol.specs.Starts.{is106A, type2SelRes, isSendable}
+use Rattle.protocol.specs.Rules.{masked_status}
+use Rattle.protocol.specs.Starts.{is106a, type2_sel_res, is_sendable}
 use Rattle.stages.specs.Stages.{Command, cmd}
 use Rattle.stages.specs.Starts.{Start, refuses, limited, Starts}
 use Rattle.stages.specs.declared.start.Start as code
-use Rattle.chipset.specs.Responses.{withStatus}
+use Rattle.chipset.specs.Responses.{with_status}
 use Rattle.device.specs.declared.transceive.Timeout.{Timeout}
 use Rattle.device.specs.declared.transceive.Timeout.TheVariants.{Standard, Ms}
-use Rattle.protocol.specs.Calls.{inCommunicateThruCode, inDataExchangeCode}
-use Rattle.protocol.specs.Names.{noData, targetNumber}
-use Rattle.chipset.specs.Kinds.{thruKind}
-use Rattle.device.specs.Kinds.{type2Kind, type1Kind}
+use Rattle.protocol.specs.Calls.{in_communicate_thru_code, in_data_exchange_code}
+use Rattle.protocol.specs.Names.{no_data, target_number}
+use Rattle.chipset.specs.Kinds.{thru_kind}
+use Rattle.device.specs.Kinds.{type2_kind, type1_kind}
 
-abbrev pub timeoutOf : Timeout → Option ℕ
-timeoutOf Standard = none
-timeoutOf (Ms ms) = some ms
+abbrev pub timeout_of : Timeout → Option ℕ
+timeout_of Standard = none
+timeout_of (Ms ms) = some ms
 
 -- by the kind of target; any other is in_communicate_thru's
-unfoldable pub type1First : List ℕ → ℕ → Start
-type1First bytes ms = pick (isSendable bytes) (limited type1Kind (cmd inDataExchangeCode ms (targetNumber ∷ bytes))) (refuses NotSendable)
+unfoldable pub type1_first : List ℕ → ℕ → Start
+type1_first bytes ms = pick (is_sendable bytes) (limited type1_kind (cmd in_data_exchange_code ms (target_number ∷ bytes))) (refuses NotSendable)
 
-unfoldable pub thruFirst : Bitrate → List ℕ → List ℕ → ℕ → Start
-thruFirst rate selRes bytes ms = limited (pick (is106A rate && type2SelRes selRes) type2Kind thruKind) (cmd inCommunicateThruCode ms bytes)
+unfoldable pub thru_first : Bitrate → List ℕ → List ℕ → ℕ → Start
+thru_first rate selRes bytes ms = limited (pick (is106a rate && type2_sel_res selRes) type2_kind thru_kind) (cmd in_communicate_thru_code ms bytes)
 
-unfoldable pub transceiveFirst : List ℕ → List ℕ → Bool → List ℕ → ℕ → Start
-transceiveFirst text selRes ridRes bytes ms = byBitrate (refuses BadBitrate) (choice_of text) (λ rate. pick ridRes (type1First bytes ms) (thruFirst rate selRes bytes ms))
+unfoldable pub transceive_first : List ℕ → List ℕ → Bool → List ℕ → ℕ → Start
+transceive_first text selRes ridRes bytes ms = by_bitrate (refuses BadBitrate) (choice_of text) (λ rate. pick ridRes (type1_first bytes ms) (thru_first rate selRes bytes ms))
 
 -- the answers: of Type 2, whose reply over 2 bytes must pass CRC_A and loses two bytes, and of Type 1
-unfoldable pub type2Answer : List ℕ → Answer ℕ
-type2Answer bs =
-    withStatus bs
-    (pick (ltb 3 (length bs)) (pick (checks crcA (drop 1 bs)) (done (take (length bs - 3) (drop 1 bs))) (refused CrcA)) (done (drop 1 bs)))
+unfoldable pub type2_answer : List ℕ → Answer ℕ
+type2_answer bs =
+    with_status bs
+    (pick (ltb 3 (length bs)) (pick (checks crc_a (drop 1 bs)) (done (take (length bs - 3) (drop 1 bs))) (refused CrcA)) (done (drop 1 bs)))
 
-unfoldable pub type1Answer : List ℕ → Answer ℕ
-type1Answer bs =
-    pick (eqb (length bs) 0) (refused (Status noData)) (pick (eqb (maskedStatus bs) 0) (done (drop 1 bs)) (refused (Status (maskedStatus bs))))
+unfoldable pub type1_answer : List ℕ → Answer ℕ
+type1_answer bs =
+    pick (eqb (length bs) 0) (refused (Status no_data)) (pick (eqb (masked_status bs) 0) (done (drop 1 bs)) (refused (Status (masked_status bs))))
 
 -- ---- laws
 
-pub no-sel-res : (l : List ℕ) → length l ≡ 0 → false ≡ type2SelRes l
-no-sel-res [] h = refl
-no-sel-res (x ∷ l) h = absurd (omega arith)
+pub no_sel_res : (l : List ℕ) → length l ≡ 0 → false ≡ type2_sel_res l
+no_sel_res [] h = refl
+no_sel_res (x ∷ l) h = absurd (omega arith)
 
-pub sel-res : (l : List ℕ) → (r : Bool) → (length l ≡ 0 → ⊥) → r ≡ isType2 (get_or l 0 0) → r ≡ type2SelRes l
-sel-res [] r h e = absurd (h refl)
-sel-res (x ∷ l) r h e = e
+pub sel_res : (l : List ℕ) → (r : Bool) → (length l ≡ 0 → ⊥) → r ≡ is_type2 (get_or l 0 0) → r ≡ type2_sel_res l
+sel_res [] r h e = absurd (h refl)
+sel_res (x ∷ l) r h e = e
 
 module _ (r : code.Start) (c₀ c₁ : List ℕ) (c : Command) (t : Bool) where
-  pub kind-type2 : t ≡ true → Starts r c₀ c₁ (limited type2Kind c) → Starts r c₀ c₁ (limited (pick t type2Kind thruKind) c)
+  pub kind_type2 : t ≡ true → Starts r c₀ c₁ (limited type2_kind c) → Starts r c₀ c₁ (limited (pick t type2_kind thru_kind) c)
   unfolding pick
-  kind-type2 h e = rw h e
+  kind_type2 h e = rw h e
 
-  pub kind-thru : t ≡ false → Starts r c₀ c₁ (limited thruKind c) → Starts r c₀ c₁ (limited (pick t type2Kind thruKind) c)
+  pub kind_thru : t ≡ false → Starts r c₀ c₁ (limited thru_kind c) → Starts r c₀ c₁ (limited (pick t type2_kind thru_kind) c)
   unfolding pick
-  kind-thru h e = rw h e
+  kind_thru h e = rw h e
 
 -- the clock as a call answered it
 module _ (r : code.Start) (c₀ c₁ : List ℕ) (rate : Bitrate) (selRes bytes : List ℕ) (ms m : ℕ) (clock : ms ≡ m) where
-  pub as-type1 : (rid : Bool) → rid ≡ true → Starts r c₀ c₁ (type1First bytes ms) → Starts r c₀ c₁ (pick rid (type1First bytes m) (thruFirst rate selRes bytes m))
+  pub as_type1 : (rid : Bool) → rid ≡ true → Starts r c₀ c₁ (type1_first bytes ms) → Starts r c₀ c₁ (pick rid (type1_first bytes m) (thru_first rate selRes bytes m))
   unfolding pick
-  as-type1 rid h s = rw (h, ← clock) s
+  as_type1 rid h s = rw (h, ← clock) s
 
-  pub as-thru : (rid : Bool) → rid ≡ false → Starts r c₀ c₁ (thruFirst rate selRes bytes ms) → Starts r c₀ c₁ (pick rid (type1First bytes m) (thruFirst rate selRes bytes m))
+  pub as_thru : (rid : Bool) → rid ≡ false → Starts r c₀ c₁ (thru_first rate selRes bytes ms) → Starts r c₀ c₁ (pick rid (type1_first bytes m) (thru_first rate selRes bytes m))
   unfolding pick
-  as-thru rid h s = rw (h, ← clock) s
+  as_thru rid h s = rw (h, ← clock) s
 
 -- the check of a reply, which stands behind the status byte
-pub check-known : (bs : List ℕ) (r t : Bool) → r ≡ checks crcA (take (length bs - 1) (drop 1 bs)) → r ≡ t → checks crcA (drop 1 bs) ≡ t
-check-known bs r t e f =
+pub check_known : (bs : List ℕ) (r t : Bool) → r ≡ checks crc_a (take (length bs - 1) (drop 1 bs)) → r ≡ t → checks crc_a (drop 1 bs) ≡ t
+check_known bs r t e f =
     let l : length (drop 1 bs) ≤ length bs - 1 = rw (length-drop 1 bs) (omega arith) in
-    ap (checks crcA) (sym (take_all (length bs - 1) (drop 1 bs) l)) ∙ sym e ∙ f
+    ap (checks crc_a) (sym (take_all (length bs - 1) (drop 1 bs) l)) ∙ sym e ∙ f

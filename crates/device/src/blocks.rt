@@ -2,13 +2,13 @@
 // against the request.
 ghost use Rattle.std.specs.Prelude.{Bool, List, ◌≡◌, ℕ, ◌≤◌, length, drop};
 ghost use Rattle.framing.specs.Build.{returned, left};
-ghost use Rattle.felica.specs.Packets.{builtOf};
-ghost use Rattle.protocol.specs.Starts.{clockOf, dataLimit};
+ghost use Rattle.felica.specs.Packets.{built_of};
+ghost use Rattle.protocol.specs.Starts.{clock_of, data_limit};
 ghost use Rattle.stages.specs.Decided.{AnswerRefines};
 ghost use Rattle.stages.specs.Starts.{Starts};
-ghost use Rattle.chipset.specs.Responses.{withStatus};
-ghost use Rattle.device.specs.Transceive.{timeoutOf};
-ghost use Rattle.device.specs.Blocks.{thruIf, read_first, writeFirst, ifGood, readAnswer, writeAnswer};
+ghost use Rattle.chipset.specs.Responses.{with_status};
+ghost use Rattle.device.specs.Transceive.{timeout_of};
+ghost use Rattle.device.specs.Blocks.{thru_if, read_first, write_first, if_good, read_answer, write_answer};
 
 use super::transceive::{Timeout, clock};
 use chipset::response::from;
@@ -32,7 +32,7 @@ const RESPONSE_BLOCKS_OFFSET: usize = 1 + BLOCKS_OFFSET;
 
 // A request that was built in the pending command is sent through InCommunicateThru.
 fn start_built(kind: u8, built: Built, ms: u32) -> Start
-    ensures { (fits : Bool) (p c₀ c₁ : List ℕ) → (fits ≡ Bool.true → (length p ≤ dataLimit) × (length p ≤ length c₀)) → left (returned built) c₁ ≡ builtOf fits p c₀ → Starts result c₀ c₁ (thruIf fits kind ms p) }
+    ensures { (fits : Bool) (p c₀ c₁ : List ℕ) → (fits ≡ Bool.true → (length p ≤ data_limit) × (length p ≤ length c₀)) → left (returned built) c₁ ≡ built_of fits p c₀ → Starts result c₀ c₁ (thru_if fits kind ms p) }
 {
     match built {
         Built::Frame(n) => start::first_command(kind, initiator::IN_COMMUNICATE_THRU_CODE, ms, n),
@@ -47,7 +47,7 @@ pub fn read_without_encryption(
     timeout: Timeout,
     command: &mut [u8; DATA_LIMIT],
 ) -> Start
-    ensures { Starts result command.old command.new (read_first idm.now service blocks.now (clockOf (timeoutOf timeout))) }
+    ensures { Starts result command.old command.new (read_first idm.now service blocks.now (clock_of (timeout_of timeout))) }
 {
     let ms = clock(timeout);
     let built = build_read_request(idm, service, blocks, command);
@@ -62,7 +62,7 @@ pub fn write_without_encryption(
     timeout: Timeout,
     command: &mut [u8; DATA_LIMIT],
 ) -> Start
-    ensures { Starts result command.old command.new (writeFirst idm.now service blocks.now bytes.now (clockOf (timeoutOf timeout))) }
+    ensures { Starts result command.old command.new (write_first idm.now service blocks.now bytes.now (clock_of (timeout_of timeout))) }
 {
     let ms = clock(timeout);
     let built = build_write_request(idm, service, blocks, bytes, command);
@@ -82,7 +82,7 @@ fn card_reply(response: &[u8]) -> &[u8]
 
 // The response from a place on where its status and its reply are good; else the fault of the first that is not.
 fn if_good(checked: Checked, response: &[u8], start: usize) -> Decision
-    ensures { AnswerRefines response.now result (withStatus response.now (ifGood start response.now checked)) }
+    ensures { AnswerRefines response.now result (with_status response.now (if_good start response.now checked)) }
 {
     let status = byte_or(response, 0, err::NO_DATA);
     if status != 0 {
@@ -96,7 +96,7 @@ fn if_good(checked: Checked, response: &[u8], start: usize) -> Decision
 
 // The blocks, in the order of the request; `pending` is the request.
 pub fn read_response(pending: &[u8], response: &[u8]) -> Decision
-    ensures { AnswerRefines response.now result (readAnswer pending.now response.now) }
+    ensures { AnswerRefines response.now result (read_answer pending.now response.now) }
 {
     if_good(
         check_read(pending, card_reply(response)),
@@ -107,7 +107,7 @@ pub fn read_response(pending: &[u8], response: &[u8]) -> Decision
 
 // No bytes.
 pub fn write_response(pending: &[u8], response: &[u8]) -> Decision
-    ensures { AnswerRefines response.now result (writeAnswer pending.now response.now) }
+    ensures { AnswerRefines response.now result (write_answer pending.now response.now) }
 {
     if_good(
         check_write(pending, card_reply(response)),

@@ -1,14 +1,16 @@
 // The opening (`Device::new` of device.rs): the command of each stage, and what follows each reply. transceive and the FeliCa blocks have files of their own.
+#![tactic(auto)]
+
 pub mod blocks;
 pub mod transceive;
 
 ghost use Rattle.std.specs.Prelude.{List, ◌≡◌, ℕ, ◌≤◌, ◌<◌, take};
-ghost use Rattle.protocol.specs.Names.{commandClock};
-ghost use Rattle.protocol.specs.Calls.{rfConfigurationCode};
+ghost use Rattle.protocol.specs.Names.{command_clock};
+ghost use Rattle.protocol.specs.Calls.{rf_configuration_code};
 ghost use Rattle.stages.specs.Stages.{cmd};
-ghost use Rattle.stages.specs.Decided.{tail_bytes, DecisionRefines, Commands, fixedLimit, tailLimit};
-ghost use Rattle.device.specs.Opening.{openingCommand, settingsCommand, isResetStage, versionKept, openingDecision};
-ghost use Rattle.protocol.specs.Device.{hexDigit, dotted, nameBytes};
+ghost use Rattle.stages.specs.Decided.{tail_bytes, DecisionRefines, Commands, fixed_limit, tail_limit};
+ghost use Rattle.device.specs.Opening.{opening_command, settings_command, is_reset_stage, version_kept, opening_decision};
+ghost use Rattle.protocol.specs.Device.{hex_digit_of, dotted, name_bytes};
 
 use chipset::{ciu, clock, general, registers};
 use errors::Fault;
@@ -66,7 +68,7 @@ const OPENING_PARAMETERS: u8 = 0x08;
 
 // An RF configuration of an item, with the first `len` of the bytes.
 fn configured(bytes: [u8; FIXED_LIMIT], len: usize) -> Command
-    ensures { len ≤ fixedLimit → Commands result (λ pending. cmd rfConfigurationCode commandClock (take len bytes)) }
+    ensures { len ≤ fixed_limit → Commands result (λ pending. cmd rf_configuration_code command_clock (take len bytes)) }
 {
     Command::fixed(
         general::RF_CONFIGURATION_CODE,
@@ -78,7 +80,7 @@ fn configured(bytes: [u8; FIXED_LIMIT], len: usize) -> Command
 
 // The commands of Device::new, one for each stage.
 pub fn command(stage: u8) -> Command
-    ensures { Commands result (openingCommand stage) }
+    ensures { Commands result (opening_command stage) }
 {
     match stage {
         RESET_STAGE => general::reset_mode_command(),
@@ -97,7 +99,7 @@ pub fn command(stage: u8) -> Command
 
 // Its later commands, from the sixth on.
 fn settings(stage: u8) -> Command
-    ensures { Commands result (settingsCommand stage) }
+    ensures { Commands result (settings_command stage) }
 {
     match stage {
         MAX_RETRIES_STAGE => configured(
@@ -118,7 +120,7 @@ fn settings(stage: u8) -> Command
 
 // Two commands are resets.
 pub fn is_reset(stage: u8) -> bool
-    ensures { result ≡ isResetStage stage }
+    ensures { result ≡ is_reset_stage stage }
 {
     if stage == RESET_STAGE {
         true
@@ -130,7 +132,7 @@ pub fn is_reset(stage: u8) -> bool
 // A lower-case hex digit.
 fn hex_digit(n: u8) -> u8
     requires { n < 16 }
-    ensures { result ≡ hexDigit n }
+    ensures { result ≡ hex_digit_of n }
 {
     if n < 10 { 0x30 + n } else { 0x57 + n }
 }
@@ -184,7 +186,7 @@ struct Named {
 }
 
 fn chipset_name(version: u8, revision: u8) -> Named
-    ensures { (take result.len (tail_bytes result.tail) ≡ nameBytes version revision) × (result.len ≤ tailLimit) }
+    ensures { (take result.len (tail_bytes result.tail) ≡ name_bytes version revision) × (result.len ≤ tail_limit) }
 {
     let suffix = dotted(version, revision);
     let d = suffix.bytes;
@@ -199,7 +201,7 @@ fn chipset_name(version: u8, revision: u8) -> Named
 
 // get_firmware_version was answered: the three bytes and the chip's name are kept.
 fn version(response: &[u8]) -> Decision
-    ensures { (f : List ℕ) → DecisionRefines f response.now result (versionKept response.now) }
+    ensures { (f : List ℕ) → DecisionRefines f response.now result (version_kept response.now) }
 {
     if response.len() < VERSION_NEED {
         return Decision::Refused(Fault::ShortResponse);
@@ -211,7 +213,7 @@ fn version(response: &[u8]) -> Decision
 
 // What follows a response, or a reset; `found` is the answer once the version is known.
 pub fn decided(stage: u8, found: &[u8], response: &[u8]) -> Decision
-    ensures { DecisionRefines found.now response.now result (openingDecision stage found.now response.now) }
+    ensures { DecisionRefines found.now response.now result (opening_decision stage found.now response.now) }
 {
     if stage == VERSION_STAGE {
         return version(response);

@@ -1,9 +1,9 @@
 // transceive (device.rs): how it starts, and its responses. That of any other target is in_communicate_thru's.
 ghost use Rattle.std.specs.Prelude.{◌&&◌, ◌≡◌};
-ghost use Rattle.protocol.specs.Starts.{is106A, type2SelRes, isSendable, clockOf};
+ghost use Rattle.protocol.specs.Starts.{is106a, type2_sel_res, is_sendable, clock_of};
 ghost use Rattle.stages.specs.Decided.{AnswerRefines};
 ghost use Rattle.stages.specs.Starts.{Starts};
-ghost use Rattle.device.specs.Transceive.{timeoutOf, type1First, thruFirst, transceiveFirst, type2Answer, type1Answer};
+ghost use Rattle.device.specs.Transceive.{timeout_of, type1_first, thru_first, transceive_first, type2_answer, type1_answer};
 
 use chipset::initiator::TARGET_NUMBER;
 use chipset::response::{from, part};
@@ -32,7 +32,7 @@ const MARGIN_MS: u32 = 100;
 
 // The ms of the command's clock.
 pub(crate) fn clock(timeout: Timeout) -> u32
-    ensures { result ≡ clockOf (timeoutOf timeout) }
+    ensures { result ≡ clock_of (timeout_of timeout) }
 {
     match timeout {
         Timeout::Standard => STANDARD_MS + MARGIN_MS,
@@ -42,7 +42,7 @@ pub(crate) fn clock(timeout: Timeout) -> u32
 
 // The first byte of SEL_RES is that of a Type 2 tag.
 fn is_type2(sel_res: &[u8]) -> bool
-    ensures { result ≡ type2SelRes sel_res.now }
+    ensures { result ≡ type2_sel_res sel_res.now }
 {
     if sel_res.len() == 0 {
         false
@@ -52,7 +52,7 @@ fn is_type2(sel_res: &[u8]) -> bool
 }
 
 fn is_type2_106a(bitrate: Bitrate, sel_res: &[u8]) -> bool
-    ensures { result ≡ (is106A bitrate && type2SelRes sel_res.now) }
+    ensures { result ≡ (is106a bitrate && type2_sel_res sel_res.now) }
 {
     match bitrate {
         Bitrate::B106A => is_type2(sel_res),
@@ -72,7 +72,7 @@ const TYPE_1_WRITE_E: u8 = 0x53;
 const TYPE_1_RID: u8 = 0x72;
 
 fn is_sendable(bytes: &[u8]) -> bool
-    ensures { result ≡ isSendable bytes.now }
+    ensures { result ≡ is_sendable bytes.now }
 {
     if bytes.len() == 0 {
         return false;
@@ -84,7 +84,7 @@ fn is_sendable(bytes: &[u8]) -> bool
 }
 
 fn type1(bytes: &[u8], ms: u32, command: &mut [u8; DATA_LIMIT]) -> Start
-    ensures { Starts result command.old command.new (type1First bytes.now ms) }
+    ensures { Starts result command.old command.new (type1_first bytes.now ms) }
 {
     if is_sendable(bytes) {
         let n = put_two(&[TARGET_NUMBER], bytes, command);
@@ -101,7 +101,7 @@ fn thru(
     ms: u32,
     command: &mut [u8; DATA_LIMIT],
 ) -> Start
-    ensures { Starts result command.old command.new (thruFirst bitrate sel_res.now bytes.now ms) }
+    ensures { Starts result command.old command.new (thru_first bitrate sel_res.now bytes.now ms) }
 {
     let n = put_two(&[], bytes, command);
     if is_type2_106a(bitrate, sel_res) {
@@ -120,7 +120,7 @@ pub fn transceive(
     timeout: Timeout,
     command: &mut [u8; DATA_LIMIT],
 ) -> Start
-    ensures { Starts result command.old command.new (transceiveFirst bitrate.now sel_res.now rid_res bytes.now (clockOf (timeoutOf timeout))) }
+    ensures { Starts result command.old command.new (transceive_first bitrate.now sel_res.now rid_res bytes.now (clock_of (timeout_of timeout))) }
 {
     let Coded::Code(rate) = targets::code(bitrate) else {
         return start::refused(Refusal::Bitrate);
@@ -135,7 +135,7 @@ pub fn transceive(
 
 // Of a Type 2 target: a reply over 2 bytes must pass CRC_A and loses two bytes.
 pub fn type2_response(response: &[u8]) -> Decision
-    ensures { AnswerRefines response.now result (type2Answer response.now) }
+    ensures { AnswerRefines response.now result (type2_answer response.now) }
 {
     let status = byte_or(response, 0, err::NO_DATA);
     if status == 0 {
@@ -155,7 +155,7 @@ pub fn type2_response(response: &[u8]) -> Decision
 
 // Of a Type 1 target: the more flag is left out.
 pub fn type1_response(response: &[u8]) -> Decision
-    ensures { AnswerRefines response.now result (type1Answer response.now) }
+    ensures { AnswerRefines response.now result (type1_answer response.now) }
 {
     if response.len() == 0 {
         return Decision::Refused(Fault::Status(err::NO_DATA));

@@ -1,58 +1,58 @@
 -- How each discovery starts: the bytes that are put by for its stages, or its refusal at once.
 use Rattle.std.specs.Prelude.{true, ◌≡◌, List, [], ◌∷◌, ℕ, take, drop}
 use Rattle.std.proofs.Math.Option.{Option, none, some}
-use Rattle.protocol.specs.Arguments.{jumpData, systemCodesFit, atrReqFits, shortestAtrReq, nfcid3Size, activeByte, nfcid3Offset}
+use Rattle.protocol.specs.Arguments.{jump_data, system_codes_fit, atr_req_fits, shortest_atr_req, nfcid3_size, active_byte, nfcid3_offset}
 use Rattle.protocol.specs.Discovery.{cascaded}
-use Rattle.protocol.specs.Starts.{typeFCode, depCode}
-use Rattle.stages.specs.Starts.{Start, staged, stagedLimited, asserted, refuses}
-use Rattle.stages.specs.Bitrates.{codeFor}
+use Rattle.protocol.specs.Starts.{type_f_code, dep_code}
+use Rattle.stages.specs.Starts.{Start, staged, staged_limited, asserted, refuses}
+use Rattle.stages.specs.Bitrates.{code_for}
 use Rattle.targets.specs.declared.Bitrate.{Bitrate}
 use Rattle.targets.specs.declared.Bitrate.TheVariants.{Other}
 use Rattle.discovery.specs.declared.rates.Supported.{Supported}
 use Rattle.discovery.specs.declared.rates.Supported.TheVariants.{Code, Not}
-use Rattle.discovery.specs.Kinds.{typeAKind, typeBKind, typeFKind, depKind, pollTypeFKind, typeASplitKind}
-use Rattle.protocol.specs.Names.{oneTarget}
-use Rattle.targets.specs.Bitrates.{byCode}
+use Rattle.discovery.specs.Kinds.{type_a_kind, type_b_kind, type_f_kind, dep_kind, poll_type_f_kind, type_a_split_kind}
+use Rattle.protocol.specs.Names.{one_target}
+use Rattle.targets.specs.Bitrates.{by_code_of}
 use Rattle.errors.specs.declared.Refusal.TheVariants.{Bitrate as BadBitrate}
 
 -- the list with the UID, of a kind that has Type A's stages
-unfoldable pub listFirst : ℕ → List ℕ → ℕ → Start
-listFirst kind uid code = stagedLimited kind (oneTarget ∷ code ∷ cascaded uid)
+unfoldable pub list_first : ℕ → List ℕ → ℕ → Start
+list_first kind uid code = staged_limited kind (one_target ∷ code ∷ cascaded uid)
 
-abbrev pub typeAFirst : List ℕ → ℕ → Start
-typeAFirst uid code = listFirst typeAKind uid code
+abbrev pub type_a_first : List ℕ → ℕ → Start
+type_a_first uid code = list_first type_a_kind uid code
 
 -- the same in the mode that separates UID and ATS
-abbrev pub splitFirst : List ℕ → ℕ → Start
-splitFirst uid code = listFirst typeASplitKind uid code
+abbrev pub split_first : List ℕ → ℕ → Start
+split_first uid code = list_first type_a_split_kind uid code
 
 -- the list with the AFI
-unfoldable pub typeBFirst : ℕ → ℕ → Start
-typeBFirst afi code = staged typeBKind (oneTarget ∷ code ∷ afi ∷ [])
+unfoldable pub type_b_first : ℕ → ℕ → Start
+type_b_first afi code = staged type_b_kind (one_target ∷ code ∷ afi ∷ [])
 
 -- the poll
-unfoldable pub typeFFirst : List ℕ → ℕ → Start
-typeFFirst req code = staged typeFKind (oneTarget ∷ code ∷ req)
+unfoldable pub type_f_first : List ℕ → ℕ → Start
+type_f_first req code = staged type_f_kind (one_target ∷ code ∷ req)
 
 -- the bitrate's code and the words of the system codes
-unfoldable pub pollFirst : List ℕ → ℕ → Start
-pollFirst words code = staged pollTypeFKind (code ∷ words)
+unfoldable pub poll_first : List ℕ → ℕ → Start
+poll_first words code = staged poll_type_f_kind (code ∷ words)
 
-unfoldable pub pollAsserted : List ℕ → List ℕ → Start
-pollAsserted text words = asserted (systemCodesFit words) (codeFor typeFCode text (pollFirst words))
+unfoldable pub poll_asserted : List ℕ → List ℕ → Start
+poll_asserted text words = asserted (system_codes_fit words) (code_for type_f_code text (poll_first words))
 
 -- the jump
-unfoldable pub depFirst : List ℕ → ℕ → Start
-depFirst atrReq code = staged depKind (jumpData (activeByte true) code [] (take nfcid3Size (drop nfcid3Offset atrReq)) (drop shortestAtrReq atrReq))
+unfoldable pub dep_first : List ℕ → ℕ → Start
+dep_first atrReq code = staged dep_kind (jump_data (active_byte true) code [] (take nfcid3_size (drop nfcid3_offset atrReq)) (drop shortest_atr_req atrReq))
 
-unfoldable pub depAsserted : List ℕ → List ℕ → Start
-depAsserted text atrReq = asserted (atrReqFits atrReq) (codeFor depCode text (depFirst atrReq))
+unfoldable pub dep_asserted : List ℕ → List ℕ → Start
+dep_asserted text atrReq = asserted (atr_req_fits atrReq) (code_for dep_code text (dep_first atrReq))
 
 -- the bitrate of a text; a malformed one starts no call, as a bitrate that no call takes
 abbrev pub Rated : List ℕ → Bitrate → Type 0
-Rated text b = (takes : Bitrate → Option ℕ) (f : ℕ → Start) → takes Other ≡ none → byCode (refuses BadBitrate) (takes b) f ≡ codeFor takes text f
+Rated text b = (takes : Bitrate → Option ℕ) (f : ℕ → Start) → takes Other ≡ none → by_code_of (refuses BadBitrate) (takes b) f ≡ code_for takes text f
 
 -- what the code's answer says
-abbrev pub supportedIn : Supported → Option ℕ
-supportedIn (Code code) = some code
-supportedIn Not = none
+abbrev pub supported_in : Supported → Option ℕ
+supported_in (Code code) = some code
+supported_in Not = none

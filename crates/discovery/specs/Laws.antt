@@ -4,48 +4,48 @@ use Rattle.std.proofs.Common.{arith, lt-ltb, le-ltb, length-drop, take_all}
 use Rattle.std.proofs.Math.Seq.{drop-length}
 use Rattle.errors.specs.Choice.{pick}
 use Rattle.errors.specs.declared.Fault.TheVariants.{ShortResponse}
-use Rattle.protocol.specs.Names.{pmmEnd}
-use Rattle.stages.specs.Stages.{refuse, withLength}
+use Rattle.protocol.specs.Names.{pmm_end}
+use Rattle.stages.specs.Stages.{refuse, with_length}
 use Rattle.stages.specs.Stages as stages
 use Rattle.stages.specs.Decided.{Lays, DecisionRefines}
-use Rattle.stages.specs.Laws.{decision-refused}
+use Rattle.stages.specs.Laws.{decision_refused}
 use Rattle.stages.specs.declared.Decision.{Decision}
 use Rattle.stages.specs.declared.Decision.TheVariants.{Refused}
 use Rattle.stages.specs.declared.Layout.{Layout}
-use Rattle.discovery.specs.Decisions.{sensRes, isoDep, noPartner}
+use Rattle.discovery.specs.Decisions.{sens_res, iso_dep_of, no_partner_of}
 
 -- two bytes of a list, and nothing of it behind them
-pub lays-sens-res : (f l : List ℕ) (r : Layout) → 4 ≤ length l → Lays f l r (get_or l 3 0 ∷ get_or l 2 0 ∷ drop (length l) l) → Lays f l r (sensRes l)
-unfolding sensRes pick
-lays-sens-res f l r h k = rw (le-ltb (length l) 4 h) (rw (drop-length l) at k)
+pub lays_sens_res : (f l : List ℕ) (r : Layout) → 4 ≤ length l → Lays f l r (get_or l 3 0 ∷ get_or l 2 0 ∷ drop (length l) l) → Lays f l r (sens_res l)
+unfolding sens_res pick
+lays_sens_res f l r h k = rw (le-ltb (length l) 4 h) (rw (drop-length l) at k)
 
-pub lays-no-sens-res : (f l : List ℕ) (r : Layout) → length l < 4 → Lays f l r [] → Lays f l r (sensRes l)
-unfolding sensRes pick
-lays-no-sens-res f l r h k = rw (lt-ltb (length l) 4 h) k
+pub lays_no_sens_res : (f l : List ℕ) (r : Layout) → length l < 4 → Lays f l r [] → Lays f l r (sens_res l)
+unfolding sens_res pick
+lays_no_sens_res f l r h k = rw (lt-ltb (length l) 4 h) k
 
 -- two found bytes and the RID reply
-pub lays-rid : (f b : List ℕ) (r : Layout) → Lays f b r (take 2 f ++ take (length b - 1) (drop 1 b)) → Lays f b r (take 2 f ++ drop 1 b)
-lays-rid f b r k =
+pub lays_rid : (f b : List ℕ) (r : Layout) → Lays f b r (take 2 f ++ take (length b - 1) (drop 1 b)) → Lays f b r (take 2 f ++ drop 1 b)
+lays_rid f b r k =
     let l : length (drop 1 b) ≤ length b - 1 = rw (length-drop 1 b) (omega arith) in
     rw (take_all (length b - 1) (drop 1 b) l) at k
 
 -- a status that a call answered
-pub decision-partner : (f b : List ℕ) (r : Decision) (s x : ℕ) → s ≡ x → DecisionRefines f b r (noPartner s) → DecisionRefines f b r (noPartner x)
-decision-partner f b r s x e d = rw (← e) d
+pub decision_partner : (f b : List ℕ) (r : Decision) (s x : ℕ) → s ≡ x → DecisionRefines f b r (no_partner_of s) → DecisionRefines f b r (no_partner_of x)
+decision_partner f b r s x e d = rw (← e) d
 
 -- an AFI that a call answered
-pub same-afi : (f b : List ℕ) (r : Decision) (p x y : ℕ) → x ≡ y → DecisionRefines f b r (isoDep p x) → DecisionRefines f b r (isoDep p y)
-same-afi f b r p x y e d = rw (← e) d
+pub same_afi : (f b : List ℕ) (r : Decision) (p x y : ℕ) → x ≡ y → DecisionRefines f b r (iso_dep_of p x) → DecisionRefines f b r (iso_dep_of p y)
+same_afi f b r p x y e d = rw (← e) d
 
--- under pmmEnd bytes, and so perhaps under 2
-pub short-either : (f b l : List ℕ) (d : stages.Decision) → length l < pmmEnd
-    → DecisionRefines f b (Refused ShortResponse) (withLength l 2 (withLength l pmmEnd d))
-unfolding withLength pick
-short-either f b l d h = go (ltb (length l) 2)
+-- under pmm_end bytes, and so perhaps under 2
+pub short_either : (f b l : List ℕ) (d : stages.Decision) → length l < pmm_end
+    → DecisionRefines f b (Refused ShortResponse) (with_length l 2 (with_length l pmm_end d))
+unfolding with_length pick
+short_either f b l d h = go (ltb (length l) 2)
   where
-    go : (t : Bool) → DecisionRefines f b (Refused ShortResponse) (pick t (refuse ShortResponse) (pick (ltb (length l) pmmEnd) (refuse ShortResponse) d))
-    go true = decision-refused f b ShortResponse
-    go false = rw (lt-ltb (length l) pmmEnd h) (decision-refused f b ShortResponse)
+    go : (t : Bool) → DecisionRefines f b (Refused ShortResponse) (pick t (refuse ShortResponse) (pick (ltb (length l) pmm_end) (refuse ShortResponse) d))
+    go true = decision_refused f b ShortResponse
+    go false = rw (lt-ltb (length l) pmm_end h) (decision_refused f b ShortResponse)
 
-pub not_short : (l : List ℕ) → pmmEnd ≤ length l → ltb (length l) 2 ≡ false
+pub not_short : (l : List ℕ) → pmm_end ≤ length l → ltb (length l) 2 ≡ false
 not_short l h = le-ltb (length l) 2 (omega arith)

@@ -1,10 +1,10 @@
 // detect_dep: the command of each stage, and what follows each reply.
 ghost use Rattle.std.specs.Prelude.{List, ℕ, ◌≡◌, [], ◌+◌, ◌*◌, ◌≤◌, length, take, drop};
 ghost use Rattle.stages.specs.Decided.{DecisionRefines, Always, Commands};
-ghost use Rattle.discovery.specs.Decisions.{depCommand, noPartner, jumpedTo, depDecision, jumpFailure, depFailure};
+ghost use Rattle.discovery.specs.Decisions.{dep_command, no_partner_of, jumped_to, dep_decision, jump_failure, dep_failure};
 ghost use Rattle.stages.specs.Starts.{Starts};
-ghost use Rattle.protocol.specs.Arguments.{bit, shortestAtrReq, longestAtrReq, nfcid3Size, nfcid3Offset};
-ghost use Rattle.discovery.specs.Firsts.{depFirst, depAsserted};
+ghost use Rattle.protocol.specs.Arguments.{bit, shortest_atr_req, longest_atr_req, nfcid3_size, nfcid3_offset};
+ghost use Rattle.discovery.specs.Firsts.{dep_first, dep_asserted};
 
 use super::DEP_KIND;
 use super::rates::{Supported, bitrate_of, dep_code};
@@ -26,8 +26,8 @@ const NFCID3_END: usize = 12;
 
 // What InJumpForDEP is given: NFCID3, and the general bytes where ATR_REQ has some.
 fn given(atr_req: &[u8]) -> u8
-    requires { shortestAtrReq ≤ length atr_req.now }
-    ensures { result ≡ 2 * bit (take nfcid3Size (drop nfcid3Offset atr_req.now)) + 4 * bit (drop shortestAtrReq atr_req.now) }
+    requires { shortest_atr_req ≤ length atr_req.now }
+    ensures { result ≡ 2 * bit (take nfcid3_size (drop nfcid3_offset atr_req.now)) + 4 * bit (drop shortest_atr_req atr_req.now) }
 {
     if atr_req.len() == SHORTEST_ATR_REQ {
         2
@@ -41,8 +41,8 @@ const ACTIVE: u8 = 1;
 
 // The time-outs are set first; the jump is put by.
 fn jump(code: u8, atr_req: &[u8], command: &mut [u8; DATA_LIMIT]) -> Start
-    requires { (shortestAtrReq ≤ length atr_req.now) × (length atr_req.now ≤ longestAtrReq) }
-    ensures { Starts result command.old command.new (depFirst atr_req.now code) }
+    requires { (shortest_atr_req ≤ length atr_req.now) × (length atr_req.now ≤ longest_atr_req) }
+    ensures { Starts result command.old command.new (dep_first atr_req.now code) }
 {
     let head = [ACTIVE, code, given(atr_req)];
     let n = put_all(
@@ -57,7 +57,7 @@ fn jump(code: u8, atr_req: &[u8], command: &mut [u8; DATA_LIMIT]) -> Start
 }
 
 pub fn detect_dep(bitrate: &[u8], atr_req: &[u8], command: &mut [u8; DATA_LIMIT]) -> Start
-    ensures { Starts result command.old command.new (depAsserted bitrate.now atr_req.now) }
+    ensures { Starts result command.old command.new (dep_asserted bitrate.now atr_req.now) }
 {
     if atr_req.len() < SHORTEST_ATR_REQ {
         return start::refused(Refusal::BadArgument);
@@ -88,7 +88,7 @@ const ATR_RES_CMD1: u8 = 0x01;
 
 // The command of a stage.
 pub fn command(stage: u8) -> Command
-    ensures { Commands result (depCommand stage) }
+    ensures { Commands result (dep_command stage) }
 {
     match stage {
         DEP_TIMEOUTS_STAGE => Command::fixed(
@@ -107,7 +107,7 @@ pub fn command(stage: u8) -> Command
 
 // A time-out, or a field that was not switched on in time, is none.
 fn no_partner(status: u8) -> Decision
-    ensures { (f b : List ℕ) → DecisionRefines f b result (noPartner status) }
+    ensures { (f b : List ℕ) → DecisionRefines f b result (no_partner_of status) }
 {
     match status {
         err::TIMEOUT_STATUS | err::RF_NOT_ACTIVATED => Decision::Nothing,
@@ -117,7 +117,7 @@ fn no_partner(status: u8) -> Decision
 
 // The reply to the jump: D5 01 and its rest are kept.
 fn jumped(response: &[u8]) -> Decision
-    ensures { (f : List ℕ) → DecisionRefines f response.now result (jumpedTo response.now) }
+    ensures { (f : List ℕ) → DecisionRefines f response.now result (jumped_to response.now) }
 {
     let status = byte_or(response, 0, err::NO_DATA);
     if status == 0 {
@@ -136,7 +136,7 @@ fn jumped(response: &[u8]) -> Decision
 
 // What follows a response; `found` are the bytes that were kept of an earlier one.
 pub fn decided(stage: u8, found: &[u8], response: &[u8]) -> Decision
-    ensures { DecisionRefines found.now response.now result (depDecision stage found.now response.now) }
+    ensures { DecisionRefines found.now response.now result (dep_decision stage found.now response.now) }
 {
     match stage {
         DEP_TIMEOUTS_STAGE => Decision::Send(JUMP_STAGE),
@@ -147,7 +147,7 @@ pub fn decided(stage: u8, found: &[u8], response: &[u8]) -> Decision
 
 // A status of InJumpForDEP says why there is no partner.
 fn jump_failed(fault: Fault) -> Decision
-    ensures { Always result (jumpFailure fault) }
+    ensures { Always result (jump_failure fault) }
 {
     let Fault::Status(status) = fault else {
         return Decision::Refused(fault);
@@ -157,7 +157,7 @@ fn jump_failed(fault: Fault) -> Decision
 
 // What follows a command that failed.
 pub fn failed(stage: u8, fault: Fault) -> Decision
-    ensures { Always result (depFailure stage fault) }
+    ensures { Always result (dep_failure stage fault) }
 {
     match stage {
         JUMP_STAGE => jump_failed(fault),

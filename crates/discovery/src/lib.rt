@@ -1,4 +1,6 @@
 // The discoveries (discovery.rs): how each starts, the command of each stage, and what follows each reply.
+#![tactic(auto)]
+
 pub mod dep;
 pub mod poll_type_f;
 mod rates;

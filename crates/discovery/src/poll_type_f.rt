@@ -1,12 +1,12 @@
 // poll_type_f: detect_type_f for each system code of a list. The pending command is the bitrate's code and the system codes, two bytes
 // each; the cursor is the number of codes finished.
 ghost use Rattle.std.specs.Prelude.{List, ◌∷◌, ◌≡◌, ℕ, ◌+◌, ◌≤◌, length, take, drop};
-ghost use Rattle.protocol.specs.Arguments.{systemCodesFit};
-ghost use Rattle.protocol.specs.Names.{idmAndPmm};
+ghost use Rattle.protocol.specs.Arguments.{system_codes_fit};
+ghost use Rattle.protocol.specs.Names.{idm_and_pmm};
 ghost use Rattle.stages.specs.Decided.{DecisionRefines, Sends};
 ghost use Rattle.stages.specs.Starts.{Starts};
-ghost use Rattle.discovery.specs.Decisions.{pollCommand, so_far, hasNext, codeFinished, pollFailure, pollDecision, soFarLimit};
-ghost use Rattle.discovery.specs.Firsts.{pollAsserted};
+ghost use Rattle.discovery.specs.Decisions.{poll_command, so_far, has_next_of, code_finished, poll_failure, poll_decision, so_far_limit};
+ghost use Rattle.discovery.specs.Firsts.{poll_asserted};
 
 use super::rates::{Supported, bitrate_of, type_f_code};
 use super::type_f::{FIELD_STAGE, LISTED_IDM_OFFSET, SENSF_REQ_CODE};
@@ -39,7 +39,7 @@ const SO_FAR_LIMIT: usize = 255;
 
 // Whole system codes, 1 to 16.
 fn is_list(codes: &[u8]) -> bool
-    ensures { result ≡ systemCodesFit codes.now }
+    ensures { result ≡ system_codes_fit codes.now }
 {
     if codes.len() % 2 == 0 {
         if 1 <= codes.len() / 2 {
@@ -54,7 +54,7 @@ fn is_list(codes: &[u8]) -> bool
 
 // TX control is read first; the bitrate's code and the system codes are put by.
 pub fn poll_type_f(bitrate: &[u8], codes: &[u8], command: &mut [u8; DATA_LIMIT]) -> Start
-    ensures { Starts result command.old command.new (pollAsserted bitrate.now codes.now) }
+    ensures { Starts result command.old command.new (poll_asserted bitrate.now codes.now) }
 {
     if is_list(codes) {
         let Supported::Code(code) = type_f_code(bitrate_of(bitrate)) else {
@@ -70,7 +70,7 @@ pub fn poll_type_f(bitrate: &[u8], codes: &[u8], command: &mut [u8; DATA_LIMIT])
 
 // The command of a stage: Type F's, its poll with the cursor's code.
 pub fn command(stage: u8, cursor: u8, pending: &[u8]) -> Command
-    ensures { Sends result pending.now (pollCommand stage cursor pending.now) }
+    ensures { Sends result pending.now (poll_command stage cursor pending.now) }
 {
     let next = type_f::command(stage);
     if next.is_pending {
@@ -105,7 +105,7 @@ pub fn command(stage: u8, cursor: u8, pending: &[u8]) -> Command
 
 // How many found bytes the finished codes have added.
 fn so_far(cursor: u8, found: &[u8]) -> usize
-    ensures { (take result found.now ≡ so_far cursor found.now) × (result ≤ length found.now) × (result ≤ soFarLimit) }
+    ensures { (take result found.now ≡ so_far cursor found.now) × (result ≤ length found.now) × (result ≤ so_far_limit) }
 {
     if cursor == 0 {
         return 0;
@@ -119,7 +119,7 @@ fn so_far(cursor: u8, found: &[u8]) -> usize
 
 // A code follows the cursor's.
 fn has_next(cursor: u8, pending: &[u8]) -> bool
-    ensures { result ≡ hasNext cursor pending.now }
+    ensures { result ≡ has_next_of cursor pending.now }
 {
     if cursor < LAST_CODE {
         2 * cursor as usize + 5 <= pending.len()
@@ -137,7 +137,7 @@ fn finished(
     start: usize,
     len: usize,
 ) -> Decision
-    ensures { (b : List ℕ) → start + len ≤ length b → len ≤ idmAndPmm → DecisionRefines found.now b result (codeFinished cursor pending.now found.now (mark ∷ take len (drop start b))) }
+    ensures { (b : List ℕ) → start + len ≤ length b → len ≤ idm_and_pmm → DecisionRefines found.now b result (code_finished cursor pending.now found.now (mark ∷ take len (drop start b))) }
 {
     let layout = Layout::marked(so_far(cursor, found), mark, start, len);
     if has_next(cursor, pending) {
@@ -149,7 +149,7 @@ fn finished(
 
 // What follows a command that failed: no card is a mark, any other fault ends the list.
 pub fn failed(cursor: u8, pending: &[u8], found: &[u8], fault: Fault) -> Decision
-    ensures { (b : List ℕ) → DecisionRefines found.now b result (pollFailure cursor pending.now found.now fault) }
+    ensures { (b : List ℕ) → DecisionRefines found.now b result (poll_failure cursor pending.now found.now fault) }
 {
     match fault {
         Fault::NoCard => finished(cursor, pending, found, NO_CARD_MARK, 0, 0),
@@ -159,7 +159,7 @@ pub fn failed(cursor: u8, pending: &[u8], found: &[u8], fault: Fault) -> Decisio
 
 // What follows a response: what Type F's stage decides, but for its ends.
 pub fn decided(stage: u8, cursor: u8, pending: &[u8], found: &[u8], response: &[u8]) -> Decision
-    ensures { DecisionRefines found.now response.now result (pollDecision stage cursor pending.now found.now response.now) }
+    ensures { DecisionRefines found.now response.now result (poll_decision stage cursor pending.now found.now response.now) }
 {
     let decision = type_f::decided(stage, response);
     match decision {

@@ -1,7 +1,7 @@
 // The bitrates that each discovery takes, and their codes for the chip.
 ghost use Rattle.std.specs.Prelude.{◌≡◌};
-ghost use Rattle.protocol.specs.Starts.{typeACode, typeBCode, typeFCode, depCode};
-ghost use Rattle.discovery.specs.Firsts.{supportedIn, Rated};
+ghost use Rattle.protocol.specs.Starts.{type_a_code, type_b_code, type_f_code, dep_code};
+ghost use Rattle.discovery.specs.Firsts.{supported_in, Rated};
 
 use targets::{Bitrate, Coded};
 
@@ -34,7 +34,7 @@ pub(crate) fn bitrate_of(text: &[u8]) -> Bitrate
 }
 
 pub(crate) fn type_a_code(bitrate: Bitrate) -> Supported
-    ensures { supportedIn result ≡ typeACode bitrate }
+    ensures { supported_in result ≡ type_a_code bitrate }
 {
     match bitrate {
         Bitrate::B106A => Supported::Code(CODE_106A),
@@ -47,7 +47,7 @@ pub(crate) fn type_a_code(bitrate: Bitrate) -> Supported
 
 // The chip lists no other Type B rate.
 pub(crate) fn type_b_code(bitrate: Bitrate) -> Supported
-    ensures { supportedIn result ≡ typeBCode bitrate }
+    ensures { supported_in result ≡ type_b_code bitrate }
 {
     match bitrate {
         Bitrate::B106B => Supported::Code(CODE_106B),
@@ -56,7 +56,7 @@ pub(crate) fn type_b_code(bitrate: Bitrate) -> Supported
 }
 
 pub(crate) fn type_f_code(bitrate: Bitrate) -> Supported
-    ensures { supportedIn result ≡ typeFCode bitrate }
+    ensures { supported_in result ≡ type_f_code bitrate }
 {
     match bitrate {
         Bitrate::B212F => Supported::Code(CODE_212F),
@@ -66,7 +66,7 @@ pub(crate) fn type_f_code(bitrate: Bitrate) -> Supported
 }
 
 pub(crate) fn dep_code(bitrate: Bitrate) -> Supported
-    ensures { supportedIn result ≡ depCode bitrate }
+    ensures { supported_in result ≡ dep_code bitrate }
 {
     match bitrate {
         Bitrate::B106A => Supported::Code(CODE_106A),

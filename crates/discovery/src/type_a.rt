@@ -1,12 +1,12 @@
 // detect_type_a: the command of each stage, and what follows each reply.
 ghost use Rattle.std.specs.Prelude.{List, ℕ, ◌≤◌, length};
-ghost use Rattle.protocol.specs.Names.{uidOffset};
+ghost use Rattle.protocol.specs.Names.{uid_offset};
 ghost use Rattle.stages.specs.Decided.{Lays, DecisionRefines, Always, Commands};
-ghost use Rattle.discovery.specs.Decisions.{cardBytes, sensRes, typeACommand, listedA, fifoRead, listedType1, ridOf, rxModeRead, typeADecision, ridFailure, typeAFailure};
+ghost use Rattle.discovery.specs.Decisions.{card_bytes, sens_res, type_a_command, listed_a_of, fifo_read, listed_type1_of, rid_of, rx_mode_read, type_a_decision, rid_failure, type_a_failure};
 ghost use Rattle.stages.specs.Starts.{Starts};
-ghost use Rattle.protocol.specs.Starts.{typeACode};
-ghost use Rattle.stages.specs.Bitrates.{codeFor};
-ghost use Rattle.discovery.specs.Firsts.{listFirst, typeAFirst};
+ghost use Rattle.protocol.specs.Starts.{type_a_code};
+ghost use Rattle.stages.specs.Bitrates.{code_for};
+ghost use Rattle.discovery.specs.Firsts.{list_first, type_a_first};
 
 use super::TYPE_A_KIND;
 use super::rates::{CODE_TYPE_1, Supported, bitrate_of, type_a_code};
@@ -53,7 +53,7 @@ const RID_CLOCK: u32 = 100;
 
 // A UID over 4 bytes gets 0x88 at 0; if then over 8, 0x88 at 4.
 fn list(kind: u8, code: u8, uid: &[u8], command: &mut [u8; DATA_LIMIT]) -> Start
-    ensures { Starts result command.old command.new (listFirst kind uid.now code) }
+    ensures { Starts result command.old command.new (list_first kind uid.now code) }
 {
     if uid.len() <= 4 {
         let n = put_two(&[ONE_TARGET, code], uid, command);
@@ -78,7 +78,7 @@ fn list(kind: u8, code: u8, uid: &[u8], command: &mut [u8; DATA_LIMIT]) -> Start
 
 // Stage 0 of a kind that has Type A's stages.
 pub(crate) fn detect(kind: u8, bitrate: &[u8], uid: &[u8], command: &mut [u8; DATA_LIMIT]) -> Start
-    ensures { Starts result command.old command.new (codeFor typeACode bitrate.now (listFirst kind uid.now)) }
+    ensures { Starts result command.old command.new (code_for type_a_code bitrate.now (list_first kind uid.now)) }
 {
     let Supported::Code(code) = type_a_code(bitrate_of(bitrate)) else {
         return start::refused(Refusal::Bitrate);
@@ -87,7 +87,7 @@ pub(crate) fn detect(kind: u8, bitrate: &[u8], uid: &[u8], command: &mut [u8; DA
 }
 
 pub fn detect_type_a(bitrate: &[u8], uid: &[u8], command: &mut [u8; DATA_LIMIT]) -> Start
-    ensures { Starts result command.old command.new (codeFor typeACode bitrate.now (typeAFirst uid.now)) }
+    ensures { Starts result command.old command.new (code_for type_a_code bitrate.now (type_a_first uid.now)) }
 {
     detect(TYPE_A_KIND, bitrate, uid, command)
 }
@@ -103,7 +103,7 @@ const RID_DATA: [u8; FIXED_LIMIT] = [TARGET_NUMBER, RID_CODE, 0, 0, 0, 0, 0, 0, 
 
 // The command of a stage.
 pub fn command(stage: u8) -> Command
-    ensures { Commands result (typeACommand stage) }
+    ensures { Commands result (type_a_command stage) }
 {
     match stage {
         LIST_STAGE => Command::pending(
@@ -127,8 +127,8 @@ pub fn command(stage: u8) -> Command
 
 // SENS_RES in the other order, SEL_RES and SDD_RES of a list.
 pub(crate) fn card(list: &[u8]) -> Layout
-    requires { uidOffset ≤ length list.now }
-    ensures { (f : List ℕ) → Lays f list.now result (cardBytes list.now) }
+    requires { uid_offset ≤ length list.now }
+    ensures { (f : List ℕ) → Lays f list.now result (card_bytes list.now) }
 {
     Layout::headed(
         Head(
@@ -144,7 +144,7 @@ pub(crate) fn card(list: &[u8]) -> Layout
 
 // detect_type_a: a target was listed, or none. Of a Type 2 tag the RX mode is set before it is handed out.
 fn listed_a(response: &[u8]) -> Decision
-    ensures { (f : List ℕ) → DecisionRefines f response.now result (listedA response.now) }
+    ensures { (f : List ℕ) → DecisionRefines f response.now result (listed_a_of response.now) }
 {
     if byte_or(response, 0, 0) == 0 {
         return Decision::Send(FIFO_STAGE);
@@ -164,7 +164,7 @@ fn listed_a(response: &[u8]) -> Decision
 
 // No SENS_RES came where the FIFO still holds the request.
 fn fifo(response: &[u8]) -> Decision
-    ensures { (f : List ℕ) → DecisionRefines f response.now result (fifoRead response.now) }
+    ensures { (f : List ℕ) → DecisionRefines f response.now result (fifo_read response.now) }
 {
     if byte_or(response, 0, 0) == SENS_REQ {
         Decision::Nothing
@@ -175,7 +175,7 @@ fn fifo(response: &[u8]) -> Decision
 
 // SENS_RES of a Type 1 tag in the other order, nothing of a list that is too short for it.
 fn sens_res(list: &[u8]) -> Layout
-    ensures { (f : List ℕ) → Lays f list.now result (sensRes list.now) }
+    ensures { (f : List ℕ) → Lays f list.now result (sens_res list.now) }
 {
     if list.len() < SEL_RES_OFFSET {
         Layout::part(0, 0)
@@ -191,7 +191,7 @@ fn sens_res(list: &[u8]) -> Layout
 
 // try_type1_detection: a target was listed, or none.
 fn listed_type1(response: &[u8]) -> Decision
-    ensures { (f : List ℕ) → DecisionRefines f response.now result (listedType1 response.now) }
+    ensures { (f : List ℕ) → DecisionRefines f response.now result (listed_type1_of response.now) }
 {
     if byte_or(response, 0, 0) == 0 {
         return Decision::Nothing;
@@ -205,7 +205,7 @@ fn listed_type1(response: &[u8]) -> Decision
 
 // The RID reply. A status other than 0 is none.
 fn rid(found: &[u8], response: &[u8]) -> Decision
-    ensures { DecisionRefines found.now response.now result (ridOf found.now response.now) }
+    ensures { DecisionRefines found.now response.now result (rid_of found.now response.now) }
 {
     if response.len() == 0 {
         return Decision::Nothing;
@@ -221,7 +221,7 @@ fn rid(found: &[u8], response: &[u8]) -> Decision
 
 // The RX mode of a Type 2 tag has the CRC check switched off.
 fn rx_mode(response: &[u8]) -> Decision
-    ensures { (f : List ℕ) → DecisionRefines f response.now result (rxModeRead response.now) }
+    ensures { (f : List ℕ) → DecisionRefines f response.now result (rx_mode_read response.now) }
 {
     if response.len() < 1 {
         Decision::Refused(Fault::ShortResponse)
@@ -237,7 +237,7 @@ fn rx_mode(response: &[u8]) -> Decision
 
 // What follows a response; `found` are the bytes that were kept of an earlier one.
 pub fn decided(stage: u8, found: &[u8], response: &[u8]) -> Decision
-    ensures { DecisionRefines found.now response.now result (typeADecision stage found.now response.now) }
+    ensures { DecisionRefines found.now response.now result (type_a_decision stage found.now response.now) }
 {
     match stage {
         LIST_STAGE => listed_a(response),
@@ -251,7 +251,7 @@ pub fn decided(stage: u8, found: &[u8], response: &[u8]) -> Decision
 
 // A status is none in the RID exchange.
 fn rid_failed(fault: Fault) -> Decision
-    ensures { Always result (ridFailure fault) }
+    ensures { Always result (rid_failure fault) }
 {
     let Fault::Status(_) = fault else {
         return Decision::Refused(fault);
@@ -261,7 +261,7 @@ fn rid_failed(fault: Fault) -> Decision
 
 // What follows a command that failed.
 pub fn failed(stage: u8, fault: Fault) -> Decision
-    ensures { Always result (typeAFailure stage fault) }
+    ensures { Always result (type_a_failure stage fault) }
 {
     match stage {
         FIFO_STAGE => Decision::Send(LIST_TYPE_1_STAGE),

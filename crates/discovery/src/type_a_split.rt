@@ -1,13 +1,13 @@
 // detect_type_a in the mode that separates UID and ATS: Type A's stages and commands, with its own decisions upon the list and at
 // the end. The cursor is the UID's length while the RX mode is set; the found bytes are then three bytes, the UID and the ATS.
 ghost use Rattle.std.specs.Prelude.{List, ℕ, ◌≤◌, length};
-ghost use Rattle.protocol.specs.Names.{uidOffset};
+ghost use Rattle.protocol.specs.Names.{uid_offset};
 ghost use Rattle.stages.specs.Decided.{DecisionRefines};
 ghost use Rattle.stages.specs.Starts.{Starts};
-ghost use Rattle.stages.specs.Bitrates.{codeFor};
-ghost use Rattle.protocol.specs.Starts.{typeACode};
-ghost use Rattle.discovery.specs.Decisions.{splitFound, splitListed, splitWritten, splitDecision};
-ghost use Rattle.discovery.specs.Firsts.{splitFirst};
+ghost use Rattle.stages.specs.Bitrates.{code_for};
+ghost use Rattle.protocol.specs.Starts.{type_a_code};
+ghost use Rattle.discovery.specs.Decisions.{split_found, split_listed, split_written, split_decision};
+ghost use Rattle.discovery.specs.Firsts.{split_first};
 
 use super::type_a::{
     FIFO_STAGE, LIST_STAGE, READ_RX_MODE_STAGE, SEL_RES_OFFSET, TARGET_OFFSET, UID_OFFSET,
@@ -28,15 +28,15 @@ const UID_LENGTH_OFFSET: usize = 5;
 const FOUND_UID_OFFSET: usize = 3;
 
 pub fn detect_type_a_split(bitrate: &[u8], uid: &[u8], command: &mut [u8; DATA_LIMIT]) -> Start
-    ensures { Starts result command.old command.new (codeFor typeACode bitrate.now (splitFirst uid.now)) }
+    ensures { Starts result command.old command.new (code_for type_a_code bitrate.now (split_first uid.now)) }
 {
     type_a::detect(TYPE_A_SPLIT_KIND, bitrate, uid, command)
 }
 
 // A target was listed: its data is looked at before the RX mode is.
 fn target_found(response: &[u8]) -> Decision
-    requires { uidOffset ≤ length response.now }
-    ensures { (f : List ℕ) → DecisionRefines f response.now result (splitFound response.now) }
+    requires { uid_offset ≤ length response.now }
+    ensures { (f : List ℕ) → DecisionRefines f response.now result (split_found response.now) }
 {
     if is_target_data(&response[TARGET_OFFSET..]) {
         let uid = response[UID_LENGTH_OFFSET];
@@ -53,7 +53,7 @@ fn target_found(response: &[u8]) -> Decision
 
 // A target was listed, or none.
 fn listed(response: &[u8]) -> Decision
-    ensures { (f : List ℕ) → DecisionRefines f response.now result (splitListed response.now) }
+    ensures { (f : List ℕ) → DecisionRefines f response.now result (split_listed response.now) }
 {
     if byte_or(response, 0, 0) == 0 {
         return Decision::Send(FIFO_STAGE);
@@ -69,7 +69,7 @@ fn listed(response: &[u8]) -> Decision
 
 // The RX mode of a Type 2 tag was written.
 fn rx_mode_written(cursor: u8, found: &[u8], response: &[u8]) -> Decision
-    ensures { DecisionRefines found.now response.now result (splitWritten cursor found.now response.now) }
+    ensures { DecisionRefines found.now response.now result (split_written cursor found.now response.now) }
 {
     if any_nonzero(response) {
         Decision::Refused(Fault::Status(err::REGISTER_WRITE_FAILED))
@@ -81,7 +81,7 @@ fn rx_mode_written(cursor: u8, found: &[u8], response: &[u8]) -> Decision
 
 // What follows a response: what Type A's stage decides, but for the list and the end.
 pub fn decided(stage: u8, cursor: u8, found: &[u8], response: &[u8]) -> Decision
-    ensures { DecisionRefines found.now response.now result (splitDecision stage cursor found.now response.now) }
+    ensures { DecisionRefines found.now response.now result (split_decision stage cursor found.now response.now) }
 {
     match stage {
         LIST_STAGE => listed(response),

@@ -1,11 +1,11 @@
 // detect_type_b: the command of each stage, and what follows each reply.
 ghost use Rattle.std.specs.Prelude.{List, ℕ, get_or};
 ghost use Rattle.stages.specs.Decided.{DecisionRefines, Always, Commands};
-ghost use Rattle.discovery.specs.Decisions.{typeBCommand, isoDep, listedB, wokenUp, typeBDecision, typeBFailure};
+ghost use Rattle.discovery.specs.Decisions.{type_b_command, iso_dep_of, listed_b_of, woken_up, type_b_decision, type_b_failure};
 ghost use Rattle.stages.specs.Starts.{Starts};
-ghost use Rattle.protocol.specs.Starts.{typeBCode};
-ghost use Rattle.stages.specs.Bitrates.{codeFor};
-ghost use Rattle.discovery.specs.Firsts.{typeBFirst};
+ghost use Rattle.protocol.specs.Starts.{type_b_code};
+ghost use Rattle.stages.specs.Bitrates.{code_for};
+ghost use Rattle.discovery.specs.Firsts.{type_b_first};
 
 use super::TYPE_B_KIND;
 use super::rates::{Supported, bitrate_of, type_b_code};
@@ -19,7 +19,7 @@ use stages::start::Start;
 use stages::{Command, Decision, FIXED_LIMIT, Head, byte_or, start};
 
 pub fn detect_type_b(bitrate: &[u8], sensb_req: &[u8], command: &mut [u8; DATA_LIMIT]) -> Start
-    ensures { Starts result command.old command.new (codeFor typeBCode bitrate.now (typeBFirst (get_or sensb_req.now 0 0))) }
+    ensures { Starts result command.old command.new (code_for type_b_code bitrate.now (type_b_first (get_or sensb_req.now 0 0))) }
 {
     let Supported::Code(code) = type_b_code(bitrate_of(bitrate)) else {
         return start::refused(Refusal::Bitrate);
@@ -48,7 +48,7 @@ const WUPB_PARAMETER: u8 = 0x08;
 
 // The command of a stage.
 pub fn command(stage: u8) -> Command
-    ensures { Commands result (typeBCommand stage) }
+    ensures { Commands result (type_b_command stage) }
 {
     match stage {
         LIST_STAGE => Command::pending(
@@ -67,7 +67,7 @@ pub fn command(stage: u8) -> Command
 
 // A tag that is capable of ISO-DEP, by its protocol byte, is deselected; the wake-up is put by, with the AFI of the list.
 fn iso_dep(protocol: u8, afi: u8) -> Decision
-    ensures { (f b : List ℕ) → DecisionRefines f b result (isoDep protocol afi) }
+    ensures { (f b : List ℕ) → DecisionRefines f b result (iso_dep_of protocol afi) }
 {
     if protocol % 2 == 1 {
         if protocol / 8 % 2 == 0 {
@@ -87,7 +87,7 @@ const PROTOCOL_END: usize = PROTOCOL_OFFSET + 1;
 
 // detect_type_b: a target was listed, or none.
 fn listed_b(pending: &[u8], response: &[u8]) -> Decision
-    ensures { (f : List ℕ) → DecisionRefines f response.now result (listedB pending.now response.now) }
+    ensures { (f : List ℕ) → DecisionRefines f response.now result (listed_b_of pending.now response.now) }
 {
     if byte_or(response, 0, 0) == 0 {
         return Decision::Nothing;
@@ -104,7 +104,7 @@ fn listed_b(pending: &[u8], response: &[u8]) -> Decision
 
 // The reply to the wake-up.
 fn woken(response: &[u8]) -> Decision
-    ensures { (f : List ℕ) → DecisionRefines f response.now result (wokenUp response.now) }
+    ensures { (f : List ℕ) → DecisionRefines f response.now result (woken_up response.now) }
 {
     if byte_or(response, 0, err::NO_DATA) == 0 {
         from(response, 1)
@@ -115,7 +115,7 @@ fn woken(response: &[u8]) -> Decision
 
 // What follows a response; `pending` is the pending command.
 pub fn decided(stage: u8, pending: &[u8], response: &[u8]) -> Decision
-    ensures { (f : List ℕ) → DecisionRefines f response.now result (typeBDecision stage pending.now response.now) }
+    ensures { (f : List ℕ) → DecisionRefines f response.now result (type_b_decision stage pending.now response.now) }
 {
     match stage {
         LIST_STAGE => listed_b(pending, response),
@@ -126,7 +126,7 @@ pub fn decided(stage: u8, pending: &[u8], response: &[u8]) -> Decision
 
 // The outcome of the deselect is ignored, and a wake-up that fails is none.
 pub fn failed(stage: u8, fault: Fault) -> Decision
-    ensures { Always result (typeBFailure stage fault) }
+    ensures { Always result (type_b_failure stage fault) }
 {
     match stage {
         DESELECT_STAGE => Decision::Send(WAKE_UP_STAGE), // whatever came of it

@@ -1,12 +1,12 @@
 // detect_type_f: the command of each stage, and what follows each reply.
 ghost use Rattle.std.specs.Prelude.{List, ℕ};
 ghost use Rattle.stages.specs.Decided.{DecisionRefines, Commands};
-ghost use Rattle.discovery.specs.Decisions.{typeFCommand, txControlRead, polled as polledOf, typeFDecision};
+ghost use Rattle.discovery.specs.Decisions.{type_f_command, tx_control_read, polled as polled_of, type_f_decision};
 ghost use Rattle.stages.specs.Starts.{Starts};
-ghost use Rattle.protocol.specs.Starts.{typeFCode};
-ghost use Rattle.protocol.specs.Discovery.{sensfReq};
-ghost use Rattle.stages.specs.Bitrates.{codeFor};
-ghost use Rattle.discovery.specs.Firsts.{typeFFirst};
+ghost use Rattle.protocol.specs.Starts.{type_f_code};
+ghost use Rattle.protocol.specs.Discovery.{sensf_req};
+ghost use Rattle.stages.specs.Bitrates.{code_for};
+ghost use Rattle.discovery.specs.Firsts.{type_f_first};
 
 use super::TYPE_F_KIND;
 use super::rates::{Supported, bitrate_of, type_f_code};
@@ -27,7 +27,7 @@ pub fn detect_type_f(
     time_slots: u8,
     command: &mut [u8; DATA_LIMIT],
 ) -> Start
-    ensures { Starts result command.old command.new (codeFor typeFCode bitrate.now (typeFFirst (sensfReq system_code request_code time_slots))) }
+    ensures { Starts result command.old command.new (code_for type_f_code bitrate.now (type_f_first (sensf_req system_code request_code time_slots))) }
 {
     let Supported::Code(code) = type_f_code(bitrate_of(bitrate)) else {
         return start::refused(Refusal::Bitrate);
@@ -65,7 +65,7 @@ const RF_ON_DATA: [u8; FIXED_LIMIT] = [RF_FIELD_ITEM, FIELD_ON, 0, 0, 0, 0, 0, 0
 
 // The command of a stage.
 pub fn command(stage: u8) -> Command
-    ensures { Commands result (typeFCommand stage) }
+    ensures { Commands result (type_f_command stage) }
 {
     match stage {
         FIELD_STAGE => registers::read_single_register_command(ciu::CIU_TX_CONTROL),
@@ -84,7 +84,7 @@ pub fn command(stage: u8) -> Command
 
 // The RF field is on, or is switched on.
 fn tx_control(response: &[u8]) -> Decision
-    ensures { (f : List ℕ) → DecisionRefines f response.now result (txControlRead response.now) }
+    ensures { (f : List ℕ) → DecisionRefines f response.now result (tx_control_read response.now) }
 {
     if response.len() < 1 {
         return Decision::Refused(Fault::ShortResponse);
@@ -103,7 +103,7 @@ const PMM_END: usize = 20;
 
 // IDm, PMm and the request data of a SENSF_RES.
 fn polled(response: &[u8]) -> Decision
-    ensures { (f : List ℕ) → DecisionRefines f response.now result (polledOf response.now) }
+    ensures { (f : List ℕ) → DecisionRefines f response.now result (polled_of response.now) }
 {
     if byte_or(response, 0, 0) == 0 {
         return Decision::Refused(Fault::NoCard);
@@ -117,7 +117,7 @@ fn polled(response: &[u8]) -> Decision
 
 // What follows a response.
 pub fn decided(stage: u8, response: &[u8]) -> Decision
-    ensures { (f : List ℕ) → DecisionRefines f response.now result (typeFDecision stage response.now) }
+    ensures { (f : List ℕ) → DecisionRefines f response.now result (type_f_decision stage response.now) }
 {
     match stage {
         FIELD_STAGE => tx_control(response),

@@ -6,25 +6,25 @@ use denote.Enum.Declared.{tag_of}
 use types.Run.{OneOf, miss}
 use Rattle.errors.specs.declared.Refusal.TheVariants.{OutOfTurn}
 use Rattle.exchange.specs.Exchange as exchange
-use Rattle.exchange.specs.Steps.{eventOf}
+use Rattle.exchange.specs.Steps.{event_of}
 use Rattle.exchange.specs.declared.Event.{Event}
 use Rattle.engine.specs.Core.{Arrays, After, unchanged}
-use Rattle.engine.specs.SessionSteps.{State, eventAfter}
-use Rattle.engine.specs.Numbers.{known_in, afterEventNumber}
+use Rattle.engine.specs.SessionSteps.{State, event_after}
+use Rattle.engine.specs.Numbers.{known_in, after_event_number}
 use Rattle.engine.specs.declared.by_number.Known.{Known}
 use Rattle.engine.specs.declared.by_number.Known.TheVariants.{Is, Not}
 use Rattle.engine.specs.contracts.by_number.Known.{the_type}
 
-no-event : (k : Known) (p : List ℕ) → OneOf (1 ∷ []) (tag_of the_type k) → known_in k p ≡ none
+no_event : (k : Known) (p : List ℕ) → OneOf (1 ∷ []) (tag_of the_type k) → known_in k p ≡ none
 unfolding known_in
-no-event (Is e) p h = absurd (miss (1 ∷ []) 0 tt h)
-no-event Not p h = refl
+no_event (Is e) p h = absurd (miss (1 ∷ []) 0 tt h)
+no_event Not p h = refl
 
 pub not_known : (s : State) (f : Arrays) (r : After State) (k : Known) (e : Option exchange.Event) (p b : List ℕ)
-    → OneOf (1 ∷ []) (tag_of the_type k) → known_in k p ≡ e → r ≡ unchanged s f OutOfTurn b → r ≡ afterEventNumber s f e b
-not_known s f r k e p b t q h = rw (← q, no-event k p t) h
+    → OneOf (1 ∷ []) (tag_of the_type k) → known_in k p ≡ e → r ≡ unchanged s f OutOfTurn b → r ≡ after_event_number s f e b
+not_known s f r k e p b t q h = rw (← q, no_event k p t) h
 
 pub is_known : (s : State) (f : Arrays) (r : After State) (k : Known) (v : Event) (e : Option exchange.Event) (p b : List ℕ)
-    → k ≡ Is v → known_in k p ≡ e → r ≡ eventAfter s f (eventOf v p) b → r ≡ afterEventNumber s f e b
+    → k ≡ Is v → known_in k p ≡ e → r ≡ event_after s f (event_of v p) b → r ≡ after_event_number s f e b
 unfolding known_in
 is_known s f r k v e p b t q h = rw (← q, t) h

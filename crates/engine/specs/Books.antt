@@ -2,77 +2,77 @@
 use Rattle.core.specs.Prelude.{ℕ, ◌+◌, Bool, List, [], ◌∷◌, length, nat_le, nat_lt, slice_index, slice_set}
 use Rattle.errors.specs.Choice.{pick}
 use Rattle.framing.specs.Lists.{both}
-use Rattle.framing.specs.Padded.{extraZeros}
-use Rattle.protocol.specs.Calls.{isPaddedMode}
-use Rattle.protocol.specs.Session.{packetLimit, lastCaller, noCounts, ceiling}
+use Rattle.framing.specs.Padded.{extra_zeros_of}
+use Rattle.protocol.specs.Calls.{is_padded_mode}
+use Rattle.protocol.specs.Session.{packet_limit, last_caller, no_counts, ceiling}
 use Rattle.engine.specs.declared.core.Output.{Output}
 use Rattle.engine.specs.declared.core.Output.TheVariants.{Ack, Command, Read, Drain, Pause, Done, Type1, UidAndAts, Nothing, Failed, FailedAfter, Refused}
 
-abbrev pub booksSize : ℕ
-booksSize = 3
+abbrev pub books_size : ℕ
+books_size = 3
 
 pub record Books : Type 0 where
   pub numbers : List ℕ  -- whether the reader is open, the mode, the caller
   pub frames : List ℕ  -- the counts, by caller
 
-abbrev pub booksOf : List ℕ → List ℕ → Books
-booksOf numbers frames = record { numbers = numbers; frames = frames }
+abbrev pub books_of : List ℕ → List ℕ → Books
+books_of numbers frames = record { numbers = numbers; frames = frames }
 
 abbrev pub books : ℕ → ℕ → ℕ → List ℕ → Books
-books opened mode caller frames = booksOf (opened ∷ mode ∷ caller ∷ []) frames
+books opened mode caller frames = books_of (opened ∷ mode ∷ caller ∷ []) frames
 
-abbrev pub openedIn : Books → ℕ
-openedIn b = slice_index b.numbers 0
+abbrev pub opened_in : Books → ℕ
+opened_in b = slice_index b.numbers 0
 
-abbrev pub modeIn : Books → ℕ
-modeIn b = slice_index b.numbers 1
+abbrev pub mode_in : Books → ℕ
+mode_in b = slice_index b.numbers 1
 
-abbrev pub callerIn : Books → ℕ
-callerIn b = slice_index b.numbers 2
+abbrev pub caller_in : Books → ℕ
+caller_in b = slice_index b.numbers 2
 
-abbrev pub noBooks : ℕ → Books
-noBooks mode = books 0 mode 0 noCounts
+abbrev pub no_books : ℕ → Books
+no_books mode = books 0 mode 0 no_counts
 
-abbrev pub booksInRange : ℕ → ℕ → ℕ → Bool
-booksInRange opened mode caller = both (nat_le opened 1) (both (nat_le mode 1) (nat_le caller lastCaller))
+abbrev pub books_in_range : ℕ → ℕ → ℕ → Bool
+books_in_range opened mode caller = both (nat_le opened 1) (both (nat_le mode 1) (nat_le caller last_caller))
 
-abbrev pub isInRange : Books → Bool
-isInRange b = booksInRange (openedIn b) (modeIn b) (callerIn b)
+abbrev pub is_in_range : Books → Bool
+is_in_range b = books_in_range (opened_in b) (mode_in b) (caller_in b)
 
--- how many bytes the mode takes off a packet's start: its extra zeros in the padded one, unless it is over-long
-unfoldable pub extraIn : ℕ → List ℕ → ℕ
-extraIn mode packet = pick (isPaddedMode mode) (pick (nat_lt packetLimit (length packet)) 0 (extraZeros packet)) 0
+-- how many bytes the mode takes off a packet's start: its extra zeros in the padded one, unless it is over_long_lem
+unfoldable pub extra_in : ℕ → List ℕ → ℕ
+extra_in mode packet = pick (is_padded_mode mode) (pick (nat_lt packet_limit (length packet)) 0 (extra_zeros_of packet)) 0
 
 -- one command frame more, up to the ceiling
-unfoldable pub oneMore : ℕ → ℕ
-oneMore n = pick (nat_lt n ceiling) (n + 1) n
+unfoldable pub one_more_of : ℕ → ℕ
+one_more_of n = pick (nat_lt n ceiling) (n + 1) n
 
 -- the same, for the call of another caller
-abbrev pub byCaller : ℕ → Books → Books
-byCaller k b = booksOf (slice_set b.numbers 2 k) b.frames
+abbrev pub by_caller : ℕ → Books → Books
+by_caller k b = books_of (slice_set b.numbers 2 k) b.frames
 
 -- a command frame counts for a caller
-abbrev pub countedIn : ℕ → List ℕ → List ℕ
-countedIn k n = slice_set n k (oneMore (slice_index n k))
+abbrev pub counted_in : ℕ → List ℕ → List ℕ
+counted_in k n = slice_set n k (one_more_of (slice_index n k))
 
-abbrev pub frameCounted : ℕ → Books → Books
-frameCounted k b = booksOf b.numbers (countedIn k b.frames)
+abbrev pub frame_counted : ℕ → Books → Books
+frame_counted k b = books_of b.numbers (counted_in k b.frames)
 
 -- an opening that ends leaves the reader open or not; any other call leaves it as it was
 unfoldable pub ended : Books → Bool → ℕ → Books
-ended b isOpening opened = pick isOpening (booksOf (slice_set b.numbers 0 opened) b.frames) b
+ended b is_opening opened = pick is_opening (books_of (slice_set b.numbers 0 opened) b.frames) b
 
 -- a refusal at once leaves the books, the caller too
 abbrev pub booked : ℕ → Bool → Output → Books → Books
-booked k isOpening Ack b = byCaller k b
-booked k isOpening (Command n) b = frameCounted k (byCaller k b)
-booked k isOpening (Read ms) b = byCaller k b
-booked k isOpening Drain b = byCaller k b
-booked k isOpening (Pause us) b = byCaller k b
-booked k isOpening (Done n) b = ended (byCaller k b) isOpening 1
-booked k isOpening (Type1 n) b = ended (byCaller k b) isOpening 1
-booked k isOpening (UidAndAts n uid ats) b = ended (byCaller k b) isOpening 1
-booked k isOpening Nothing b = ended (byCaller k b) isOpening 0
-booked k isOpening (Failed r) b = ended (byCaller k b) isOpening 0
-booked k isOpening (FailedAfter r n) b = ended (byCaller k b) isOpening 0
-booked k isOpening (Refused r) b = b
+booked k is_opening Ack b = by_caller k b
+booked k is_opening (Command n) b = frame_counted k (by_caller k b)
+booked k is_opening (Read ms) b = by_caller k b
+booked k is_opening Drain b = by_caller k b
+booked k is_opening (Pause us) b = by_caller k b
+booked k is_opening (Done n) b = ended (by_caller k b) is_opening 1
+booked k is_opening (Type1 n) b = ended (by_caller k b) is_opening 1
+booked k is_opening (UidAndAts n uid ats) b = ended (by_caller k b) is_opening 1
+booked k is_opening Nothing b = ended (by_caller k b) is_opening 0
+booked k is_opening (Failed r) b = ended (by_caller k b) is_opening 0
+booked k is_opening (FailedAfter r n) b = ended (by_caller k b) is_opening 0
+booked k is_opening (Refused r) b = b

@@ -3,15 +3,15 @@ use Rattle.core.specs.Prelude.{◌≡◌, ℕ, List}
 use Rattle.protocol.specs.Calls.{Call}
 use Rattle.protocol.specs.Session as Spec
 use Rattle.protocol.specs.Machine.{entries}
-use Rattle.protocol.specs.Runs.{EventAndRoom, callEntries, lines_from}
+use Rattle.protocol.specs.Runs.{EventAndRoom, call_entries, lines_from}
 use Rattle.protocol.specs.Chatter.{waits, Alike}
-use Rattle.protocol.specs.ChatterMachine.{SameFrom, machine-chatter}
+use Rattle.protocol.specs.ChatterMachine.{SameFrom, machine_chatter}
 use Rattle.engine.specs.Inputs.{Input}
 use Rattle.engine.specs.Refinement.{engine}
 use Rattle.engine.specs.declared.session.Session.{Session}
 
-pub engine-chatter : (s t : Session) (m : Spec.Session) → engine.Represents s m → engine.Represents t m
+pub engine_chatter : (s t : Session) (m : Spec.Session) → engine.Represents s m → engine.Represents t m
     → (caller : ℕ) (c : Call) (room : ℕ) (es ds : List EventAndRoom) (is js : List Input)
-    → entries engine is ≡ callEntries caller c room es → entries engine js ≡ callEntries caller c room ds
+    → entries engine is ≡ call_entries caller c room es → entries engine js ≡ call_entries caller c room ds
     → Alike waits (lines_from m caller c room es) (lines_from m caller c room ds) → SameFrom engine s t is js
-engine-chatter = machine-chatter engine
+engine_chatter = machine_chatter engine

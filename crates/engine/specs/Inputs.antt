@@ -1,34 +1,34 @@
 -- The entries as the engine is given them, and what it does to each, as the host sees it.
 use Rattle.core.specs.Prelude.{ℕ, List, length, take}
 use Rattle.exchange.specs.Exchange.{write, read, drain, pause, Event}
-use Rattle.protocol.specs.Scripts.{done, type1, uidAndAts, nothing, refused, refusedAfter}
+use Rattle.protocol.specs.Scripts.{done, type1, uid_and_ats, nothing, refused, refused_after}
 use Rattle.protocol.specs.Calls.{ReaderCall, opening, reader}
 use Rattle.protocol.specs.Session.{Entry, call, event}
-use Rattle.protocol.specs.Session.{StepResult, stepResult}
+use Rattle.protocol.specs.Session.{StepResult, step_result}
 use Rattle.protocol.specs.Session.{Output as Given, orders, answers, rejects}
-use Rattle.calls.specs.Firsts.{startFor}
+use Rattle.calls.specs.Firsts.{start_for}
 use Rattle.engine.specs.Core.{Arrays, After}
-use Rattle.engine.specs.SessionSteps.{State, arraysIn, stateIn, steppedOf, eventAfter, Stepped}
-use Rattle.engine.specs.SessionSteps.{openAfter as openedAt, startAfter}
+use Rattle.engine.specs.SessionSteps.{State, arrays_in, state_in, stepped_of, event_after, Stepped}
+use Rattle.engine.specs.SessionSteps.{open_after as opened_at, start_after}
 use Rattle.engine.specs.declared.core.Output.{Output}
 use Rattle.engine.specs.declared.core.Output.TheVariants.{Ack, Command, Read, Drain, Pause, Done, Type1, UidAndAts, Nothing, Failed, FailedAfter, Refused}
 use Rattle.engine.specs.declared.session.Session.{Session}
-use Rattle.framing.specs.Names.{ackSize}
+use Rattle.framing.specs.Names.{ack_size}
 
 -- what the host is given: an output with the buffer's bytes
-abbrev pub outputOf : Output → List ℕ → Given ℕ
-outputOf Ack b = orders (write (take ackSize b))
-outputOf (Command n) b = orders (write (take n b))
-outputOf (Read ms) b = orders (read ms)
-outputOf Drain b = orders drain
-outputOf (Pause us) b = orders (pause us)
-outputOf (Done n) b = answers (done (take n b))
-outputOf (Type1 n) b = answers (type1 (take n b))
-outputOf (UidAndAts n uid ats) b = answers (uidAndAts (take n b) uid ats)
-outputOf Nothing b = answers nothing
-outputOf (Failed r) b = answers (refused r)
-outputOf (FailedAfter r n) b = answers (refusedAfter r n)
-outputOf (Refused r) b = rejects r
+abbrev pub output_of : Output → List ℕ → Given ℕ
+output_of Ack b = orders (write (take ack_size b))
+output_of (Command n) b = orders (write (take n b))
+output_of (Read ms) b = orders (read ms)
+output_of Drain b = orders drain
+output_of (Pause us) b = orders (pause us)
+output_of (Done n) b = answers (done (take n b))
+output_of (Type1 n) b = answers (type1 (take n b))
+output_of (UidAndAts n uid ats) b = answers (uid_and_ats (take n b) uid ats)
+output_of Nothing b = answers nothing
+output_of (Failed r) b = answers (refused r)
+output_of (FailedAfter r n) b = answers (refused_after r n)
+output_of (Refused r) b = rejects r
 
 -- a call or an event, each with the bytes of the buffer that is lent with it
 pub data Input : Type 0 where
@@ -36,23 +36,23 @@ pub data Input : Type 0 where
   asks : ℕ → ReaderCall → List ℕ → Input  -- caller
   gives : Event → List ℕ → Input
 
-abbrev pub bufferOf : Input → List ℕ
-bufferOf (opens k mode b) = b
-bufferOf (asks k c b) = b
-bufferOf (gives e b) = b
+abbrev pub buffer_of : Input → List ℕ
+buffer_of (opens k mode b) = b
+buffer_of (asks k c b) = b
+buffer_of (gives e b) = b
 
 abbrev pub entry_of : Input → Entry
 entry_of (opens k mode b) = call k (opening mode) (length b)
 entry_of (asks k c b) = call k (reader c) (length b)
 entry_of (gives e b) = event e (length b)
 
-abbrev pub afterInput : State → Arrays → Input → After State
-afterInput s f (opens k mode b) = openedAt s f k mode b
-afterInput s f (asks k c b) = startAfter s f k (startFor c) b
-afterInput s f (gives e b) = eventAfter s f e b
+abbrev pub after_input : State → Arrays → Input → After State
+after_input s f (opens k mode b) = opened_at s f k mode b
+after_input s f (asks k c b) = start_after s f k (start_for c) b
+after_input s f (gives e b) = event_after s f e b
 
-abbrev pub stepWith : Session → Input → Stepped
-stepWith s i = steppedOf (afterInput (stateIn s) (arraysIn s) i)
+abbrev pub step_with : Session → Input → Stepped
+step_with s i = stepped_of (after_input (state_in s) (arrays_in s) i)
 
 abbrev pub act : Session → Input → StepResult Session ℕ
-act s i = stepResult (stepWith s i).session (outputOf (stepWith s i).output (stepWith s i).buffer)
+act s i = step_result (step_with s i).session (output_of (step_with s i).output (step_with s i).buffer)

@@ -8,254 +8,254 @@ use Rattle.errors.specs.declared.Fault.{Fault}
 use Rattle.errors.specs.declared.Fault.TheVariants.{Transport, TimeOut, FalseStart, BrokenFrame, Length, FrameKind, Identifier, Code, Status, ShortResponse, NoCard, CrcA, Rate, CardStatus, OtherCard, UidLayout}
 use Rattle.framing.specs.Frames.{ack}
 use Rattle.framing.specs.Lists.{both}
-use Rattle.errors.specs.Rules.{at_true, at-false}
-use Rattle.exchange.specs.Exchange.{Event, unfit, pending, ended, onWrite, onRead, onPause, ExchangePhase, sending, reading, waiting, cancelling, rejecting, draining, ExchangeResult, advance}
+use Rattle.errors.specs.Rules.{at_true, at_false}
+use Rattle.exchange.specs.Exchange.{Event, unfit, pending, ended, on_write, on_read, on_pause, ExchangePhase, sending, reading, waiting, cancelling, rejecting, draining, ExchangeResult, advance}
 use Rattle.exchange.specs.Exchange.{Order as HostOrder, write, read, pause}
-use Rattle.exchange.specs.Packets.{Reply, response, failed, replyOf}
-use Rattle.exchange.specs.Steps.{order_of, phaseIn, exchangeAt, resultIn, SameCommand, sendingPhase, readingPhase, waitingPhase, unsentPhase, overduePhase, rejectingPhase, drainingPhase}
+use Rattle.exchange.specs.Packets.{Reply, response, failed, reply_of}
+use Rattle.exchange.specs.Steps.{order_of, phase_in, exchange_at, result_in, SameCommand, sending_phase, reading_phase, waiting_phase, unsent_phase, overdue_phase, rejecting_phase, draining_phase}
 use Rattle.exchange.specs.declared.Advanced.{Advanced}
 use Rattle.exchange.specs.declared.Order.{Order}
 use Rattle.exchange.specs.declared.Exchange.{Exchange}
-use Rattle.calls.specs.Tables.{isResetOf}
+use Rattle.calls.specs.Tables.{is_reset_of}
 use Rattle.engine.specs.declared.call.Call.{Call}
 use Rattle.engine.specs.declared.call.End.{End}
 use Rattle.engine.specs.declared.call.End.TheVariants.{ResetDone, Arrived, Failed}
 use Rattle.engine.specs.declared.call.Transition.{Transition}
 use Rattle.engine.specs.declared.call.Transition.TheVariants.{Unfit, Orders, Sends, Ends}
-use Rattle.protocol.specs.Names.{openingReadTime, resetPauseTime}
-use Rattle.calls.specs.Kinds.{noCallKind, lastKind, firstStage, lastStage}
+use Rattle.protocol.specs.Names.{opening_read_time, reset_pause_time}
+use Rattle.calls.specs.Kinds.{no_call_kind, last_kind, first_stage, last_stage}
 
 -- what a call waits for: its command's exchange, a reset's ACK or pause, the opening's ACK or reads, a pause (src/call.rt)
-abbrev pub exchangePhase : ℕ
-exchangePhase = 0
+abbrev pub exchange_phase : ℕ
+exchange_phase = 0
 
-abbrev pub resetAckPhase : ℕ
-resetAckPhase = 1
+abbrev pub reset_ack_phase : ℕ
+reset_ack_phase = 1
 
-abbrev pub resetPausePhase : ℕ
-resetPausePhase = 2
+abbrev pub reset_pause_phase : ℕ
+reset_pause_phase = 2
 
-abbrev pub openingAckPhase : ℕ
-openingAckPhase = 3
+abbrev pub opening_ack_phase : ℕ
+opening_ack_phase = 3
 
-abbrev pub openingReadsPhase : ℕ
-openingReadsPhase = 4
+abbrev pub opening_reads_phase : ℕ
+opening_reads_phase = 4
 
-abbrev pub pausePhase : ℕ
-pausePhase = 5
+abbrev pub pause_phase : ℕ
+pause_phase = 5
 
-abbrev pub noCall : Call
-noCall = record { kind = noCallKind; stage = firstStage; cursor = 0; phase = exchangePhase }
+abbrev pub no_call_of : Call
+no_call_of = record { kind = no_call_kind; stage = first_stage; cursor = 0; phase = exchange_phase }
 
 -- at the first command of a call
-abbrev pub firstCall : ℕ → Call
-firstCall kind = record { kind = kind; stage = firstStage; cursor = 0; phase = exchangePhase }
+abbrev pub first_call : ℕ → Call
+first_call kind = record { kind = kind; stage = first_stage; cursor = 0; phase = exchange_phase }
 
 -- a call at another phase, at the command of a stage, and at that with another cursor
 abbrev pub at : Call → ℕ → Call
 at c phase = record { kind = c.kind; stage = c.stage; cursor = c.cursor; phase = phase }
 
-abbrev pub toStage : Call → ℕ → Call
-toStage c n = record { kind = c.kind; stage = n; cursor = c.cursor; phase = exchangePhase }
+abbrev pub to_stage : Call → ℕ → Call
+to_stage c n = record { kind = c.kind; stage = n; cursor = c.cursor; phase = exchange_phase }
 
-abbrev pub toCursor : Call → ℕ → ℕ → Call
-toCursor c n cursor = record { kind = c.kind; stage = n; cursor = cursor; phase = exchangePhase }
+abbrev pub to_cursor : Call → ℕ → ℕ → Call
+to_cursor c n cursor = record { kind = c.kind; stage = n; cursor = cursor; phase = exchange_phase }
 
 -- ACK is being written: after a failed write 3, at the deadline 4
-abbrev cancelPhase : Fault → ℕ
-cancelPhase Transport = unsentPhase
-cancelPhase TimeOut = overduePhase
-cancelPhase FalseStart = overduePhase
-cancelPhase BrokenFrame = overduePhase
-cancelPhase Length = overduePhase
-cancelPhase FrameKind = overduePhase
-cancelPhase Identifier = overduePhase
-cancelPhase Code = overduePhase
-cancelPhase (Status s) = overduePhase
-cancelPhase ShortResponse = overduePhase
-cancelPhase NoCard = overduePhase
-cancelPhase CrcA = overduePhase
-cancelPhase Rate = overduePhase
-cancelPhase (CardStatus s t) = overduePhase
-cancelPhase OtherCard = overduePhase
-cancelPhase UidLayout = overduePhase
+abbrev cancel_phase : Fault → ℕ
+cancel_phase Transport = unsent_phase
+cancel_phase TimeOut = overdue_phase
+cancel_phase FalseStart = overdue_phase
+cancel_phase BrokenFrame = overdue_phase
+cancel_phase Length = overdue_phase
+cancel_phase FrameKind = overdue_phase
+cancel_phase Identifier = overdue_phase
+cancel_phase Code = overdue_phase
+cancel_phase (Status s) = overdue_phase
+cancel_phase ShortResponse = overdue_phase
+cancel_phase NoCard = overdue_phase
+cancel_phase CrcA = overdue_phase
+cancel_phase Rate = overdue_phase
+cancel_phase (CardStatus s t) = overdue_phase
+cancel_phase OtherCard = overdue_phase
+cancel_phase UidLayout = overdue_phase
 
 -- the number of an exchange's step
-abbrev pub phaseOf : ExchangePhase → ℕ
-phaseOf (sending code clock) = sendingPhase
-phaseOf (reading code clock) = readingPhase
-phaseOf (waiting code clock) = waitingPhase
-phaseOf (cancelling r) = cancelPhase r
-phaseOf rejecting = rejectingPhase
-phaseOf draining = drainingPhase
+abbrev pub phase_of : ExchangePhase → ℕ
+phase_of (sending code clock) = sending_phase
+phase_of (reading code clock) = reading_phase
+phase_of (waiting code clock) = waiting_phase
+phase_of (cancelling r) = cancel_phase r
+phase_of rejecting = rejecting_phase
+phase_of draining = draining_phase
 
 -- the exchange at another step
-abbrev pub exchangeIn : Exchange → ExchangePhase → Exchange
-exchangeIn x step = exchangeAt (phaseOf step) x.code x.clock
+abbrev pub exchange_in : Exchange → ExchangePhase → Exchange
+exchange_in x step = exchange_at (phase_of step) x.code x.clock
 
 -- what the code's Transition says, with a response by its bytes
 pub data Transitioned : Type 0 where
   unfitting : Transitioned
   orders : HostOrder → Call → Exchange → Transitioned
   sends : Call → Transitioned  -- the command of the call's stage
-  resetDone : Transitioned
+  reset_done : Transitioned
   replies : List ℕ → Transitioned
   refuses : Fault → Transitioned
 
 -- the response in a packet, or its fault
-abbrev pub replyTransition : Reply → Transitioned
-replyTransition (response bytes) = replies bytes
-replyTransition (failed r) = refuses r
+abbrev pub reply_transition : Reply → Transitioned
+reply_transition (response bytes) = replies bytes
+reply_transition (failed r) = refuses r
 
 -- the end of a command with this code, by a packet
-abbrev pub endTransition : ℕ → List ℕ → End → Transitioned
-endTransition code packet ResetDone = resetDone
-endTransition code packet Arrived = replyTransition (replyOf code packet)
-endTransition code packet (Failed r) = refuses r
+abbrev pub end_transition : ℕ → List ℕ → End → Transitioned
+end_transition code packet ResetDone = reset_done
+end_transition code packet Arrived = reply_transition (reply_of code packet)
+end_transition code packet (Failed r) = refuses r
 
 -- of a packet that a command with this code waits for
-abbrev pub transitionIn : ℕ → List ℕ → Transition → Transitioned
-transitionIn code packet Unfit = unfitting
-transitionIn code packet (Orders o c x) = orders (order_of o) c x
-transitionIn code packet (Sends c) = sends c
-transitionIn code packet (Ends e) = endTransition code packet e
+abbrev pub transition_in : ℕ → List ℕ → Transition → Transitioned
+transition_in code packet Unfit = unfitting
+transition_in code packet (Orders o c x) = orders (order_of o) c x
+transition_in code packet (Sends c) = sends c
+transition_in code packet (Ends e) = end_transition code packet e
 
 -- a command's exchange is over: behind a reset's follows ACK, whatever came of it
-unfoldable pub overTransition : Call → Exchange → Transitioned → Transitioned
-overTransition c x m = pick (isResetOf c.kind c.stage) (orders (write ack) (at c resetAckPhase) x) m
+unfoldable pub over_transition : Call → Exchange → Transitioned → Transitioned
+over_transition c x m = pick (is_reset_of c.kind c.stage) (orders (write ack) (at c reset_ack_phase) x) m
 
-abbrev pub endedTransition : Call → Exchange → Reply → Transitioned
-endedTransition c x r = overTransition c x (replyTransition r)
+abbrev pub ended_transition : Call → Exchange → Reply → Transitioned
+ended_transition c x r = over_transition c x (reply_transition r)
 
-unfoldable pub exchangeTransition : Call → Exchange → ExchangeResult → Transitioned
-exchangeTransition c x unfit = unfitting
-exchangeTransition c x (pending o step) = orders o c (exchangeIn x step)
-exchangeTransition c x (ended r) = endedTransition c x r
+unfoldable pub exchange_transition : Call → Exchange → ExchangeResult → Transitioned
+exchange_transition c x unfit = unfitting
+exchange_transition c x (pending o step) = orders o c (exchange_in x step)
+exchange_transition c x (ended r) = ended_transition c x r
 
-abbrev pub resetAckTransition : Call → Exchange → Event → Transitioned
-resetAckTransition c x e = onWrite unfitting (orders (pause resetPauseTime) (at c resetPausePhase) x) (refuses Transport) e
+abbrev pub reset_ack_transition : Call → Exchange → Event → Transitioned
+reset_ack_transition c x e = on_write unfitting (orders (pause reset_pause_time) (at c reset_pause_phase) x) (refuses Transport) e
 
-abbrev pub resetPauseTransition : Event → Transitioned
-resetPauseTransition e = onPause unfitting resetDone e
+abbrev pub reset_pause_transition : Event → Transitioned
+reset_pause_transition e = on_pause unfitting reset_done e
 
-abbrev pub openingAckTransition : Call → Exchange → Event → Transitioned
-openingAckTransition c x e = onWrite unfitting (orders (read openingReadTime) (at c openingReadsPhase) x) (refuses Transport) e
+abbrev pub opening_ack_transition : Call → Exchange → Event → Transitioned
+opening_ack_transition c x e = on_write unfitting (orders (read opening_read_time) (at c opening_reads_phase) x) (refuses Transport) e
 
-abbrev pub openingReadsTransition : Call → Exchange → Event → Transitioned
-openingReadsTransition c x e = onRead unfitting (λ p. orders (read openingReadTime) c x) (sends (at c exchangePhase)) (sends (at c exchangePhase)) unfitting e
+abbrev pub opening_reads_transition : Call → Exchange → Event → Transitioned
+opening_reads_transition c x e = on_read unfitting (λ p. orders (read opening_read_time) c x) (sends (at c exchange_phase)) (sends (at c exchange_phase)) unfitting e
 
-abbrev pub pauseTransition : Call → Event → Transitioned
-pauseTransition c e = onPause unfitting (sends (at c exchangePhase)) e
+abbrev pub pause_transition : Call → Event → Transitioned
+pause_transition c e = on_pause unfitting (sends (at c exchange_phase)) e
 
-unfoldable pub transitionOf : Call → Exchange → Event → Transitioned
-transitionOf c x e =
-    pick (c.phase == exchangePhase) (exchangeTransition c x (advance (phaseIn x) e))
-    (pick (c.phase == resetAckPhase) (resetAckTransition c x e)
-    (pick (c.phase == resetPausePhase) (resetPauseTransition e)
-    (pick (c.phase == openingAckPhase) (openingAckTransition c x e)
-    (pick (c.phase == openingReadsPhase) (openingReadsTransition c x e)
-    (pick (c.phase == pausePhase) (pauseTransition c e) unfitting)))))
+unfoldable pub transition_of : Call → Exchange → Event → Transitioned
+transition_of c x e =
+    pick (c.phase == exchange_phase) (exchange_transition c x (advance (phase_in x) e))
+    (pick (c.phase == reset_ack_phase) (reset_ack_transition c x e)
+    (pick (c.phase == reset_pause_phase) (reset_pause_transition e)
+    (pick (c.phase == opening_ack_phase) (opening_ack_transition c x e)
+    (pick (c.phase == opening_reads_phase) (opening_reads_transition c x e)
+    (pick (c.phase == pause_phase) (pause_transition c e) unfitting)))))
 
 abbrev pub fits : Transitioned → Bool
 fits unfitting = false
 fits (orders o c x) = true
 fits (sends c) = true
-fits resetDone = true
+fits reset_done = true
 fits (replies bytes) = true
 fits (refuses r) = true
 
 -- a reply fits the order that waits for it
-pub reply-fits : (r : Reply) → fits (replyTransition r) ≡ true
+pub reply-fits : (r : Reply) → fits (reply_transition r) ≡ true
 reply-fits (response bytes) = refl
 reply-fits (failed r) = refl
 
-pub end_fits : (code : ℕ) (packet : List ℕ) (e : End) → fits (endTransition code packet e) ≡ true
+pub end_fits : (code : ℕ) (packet : List ℕ) (e : End) → fits (end_transition code packet e) ≡ true
 end_fits code packet ResetDone = refl
-end_fits code packet Arrived = reply-fits (replyOf code packet)
+end_fits code packet Arrived = reply-fits (reply_of code packet)
 end_fits code packet (Failed r) = refl
 
 -- how many bytes a response's packet has at least
-abbrev pub replyLength : Transitioned → ℕ
-replyLength unfitting = 0
-replyLength (orders o c x) = 0
-replyLength (sends c) = 0
-replyLength resetDone = 0
-replyLength (replies bytes) = length bytes + 2
-replyLength (refuses r) = 0
+abbrev pub reply_length : Transitioned → ℕ
+reply_length unfitting = 0
+reply_length (orders o c x) = 0
+reply_length (sends c) = 0
+reply_length reset_done = 0
+reply_length (replies bytes) = length bytes + 2
+reply_length (refuses r) = 0
 
 -- every field of a call is in its range; a cursor has none
-unfoldable pub validCall : Call → Bool
-validCall c = both (nat_le c.kind lastKind) (both (nat_le c.stage lastStage) (nat_le c.phase pausePhase))
+unfoldable pub valid_call : Call → Bool
+valid_call c = both (nat_le c.kind last_kind) (both (nat_le c.stage last_stage) (nat_le c.phase pause_phase))
 
 -- ---- laws
 
-pub over-reset : (c k : Call) (x : Exchange) (m : Transitioned) → isResetOf c.kind c.stage ≡ true → k ≡ at c resetAckPhase → orders (write ack) k x ≡ overTransition c x m
-unfolding overTransition pick
-over-reset c k x m h e = rw h (ap (λ d. orders (write ack) d x) e)
+pub over_reset : (c k : Call) (x : Exchange) (m : Transitioned) → is_reset_of c.kind c.stage ≡ true → k ≡ at c reset_ack_phase → orders (write ack) k x ≡ over_transition c x m
+unfolding over_transition pick
+over_reset c k x m h e = rw h (ap (λ d. orders (write ack) d x) e)
 
-pub over-other : (c : Call) (x : Exchange) (m : Transitioned) → isResetOf c.kind c.stage ≡ false → m ≡ overTransition c x m
-unfolding overTransition pick
+pub over-other : (c : Call) (x : Exchange) (m : Transitioned) → is_reset_of c.kind c.stage ≡ false → m ≡ over_transition c x m
+unfolding over_transition pick
 over-other c x m h = rw h
 
 -- the exchange that goes on is the old one at its new step
-phase-of : (n code clock : ℕ) → n ≤ drainingPhase → phaseOf (phaseIn (exchangeAt n code clock)) ≡ n
-unfolding phaseIn pick
-phase-of zero code clock h = refl
-phase-of (suc zero) code clock h = refl
-phase-of (suc (suc zero)) code clock h = refl
-phase-of (suc (suc (suc zero))) code clock h = refl
-phase-of (suc (suc (suc (suc zero)))) code clock h = refl
-phase-of (suc (suc (suc (suc (suc zero))))) code clock h = refl
-phase-of (suc (suc (suc (suc (suc (suc zero)))))) code clock h = refl
-phase-of (suc (suc (suc (suc (suc (suc (suc n))))))) code clock h = absurd (omega arith)
+phase_of_lem : (n code clock : ℕ) → n ≤ draining_phase → phase_of (phase_in (exchange_at n code clock)) ≡ n
+unfolding phase_in pick
+phase_of_lem zero code clock h = refl
+phase_of_lem (suc zero) code clock h = refl
+phase_of_lem (suc (suc zero)) code clock h = refl
+phase_of_lem (suc (suc (suc zero))) code clock h = refl
+phase_of_lem (suc (suc (suc (suc zero)))) code clock h = refl
+phase_of_lem (suc (suc (suc (suc (suc zero))))) code clock h = refl
+phase_of_lem (suc (suc (suc (suc (suc (suc zero)))))) code clock h = refl
+phase_of_lem (suc (suc (suc (suc (suc (suc (suc n))))))) code clock h = absurd (omega arith)
 
-exchange-kept : (x y : Exchange) → y.phase ≤ drainingPhase → y.code ≡ x.code → y.clock ≡ x.clock → y ≡ exchangeIn x (phaseIn y)
-exchange-kept x y h p q =
-    λ i. exchangeAt (sym (phase-of y.phase y.code y.clock h) i) (p i) (q i)
+exchange_kept : (x y : Exchange) → y.phase ≤ draining_phase → y.code ≡ x.code → y.clock ≡ x.clock → y ≡ exchange_in x (phase_in y)
+exchange_kept x y h p q =
+    λ i. exchange_at (sym (phase_of_lem y.phase y.code y.clock h) i) (p i) (q i)
 
-module _ (c : Call) (x : Exchange) (packet : List ℕ) (a : Advanced) (r : ExchangeResult) (is : resultIn x packet a ≡ r) where
-  pub exchange-unfit : a ≡ Advanced.Unfit → unfitting ≡ exchangeTransition c x r
-  unfolding exchangeTransition
-  exchange-unfit h = let e : r ≡ unfit = sym is ∙ ap (resultIn x packet) h in rw e
+module _ (c : Call) (x : Exchange) (packet : List ℕ) (a : Advanced) (r : ExchangeResult) (is : result_in x packet a ≡ r) where
+  pub exchange_unfit : a ≡ Advanced.Unfit → unfitting ≡ exchange_transition c x r
+  unfolding exchange_transition
+  exchange_unfit h = let e : r ≡ unfit = sym is ∙ ap (result_in x packet) h in rw e
 
-  pub exchange-pending : (m : Transitioned) (n : Order) (y : Exchange) → a ≡ Advanced.Pending n y → SameCommand x a → m ≡ orders (order_of n) c y → m ≡ exchangeTransition c x r
-  unfolding exchangeTransition
-  exchange-pending m n y h kept p =
-      let e : r ≡ pending (order_of n) (phaseIn y) = sym is ∙ ap (resultIn x packet) h in
+  pub exchange_pending : (m : Transitioned) (n : Order) (y : Exchange) → a ≡ Advanced.Pending n y → SameCommand x a → m ≡ orders (order_of n) c y → m ≡ exchange_transition c x r
+  unfolding exchange_transition
+  exchange_pending m n y h kept p =
+      let e : r ≡ pending (order_of n) (phase_in y) = sym is ∙ ap (result_in x packet) h in
       let k = subst (SameCommand x) h kept in
-      rw e (p ∙ ap (λ z. orders (order_of n) c z) (exchange-kept x y k.0 k.1 k.2))
+      rw e (p ∙ ap (λ z. orders (order_of n) c z) (exchange_kept x y k.0 k.1 k.2))
 
   -- the exchange is over
-  pub exchange-arrived : (e : End) → a ≡ Advanced.Arrived → e ≡ Arrived → overTransition c x (endTransition x.code packet e) ≡ exchangeTransition c x r
-  unfolding exchangeTransition
-  exchange-arrived e h q = let o : r ≡ ended (replyOf x.code packet) = sym is ∙ ap (resultIn x packet) h in rw (o, q)
+  pub exchange_arrived : (e : End) → a ≡ Advanced.Arrived → e ≡ Arrived → over_transition c x (end_transition x.code packet e) ≡ exchange_transition c x r
+  unfolding exchange_transition
+  exchange_arrived e h q = let o : r ≡ ended (reply_of x.code packet) = sym is ∙ ap (result_in x packet) h in rw (o, q)
 
-  pub exchange-failed : (e : End) (fault : Fault) → a ≡ Advanced.Failed fault → e ≡ Failed fault → overTransition c x (endTransition x.code packet e) ≡ exchangeTransition c x r
-  unfolding exchangeTransition
-  exchange-failed e fault h q = let o : r ≡ ended (failed fault) = sym is ∙ ap (resultIn x packet) h in rw (o, q)
+  pub exchange_failed : (e : End) (fault : Fault) → a ≡ Advanced.Failed fault → e ≡ Failed fault → over_transition c x (end_transition x.code packet e) ≡ exchange_transition c x r
+  unfolding exchange_transition
+  exchange_failed e fault h q = let o : r ≡ ended (failed fault) = sym is ∙ ap (result_in x packet) h in rw (o, q)
 
 -- a number that is n is none that n is not
 other : {p : ℕ} (n : ℕ) → p ≡ n → (k : ℕ) → (n == k) ≡ false → (p == k) ≡ false
 other n h k q = ap (λ j. nat_eq j k) h ∙ q
 
 module _ (c : Call) (x : Exchange) (e : Event) (m : Transitioned) where
-  pub transition-exchange : c.phase ≡ exchangePhase → m ≡ exchangeTransition c x (advance (phaseIn x) e) → m ≡ transitionOf c x e
-  unfolding transitionOf
-  transition-exchange h p = at_true m _ _ _ (eq-eqb c.phase exchangePhase h) p
+  pub transition_exchange : c.phase ≡ exchange_phase → m ≡ exchange_transition c x (advance (phase_in x) e) → m ≡ transition_of c x e
+  unfolding transition_of
+  transition_exchange h p = at_true m _ _ _ (eq-eqb c.phase exchange_phase h) p
 
-  pub transition-pause : c.phase ≡ resetPausePhase → m ≡ resetPauseTransition e → m ≡ transitionOf c x e
-  unfolding transitionOf
-  transition-pause h p =
-      at-false m _ _ _ (other 2 h 0 refl) (at-false m _ _ _ (other 2 h 1 refl) (at_true m _ _ _ (eq-eqb c.phase resetPausePhase h) p))
+  pub transition_pause : c.phase ≡ reset_pause_phase → m ≡ reset_pause_transition e → m ≡ transition_of c x e
+  unfolding transition_of
+  transition_pause h p =
+      at_false m _ _ _ (other 2 h 0 refl) (at_false m _ _ _ (other 2 h 1 refl) (at_true m _ _ _ (eq-eqb c.phase reset_pause_phase h) p))
 
-  pub transition-reads : c.phase ≡ openingReadsPhase → m ≡ openingReadsTransition c x e → m ≡ transitionOf c x e
-  unfolding transitionOf
-  transition-reads h p =
-      at-false m _ _ _ (other 4 h 0 refl) (at-false m _ _ _ (other 4 h 1 refl) (at-false m _ _ _ (other 4 h 2 refl) (at-false m _ _ _ (other 4 h 3 refl)
-      (at_true m _ _ _ (eq-eqb c.phase openingReadsPhase h) p))))
+  pub transition_reads : c.phase ≡ opening_reads_phase → m ≡ opening_reads_transition c x e → m ≡ transition_of c x e
+  unfolding transition_of
+  transition_reads h p =
+      at_false m _ _ _ (other 4 h 0 refl) (at_false m _ _ _ (other 4 h 1 refl) (at_false m _ _ _ (other 4 h 2 refl) (at_false m _ _ _ (other 4 h 3 refl)
+      (at_true m _ _ _ (eq-eqb c.phase opening_reads_phase h) p))))
 
-  pub transition-awaited : c.phase ≡ pausePhase → m ≡ pauseTransition c e → m ≡ transitionOf c x e
-  unfolding transitionOf
-  transition-awaited h p =
-      at-false m _ _ _ (other 5 h 0 refl) (at-false m _ _ _ (other 5 h 1 refl) (at-false m _ _ _ (other 5 h 2 refl) (at-false m _ _ _ (other 5 h 3 refl)
-      (at-false m _ _ _ (other 5 h 4 refl) (at_true m _ _ _ (eq-eqb c.phase pausePhase h) p)))))
+  pub transition_awaited : c.phase ≡ pause_phase → m ≡ pause_transition c e → m ≡ transition_of c x e
+  unfolding transition_of
+  transition_awaited h p =
+      at_false m _ _ _ (other 5 h 0 refl) (at_false m _ _ _ (other 5 h 1 refl) (at_false m _ _ _ (other 5 h 2 refl) (at_false m _ _ _ (other 5 h 3 refl)
+      (at_false m _ _ _ (other 5 h 4 refl) (at_true m _ _ _ (eq-eqb c.phase pause_phase h) p)))))

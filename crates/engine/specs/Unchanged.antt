@@ -9,30 +9,30 @@ use Rattle.errors.specs.declared.Refusal.TheVariants.{OutOfTurn, ShortBuffer, Ov
 use Rattle.errors.specs.declared.Fault.{Fault}
 use Rattle.exchange.specs.Exchange.{Order, write, read, drain, pause, Event}
 use Rattle.exchange.specs.declared.Exchange.{Exchange}
-use Rattle.exchange.specs.Steps.{drainingPhase}
+use Rattle.exchange.specs.Steps.{draining_phase}
 use Rattle.framing.specs.Valid.{both_left, both_right}
-use Rattle.protocol.specs.Scripts.{Answer, done, type1, uidAndAts, nothing, refused, refusedAfter}
-use Rattle.protocol.specs.Starts.{dataLimit}
-use Rattle.protocol.specs.Session.{bufferNeed, lastCaller}
-use Rattle.stages.specs.Starts.{Start, staged, sends as sendsFirst, refuses as refusesAtOnce}
-use Rattle.stages.specs.Stages.{Decision, send, keep, next, put as putBy, pause as pauseFor, ends as endsDecision}
-use Rattle.stages.specs.Decided.{foundLimit}
-use Rattle.calls.specs.Firsts.{startFor}
-use Rattle.engine.specs.Books.{Books, isInRange, byCaller, ended, booked}
-use Rattle.engine.specs.Booking.{ended-range}
-use Rattle.engine.specs.Laws.{valid-caller}
-use Rattle.engine.specs.Core.{Arrays, After, after, unchanged, idle, ordersOf, stageOf, endsOf, answersOf, performsOf, repliesOf, fails_of, transitionedOf, isLong, admittedOf, eventCore, openCore, startOn}
-use Rattle.engine.specs.Core.{isValid as validCore}
-use Rattle.engine.specs.Exchanges.{by-pick}
-use Rattle.engine.specs.Inputs.{Input, opens as opened, asks, gives, bufferOf, stepWith, afterInput}
-use Rattle.engine.specs.Transitions.{Transitioned, unfitting, orders, sends as sendsStage, resetDone, replies, refuses, fits, transitionOf, validCall}
-use Rattle.engine.specs.SessionSteps.{State, state, stateIn, valid, isValidState, isFree, isAdmitted, withRoom, withCaller, bookedAfter, eventAfter, openAfter, startAfter, arraysIn, steppedOf}
+use Rattle.protocol.specs.Scripts.{Answer, done, type1, uid_and_ats, nothing, refused, refused_after}
+use Rattle.protocol.specs.Starts.{data_limit}
+use Rattle.protocol.specs.Session.{buffer_need, last_caller}
+use Rattle.stages.specs.Starts.{Start, staged, sends as sends_first, refuses as refuses_at_once}
+use Rattle.stages.specs.Stages.{Decision, send, keep, next, put as put_by, pause as pause_for, ends as ends_decision}
+use Rattle.stages.specs.Decided.{found_limit}
+use Rattle.calls.specs.Firsts.{start_for}
+use Rattle.engine.specs.Books.{Books, is_in_range, by_caller, ended, booked}
+use Rattle.engine.specs.Booking.{ended_range}
+use Rattle.engine.specs.Laws.{valid_caller}
+use Rattle.engine.specs.Core.{Arrays, After, after, unchanged, idle, orders_of, stage_of, ends_of, answers_of, performs_of, replies_of, fails_of, transitioned_of, is_long_of, admitted_of, event_core, open_core, start_on}
+use Rattle.engine.specs.Core.{is_valid_of as valid_core}
+use Rattle.engine.specs.Exchanges.{by_pick}
+use Rattle.engine.specs.Inputs.{Input, opens as opened, asks, gives, buffer_of, step_with, after_input}
+use Rattle.engine.specs.Transitions.{Transitioned, unfitting, orders, sends as sends_stage, reset_done, replies, refuses, fits, transition_of, valid_call}
+use Rattle.engine.specs.SessionSteps.{State, state, state_in, valid, is_valid_state, is_free, is_admitted, with_room, with_caller, booked_after_of, event_after, open_after, start_after, arrays_in, stepped_of}
 use Rattle.engine.specs.declared.call.Call.{Call}
 use Rattle.engine.specs.declared.core.Core.{Core}
 use Rattle.engine.specs.declared.core.Output.{Output}
 use Rattle.engine.specs.declared.core.Output.TheVariants.{Ack, Command, Read, Drain, Pause, Done, Type1, UidAndAts, Nothing, Failed, FailedAfter, Refused}
 use Rattle.engine.specs.declared.session.Session.{Session}
-use Rattle.calls.specs.Kinds.{noCallKind}
+use Rattle.calls.specs.Kinds.{no_call_kind}
 
 -- a fault 1, a refusal at once 2, any other output 0
 abbrev class : Output → ℕ
@@ -63,7 +63,7 @@ module _ (s : Core) (f : Arrays) (b : List ℕ) where
   same : (r : Refusal) → UnchangedIfRefused (unchanged s f r b)
   same r = record { early = λ q e. ap (λ o. after s f o b) e; late = λ e. absurd (omega (arith, e)) }
 
-  fails : (o : Output) → class o ≡ 1 → UnchangedIfRefused (endsOf s f o b)
+  fails : (o : Output) → class o ≡ 1 → UnchangedIfRefused (ends_of s f o b)
   fails o h = record { early = λ q e. absurd (other-class e (λ z. omega (arith, z, h))); late = λ e. (refl, refl) }
 
   -- an order or an answer
@@ -73,87 +73,87 @@ module _ (s : Core) (f : Arrays) (b : List ℕ) where
     late = λ e. absurd (omega (arith, e, h));
   }
 
-  order : (t : Core) (g : Arrays) (o : Order) (c : Call) (x : Exchange) → UnchangedIfRefused (ordersOf t g o c x b)
+  order : (t : Core) (g : Arrays) (o : Order) (c : Call) (x : Exchange) → UnchangedIfRefused (orders_of t g o c x b)
   order t g (write bytes) c x = goes_on _ refl
   order t g (read ms) c x = goes_on _ refl
   order t g drain c x = goes_on _ refl
   order t g (pause us) c x = goes_on _ refl
 
-  stage : (t : Core) (g : Arrays) (c : Call) → UnchangedIfRefused (stageOf t g c b)
-  unfolding stageOf
+  stage : (t : Core) (g : Arrays) (c : Call) → UnchangedIfRefused (stage_of t g c b)
+  unfolding stage_of
   stage t g c = goes_on _ refl
 
-  answers : (a : Answer ℕ) → UnchangedIfRefused (answersOf s f a b)
+  answers : (a : Answer ℕ) → UnchangedIfRefused (answers_of s f a b)
   answers (done bytes) = goes_on _ refl
   answers (type1 bytes) = goes_on _ refl
-  answers (uidAndAts bytes uid ats) = goes_on _ refl
+  answers (uid_and_ats bytes uid ats) = goes_on _ refl
   answers nothing = goes_on _ refl
   answers (refused r) = fails (Failed r) refl
-  answers (refusedAfter r n) = fails (FailedAfter r n) refl
+  answers (refused_after r n) = fails (FailedAfter r n) refl
 
-  decision : (d : Decision) → UnchangedIfRefused (performsOf s f d b)
-  unfolding performsOf
+  decision : (d : Decision) → UnchangedIfRefused (performs_of s f d b)
+  unfolding performs_of
   decision (send n) = stage _ _ _
   decision (keep n bytes) = stage _ _ _
   decision (next n c bytes) = stage _ _ _
-  decision (putBy n bytes) = stage _ _ _
-  decision (pauseFor us n) = goes_on _ refl
-  decision (endsDecision a) = answers a
+  decision (put_by n bytes) = stage _ _ _
+  decision (pause_for us n) = goes_on _ refl
+  decision (ends_decision a) = answers a
 
-  reply : (bytes : List ℕ) → UnchangedIfRefused (repliesOf s f bytes b)
-  unfolding repliesOf
+  reply : (bytes : List ℕ) → UnchangedIfRefused (replies_of s f bytes b)
+  unfolding replies_of
   reply bytes = decision _
 
   failure : (r : Fault) → UnchangedIfRefused (fails_of s f r b)
   unfolding fails_of
   failure r = decision _
 
-  transition : (m : Transitioned) → UnchangedIfRefused (transitionedOf s f m b)
-  unfolding transitionedOf
+  transition : (m : Transitioned) → UnchangedIfRefused (transitioned_of s f m b)
+  unfolding transitioned_of
   transition unfitting = same OutOfTurn
   transition (orders o c x) = order s f o c x
-  transition (sendsStage c) = stage s f c
-  transition resetDone = reply []
+  transition (sends_stage c) = stage s f c
+  transition reset_done = reply []
   transition (replies bytes) = reply bytes
   transition (refuses r) = failure r
 
-  event-unchanged : (e : Event) → UnchangedIfRefused (eventCore s f e b)
-  unfolding eventCore admittedOf
-  event-unchanged e =
-      let m = transitionOf s.call s.exchange e in
-      by-pick UnchangedIfRefused (s.call.kind == noCallKind) _ _ (same OutOfTurn)
-      (by-pick UnchangedIfRefused (fits m) _ _
-      (by-pick UnchangedIfRefused (nat_lt (length b) bufferNeed) _ _ (same ShortBuffer) (by-pick UnchangedIfRefused (isLong e) _ _ (same OverLong) (transition m)))
+  event_unchanged : (e : Event) → UnchangedIfRefused (event_core s f e b)
+  unfolding event_core admitted_of
+  event_unchanged e =
+      let m = transition_of s.call s.exchange e in
+      by_pick UnchangedIfRefused (s.call.kind == no_call_kind) _ _ (same OutOfTurn)
+      (by_pick UnchangedIfRefused (fits m) _ _
+      (by_pick UnchangedIfRefused (nat_lt (length b) buffer_need) _ _ (same ShortBuffer) (by_pick UnchangedIfRefused (is_long_of e) _ _ (same OverLong) (transition m)))
       (same OutOfTurn))
 
-  start-unchanged : (x : Start) → UnchangedIfRefused (startOn s f x b)
-  unfolding startOn stageOf
-  start-unchanged (refusesAtOnce r) = same r
-  start-unchanged (sendsFirst kind m) = goes_on _ refl
+  start-unchanged : (x : Start) → UnchangedIfRefused (start_on s f x b)
+  unfolding start_on stage_of
+  start-unchanged (refuses_at_once r) = same r
+  start-unchanged (sends_first kind m) = goes_on _ refl
   start-unchanged (staged kind pending) = goes_on _ refl
 
 -- ---- the session's numbers
 
-fault-booked : (k : ℕ) (t : Bool) (b : Books) (o : Output) → class o ≡ 1 → booked k t o b ≡ ended (byCaller k b) t 0
-fault-booked k t b Ack e = absurd (omega (arith, e))
-fault-booked k t b (Command n) e = absurd (omega (arith, e))
-fault-booked k t b (Read ms) e = absurd (omega (arith, e))
-fault-booked k t b Drain e = absurd (omega (arith, e))
-fault-booked k t b (Pause us) e = absurd (omega (arith, e))
-fault-booked k t b (Done n) e = absurd (omega (arith, e))
-fault-booked k t b (Type1 n) e = absurd (omega (arith, e))
-fault-booked k t b (UidAndAts n uid ats) e = absurd (omega (arith, e))
-fault-booked k t b Nothing e = absurd (omega (arith, e))
-fault-booked k t b (Failed r) e = refl
-fault-booked k t b (FailedAfter r n) e = refl
-fault-booked k t b (Refused r) e = absurd (omega (arith, e))
+fault_booked : (k : ℕ) (t : Bool) (b : Books) (o : Output) → class o ≡ 1 → booked k t o b ≡ ended (by_caller k b) t 0
+fault_booked k t b Ack e = absurd (omega (arith, e))
+fault_booked k t b (Command n) e = absurd (omega (arith, e))
+fault_booked k t b (Read ms) e = absurd (omega (arith, e))
+fault_booked k t b Drain e = absurd (omega (arith, e))
+fault_booked k t b (Pause us) e = absurd (omega (arith, e))
+fault_booked k t b (Done n) e = absurd (omega (arith, e))
+fault_booked k t b (Type1 n) e = absurd (omega (arith, e))
+fault_booked k t b (UidAndAts n uid ats) e = absurd (omega (arith, e))
+fault_booked k t b Nothing e = absurd (omega (arith, e))
+fault_booked k t b (Failed r) e = refl
+fault_booked k t b (FailedAfter r n) e = refl
+fault_booked k t b (Refused r) e = absurd (omega (arith, e))
 
 -- numbers whose call has ended are free
-idle-free : (s : Core) (b : Books) → validCore s ≡ true → isInRange b ≡ true → isFree (state (idle s) b) ≡ true
-unfolding valid validCore validCall
+idle-free : (s : Core) (b : Books) → valid_core s ≡ true → is_in_range b ≡ true → is_free (state (idle s) b) ≡ true
+unfolding valid valid_core valid_call
 idle-free s b h r =
-    let k = both_right (nat_le s.command dataLimit) _ h in
-    rw (both_left (nat_le s.command dataLimit) _ h, both_left (nat_le s.found foundLimit) _ k, both_left (nat_le s.exchange.phase drainingPhase) _ (both_right (nat_le s.found foundLimit) _ k), r) refl
+    let k = both_right (nat_le s.command data_limit) _ h in
+    rw (both_left (nat_le s.command data_limit) _ h, both_left (nat_le s.found found_limit) _ k, both_left (nat_le s.exchange.phase draining_phase) _ (both_right (nat_le s.found found_limit) _ k), r) refl
 
 by_cases : (P : After State → Type 0) (t : Bool) (x y : After State) → (t ≡ true → P x) → (t ≡ false → P y) → P (pick t x y)
 unfolding pick
@@ -163,71 +163,71 @@ by_cases P false x y h k = k refl
 module _ (s : State) (f : Arrays) (b : List ℕ) where
   record Stays (a : After State) : Type 0 where
     early : (r : Refusal) → a.output ≡ Refused r → a ≡ unchanged s f r b
-    late : class a.output ≡ 1 → (isFree a.state ≡ true) × (a.buffer ≡ b)
+    late : class a.output ≡ 1 → (is_free a.state ≡ true) × (a.buffer ≡ b)
 
   refuses-once : (r : Refusal) → Stays (unchanged s f r b)
   refuses-once r = record { early = λ q e. ap (λ o. after s f o b) e; late = λ e. absurd (omega (arith, e)) }
 
   -- what is booked of the running call
-  booked-stays : (k : ℕ) (t : Bool) (a : After Core) → k ≤ lastCaller → isValidState s ≡ true → UnchangedIfRefused s.core f b a → Stays (bookedAfter k t s.books a)
+  booked-stays : (k : ℕ) (t : Bool) (a : After Core) → k ≤ last_caller → is_valid_state s ≡ true → UnchangedIfRefused s.core f b a → Stays (booked_after_of k t s.books a)
   unfolding valid
   booked-stays c t a few valid k = record {
-    early = λ r e. ap (bookedAfter c t s.books) (k.early r e);
+    early = λ r e. ap (booked_after_of c t s.books) (k.early r e);
     late = λ e.
         let l = k.late e in (
-          rw (l.0, fault-booked c t s.books a.output e) (idle-free s.core (ended (byCaller c s.books) t 0) (both_left (validCore s.core) _ valid) (ended-range s.books c t (both_right (validCore s.core) _ valid) few)),
+          rw (l.0, fault_booked c t s.books a.output e) (idle-free s.core (ended (by_caller c s.books) t 0) (both_left (valid_core s.core) _ valid) (ended_range s.books c t (both_right (valid_core s.core) _ valid) few)),
           l.1,
         );
   }
 
   -- a call: 1, 2, a caller's 4, and then what it does
-  called-stays : (t : Bool) (k : ℕ) (a : After State) → (t ≡ true → k ≤ lastCaller → Stays a) → Stays (pick t (withRoom s f b (withCaller s f k b a)) (unchanged s f OutOfTurn b))
+  called-stays : (t : Bool) (k : ℕ) (a : After State) → (t ≡ true → k ≤ last_caller → Stays a) → Stays (pick t (with_room s f b (with_caller s f k b a)) (unchanged s f OutOfTurn b))
   called-stays t k a h =
       by_cases Stays t _ _
-      (λ admitted. by-pick Stays (nat_lt (length b) bufferNeed) _ _ (refuses-once ShortBuffer)
-      (by_cases Stays (nat_lt lastCaller k) _ _ (λ _. refuses-once BadArgument) (λ few. h admitted (ltb-false lastCaller k few))))
+      (λ admitted. by_pick Stays (nat_lt (length b) buffer_need) _ _ (refuses-once ShortBuffer)
+      (by_cases Stays (nat_lt last_caller k) _ _ (λ _. refuses-once BadArgument) (λ few. h admitted (ltb-false last_caller k few))))
       (λ _. refuses-once OutOfTurn)
 
-  open_stays : (k mode : ℕ) → Stays (openAfter s f k mode b)
-  unfolding openAfter openCore
+  open_stays : (k mode : ℕ) → Stays (open_after s f k mode b)
+  unfolding open_after open_core
   open_stays k mode =
-      called-stays (isFree s) k _ (λ _ _. by-pick Stays (nat_lt 1 mode) _ _ (refuses-once BadArgument)
+      called-stays (is_free s) k _ (λ _ _. by_pick Stays (nat_lt 1 mode) _ _ (refuses-once BadArgument)
       (record { early = λ r e. absurd (other-class e (λ z. omega (arith, z))); late = λ e. absurd (omega (arith, e)) }))
 
-  start-stays : (k : ℕ) (x : Start) → Stays (startAfter s f k x b)
-  unfolding startAfter
+  start-stays : (k : ℕ) (x : Start) → Stays (start_after s f k x b)
+  unfolding start_after
   start-stays k x =
-      called-stays (isAdmitted s) k _
-      (λ admitted few. booked-stays k false _ few (both_left (isValidState s) _ (both_left (isFree s) _ admitted)) (start-unchanged s.core f b x))
+      called-stays (is_admitted s) k _
+      (λ admitted few. booked-stays k false _ few (both_left (is_valid_state s) _ (both_left (is_free s) _ admitted)) (start-unchanged s.core f b x))
 
-  event-stays : (e : Event) → Stays (eventAfter s f e b)
-  unfolding eventAfter
+  event-stays : (e : Event) → Stays (event_after s f e b)
+  unfolding event_after
   event-stays e =
-      by_cases Stays (isValidState s) _ _ (λ valid. booked-stays _ _ _ (valid-caller s valid) valid (event-unchanged s.core f b _)) (λ _. refuses-once OutOfTurn)
+      by_cases Stays (is_valid_state s) _ _ (λ valid. booked-stays _ _ _ (valid_caller s valid) valid (event_unchanged s.core f b _)) (λ _. refuses-once OutOfTurn)
 
-all_stay : (s : State) (f : Arrays) (i : Input) → Stays s f (bufferOf i) (afterInput s f i)
+all_stay : (s : State) (f : Arrays) (i : Input) → Stays s f (buffer_of i) (after_input s f i)
 all_stay s f (opened k mode b) = open_stays s f b k mode
-all_stay s f (asks k q b) = start-stays s f b k (startFor q)
+all_stay s f (asks k q b) = start-stays s f b k (start_for q)
 all_stay s f (gives e b) = event-stays s f b e
 
 -- ---- the session
 
-stays : (s : Session) (i : Input) → Stays (stateIn s) (arraysIn s) (bufferOf i) (afterInput (stateIn s) (arraysIn s) i)
-stays s i = all_stay (stateIn s) (arraysIn s) i
+stays : (s : Session) (i : Input) → Stays (state_in s) (arrays_in s) (buffer_of i) (after_input (state_in s) (arrays_in s) i)
+stays s i = all_stay (state_in s) (arrays_in s) i
 
-pub refused-unchanged : (s : Session) (i : Input) (r : Refusal) → (stepWith s i).output ≡ Refused r
-    → stepWith s i ≡ record { session = s; output = Refused r; buffer = bufferOf i }
-refused-unchanged s i r e = ap steppedOf ((stays s i).early r e)
+pub refused_unchanged : (s : Session) (i : Input) (r : Refusal) → (step_with s i).output ≡ Refused r
+    → step_with s i ≡ record { session = s; output = Refused r; buffer = buffer_of i }
+refused_unchanged s i r e = ap stepped_of ((stays s i).early r e)
 
-ends-free : (s : Session) (i : Input) → class (stepWith s i).output ≡ 1
-    → (isFree (stateIn (stepWith s i).session) ≡ true) × ((stepWith s i).buffer ≡ bufferOf i)
-ends-free s i e = (stays s i).late e
+ends_free : (s : Session) (i : Input) → class (step_with s i).output ≡ 1
+    → (is_free (state_in (step_with s i).session) ≡ true) × ((step_with s i).buffer ≡ buffer_of i)
+ends_free s i e = (stays s i).late e
 
-pub refused-ends : (s : Session) (i : Input) (r : Fault) → (stepWith s i).output ≡ Failed r
-    → (isFree (stateIn (stepWith s i).session) ≡ true) × ((stepWith s i).buffer ≡ bufferOf i)
-refused-ends s i r e = ends-free s i (ap class e)
+pub refused_ends : (s : Session) (i : Input) (r : Fault) → (step_with s i).output ≡ Failed r
+    → (is_free (state_in (step_with s i).session) ≡ true) × ((step_with s i).buffer ≡ buffer_of i)
+refused_ends s i r e = ends_free s i (ap class e)
 
 -- the same of a list's
-pub list-ends : (s : Session) (i : Input) (r : Fault) (n : ℕ) → (stepWith s i).output ≡ FailedAfter r n
-    → (isFree (stateIn (stepWith s i).session) ≡ true) × ((stepWith s i).buffer ≡ bufferOf i)
-list-ends s i r n e = ends-free s i (ap class e)
+pub list_ends : (s : Session) (i : Input) (r : Fault) (n : ℕ) → (step_with s i).output ≡ FailedAfter r n
+    → (is_free (state_in (step_with s i).session) ≡ true) × ((step_with s i).buffer ≡ buffer_of i)
+list_ends s i r n e = ends_free s i (ap class e)

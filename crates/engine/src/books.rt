@@ -1,8 +1,8 @@
 // The reader's books: what a session keeps beside its running call. They lie in two arrays, which are lent: three numbers, and the command
 // frames ordered since the last opening began, by caller.
 ghost use Rattle.core.specs.Prelude.{◌≡◌, ℕ, ◌≤◌, List};
-ghost use Rattle.protocol.specs.Session.{lastCaller};
-ghost use Rattle.engine.specs.Books.{booksOf, booksInRange, noBooks, extraIn, oneMore, countedIn, byCaller, ended, booked};
+ghost use Rattle.protocol.specs.Session.{last_caller};
+ghost use Rattle.engine.specs.Books.{books_of, books_in_range, no_books, extra_in, one_more_of, counted_in, by_caller, ended, booked};
 
 use super::core::{Output, PACKET_LIMIT};
 use framing::padded;
@@ -35,7 +35,7 @@ pub const CEILING: u32 = 4294967295;
 
 // Every number is in its range.
 pub fn is_in_range(opened: u8, mode: u8, caller: u8) -> bool
-    ensures { result ≡ booksInRange opened mode caller }
+    ensures { result ≡ books_in_range opened mode caller }
 {
     if opened > OPEN {
         return false;
@@ -46,9 +46,9 @@ pub fn is_in_range(opened: u8, mode: u8, caller: u8) -> bool
     caller <= LAST_CALLER
 }
 
-// How many bytes the mode takes off a packet's start: its extra zeros, unless it is over-long.
+// How many bytes the mode takes off a packet's start: its extra zeros, unless it is over_long_lem.
 pub fn extra_zeros(mode: u8, packet: &[u8]) -> usize
-    ensures { result ≡ extraIn mode packet.now }
+    ensures { result ≡ extra_in mode packet.now }
 {
     if mode == PADDED_MODE {
         if PACKET_LIMIT < packet.len() {
@@ -62,7 +62,7 @@ pub fn extra_zeros(mode: u8, packet: &[u8]) -> usize
 
 // Where an opening begins, in its mode. The books of a fresh session have it off.
 pub(crate) fn begin(frames: &mut [u32; CALLER_COUNT], books: &mut [u8; BOOKS_SIZE], mode: u8)
-    ensures { booksOf books.new frames.new ≡ noBooks mode }
+    ensures { books_of books.new frames.new ≡ no_books mode }
 {
     *books = [CLOSED, mode, 0];
     *frames = [0; CALLER_COUNT];
@@ -70,15 +70,15 @@ pub(crate) fn begin(frames: &mut [u32; CALLER_COUNT], books: &mut [u8; BOOKS_SIZ
 
 // One command frame more, up to the ceiling.
 fn one_more(frames: u32) -> u32
-    ensures { result ≡ oneMore frames }
+    ensures { result ≡ one_more_of frames }
 {
     if frames < CEILING { frames + 1 } else { frames }
 }
 
 // A command frame counts for a caller.
 fn count_frame(frames: &mut [u32; CALLER_COUNT], caller: u8)
-    requires { caller ≤ lastCaller }
-    ensures { frames.new ≡ countedIn caller frames.old }
+    requires { caller ≤ last_caller }
+    ensures { frames.new ≡ counted_in caller frames.old }
 {
     let at = caller as usize;
     let more = one_more(frames[at]);
@@ -87,7 +87,7 @@ fn count_frame(frames: &mut [u32; CALLER_COUNT], caller: u8)
 
 // A caller's call has ended: an opening leaves the reader open or not, any other call leaves it as it was.
 fn end_call(books: &mut [u8; BOOKS_SIZE], caller: u8, opening: bool, opened: u8)
-    ensures { (n : List ℕ) → booksOf books.new n ≡ ended (byCaller caller (booksOf books.old n)) opening opened }
+    ensures { (n : List ℕ) → books_of books.new n ≡ ended (by_caller caller (books_of books.old n)) opening opened }
 {
     books[CALLER] = caller;
     if opening {
@@ -103,8 +103,8 @@ pub(crate) fn book(
     opening: bool,
     output: Output,
 )
-    requires { caller ≤ lastCaller }
-    ensures { booksOf books.new frames.new ≡ booked caller opening output (booksOf books.old frames.old) }
+    requires { caller ≤ last_caller }
+    ensures { books_of books.new frames.new ≡ booked caller opening output (books_of books.old frames.old) }
 {
     match output {
         Output::Command(_) => {

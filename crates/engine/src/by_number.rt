@@ -2,7 +2,7 @@
 ghost use Rattle.core.specs.Prelude.{◌≡◌, ℕ, List};
 ghost use Rattle.engine.specs.Core.{arrays};
 ghost use Rattle.engine.specs.SessionSteps.{state_of, effected};
-ghost use Rattle.engine.specs.Numbers.{eventBy, known_in, afterEventNumber};
+ghost use Rattle.engine.specs.Numbers.{event_by_of, known_in, after_event_number};
 
 use super::books::{BOOKS_SIZE, CALLER_COUNT};
 use super::core::{Core, FOUND_LIMIT, Progress};
@@ -34,7 +34,7 @@ pub enum Known {
 }
 
 pub fn event_by(number: u8) -> Known
-    ensures { (packet : List ℕ) → known_in result packet ≡ eventBy number packet }
+    ensures { (packet : List ℕ) → known_in result packet ≡ event_by_of number packet }
 {
     match number {
         OK_EVENT => Known::Is(Event::Ok),
@@ -59,7 +59,7 @@ pub fn event(
     packet: &[u8],
     buffer: &mut [u8],
 ) -> Progress
-    ensures { effected result books.new frames.new (arrays command.new found.new) buffer.new ≡ afterEventNumber (state_of core books.old frames.old) (arrays command.old found.old) (eventBy number packet.now) buffer.old }
+    ensures { effected result books.new frames.new (arrays command.new found.new) buffer.new ≡ after_event_number (state_of core books.old frames.old) (arrays command.old found.old) (event_by_of number packet.now) buffer.old }
 {
     let Known::Is(event) = event_by(number) else {
         return core.refused(Refusal::OutOfTurn);

@@ -1,9 +1,9 @@
 // A running call, as a few numbers: what an event does to it, apart from buffer and session.
 ghost use Rattle.core.specs.Prelude.{◌≡◌, ℕ, List};
 ghost use Rattle.errors.specs.declared.Fault.TheVariants.{Transport};
-ghost use Rattle.exchange.specs.Exchange.{onWrite, onPause};
-ghost use Rattle.exchange.specs.Steps.{eventOf};
-ghost use Rattle.engine.specs.Transitions.{noCall, firstCall, at, toStage, toCursor, transitionIn, transitionOf, resetAckTransition, resetPauseTransition, openingAckTransition, openingReadsTransition, pauseTransition, unfitting, refuses};
+ghost use Rattle.exchange.specs.Exchange.{on_write, on_pause};
+ghost use Rattle.exchange.specs.Steps.{event_of};
+ghost use Rattle.engine.specs.Transitions.{no_call_of, first_call, at, to_stage, to_cursor, transition_in, transition_of, reset_ack_transition, reset_pause_transition, opening_ack_transition, opening_reads_transition, pause_transition, unfitting, refuses};
 
 use calls::NO_CALL_KIND;
 use errors::Fault;
@@ -57,7 +57,7 @@ pub enum Transition {
 
 // A write's event: what follows it, or the end with 7.
 fn after_write(event: Event, next: Transition) -> Transition
-    ensures { (code : ℕ) (p : List ℕ) → transitionIn code p result ≡ onWrite unfitting (transitionIn code p next) (refuses Transport) (eventOf event p) }
+    ensures { (code : ℕ) (p : List ℕ) → transition_in code p result ≡ on_write unfitting (transition_in code p next) (refuses Transport) (event_of event p) }
 {
     match event {
         Event::Ok => next,
@@ -72,7 +72,7 @@ fn after_write(event: Event, next: Transition) -> Transition
 
 // A pause's event.
 fn after_pause(event: Event, next: Transition) -> Transition
-    ensures { (code : ℕ) (p : List ℕ) → transitionIn code p result ≡ onPause unfitting (transitionIn code p next) (eventOf event p) }
+    ensures { (code : ℕ) (p : List ℕ) → transition_in code p result ≡ on_pause unfitting (transition_in code p next) (event_of event p) }
 {
     match event {
         Event::Slept => next,
@@ -88,7 +88,7 @@ fn after_pause(event: Event, next: Transition) -> Transition
 impl Call {
     // No call runs.
     pub fn none() -> Call
-        ensures { result ≡ noCall }
+        ensures { result ≡ no_call_of }
     {
         Call {
             kind: NO_CALL_KIND,
@@ -100,7 +100,7 @@ impl Call {
 
     // At the first command of a call.
     pub(crate) fn first(kind: u8) -> Call
-        ensures { result ≡ firstCall kind }
+        ensures { result ≡ first_call kind }
     {
         Call {
             kind,
@@ -123,7 +123,7 @@ impl Call {
 
     // At the command of a stage.
     pub(crate) fn to_stage(self, stage: u8) -> Call
-        ensures { result ≡ toStage self stage }
+        ensures { result ≡ to_stage self stage }
     {
         Call {
             kind: self.kind,
@@ -135,7 +135,7 @@ impl Call {
 
     // The same with another cursor.
     pub(crate) fn to_cursor(self, stage: u8, cursor: u8) -> Call
-        ensures { result ≡ toCursor self stage cursor }
+        ensures { result ≡ to_cursor self stage cursor }
     {
         Call {
             kind: self.kind,
@@ -146,7 +146,7 @@ impl Call {
     }
 
     fn on_reset_ack(self, exchange: Exchange, event: Event) -> Transition
-        ensures { (code : ℕ) (p : List ℕ) → transitionIn code p result ≡ resetAckTransition self exchange (eventOf event p) }
+        ensures { (code : ℕ) (p : List ℕ) → transition_in code p result ≡ reset_ack_transition self exchange (event_of event p) }
     {
         let next = Transition::Orders(
             Order::Pause(RESET_PAUSE_TIME),
@@ -157,13 +157,13 @@ impl Call {
     }
 
     fn on_reset_pause(self, event: Event) -> Transition
-        ensures { (code : ℕ) (p : List ℕ) → transitionIn code p result ≡ resetPauseTransition (eventOf event p) }
+        ensures { (code : ℕ) (p : List ℕ) → transition_in code p result ≡ reset_pause_transition (event_of event p) }
     {
         after_pause(event, Transition::Ends(End::ResetDone))
     }
 
     fn on_opening_ack(self, exchange: Exchange, event: Event) -> Transition
-        ensures { (code : ℕ) (p : List ℕ) → transitionIn code p result ≡ openingAckTransition self exchange (eventOf event p) }
+        ensures { (code : ℕ) (p : List ℕ) → transition_in code p result ≡ opening_ack_transition self exchange (event_of event p) }
     {
         let next = Transition::Orders(
             Order::Read(OPENING_READ_TIME),
@@ -174,7 +174,7 @@ impl Call {
     }
 
     fn on_opening_reads(self, exchange: Exchange, event: Event) -> Transition
-        ensures { (code : ℕ) (p : List ℕ) → transitionIn code p result ≡ openingReadsTransition self exchange (eventOf event p) }
+        ensures { (code : ℕ) (p : List ℕ) → transition_in code p result ≡ opening_reads_transition self exchange (event_of event p) }
     {
         match event {
             Event::Packet => Transition::Orders(Order::Read(OPENING_READ_TIME), self, exchange),
@@ -188,14 +188,14 @@ impl Call {
     }
 
     fn on_pause(self, event: Event) -> Transition
-        ensures { (code : ℕ) (p : List ℕ) → transitionIn code p result ≡ pauseTransition self (eventOf event p) }
+        ensures { (code : ℕ) (p : List ℕ) → transition_in code p result ≡ pause_transition self (event_of event p) }
     {
         after_pause(event, Transition::Sends(self.at(EXCHANGE_PHASE)))
     }
 
     // What an event does to the call.
     pub(crate) fn transition(self, exchange: Exchange, event: Event, packet: &[u8]) -> Transition
-        ensures { transitionIn exchange.code packet.now result ≡ transitionOf self exchange (eventOf event packet.now) }
+        ensures { transition_in exchange.code packet.now result ≡ transition_of self exchange (event_of event packet.now) }
     {
         let phase = self.phase;
         match phase {

@@ -1,12 +1,12 @@
 // One running call: its numbers, and what a call or an event does to them, to the arrays and to the buffer.
 ghost use Rattle.core.specs.Prelude.{◌≡◌, ℕ, ◌≤◌, true, List, length};
-ghost use Rattle.exchange.specs.Steps.{eventOf, order_of};
+ghost use Rattle.exchange.specs.Steps.{event_of, order_of};
 ghost use Rattle.stages.specs.Stages.{cmd};
 ghost use Rattle.stages.specs.Starts.{Starts, StartFits, Start as StartOf};
-ghost use Rattle.protocol.specs.Session.{bufferNeed};
-ghost use Rattle.protocol.specs.Starts.{dataLimit};
-ghost use Rattle.stages.specs.Decided.{foundLimit};
-ghost use Rattle.engine.specs.Core.{noCore, isValid, Arrays, arrays, running, unchanged, withFound, withCommand, progressed, ordersOf, sendsOf, stageOf, endsOf, isLong, eventCore, openCore, startOn};
+ghost use Rattle.protocol.specs.Session.{buffer_need};
+ghost use Rattle.protocol.specs.Starts.{data_limit};
+ghost use Rattle.stages.specs.Decided.{found_limit};
+ghost use Rattle.engine.specs.Core.{no_core, is_valid_of, Arrays, arrays, running, unchanged, with_found_of, with_command_of, progressed, orders_of, sends_of, stage_of, ends_of, is_long_of, event_core, open_core, start_on};
 
 use super::call::{Call, OPENING_ACK_PHASE, PAUSE_PHASE, Transition};
 use calls::{LAST_KIND, LAST_STAGE, NO_CALL_KIND};
@@ -62,7 +62,7 @@ pub struct Progress {
 
 // A packet over the limit.
 fn is_long(event: Event, packet: &[u8]) -> bool
-    ensures { result ≡ isLong (eventOf event packet.now) }
+    ensures { result ≡ is_long_of (event_of event packet.now) }
 {
     match event {
         Event::Packet => PACKET_LIMIT < packet.len(),
@@ -78,7 +78,7 @@ fn is_long(event: Event, packet: &[u8]) -> bool
 impl Core {
     // No call runs, and nothing is put by.
     pub fn none() -> Core
-        ensures { result ≡ noCore }
+        ensures { result ≡ no_core }
     {
         let exchange = Exchange::start(0, 0);
         let call = Call::none();
@@ -92,7 +92,7 @@ impl Core {
 
     // Every field is in its range.
     pub fn is_valid(self) -> bool
-        ensures { result ≡ isValid self }
+        ensures { result ≡ is_valid_of self }
     {
         let exchange = self.exchange;
         let call = self.call;
@@ -126,7 +126,7 @@ impl Core {
     }
 
     pub(crate) fn with_found(self, found: usize) -> Core
-        ensures { result ≡ withFound self found }
+        ensures { result ≡ with_found_of self found }
     {
         let exchange = self.exchange;
         let call = self.call;
@@ -139,7 +139,7 @@ impl Core {
     }
 
     pub(crate) fn with_command(self, command: usize) -> Core
-        ensures { result ≡ withCommand self command }
+        ensures { result ≡ with_command_of self command }
     {
         let exchange = self.exchange;
         let call = self.call;
@@ -159,8 +159,8 @@ impl Core {
         exchange: Exchange,
         buffer: &mut [u8],
     ) -> Progress
-        requires { bufferNeed ≤ length buffer.old }
-        ensures { (f : Arrays) → progressed result f buffer.new ≡ ordersOf self f (order_of order) call exchange buffer.old }
+        requires { buffer_need ≤ length buffer.old }
+        ensures { (f : Arrays) → progressed result f buffer.new ≡ orders_of self f (order_of order) call exchange buffer.old }
     {
         let core = self.running(call, exchange);
         match order {
@@ -193,8 +193,8 @@ impl Core {
         bytes: &[u8],
         buffer: &mut [u8],
     ) -> Progress
-        requires { (length bytes.now ≤ dataLimit) × (bufferNeed ≤ length buffer.old) }
-        ensures { (f : Arrays) → progressed result f buffer.new ≡ sendsOf self f call (cmd code clock bytes.now) buffer.old }
+        requires { (length bytes.now ≤ data_limit) × (buffer_need ≤ length buffer.old) }
+        ensures { (f : Arrays) → progressed result f buffer.new ≡ sends_of self f call (cmd code clock bytes.now) buffer.old }
     {
         match build_command(code, bytes, buffer) {
             Built::Frame(len) => {
@@ -208,8 +208,8 @@ impl Core {
 
     // The command of the call's stage is ordered, which may be the pending one.
     pub(crate) fn send(self, call: Call, command: &[u8], buffer: &mut [u8]) -> Progress
-        requires { (self.command ≤ dataLimit) × (length command.now ≡ dataLimit) × (bufferNeed ≤ length buffer.old) }
-        ensures { (f : List ℕ) → progressed result (arrays command.now f) buffer.new ≡ stageOf self (arrays command.now f) call buffer.old }
+        requires { (self.command ≤ data_limit) × (length command.now ≡ data_limit) × (buffer_need ≤ length buffer.old) }
+        ensures { (f : List ℕ) → progressed result (arrays command.now f) buffer.new ≡ stage_of self (arrays command.now f) call buffer.old }
     {
         let n = self.command;
         let next = calls::command(call.kind, call.stage, call.cursor, &command[..n]);
@@ -224,7 +224,7 @@ impl Core {
 
     // The call ends.
     pub(crate) fn ended(self, output: Output) -> Progress
-        ensures { (f : Arrays) (b : List ℕ) → progressed result f b ≡ endsOf self f output b }
+        ensures { (f : Arrays) (b : List ℕ) → progressed result f b ≡ ends_of self f output b }
     {
         let exchange = self.exchange;
         let core = self.running(Call::none(), exchange);
@@ -239,7 +239,7 @@ impl Core {
         Progress { core: self, output }
     }
 
-    // What the host returns for an order: it is refused where it does not fit the order, where the buffer is short or the packet over-long.
+    // What the host returns for an order: it is refused where it does not fit the order, where the buffer is short or the packet over_long_lem.
     pub(crate) fn event(
         self,
         event: Event,
@@ -248,8 +248,8 @@ impl Core {
         found: &mut [u8],
         buffer: &mut [u8],
     ) -> Progress
-        requires { (isValid self ≡ true) × (length command.old ≡ dataLimit) × (length found.old ≡ foundLimit) }
-        ensures { progressed result (arrays command.new found.new) buffer.new ≡ eventCore self (arrays command.old found.old) (eventOf event packet.now) buffer.old }
+        requires { (is_valid_of self ≡ true) × (length command.old ≡ data_limit) × (length found.old ≡ found_limit) }
+        ensures { progressed result (arrays command.new found.new) buffer.new ≡ event_core self (arrays command.old found.old) (event_of event packet.now) buffer.old }
     {
         let call = self.call;
         let exchange = self.exchange;
@@ -279,8 +279,8 @@ impl Core {
 
     // `Chipset::new` begins: ACK is written.
     pub(crate) fn open(self, buffer: &mut [u8]) -> Progress
-        requires { bufferNeed ≤ length buffer.old }
-        ensures { (f : Arrays) → progressed result f buffer.new ≡ openCore self f buffer.old }
+        requires { buffer_need ≤ length buffer.old }
+        ensures { (f : Arrays) → progressed result f buffer.new ≡ open_core self f buffer.old }
     {
         let exchange = self.exchange;
         let call = Call {
@@ -295,8 +295,8 @@ impl Core {
 
     // A call starts, whose bytes have been put by: it is refused, or its first command is ordered.
     pub(crate) fn start(self, start: Start, command: &[u8], buffer: &mut [u8]) -> Progress
-        requires { StartFits start × (length command.now ≡ dataLimit) × (bufferNeed ≤ length buffer.old) }
-        ensures { (f c₀ : List ℕ) (s : StartOf) → Starts start c₀ command.now s → progressed result (arrays command.now f) buffer.new ≡ startOn self (arrays c₀ f) s buffer.old }
+        requires { StartFits start × (length command.now ≡ data_limit) × (buffer_need ≤ length buffer.old) }
+        ensures { (f c₀ : List ℕ) (s : StartOf) → Starts start c₀ command.now s → progressed result (arrays command.now f) buffer.new ≡ start_on self (arrays c₀ f) s buffer.old }
     {
         match start {
             Start::Command(first) => {

@@ -1,4 +1,6 @@
 // The RC-S956 reader engine: a call or an event goes in, an order, an answer or a refusal comes out.
+#![tactic(auto)]
+
 pub mod books;
 pub mod by_number;
 pub mod call;

@@ -1,13 +1,13 @@
 // What follows the packet that ends a command's exchange: the answer of a call, or its next command.
 ghost use Rattle.core.specs.Prelude.{◌≡◌, ℕ, ◌+◌, ◌≤◌, List, length, take};
-ghost use Rattle.stages.specs.Stages.{put as putBy};
+ghost use Rattle.stages.specs.Stages.{put as put_by};
 ghost use Rattle.stages.specs.Put.{put, Puts};
-ghost use Rattle.stages.specs.Decided.{headBytes, layoutBytes, Fitting, decisionIn, DecisionFits, responseLimit, headLimit, tailLimit};
-ghost use Rattle.protocol.specs.Session.{packetLimit, bufferNeed};
-ghost use Rattle.protocol.specs.Starts.{dataLimit};
-ghost use Rattle.engine.specs.Transitions.{endTransition, replyLength};
+ghost use Rattle.stages.specs.Decided.{head_bytes, layout_bytes, Fitting, decision_in, DecisionFits, response_limit, head_limit, tail_limit};
+ghost use Rattle.protocol.specs.Session.{packet_limit, buffer_need};
+ghost use Rattle.protocol.specs.Starts.{data_limit};
+ghost use Rattle.engine.specs.Transitions.{end_transition, reply_length};
 ghost use Rattle.engine.specs.Ends.{GoesOn};
-ghost use Rattle.engine.specs.Core.{Lent, arrays, progressed, keepsOf, performsOf, transitionedOf};
+ghost use Rattle.engine.specs.Core.{Lent, arrays, progressed, keeps_of, performs_of, transitioned_of};
 
 use super::call::{Call, End, PAUSE_PHASE};
 use super::core::{Core, Output, Progress};
@@ -17,8 +17,8 @@ use stages::{Decision, Head, Layout};
 
 // Puts a layout behind the found bytes that it keeps, which stand at the target's start already.
 fn lay(layout: Layout, response: &[u8], target: &mut [u8]) -> usize
-    requires { ((layout.head_len ≤ headLimit) × (layout.start + layout.len ≤ length response.now) × (layout.tail_len ≤ tailLimit)) × (layout.kept + (layout.head_len + (layout.len + layout.tail_len)) ≤ length target.old) }
-    ensures { (f c : List ℕ) → Puts target.old layout.kept (take layout.kept f) c → Puts target.new result (layoutBytes f response.now layout) c }
+    requires { ((layout.head_len ≤ head_limit) × (layout.start + layout.len ≤ length response.now) × (layout.tail_len ≤ tail_limit)) × (layout.kept + (layout.head_len + (layout.len + layout.tail_len)) ≤ length target.old) }
+    ensures { (f c : List ℕ) → Puts target.old layout.kept (take layout.kept f) c → Puts target.new result (layout_bytes f response.now layout) c }
 {
     let h = layout.head;
     let head = [h.0, h.1, h.2];
@@ -36,8 +36,8 @@ fn lay(layout: Layout, response: &[u8], target: &mut [u8]) -> usize
 // Puts a layout at the target's start.
 fn put_answer(layout: Layout, found: &[u8], response: &[u8], target: &mut [u8]) -> usize
     requires { Fitting found.now response.now layout × (layout.kept + (layout.head_len + (layout.len + layout.tail_len)) ≤ length target.old) }
-    ensures value { result ≡ length (layoutBytes found.now response.now layout) }
-    ensures target_after { target.new ≡ put (layoutBytes found.now response.now layout) target.old }
+    ensures value { result ≡ length (layout_bytes found.now response.now layout) }
+    ensures target_after { target.new ≡ put (layout_bytes found.now response.now layout) target.old }
 {
     let kept = layout.kept;
     append(&found[..kept], target, 0);
@@ -55,8 +55,8 @@ impl Core {
         found: &mut [u8],
         buffer: &mut [u8],
     ) -> Progress
-        requires { (length response.now ≤ responseLimit) × Fitting (take self.found found.old) response.now layout × Lent self command.now found.old buffer.old }
-        ensures { progressed result (arrays command.now found.new) buffer.new ≡ keepsOf self (arrays command.now found.old) call (layoutBytes (take self.found found.old) response.now layout) buffer.old }
+        requires { (length response.now ≤ response_limit) × Fitting (take self.found found.old) response.now layout × Lent self command.now found.old buffer.old }
+        ensures { progressed result (arrays command.now found.new) buffer.new ≡ keeps_of self (arrays command.now found.old) call (layout_bytes (take self.found found.old) response.now layout) buffer.old }
     {
         let n = lay(layout, response, found);
         self.with_found(n).send(call, command, buffer)
@@ -64,8 +64,8 @@ impl Core {
 
     // Three bytes become the pending command, and the command of a stage follows.
     fn put_pending(self, stage: u8, bytes: Head, command: &mut [u8], buffer: &mut [u8]) -> Progress
-        requires { (length command.old ≡ dataLimit) × (bufferNeed ≤ length buffer.old) }
-        ensures { (f : List ℕ) → progressed result (arrays command.new f) buffer.new ≡ performsOf self (arrays command.old f) (putBy stage (headBytes bytes)) buffer.old }
+        requires { (length command.old ≡ data_limit) × (buffer_need ≤ length buffer.old) }
+        ensures { (f : List ℕ) → progressed result (arrays command.new f) buffer.new ≡ performs_of self (arrays command.old f) (put_by stage (head_bytes bytes)) buffer.old }
     {
         let call = self.call;
         let three = [bytes.0, bytes.1, bytes.2];
@@ -83,8 +83,8 @@ impl Core {
         found: &mut [u8],
         buffer: &mut [u8],
     ) -> Progress
-        requires { (length response.now ≤ responseLimit) × DecisionFits (take self.found found.old) response.now decision × Lent self command.old found.old buffer.old }
-        ensures { GoesOn decision → progressed result (arrays command.new found.new) buffer.new ≡ performsOf self (arrays command.old found.old) (decisionIn (take self.found found.old) response.now decision) buffer.old }
+        requires { (length response.now ≤ response_limit) × DecisionFits (take self.found found.old) response.now decision × Lent self command.old found.old buffer.old }
+        ensures { GoesOn decision → progressed result (arrays command.new found.new) buffer.new ≡ performs_of self (arrays command.old found.old) (decision_in (take self.found found.old) response.now decision) buffer.old }
     {
         let call = self.call;
         let exchange = self.exchange;
@@ -116,8 +116,8 @@ impl Core {
         found: &mut [u8],
         buffer: &mut [u8],
     ) -> Progress
-        requires { (length response.now ≤ responseLimit) × DecisionFits (take self.found found.old) response.now decision × Lent self command.old found.old buffer.old }
-        ensures { progressed result (arrays command.new found.new) buffer.new ≡ performsOf self (arrays command.old found.old) (decisionIn (take self.found found.old) response.now decision) buffer.old }
+        requires { (length response.now ≤ response_limit) × DecisionFits (take self.found found.old) response.now decision × Lent self command.old found.old buffer.old }
+        ensures { progressed result (arrays command.new found.new) buffer.new ≡ performs_of self (arrays command.old found.old) (decision_in (take self.found found.old) response.now decision) buffer.old }
     {
         let kept = self.found;
         match decision {
@@ -157,8 +157,8 @@ impl Core {
         found: &mut [u8],
         buffer: &mut [u8],
     ) -> Progress
-        requires { (replyLength (endTransition self.exchange.code packet.now end) ≤ packetLimit) × Lent self command.old found.old buffer.old }
-        ensures { progressed result (arrays command.new found.new) buffer.new ≡ transitionedOf self (arrays command.old found.old) (endTransition self.exchange.code packet.now end) buffer.old }
+        requires { (reply_length (end_transition self.exchange.code packet.now end) ≤ packet_limit) × Lent self command.old found.old buffer.old }
+        ensures { progressed result (arrays command.new found.new) buffer.new ≡ transitioned_of self (arrays command.old found.old) (end_transition self.exchange.code packet.now end) buffer.old }
     {
         let call = self.call;
         let exchange = self.exchange;

@@ -1,10 +1,10 @@
 // The session and its entries: a call or an event goes in with the buffer; the session comes back with an order or an answer.
 ghost use Rattle.core.specs.Prelude.{◌≡◌};
-ghost use Rattle.exchange.specs.Steps.{eventOf};
-ghost use Rattle.engine.specs.Inputs.{gives, stepWith};
+ghost use Rattle.exchange.specs.Steps.{event_of};
+ghost use Rattle.engine.specs.Inputs.{gives, step_with};
 ghost use Rattle.calls.specs.Numbers.{call_of};
-ghost use Rattle.engine.specs.Numbers.{callInput};
-ghost use Rattle.engine.specs.SessionSteps.{stepped, freshSession};
+ghost use Rattle.engine.specs.Numbers.{call_input};
+ghost use Rattle.engine.specs.SessionSteps.{stepped, fresh_session};
 
 use super::books::{BOOKS_SIZE, CALLER_COUNT};
 use super::core::{Core, FOUND_LIMIT, Output};
@@ -32,7 +32,7 @@ pub struct Step {
 impl Session {
     // No call runs, and no opening is behind it.
     pub fn fresh() -> Session
-        ensures { result ≡ freshSession }
+        ensures { result ≡ fresh_session }
     {
         let core = Core::none();
         Session {
@@ -55,7 +55,7 @@ impl Session {
         fourth: &[u8],
         buffer: &mut [u8],
     ) -> Step
-        ensures { stepped result buffer.new ≡ stepWith self (callInput numbers.caller (call_of number numbers first.now second.now third.now fourth.now) buffer.old) }
+        ensures { stepped result buffer.new ≡ step_with self (call_input numbers.caller (call_of number numbers first.now second.now third.now fourth.now) buffer.old) }
     {
         let core = self.core;
         let mut command = self.command;
@@ -86,7 +86,7 @@ impl Session {
 
     // What the host returns for an order. A packet's bytes are lent beside the event, and count with Packet alone.
     pub fn event(mut self, event: Event, packet: &[u8], buffer: &mut [u8]) -> Step
-        ensures { stepped result buffer.new ≡ stepWith self (gives (eventOf event packet.now) buffer.old) }
+        ensures { stepped result buffer.new ≡ step_with self (gives (event_of event packet.now) buffer.old) }
     {
         let core = self.core;
         let mut command = self.command;

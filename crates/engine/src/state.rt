@@ -1,14 +1,14 @@
 // A call and an event on what a session holds: the numbers of the running call go by value, the books and the arrays are lent. A call is
 // admitted and what comes out is booked here.
 ghost use Rattle.core.specs.Prelude.{◌≡◌, ℕ, List, length};
-ghost use Rattle.exchange.specs.Steps.{eventOf};
+ghost use Rattle.exchange.specs.Steps.{event_of};
 ghost use Rattle.calls.specs.Numbers.{call_of};
-ghost use Rattle.protocol.specs.Starts.{dataLimit};
-ghost use Rattle.stages.specs.Decided.{foundLimit};
+ghost use Rattle.protocol.specs.Starts.{data_limit};
+ghost use Rattle.stages.specs.Decided.{found_limit};
 ghost use Rattle.engine.specs.Core.{Arrays, arrays};
-ghost use Rattle.engine.specs.SessionSteps.{state_of, valid, free, admitsCall, effected, eventAfter, openAfter};
-ghost use Rattle.engine.specs.Inputs.{afterInput};
-ghost use Rattle.engine.specs.Numbers.{callInput};
+ghost use Rattle.engine.specs.SessionSteps.{state_of, valid, free, admits_call, effected, event_after, open_after};
+ghost use Rattle.engine.specs.Inputs.{after_input};
+ghost use Rattle.engine.specs.Numbers.{call_input};
 
 use super::books;
 use super::books::{BOOKS_SIZE, CALLER_COUNT, LAST_CALLER, PADDED_MODE};
@@ -45,7 +45,7 @@ fn is_free(core: Core, opened: u8, mode: u8, caller: u8) -> bool
 
 // A call other than an opening may begin: the reader is open, too.
 fn is_admitted(core: Core, opened: u8, mode: u8, caller: u8) -> bool
-    ensures { result ≡ admitsCall core opened mode caller }
+    ensures { result ≡ admits_call core opened mode caller }
 {
     if is_free(core, opened, mode, caller) {
         opened == books::OPEN
@@ -65,8 +65,8 @@ pub(crate) fn event(
     packet: &[u8],
     buffer: &mut [u8],
 ) -> Progress
-    requires { (length command.old ≡ dataLimit) × (length found.old ≡ foundLimit) }
-    ensures { effected result books.new frames.new (arrays command.new found.new) buffer.new ≡ eventAfter (state_of core books.old frames.old) (arrays command.old found.old) (eventOf event packet.now) buffer.old }
+    requires { (length command.old ≡ data_limit) × (length found.old ≡ found_limit) }
+    ensures { effected result books.new frames.new (arrays command.new found.new) buffer.new ≡ event_after (state_of core books.old frames.old) (arrays command.old found.old) (event_of event packet.now) buffer.old }
 {
     let mode = books[books::MODE];
     let caller = books[books::CALLER];
@@ -91,7 +91,7 @@ fn open(
     mode: u8,
     buffer: &mut [u8],
 ) -> Progress
-    ensures { (f : Arrays) → effected result books.new frames.new f buffer.new ≡ openAfter (state_of core books.old frames.old) f caller mode buffer.old }
+    ensures { (f : Arrays) → effected result books.new frames.new f buffer.new ≡ open_after (state_of core books.old frames.old) f caller mode buffer.old }
 {
     if is_free(
         core,
@@ -132,7 +132,7 @@ pub fn call(
     fourth: &[u8],
     buffer: &mut [u8],
 ) -> Progress
-    ensures { (f : List ℕ) → effected result books.new frames.new (arrays command.new f) buffer.new ≡ afterInput (state_of core books.old frames.old) (arrays command.old f) (callInput numbers.caller (call_of number numbers first.now second.now third.now fourth.now) buffer.old) }
+    ensures { (f : List ℕ) → effected result books.new frames.new (arrays command.new f) buffer.new ≡ after_input (state_of core books.old frames.old) (arrays command.old f) (call_input numbers.caller (call_of number numbers first.now second.now third.now fourth.now) buffer.old) }
 {
     if number == start::OPEN_CALL {
         return open(core, frames, books, numbers.caller, numbers.x, buffer);

@@ -22,12 +22,12 @@ unfolding same
 same_self [] = refl
 same_self (x ∷ s) = rw (eq-eqb x x refl) (same_self s)
 
-pub same-is : (s t : List ℕ) → same s t ≡ true → s ≡ t
+pub same_is : (s t : List ℕ) → same s t ≡ true → s ≡ t
 unfolding same
-same-is [] [] e = refl
-same-is [] (y ∷ t) e = cc
-same-is (x ∷ s) [] e = cc
-same-is (x ∷ s) (y ∷ t) e = go (eqb x y) refl e (same-is s t)
+same_is [] [] e = refl
+same_is [] (y ∷ t) e = cc
+same_is (x ∷ s) [] e = cc
+same_is (x ∷ s) (y ∷ t) e = go (eqb x y) refl e (same_is s t)
   where
     go : (a : Bool) → eqb x y ≡ a → (a && same s t) ≡ true → (same s t ≡ true → s ≡ t) → ◌≡◌ {A = List ℕ} (x ∷ s) (y ∷ t)
     go true h k again = ap₂ ◌∷◌ (eqb-true x y h) (again k)
@@ -37,5 +37,5 @@ pub same_not : (s t : List ℕ) → (s ≡ t → ⊥) → same s t ≡ false
 same_not s t n = go (same s t) refl
   where
     go : (a : Bool) → same s t ≡ a → a ≡ false
-    go true h = absurd (n (same-is s t h))
+    go true h = absurd (n (same_is s t h))
     go false h = refl

@@ -21,55 +21,55 @@ numbered Bitrate = plain 5
 numbered NotSendable = plain 6
 
 -- the two refusals that carry values
-abbrev pub statusNumber : ℕ
-statusNumber = 15
+abbrev pub status_number : ℕ
+status_number = 15
 
-abbrev pub cardStatusNumber : ℕ
-cardStatusNumber = 20
+abbrev pub card_status_number : ℕ
+card_status_number = 20
 
 -- the end of a running call
-abbrev pub faultNumbered : Fault → Numbered
-faultNumbered Transport = plain 7
-faultNumbered TimeOut = plain 8
-faultNumbered FalseStart = plain 9
-faultNumbered BrokenFrame = plain 10
-faultNumbered Length = plain 11
-faultNumbered FrameKind = plain 12
-faultNumbered Identifier = plain 13
-faultNumbered Code = plain 14
-faultNumbered (Status s) = record { number = statusNumber; status = s; status2 = 0 }
-faultNumbered ShortResponse = plain 16
-faultNumbered NoCard = plain 17
-faultNumbered CrcA = plain 18
-faultNumbered Rate = plain 19
-faultNumbered (CardStatus s t) = record { number = cardStatusNumber; status = s; status2 = t }
-faultNumbered OtherCard = plain 21
-faultNumbered UidLayout = plain 22
+abbrev pub fault_numbered : Fault → Numbered
+fault_numbered Transport = plain 7
+fault_numbered TimeOut = plain 8
+fault_numbered FalseStart = plain 9
+fault_numbered BrokenFrame = plain 10
+fault_numbered Length = plain 11
+fault_numbered FrameKind = plain 12
+fault_numbered Identifier = plain 13
+fault_numbered Code = plain 14
+fault_numbered (Status s) = record { number = status_number; status = s; status2 = 0 }
+fault_numbered ShortResponse = plain 16
+fault_numbered NoCard = plain 17
+fault_numbered CrcA = plain 18
+fault_numbered Rate = plain 19
+fault_numbered (CardStatus s t) = record { number = card_status_number; status = s; status2 = t }
+fault_numbered OtherCard = plain 21
+fault_numbered UidLayout = plain 22
 
 -- a refused round
-abbrev pub roundNumbered : RoundRefusal → Numbered
-roundNumbered (AtOnce r) = numbered r
-roundNumbered StaleRound = plain 27
-roundNumbered ListFull = plain 28
+abbrev pub round_numbered : RoundRefusal → Numbered
+round_numbered (AtOnce r) = numbered r
+round_numbered StaleRound = plain 27
+round_numbered ListFull = plain 28
 
 -- by the status byte of 15; a of any other fault
-abbrev pub byStatus : {A : Type 0} → (ℕ → A) → A → Fault → A
-byStatus f a Transport = a
-byStatus f a TimeOut = a
-byStatus f a FalseStart = a
-byStatus f a BrokenFrame = a
-byStatus f a Length = a
-byStatus f a FrameKind = a
-byStatus f a Identifier = a
-byStatus f a Code = a
-byStatus f a (Status s) = f s
-byStatus f a ShortResponse = a
-byStatus f a NoCard = a
-byStatus f a CrcA = a
-byStatus f a Rate = a
-byStatus f a (CardStatus s t) = a
-byStatus f a OtherCard = a
-byStatus f a UidLayout = a
+abbrev pub by_status : {A : Type 0} → (ℕ → A) → A → Fault → A
+by_status f a Transport = a
+by_status f a TimeOut = a
+by_status f a FalseStart = a
+by_status f a BrokenFrame = a
+by_status f a Length = a
+by_status f a FrameKind = a
+by_status f a Identifier = a
+by_status f a Code = a
+by_status f a (Status s) = f s
+by_status f a ShortResponse = a
+by_status f a NoCard = a
+by_status f a CrcA = a
+by_status f a Rate = a
+by_status f a (CardStatus s t) = a
+by_status f a OtherCard = a
+by_status f a UidLayout = a
 
 -- What an answer says: a value, or a refusal by its number and values.
 pub data Returned : Type 0 where

@@ -1,6 +1,8 @@
 // The refusals of document 01, and of document 02 from 20 on, by their words there: those that refuse at once, and those that end a running call.
+#![tactic(auto)]
+
 ghost use Rattle.std.specs.Prelude.{◌≡◌};
-ghost use Rattle.errors.specs.Refusals.{plain as plain_of, numbered as numberedOf, faultNumbered, roundNumbered};
+ghost use Rattle.errors.specs.Refusals.{plain as plain_of, numbered as numbered_of, fault_numbered, round_numbered};
 
 // 1 to 6: refused at once, and nothing changes.
 #[derive(Drop)]
@@ -68,7 +70,7 @@ fn plain(number: u8) -> Numbered
 
 impl Refusal {
     pub fn numbered(self) -> Numbered
-        ensures { result ≡ numberedOf self }
+        ensures { result ≡ numbered_of self }
     {
         match self {
             Refusal::OutOfTurn => plain(1),
@@ -83,7 +85,7 @@ impl Refusal {
 
 impl Fault {
     pub fn numbered(self) -> Numbered
-        ensures { result ≡ faultNumbered self }
+        ensures { result ≡ fault_numbered self }
     {
         match self {
             Fault::Transport => plain(7),
@@ -116,7 +118,7 @@ impl Fault {
 
 impl RoundRefusal {
     pub fn numbered(self) -> Numbered
-        ensures { result ≡ roundNumbered self }
+        ensures { result ≡ round_numbered self }
     {
         match self {
             RoundRefusal::AtOnce(refusal) => refusal.numbered(),

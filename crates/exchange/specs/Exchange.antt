@@ -3,7 +3,7 @@ use Rattle.std.specs.Prelude.{ℕ, cond, List, ◌==◌}
 use Rattle.errors.specs.declared.Fault.{Fault}
 use Rattle.errors.specs.declared.Fault.TheVariants.{Transport, TimeOut, FalseStart}
 use Rattle.framing.specs.Frames.{ack}
-use Rattle.exchange.specs.Packets.{hasStart, ackLed, is_empty, Reply, failed, replyOf}
+use Rattle.exchange.specs.Packets.{has_start, ack_led, is_empty, Reply, failed, reply_of}
 
 -- what the engine asks of the host, in the words of the bench program
 pub data Order : Type 0 where
@@ -30,32 +30,32 @@ pub data Result (S R : Type 0) : Type 0 where
 
 -- by the event: those that fit a write, a read or a pause; u for the others
 module _ {X : Type 0} where
-  abbrev pub onWrite : X → X → X → Event → X
-  onWrite u a b ok = a
-  onWrite u a b bad = b
-  onWrite u a b (pkt p) = u
-  onWrite u a b time = u
-  onWrite u a b fail = u
-  onWrite u a b late = u
-  onWrite u a b slept = u
+  abbrev pub on_write : X → X → X → Event → X
+  on_write u a b ok = a
+  on_write u a b bad = b
+  on_write u a b (pkt p) = u
+  on_write u a b time = u
+  on_write u a b fail = u
+  on_write u a b late = u
+  on_write u a b slept = u
 
-  abbrev pub onRead : X → (List ℕ → X) → X → X → X → Event → X
-  onRead u p t f l ok = u
-  onRead u p t f l bad = u
-  onRead u p t f l (pkt packet) = p packet
-  onRead u p t f l time = t
-  onRead u p t f l fail = f
-  onRead u p t f l late = l
-  onRead u p t f l slept = u
+  abbrev pub on_read : X → (List ℕ → X) → X → X → X → Event → X
+  on_read u p t f l ok = u
+  on_read u p t f l bad = u
+  on_read u p t f l (pkt packet) = p packet
+  on_read u p t f l time = t
+  on_read u p t f l fail = f
+  on_read u p t f l late = l
+  on_read u p t f l slept = u
 
-  abbrev pub onPause : X → X → Event → X
-  onPause u a ok = u
-  onPause u a bad = u
-  onPause u a (pkt p) = u
-  onPause u a time = u
-  onPause u a fail = u
-  onPause u a late = u
-  onPause u a slept = a
+  abbrev pub on_pause : X → X → Event → X
+  on_pause u a ok = u
+  on_pause u a bad = u
+  on_pause u a (pkt p) = u
+  on_pause u a time = u
+  on_pause u a fail = u
+  on_pause u a late = u
+  on_pause u a slept = a
 
 -- where an exchange stands; with the command's code and its clock in ms as far as they are still needed
 pub data ExchangePhase : Type 0 where
@@ -70,42 +70,42 @@ abbrev pub ExchangeResult : Type 0
 ExchangeResult = Result ExchangePhase Reply
 
 -- step 4, after an ACK-led packet. A clock of 0 ms has passed at once.
-abbrev pub afterAck : ℕ → ℕ → ExchangeResult
-afterAck code clock = cond (clock == 0) (pending (write ack) (cancelling TimeOut)) (pending (read clock) (waiting code clock))
+abbrev pub after_ack : ℕ → ℕ → ExchangeResult
+after_ack code clock = cond (clock == 0) (pending (write ack) (cancelling TimeOut)) (pending (read clock) (waiting code clock))
 
 -- steps 4 and 5 on a packet that is not empty
-abbrev pub onPacket : ℕ → ℕ → List ℕ → ExchangeResult
-onPacket code clock packet = cond (ackLed packet) (afterAck code clock) (ended (replyOf code packet))
+abbrev pub on_packet : ℕ → ℕ → List ℕ → ExchangeResult
+on_packet code clock packet = cond (ack_led packet) (after_ack code clock) (ended (reply_of code packet))
 
-abbrev pub onFirstPacket : ℕ → ℕ → List ℕ → ExchangeResult
-onFirstPacket code clock packet =
+abbrev pub on_first_packet : ℕ → ℕ → List ℕ → ExchangeResult
+on_first_packet code clock packet =
     cond
     (is_empty packet)
     (ended (failed TimeOut))
-    (cond (hasStart packet) (onPacket code clock packet) (pending (write ack) rejecting))
+    (cond (has_start packet) (on_packet code clock packet) (pending (write ack) rejecting))
 
-abbrev pub onLaterPacket : ℕ → ℕ → List ℕ → ExchangeResult
-onLaterPacket code clock packet = cond (is_empty packet) (ended (failed TimeOut)) (onPacket code clock packet)
+abbrev pub on_later_packet : ℕ → ℕ → List ℕ → ExchangeResult
+on_later_packet code clock packet = cond (is_empty packet) (ended (failed TimeOut)) (on_packet code clock packet)
 
-abbrev pub onDrained : List ℕ → ExchangeResult
-onDrained packet = cond (is_empty packet) (ended (failed FalseStart)) (pending drain draining)
+abbrev pub on_drained : List ℕ → ExchangeResult
+on_drained packet = cond (is_empty packet) (ended (failed FalseStart)) (pending drain draining)
 
 -- the ms in which the first packet is due
-abbrev pub firstReadTime : ℕ
-firstReadTime = 100
+abbrev pub first_read_time : ℕ
+first_read_time = 100
 
 -- what an event does to the exchange
 abbrev pub advance : ExchangePhase → Event → ExchangeResult
-advance (sending code clock) e = onWrite unfit (pending (read firstReadTime) (reading code clock)) (pending (write ack) (cancelling Transport)) e
-advance (reading code clock) e = onRead unfit (onFirstPacket code clock) (ended (failed TimeOut)) (ended (failed Transport)) unfit e
+advance (sending code clock) e = on_write unfit (pending (read first_read_time) (reading code clock)) (pending (write ack) (cancelling Transport)) e
+advance (reading code clock) e = on_read unfit (on_first_packet code clock) (ended (failed TimeOut)) (ended (failed Transport)) unfit e
 advance (waiting code clock) e =
-    onRead
+    on_read
     unfit
-    (onLaterPacket code clock)
+    (on_later_packet code clock)
     (ended (failed TimeOut))
     (ended (failed Transport))
     (pending (write ack) (cancelling TimeOut))
     e
-advance (cancelling r) e = onWrite unfit (ended (failed r)) (ended (failed r)) e
-advance rejecting e = onWrite unfit (pending drain draining) (pending drain draining) e
-advance draining e = onRead unfit onDrained (ended (failed FalseStart)) (pending drain draining) (ended (failed FalseStart)) e
+advance (cancelling r) e = on_write unfit (ended (failed r)) (ended (failed r)) e
+advance rejecting e = on_write unfit (pending drain draining) (pending drain draining) e
+advance draining e = on_read unfit on_drained (ended (failed FalseStart)) (pending drain draining) (ended (failed FalseStart)) e

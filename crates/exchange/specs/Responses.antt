@@ -4,86 +4,86 @@ use Rattle.std.proofs.Math.Path.{refl}
 use Rattle.std.proofs.Common.{sym, ap, ◌∙◌, true≢false, ⊎_elim, arith, length-append, length-take, length-drop, take_all}
 use Rattle.std.proofs.lemmas.Bool.{false≢true}
 use Rattle.errors.specs.declared.Fault.TheVariants.{Length, FrameKind, Identifier, Code, Status}
-use Rattle.framing.specs.Exact.{StartsWithFrame, data-exact}
-use Rattle.framing.specs.Frames.{normalHead, normalFrame}
+use Rattle.framing.specs.Exact.{StartsWithFrame, data_exact}
+use Rattle.framing.specs.Frames.{normal_head, normal_frame}
 use Rattle.framing.specs.Lists.{Bytes}
-use Rattle.framing.specs.Parse.{parseOf, payloadOf}
+use Rattle.framing.specs.Parse.{parse_of, payload_of}
 use Rattle.framing.specs.Settings.{rcs956}
-use Rattle.framing.specs.Valid.{length-framed, length-extended}
+use Rattle.framing.specs.Valid.{length_framed, length_extended}
 use Rattle.framing.specs.declared.FrameFormat.{FrameFormat}
 use Rattle.framing.specs.declared.FrameType.{FrameType}
 use Rattle.framing.specs.declared.FrameType.TheVariants.{Ack, Error, Data, Nothing}
-use Rattle.exchange.specs.Packets.{Reply, response, failed, codeReply, payloadReply, frameReply, replyOf, errorIdentifier}
-use Rattle.exchange.specs.Spans.{part_at, isResponse, payloadSpan, responseSpan, payloadFault, frameFault, faultOf}
-use Rattle.framing.specs.Names.{controllerToHost}
+use Rattle.exchange.specs.Packets.{Reply, response, failed, code_reply, payload_reply, frame_reply, reply_of, error_identifier}
+use Rattle.exchange.specs.Spans.{part_at, is_response, payload_span, response_span, payload_fault, frame_fault, fault_of}
+use Rattle.framing.specs.Names.{controller_to_host}
 
 -- a data frame lies inside the packet
-pub data-within : (f : FrameFormat) (p : List ℕ) → Bytes p → (s n m : ℕ) → parseOf f p ≡ Data s n m → s + n ≤ length p
-unfolding normalFrame
-data-within f p bytes s n m e = go ((data-exact f p bytes s n m).0 e).1
+pub data_within : (f : FrameFormat) (p : List ℕ) → Bytes p → (s n m : ℕ) → parse_of f p ≡ Data s n m → s + n ≤ length p
+unfolding normal_frame
+data_within f p bytes s n m e = go ((data_exact f p bytes s n m).0 e).1
   where
     go : StartsWithFrame f.length p s n m → s + n ≤ length p
     go w =
         let l = ap length w.whole ∙ length-append w.frame w.behind in
         ⊎_elim
-        (λ h. omega (arith, ap length h.0, length-framed (normalHead (length w.payload)) w.payload))
-        (λ h. omega (arith, ap length h.0, length-extended f.length w.payload))
+        (λ h. omega (arith, ap length h.0, length_framed (normal_head (length w.payload)) w.payload))
+        (λ h. omega (arith, ap length h.0, length_extended f.length w.payload))
         w.carries
 
 -- a payload that is a response: identifier, code, and the response
-answers : (code : ℕ) (l : List ℕ) → isResponse (payloadReply code l) ≡ true → (2 ≤ length l) × (payloadReply code l ≡ response (drop 2 l))
+answers : (code : ℕ) (l : List ℕ) → is_response (payload_reply code l) ≡ true → (2 ≤ length l) × (payload_reply code l ≡ response (drop 2 l))
 answers code [] e = absurd (false≢true e)
-answers code (b ∷ []) e = absurd (go (b == errorIdentifier) (b == controllerToHost) e)
+answers code (b ∷ []) e = absurd (go (b == error_identifier) (b == controller_to_host) e)
   where
-    go : (t u : Bool) → isResponse (cond t (failed (Status errorIdentifier)) (cond u (failed Code) (failed Identifier))) ≢ true
+    go : (t u : Bool) → is_response (cond t (failed (Status error_identifier)) (cond u (failed Code) (failed Identifier))) ≢ true
     go true u h = false≢true h
     go false true h = false≢true h
     go false false h = false≢true h
-answers code (b ∷ i ∷ bs) e = (omega arith, go (b == errorIdentifier) (b == controllerToHost) (i == (code + 1) % 256) e)
+answers code (b ∷ i ∷ bs) e = (omega arith, go (b == error_identifier) (b == controller_to_host) (i == (code + 1) % 256) e)
   where
     go : (t u v : Bool)
-        → isResponse (cond t (failed (Status errorIdentifier)) (cond u (cond v (response bs) (failed Code)) (failed Identifier))) ≡ true
-        → cond t (failed (Status errorIdentifier)) (cond u (cond v (response bs) (failed Code)) (failed Identifier)) ≡ response bs
+        → is_response (cond t (failed (Status error_identifier)) (cond u (cond v (response bs) (failed Code)) (failed Identifier))) ≡ true
+        → cond t (failed (Status error_identifier)) (cond u (cond v (response bs) (failed Code)) (failed Identifier)) ≡ response bs
     go true u v h = absurd (false≢true h)
     go false true true h = refl
     go false true false h = absurd (false≢true h)
     go false false v h = absurd (false≢true h)
 
 -- a payload that is none
-refuses : (code : ℕ) (l : List ℕ) → isResponse (payloadReply code l) ≡ false → payloadReply code l ≡ failed (payloadFault l)
+refuses : (code : ℕ) (l : List ℕ) → is_response (payload_reply code l) ≡ false → payload_reply code l ≡ failed (payload_fault l)
 refuses code [] e = refl
-refuses code (b ∷ bs) e = go (b == errorIdentifier) (b == controllerToHost) e
+refuses code (b ∷ bs) e = go (b == error_identifier) (b == controller_to_host) e
   where
-    late : (l : List ℕ) → isResponse (codeReply code l) ≡ false → codeReply code l ≡ failed Code
+    late : (l : List ℕ) → is_response (code_reply code l) ≡ false → code_reply code l ≡ failed Code
     late [] h = refl
     late (i ∷ l) h = known (i == (code + 1) % 256) h
       where
-        known : (v : Bool) → isResponse (cond v (response l) (failed Code)) ≡ false → cond v (response l) (failed Code) ≡ failed Code
+        known : (v : Bool) → is_response (cond v (response l) (failed Code)) ≡ false → cond v (response l) (failed Code) ≡ failed Code
         known true g = absurd (true≢false g)
         known false g = refl
 
-    go : (t u : Bool) → isResponse (cond t (failed (Status errorIdentifier)) (cond u (codeReply code bs) (failed Identifier))) ≡ false
-        → cond t (failed (Status errorIdentifier)) (cond u (codeReply code bs) (failed Identifier))
-        ≡ failed (cond t (Status errorIdentifier) (cond u Code Identifier))
+    go : (t u : Bool) → is_response (cond t (failed (Status error_identifier)) (cond u (code_reply code bs) (failed Identifier))) ≡ false
+        → cond t (failed (Status error_identifier)) (cond u (code_reply code bs) (failed Identifier))
+        ≡ failed (cond t (Status error_identifier) (cond u Code Identifier))
     go true u h = refl
     go false true h = late bs h
     go false false h = refl
 
 -- the same of a frame that was found
-frame-refuses : (code : ℕ) (p : List ℕ) (x : FrameType) → isResponse (frameReply code p x) ≡ false → frameReply code p x ≡ failed (frameFault p x)
-unfolding payloadOf
+frame-refuses : (code : ℕ) (p : List ℕ) (x : FrameType) → is_response (frame_reply code p x) ≡ false → frame_reply code p x ≡ failed (frame_fault p x)
+unfolding payload_of
 frame-refuses code p x e = by x e
   where
     kind : (t : Bool) → cond t (failed FrameKind) (failed Length) ≡ failed (cond t FrameKind Length)
     kind true = refl
     kind false = refl
 
-    full : (l : List ℕ) (t : Bool) → isResponse (cond t (payloadReply code l) (failed Length)) ≡ false
-        → cond t (payloadReply code l) (failed Length) ≡ failed (cond t (payloadFault l) Length)
+    full : (l : List ℕ) (t : Bool) → is_response (cond t (payload_reply code l) (failed Length)) ≡ false
+        → cond t (payload_reply code l) (failed Length) ≡ failed (cond t (payload_fault l) Length)
     full l true h = refuses code l h
     full l false h = refl
 
-    by : (x : FrameType) → isResponse (frameReply code p x) ≡ false → frameReply code p x ≡ failed (frameFault p x)
+    by : (x : FrameType) → is_response (frame_reply code p x) ≡ false → frame_reply code p x ≡ failed (frame_fault p x)
     by (Ack m) h = kind (m == length p)
     by (Error m) h = kind (m == length p)
     by (Data s n m) h = full (take n (drop s p)) (m == length p) h
@@ -101,58 +101,58 @@ sliced l two short =
     let all : take (length l - 2) (drop 2 l) ≡ drop 2 l = take_all (length l - 2) (drop 2 l) (rw (length-drop 2 l) (omega arith)) in
     record { long = two.0; rest = two.1 ∙ ap response (sym all); inside = rw (all, length-drop 2 l) (omega (arith, two.0)); whole = all }
 
-frame-answers : (code : ℕ) (p : List ℕ) (x : FrameType) → isResponse (frameReply code p x) ≡ true
-    → Answered (frameReply code p x) p (part_at (payloadSpan x) p)
-unfolding payloadOf
-frame-answers code p x e = by x e
+frame_answers : (code : ℕ) (p : List ℕ) (x : FrameType) → is_response (frame_reply code p x) ≡ true
+    → Answered (frame_reply code p x) p (part_at (payload_span x) p)
+unfolding payload_of
+frame_answers code p x e = by x e
   where
-    kind : (t : Bool) → isResponse (cond t (failed FrameKind) (failed Length)) ≢ true
+    kind : (t : Bool) → is_response (cond t (failed FrameKind) (failed Length)) ≢ true
     kind true h = false≢true h
     kind false h = false≢true h
 
-    full : (s n : ℕ) (t : Bool) → isResponse (cond t (payloadReply code (take n (drop s p))) (failed Length)) ≡ true
-        → Answered (cond t (payloadReply code (take n (drop s p))) (failed Length)) p (take n (drop s p))
+    full : (s n : ℕ) (t : Bool) → is_response (cond t (payload_reply code (take n (drop s p))) (failed Length)) ≡ true
+        → Answered (cond t (payload_reply code (take n (drop s p))) (failed Length)) p (take n (drop s p))
     full s n true h = sliced (take n (drop s p)) (answers code (take n (drop s p)) h) (omega (arith, length-take n (drop s p), length-drop s p))
     full s n false h = absurd (false≢true h)
 
-    by : (x : FrameType) → isResponse (frameReply code p x) ≡ true → Answered (frameReply code p x) p (part_at (payloadSpan x) p)
+    by : (x : FrameType) → is_response (frame_reply code p x) ≡ true → Answered (frame_reply code p x) p (part_at (payload_span x) p)
     by (Ack m) h = absurd (kind (m == length p) h)
     by (Error m) h = absurd (kind (m == length p) h)
     by (Data s n m) h = full s n (m == length p) h
     by Nothing h = absurd (false≢true h)
 
 -- what the part at the response's place says of the reply
-module _ (code : ℕ) (packet payload : List ℕ) (known : payload ≡ part_at (responseSpan code packet) packet) where
-  here : isResponse (replyOf code packet) ≡ true → Answered (replyOf code packet) packet payload
-  unfolding responseSpan replyOf
-  here e = rw (known, e) (frame-answers code packet (parseOf rcs956 packet) e)
+module _ (code : ℕ) (packet payload : List ℕ) (known : payload ≡ part_at (response_span code packet) packet) where
+  here : is_response (reply_of code packet) ≡ true → Answered (reply_of code packet) packet payload
+  unfolding response_span reply_of
+  here e = rw (known, e) (frame_answers code packet (parse_of rcs956 packet) e)
 
-  gone : isResponse (replyOf code packet) ≡ false → length payload ≡ 0
-  unfolding responseSpan
+  gone : is_response (reply_of code packet) ≡ false → length payload ≡ 0
+  unfolding response_span
   gone e = rw (known, e)
 
-  pub no-response : length payload ≡ 0 → replyOf code packet ≡ failed (faultOf packet)
-  unfolding faultOf replyOf
-  no-response h = go (isResponse (replyOf code packet)) refl
+  pub no_response : length payload ≡ 0 → reply_of code packet ≡ failed (fault_of packet)
+  unfolding fault_of reply_of
+  no_response h = go (is_response (reply_of code packet)) refl
     where
-      go : (t : Bool) → isResponse (replyOf code packet) ≡ t → replyOf code packet ≡ failed (faultOf packet)
+      go : (t : Bool) → is_response (reply_of code packet) ≡ t → reply_of code packet ≡ failed (fault_of packet)
       go true e = let two = (here e).long in absurd (omega arith)
-      go false e = frame-refuses code packet (parseOf rcs956 packet) e
+      go false e = frame-refuses code packet (parse_of rcs956 packet) e
 
-  pub its-response : (length payload ≢ 0) → Answered (replyOf code packet) packet payload
-  its-response h = go (isResponse (replyOf code packet)) refl
+  pub its_response : (length payload ≢ 0) → Answered (reply_of code packet) packet payload
+  its_response h = go (is_response (reply_of code packet)) refl
     where
-      go : (t : Bool) → isResponse (replyOf code packet) ≡ t → Answered (replyOf code packet) packet payload
+      go : (t : Bool) → is_response (reply_of code packet) ≡ t → Answered (reply_of code packet) packet payload
       go true e = here e
       go false e = absurd (h (gone e))
 
-abbrev bytesIn : Reply → List ℕ
-bytesIn (response bytes) = bytes
-bytesIn (failed r) = []
+abbrev bytes_in : Reply → List ℕ
+bytes_in (response bytes) = bytes
+bytes_in (failed r) = []
 
 -- a response has two bytes less than its packet
-pub response-short : (code : ℕ) (packet bytes : List ℕ) → replyOf code packet ≡ response bytes → length bytes + 2 ≤ length packet
-response-short code packet bytes e =
-    let a = here code packet _ refl (ap isResponse e) in
-    let l = ap (λ r. length (bytesIn r)) (sym e ∙ a.rest) in
+pub response_short : (code : ℕ) (packet bytes : List ℕ) → reply_of code packet ≡ response bytes → length bytes + 2 ≤ length packet
+response_short code packet bytes e =
+    let a = here code packet _ refl (ap is_response e) in
+    let l = ap (λ r. length (bytes_in r)) (sym e ∙ a.rest) in
     omega (arith, l, a.inside)

@@ -2,12 +2,12 @@
 use Rattle.std.specs.Prelude.{ℕ, Bool, true, false, cond, List, length, take, drop, ◌==◌, slice_index}
 use Rattle.errors.specs.declared.Fault.{Fault}
 use Rattle.errors.specs.declared.Fault.TheVariants.{BrokenFrame, Length, FrameKind, Identifier, Code, Status}
-use Rattle.framing.specs.Parse.{parseOf}
+use Rattle.framing.specs.Parse.{parse_of}
 use Rattle.framing.specs.Settings.{rcs956}
 use Rattle.framing.specs.declared.FrameType.{FrameType}
 use Rattle.framing.specs.declared.FrameType.TheVariants.{Ack, Error, Data, Nothing}
-use Rattle.exchange.specs.Packets.{Reply, response, failed, is_empty, replyOf, errorIdentifier}
-use Rattle.framing.specs.Names.{controllerToHost}
+use Rattle.exchange.specs.Packets.{Reply, response, failed, is_empty, reply_of, error_identifier}
+use Rattle.framing.specs.Names.{controller_to_host}
 
 -- a part of a packet
 pub record Span : Type 0 where
@@ -20,38 +20,38 @@ nowhere = record { start = 0; len = 0 }
 abbrev pub part_at : Span → List ℕ → List ℕ
 part_at span packet = take span.len (drop span.start packet)
 
-abbrev pub isResponse : Reply → Bool
-isResponse (response bytes) = true
-isResponse (failed fault) = false
+abbrev pub is_response : Reply → Bool
+is_response (response bytes) = true
+is_response (failed fault) = false
 
-abbrev pub payloadSpan : FrameType → Span
-payloadSpan (Ack frame) = nowhere
-payloadSpan (Error frame) = nowhere
-payloadSpan (Data start len frame) = record { start = start; len = len }
-payloadSpan Nothing = nowhere
+abbrev pub payload_span : FrameType → Span
+payload_span (Ack frame) = nowhere
+payload_span (Error frame) = nowhere
+payload_span (Data start len frame) = record { start = start; len = len }
+payload_span Nothing = nowhere
 
 -- where the payload of an intact response stands: identifier, code and response
-unfoldable pub responseSpan : ℕ → List ℕ → Span
-responseSpan code packet = cond (isResponse (replyOf code packet)) (payloadSpan (parseOf rcs956 packet)) nowhere
+unfoldable pub response_span : ℕ → List ℕ → Span
+response_span code packet = cond (is_response (reply_of code packet)) (payload_span (parse_of rcs956 packet)) nowhere
 
-abbrev pub frameLength : FrameType → ℕ
-frameLength (Ack frame) = frame
-frameLength (Error frame) = frame
-frameLength (Data start len frame) = frame
-frameLength Nothing = 0
+abbrev pub frame_length : FrameType → ℕ
+frame_length (Ack frame) = frame
+frame_length (Error frame) = frame
+frame_length (Data start len frame) = frame
+frame_length Nothing = 0
 
 -- the first check that fails, of a payload and of a packet; the code's check is the last
-abbrev pub payloadFault : List ℕ → Fault
-payloadFault l = cond (is_empty l) Identifier (cond (slice_index l 0 == errorIdentifier) (Status errorIdentifier) (cond (slice_index l 0 == controllerToHost) Code Identifier))
+abbrev pub payload_fault : List ℕ → Fault
+payload_fault l = cond (is_empty l) Identifier (cond (slice_index l 0 == error_identifier) (Status error_identifier) (cond (slice_index l 0 == controller_to_host) Code Identifier))
 
-abbrev pub fillingFault : ℕ → List ℕ → Fault → Fault
-fillingFault frame packet fault = cond (frame == length packet) fault Length
+abbrev pub filling_fault : ℕ → List ℕ → Fault → Fault
+filling_fault frame packet fault = cond (frame == length packet) fault Length
 
-abbrev pub frameFault : List ℕ → FrameType → Fault
-frameFault packet Nothing = BrokenFrame
-frameFault packet (Ack frame) = fillingFault frame packet FrameKind
-frameFault packet (Error frame) = fillingFault frame packet FrameKind
-frameFault packet (Data start len frame) = fillingFault frame packet (payloadFault (take len (drop start packet)))
+abbrev pub frame_fault : List ℕ → FrameType → Fault
+frame_fault packet Nothing = BrokenFrame
+frame_fault packet (Ack frame) = filling_fault frame packet FrameKind
+frame_fault packet (Error frame) = filling_fault frame packet FrameKind
+frame_fault packet (Data start len frame) = filling_fault frame packet (payload_fault (take len (drop start packet)))
 
-unfoldable pub faultOf : List ℕ → Fault
-faultOf packet = frameFault packet (parseOf rcs956 packet)
+unfoldable pub fault_of : List ℕ → Fault
+fault_of packet = frame_fault packet (parse_of rcs956 packet)

@@ -1,9 +1,11 @@
 // One acknowledged command: steps 1 to 5 of document 01's exchange (`command` of chipset.rs).
+#![tactic(auto)]
+
 ghost use Rattle.std.specs.Prelude.{◌≡◌, ℕ, List, slice_index};
-ghost use Rattle.exchange.specs.Packets.{payloadReply};
-ghost use Rattle.exchange.specs.Exchange.{advance as advanceOf, sending, reading, waiting, cancelling, rejecting, draining, onPacket};
-ghost use Rattle.exchange.specs.Steps.{exchangeAt, phaseIn, eventOf, resultIn, SameCommand, Handled, sendingPhase};
-ghost use Rattle.exchange.specs.Spans.{part_at, isResponse, responseSpan, frameLength, payloadFault, faultOf};
+ghost use Rattle.exchange.specs.Packets.{payload_reply};
+ghost use Rattle.exchange.specs.Exchange.{advance as advance_of, sending, reading, waiting, cancelling, rejecting, draining, on_packet};
+ghost use Rattle.exchange.specs.Steps.{exchange_at, phase_in, event_of, result_in, SameCommand, Handled, sending_phase};
+ghost use Rattle.exchange.specs.Spans.{part_at, is_response, response_span, frame_length, payload_fault, fault_of};
 
 use errors::Fault;
 use framing::FrameType;
@@ -77,7 +79,7 @@ impl Exchange {
 
     // The exchange whose frame is being written.
     pub fn start(code: u8, clock: u32) -> Exchange
-        ensures { result ≡ exchangeAt sendingPhase code clock }
+        ensures { result ≡ exchange_at sending_phase code clock }
     {
         Exchange {
             phase: Self::SENDING_PHASE,
@@ -86,9 +88,9 @@ impl Exchange {
         }
     }
 
-    // What an event does to the exchange. A fault of step 5 may come out as `Arrived` or as `Failed`: `resultIn` gives both the same meaning.
+    // What an event does to the exchange. A fault of step 5 may come out as `Arrived` or as `Failed`: `result_in` gives both the same meaning.
     pub fn advance(self, event: Event, packet: &[u8]) -> Advanced
-        ensures result_value { resultIn self packet.now result ≡ advanceOf (phaseIn self) (eventOf event packet.now) }
+        ensures result_value { result_in self packet.now result ≡ advance_of (phase_in self) (event_of event packet.now) }
         ensures same_command { SameCommand self result }
     {
         let phase = self.phase;
@@ -105,7 +107,7 @@ impl Exchange {
 
     // An order follows, in a new phase.
     fn ordered(mut self, order: Order, phase: u8) -> Advanced
-        ensures { result ≡ Advanced.Pending order (exchangeAt phase self.code self.clock) }
+        ensures { result ≡ Advanced.Pending order (exchange_at phase self.code self.clock) }
     {
         self.phase = phase;
         Advanced::Pending(order, self)
@@ -113,7 +115,7 @@ impl Exchange {
 
     // Step 1.
     fn on_sent(self, event: Event) -> Advanced
-        ensures { (p : List ℕ) → Handled self p (advanceOf (sending self.code self.clock) (eventOf event p)) result }
+        ensures { (p : List ℕ) → Handled self p (advance_of (sending self.code self.clock) (event_of event p)) result }
     {
         match event {
             Event::Ok => self.ordered(Order::Read(FIRST_READ_TIME), Self::READING_PHASE),
@@ -124,7 +126,7 @@ impl Exchange {
 
     // Step 2.
     fn on_first_read(self, event: Event, packet: &[u8]) -> Advanced
-        ensures { Handled self packet.now (advanceOf (reading self.code self.clock) (eventOf event packet.now)) result }
+        ensures { Handled self packet.now (advance_of (reading self.code self.clock) (event_of event packet.now)) result }
     {
         match event {
             Event::Packet => {
@@ -145,7 +147,7 @@ impl Exchange {
 
     // Step 4. The deadline, and no other failure, is answered with ACK.
     fn on_later_read(self, event: Event, packet: &[u8]) -> Advanced
-        ensures { Handled self packet.now (advanceOf (waiting self.code self.clock) (eventOf event packet.now)) result }
+        ensures { Handled self packet.now (advance_of (waiting self.code self.clock) (event_of event packet.now)) result }
     {
         match event {
             Event::Packet => {
@@ -163,7 +165,7 @@ impl Exchange {
 
     // Steps 4 and 5: what follows an ACK in its packet is lost. A clock of 0 ms has passed at once.
     fn on_packet(self, packet: &[u8]) -> Advanced
-        ensures { Handled self packet.now (onPacket self.code self.clock packet.now) result }
+        ensures { Handled self packet.now (on_packet self.code self.clock packet.now) result }
     {
         if framing::starts_with(packet, &framing::ACK_BYTES) {
             if self.clock == 0 {
@@ -177,7 +179,7 @@ impl Exchange {
 
     // Step 3: ACK was written, or that failed.
     fn on_rejected(self, event: Event) -> Advanced
-        ensures { (p : List ℕ) → Handled self p (advanceOf rejecting (eventOf event p)) result }
+        ensures { (p : List ℕ) → Handled self p (advance_of rejecting (event_of event p)) result }
     {
         match event {
             Event::Ok => self.ordered(Order::Drain, Self::DRAINING_PHASE),
@@ -188,7 +190,7 @@ impl Exchange {
 
     // Step 3: a drain ends at a time-out, an empty packet or its deadline.
     fn on_drain(self, event: Event, packet: &[u8]) -> Advanced
-        ensures { Handled self packet.now (advanceOf draining (eventOf event packet.now)) result }
+        ensures { Handled self packet.now (advance_of draining (event_of event packet.now)) result }
     {
         match event {
             Event::Packet => {
@@ -207,7 +209,7 @@ impl Exchange {
 
 // Steps 1 and 4: ACK was written, or that failed.
 fn on_cancelled(event: Event, fault: Fault) -> Advanced
-    ensures { (x : Exchange) (p : List ℕ) → Handled x p (advanceOf (cancelling fault) (eventOf event p)) result }
+    ensures { (x : Exchange) (p : List ℕ) → Handled x p (advance_of (cancelling fault) (event_of event p)) result }
 {
     match event {
         Event::Ok => Advanced::Failed(fault),
@@ -228,7 +230,7 @@ fn code_of(command: &[u8]) -> u8
 
 // Whether a payload is a response to a command of this code.
 fn is_response(payload: &[u8], code: u8) -> bool
-    ensures { result ≡ isResponse (payloadReply code payload.now) }
+    ensures { result ≡ is_response (payload_reply code payload.now) }
 {
     if payload.len() < 2 {
         return false;
@@ -242,7 +244,7 @@ fn is_response(payload: &[u8], code: u8) -> bool
 // Step 5: the payload (identifier, code and response) of an intact response to a command, whose code stands at its start.
 // The empty part where the packet is none.
 pub fn response_payload<'p, 'c>(packet: &'p [u8], command: &'c [u8]) -> &'p [u8]
-    ensures { result.now ≡ part_at (responseSpan (slice_index command.now 0) packet.now) packet.now }
+    ensures { result.now ≡ part_at (response_span (slice_index command.now 0) packet.now) packet.now }
 {
     let FrameType::Data { start, len, frame } = framing::parse(Rcs956Format::format(), packet)
     else {
@@ -262,7 +264,7 @@ pub fn response_payload<'p, 'c>(packet: &'p [u8], command: &'c [u8]) -> &'p [u8]
 
 // The length of a frame that was found.
 fn frame_length(found: FrameType) -> usize
-    ensures { result ≡ frameLength found }
+    ensures { result ≡ frame_length found }
 {
     match found {
         FrameType::Ack(frame) => frame,
@@ -278,7 +280,7 @@ fn frame_length(found: FrameType) -> usize
 
 // The fault of a payload that is no response.
 fn payload_fault(payload: &[u8]) -> Fault
-    ensures { result ≡ payloadFault payload.now }
+    ensures { result ≡ payload_fault payload.now }
 {
     if payload.len() == 0 {
         return Fault::Identifier;
@@ -295,7 +297,7 @@ fn payload_fault(payload: &[u8]) -> Fault
 
 // Step 5: the fault of a packet that is no intact response, by the first check that fails. The code's check is the last.
 pub fn fault(packet: &[u8]) -> Fault
-    ensures { result ≡ faultOf packet.now }
+    ensures { result ≡ fault_of packet.now }
 {
     let found = framing::parse(Rcs956Format::format(), packet);
     if let FrameType::Nothing = found {

@@ -11,10 +11,10 @@ use Rattle.std.proofs.Math.ListN.{length, drop, length-append}
 use Rattle.std.proofs.Math.Seq.{drop-append-add}
 use Rattle.errors.specs.Choice.{pick}
 use Rattle.errors.specs.Refusals.{refused, answered, plain, numbered}
-use Rattle.framing.specs.Build.{Left, left, putFrame}
+use Rattle.framing.specs.Build.{Left, left, put_frame}
 use Rattle.framing.specs.Valid.{both_left, both_right}
-use Rattle.felica.specs.Names.{idmSize, blockSize, mostBlocks, elementSize, requestHead, flagsEnd, blocksOffset, oneService}
-use Rattle.felica.specs.Packets.{packet, blockList, request, replyPacket, readReply, readReplyCode, idmFits, requestFits, writeFits, areBlocks, readReplyFits, builtOf}
+use Rattle.felica.specs.Names.{idm_size, block_size, most_blocks, element_size, request_head, flags_end, blocks_offset, one_service}
+use Rattle.felica.specs.Packets.{packet, block_list, request, reply_packet, read_reply_of, read_reply_code, idm_fits, request_fits, write_fits_of, are_blocks_of, read_reply_fits, built_of}
 use Rattle.felica.specs.Lists.{eight, list_length}
 use Rattle.errors.specs.declared.Refusal.TheVariants.{BadArgument}
 
@@ -29,214 +29,214 @@ put-behind b l part c n k e =
 
 -- a packet that fits the buffer, or does not
 module _ (p b : List ℕ) (n : ℕ) (k : n ≡ length p) where
-  pub no_room : length b < n → left (refused (plain 2)) b ≡ putFrame p b
-  unfolding putFrame pick
+  pub no_room : length b < n → left (refused (plain 2)) b ≡ put_frame p b
+  unfolding put_frame pick
   no_room h = rw (lt-ltb (length b) (length p) (omega arith))
 
-  pub has_room : n ≤ length b → (b₁ : List ℕ) → b₁ ≡ p ++ drop n b → left (answered n) b₁ ≡ putFrame p b
-  unfolding putFrame pick
+  pub has_room : n ≤ length b → (b₁ : List ℕ) → b₁ ≡ p ++ drop n b → left (answered n) b₁ ≡ put_frame p b
+  unfolding put_frame pick
   has_room h b₁ e = rw (le-ltb (length b) (length p) (omega arith)) (ap₂ left (ap answered k) (e ∙ ap (λ j. p ++ drop j b) k))
 
 -- ---- requests
 
-module _ (code service : ℕ) (idm blocks bytes : List ℕ) (h : length idm ≡ idmSize) where
-  pub request-length : length (request code idm service blocks bytes) ≡ requestHead + elementSize * length blocks + length bytes
+module _ (code service : ℕ) (idm blocks bytes : List ℕ) (h : length idm ≡ idm_size) where
+  pub request-length : length (request code idm service blocks bytes) ≡ request_head + element_size * length blocks + length bytes
   unfolding request packet
   request-length =
-      let rest : List ℕ = oneService ∷ service % 256 ∷ service / 256 ∷ length blocks ∷ blockList blocks ++ bytes in
-      omega (arith, length-append idm rest, length-append (blockList blocks) bytes, list_length blocks)
+      let rest : List ℕ = one_service ∷ service % 256 ∷ service / 256 ∷ length blocks ∷ block_list blocks ++ bytes in
+      omega (arith, length-append idm rest, length-append (block_list blocks) bytes, list_length blocks)
 
   -- head, block list and what follows
-  request-laid : (len : ℕ) → len ≡ requestHead + elementSize * length blocks + length bytes
+  request-laid : (len : ℕ) → len ≡ request_head + element_size * length blocks + length bytes
       → (len ∷ code ∷ get_or idm 0 0 ∷ get_or idm 1 0 ∷ get_or idm 2 0 ∷ get_or idm 3 0 ∷ get_or idm 4 0 ∷ get_or idm 5 0 ∷ get_or idm 6 0 ∷ get_or idm 7 0
-      ∷ oneService ∷ service % 256 ∷ service / 256 ∷ length blocks ∷ []) ++ blockList blocks ++ bytes
+      ∷ one_service ∷ service % 256 ∷ service / 256 ∷ length blocks ∷ []) ++ block_list blocks ++ bytes
       ≡ request code idm service blocks bytes
   unfolding request packet
   request-laid len k =
-      let rest : List ℕ = oneService ∷ service % 256 ∷ service / 256 ∷ length blocks ∷ blockList blocks ++ bytes in
-      let n : len ≡ suc (suc (length (idm ++ rest))) = omega (arith, length-append idm rest, length-append (blockList blocks) bytes, list_length blocks) in
+      let rest : List ℕ = one_service ∷ service % 256 ∷ service / 256 ∷ length blocks ∷ block_list blocks ++ bytes in
+      let n : len ≡ suc (suc (length (idm ++ rest))) = omega (arith, length-append idm rest, length-append (block_list blocks) bytes, list_length blocks) in
       ap₂ (λ m l. m ∷ code ∷ l ++ rest) n (eight idm h)
 
-  pub request-no-room : (b : List ℕ) → length b < requestHead + elementSize * length blocks + length bytes
-      → left (refused (plain 2)) b ≡ putFrame (request code idm service blocks bytes) b
-  request-no-room b k = no_room (request code idm service blocks bytes) b (requestHead + elementSize * length blocks + length bytes) (sym request-length) k
+  pub request_no_room : (b : List ℕ) → length b < request_head + element_size * length blocks + length bytes
+      → left (refused (plain 2)) b ≡ put_frame (request code idm service blocks bytes) b
+  request_no_room b k = no_room (request code idm service blocks bytes) b (request_head + element_size * length blocks + length bytes) (sym request-length) k
 
   -- the three parts put one behind the other
-  pub request-put : (b b₁ b₂ b₃ : List ℕ) → requestHead + elementSize * length blocks + length bytes ≤ length b
-      → b₁ ≡ take 0 b ++ (((requestHead + elementSize * length blocks + length bytes) ∷ code ∷ get_or idm 0 0 ∷ get_or idm 1 0 ∷ get_or idm 2 0 ∷ get_or idm 3 0 ∷ get_or idm 4 0 ∷ get_or idm 5 0
-      ∷ get_or idm 6 0 ∷ get_or idm 7 0 ∷ oneService ∷ service % 256 ∷ service / 256 ∷ length blocks ∷ []) ++ drop requestHead b)
-      → b₂ ≡ take requestHead b₁ ++ (blockList blocks ++ drop (requestHead + elementSize * length blocks) b₁)
-      → b₃ ≡ take (requestHead + elementSize * length blocks) b₂ ++ (bytes ++ drop (requestHead + elementSize * length blocks + length bytes) b₂)
-      → left (answered (requestHead + elementSize * length blocks + length bytes)) b₃ ≡ putFrame (request code idm service blocks bytes) b
+  pub request-put : (b b₁ b₂ b₃ : List ℕ) → request_head + element_size * length blocks + length bytes ≤ length b
+      → b₁ ≡ take 0 b ++ (((request_head + element_size * length blocks + length bytes) ∷ code ∷ get_or idm 0 0 ∷ get_or idm 1 0 ∷ get_or idm 2 0 ∷ get_or idm 3 0 ∷ get_or idm 4 0 ∷ get_or idm 5 0
+      ∷ get_or idm 6 0 ∷ get_or idm 7 0 ∷ one_service ∷ service % 256 ∷ service / 256 ∷ length blocks ∷ []) ++ drop request_head b)
+      → b₂ ≡ take request_head b₁ ++ (block_list blocks ++ drop (request_head + element_size * length blocks) b₁)
+      → b₃ ≡ take (request_head + element_size * length blocks) b₂ ++ (bytes ++ drop (request_head + element_size * length blocks + length bytes) b₂)
+      → left (answered (request_head + element_size * length blocks + length bytes)) b₃ ≡ put_frame (request code idm service blocks bytes) b
   request-put b b₁ b₂ b₃ room e₁ e₂ e₃ =
-      let len : ℕ = requestHead + elementSize * length blocks + length bytes in
+      let len : ℕ = request_head + element_size * length blocks + length bytes in
       let head : List ℕ =
       len ∷ code ∷ get_or idm 0 0 ∷ get_or idm 1 0 ∷ get_or idm 2 0 ∷ get_or idm 3 0 ∷ get_or idm 4 0 ∷ get_or idm 5 0 ∷ get_or idm 6 0 ∷ get_or idm 7 0
-      ∷ oneService ∷ service % 256 ∷ service / 256 ∷ length blocks ∷ [] in
-      let n : requestHead + length (blockList blocks) ≡ requestHead + elementSize * length blocks = ap (λ k. requestHead + k) (list_length blocks) in
-      let two : b₂ ≡ (head ++ blockList blocks) ++ drop (requestHead + elementSize * length blocks) b =
-      e₂ ∙ ap (λ k. take requestHead b₁ ++ (blockList blocks ++ drop k b₁)) (sym n) ∙ put-behind b₁ head (blockList blocks) b requestHead refl e₁
-      ∙ ap (λ k. (head ++ blockList blocks) ++ drop k b) n in
-      let at : requestHead + elementSize * length blocks ≡ length (head ++ blockList blocks) = sym n ∙ sym (length-append head (blockList blocks)) in
-      let three : b₃ ≡ ((head ++ blockList blocks) ++ bytes) ++ drop len b = e₃ ∙ put-behind b₂ (head ++ blockList blocks) bytes b (requestHead + elementSize * length blocks) at two in
+      ∷ one_service ∷ service % 256 ∷ service / 256 ∷ length blocks ∷ [] in
+      let n : request_head + length (block_list blocks) ≡ request_head + element_size * length blocks = ap (λ k. request_head + k) (list_length blocks) in
+      let two : b₂ ≡ (head ++ block_list blocks) ++ drop (request_head + element_size * length blocks) b =
+      e₂ ∙ ap (λ k. take request_head b₁ ++ (block_list blocks ++ drop k b₁)) (sym n) ∙ put-behind b₁ head (block_list blocks) b request_head refl e₁
+      ∙ ap (λ k. (head ++ block_list blocks) ++ drop k b) n in
+      let at : request_head + element_size * length blocks ≡ length (head ++ block_list blocks) = sym n ∙ sym (length-append head (block_list blocks)) in
+      let three : b₃ ≡ ((head ++ block_list blocks) ++ bytes) ++ drop len b = e₃ ∙ put-behind b₂ (head ++ block_list blocks) bytes b (request_head + element_size * length blocks) at two in
       has_room (request code idm service blocks bytes) b len (sym request-length) room b₃
-      (three ∙ ap (λ l. l ++ drop len b) (append_assoc head (blockList blocks) bytes ∙ request-laid len refl))
+      (three ∙ ap (λ l. l ++ drop len b) (append_assoc head (block_list blocks) bytes ∙ request-laid len refl))
 
 -- ---- replies
 
-pub head-laid : (len code flag1 flag2 : ℕ) (idm : List ℕ) → length idm ≡ idmSize
+pub head-laid : (len code flag1 flag2 : ℕ) (idm : List ℕ) → length idm ≡ idm_size
     → ◌≡◌ {A = List ℕ} (len ∷ code ∷ get_or idm 0 0 ∷ get_or idm 1 0 ∷ get_or idm 2 0 ∷ get_or idm 3 0 ∷ get_or idm 4 0 ∷ get_or idm 5 0 ∷ get_or idm 6 0 ∷ get_or idm 7 0
     ∷ flag1 ∷ flag2 ∷ [])
     (len ∷ code ∷ idm ++ (flag1 ∷ flag2 ∷ []))
 head-laid len code flag1 flag2 idm h = ap (λ l. len ∷ code ∷ l ++ (flag1 ∷ flag2 ∷ [])) (eight idm h)
 
-module _ (code flag1 flag2 : ℕ) (idm bytes : List ℕ) (h : length idm ≡ idmSize) where
-  pub reply-length : length (replyPacket code idm flag1 flag2 bytes) ≡ flagsEnd + length bytes
-  unfolding replyPacket packet
+module _ (code flag1 flag2 : ℕ) (idm bytes : List ℕ) (h : length idm ≡ idm_size) where
+  pub reply-length : length (reply_packet code idm flag1 flag2 bytes) ≡ flags_end + length bytes
+  unfolding reply_packet packet
   reply-length = omega (arith, length-append idm (flag1 ∷ flag2 ∷ bytes))
 
-  reply-laid : (len : ℕ) → len ≡ flagsEnd + length bytes → (len ∷ code ∷ idm ++ (flag1 ∷ flag2 ∷ [])) ++ bytes ≡ replyPacket code idm flag1 flag2 bytes
-  unfolding replyPacket packet
+  reply-laid : (len : ℕ) → len ≡ flags_end + length bytes → (len ∷ code ∷ idm ++ (flag1 ∷ flag2 ∷ [])) ++ bytes ≡ reply_packet code idm flag1 flag2 bytes
+  unfolding reply_packet packet
   reply-laid len k =
       let n : len ≡ suc (suc (length (idm ++ (flag1 ∷ flag2 ∷ bytes)))) = omega (arith, length-append idm (flag1 ∷ flag2 ∷ bytes)) in
       ap₂ (λ m l. m ∷ code ∷ l) n (append_assoc idm (flag1 ∷ flag2 ∷ []) bytes)
 
-  pub reply-no-room : (b : List ℕ) (n : ℕ) → n ≡ flagsEnd + length bytes → length b < n → left (refused (plain 2)) b ≡ putFrame (replyPacket code idm flag1 flag2 bytes) b
-  reply-no-room b n e k = no_room (replyPacket code idm flag1 flag2 bytes) b n (e ∙ sym reply-length) k
+  pub reply_no_room : (b : List ℕ) (n : ℕ) → n ≡ flags_end + length bytes → length b < n → left (refused (plain 2)) b ≡ put_frame (reply_packet code idm flag1 flag2 bytes) b
+  reply_no_room b n e k = no_room (reply_packet code idm flag1 flag2 bytes) b n (e ∙ sym reply-length) k
 
   -- the head, and what follows it put behind it
-  reply-put : (b b₁ : List ℕ) (len : ℕ) → len ≡ flagsEnd + length bytes → len ≤ length b → b₁ ≡ ((len ∷ code ∷ idm ++ (flag1 ∷ flag2 ∷ [])) ++ bytes) ++ drop len b
-      → left (answered len) b₁ ≡ putFrame (replyPacket code idm flag1 flag2 bytes) b
+  reply-put : (b b₁ : List ℕ) (len : ℕ) → len ≡ flags_end + length bytes → len ≤ length b → b₁ ≡ ((len ∷ code ∷ idm ++ (flag1 ∷ flag2 ∷ [])) ++ bytes) ++ drop len b
+      → left (answered len) b₁ ≡ put_frame (reply_packet code idm flag1 flag2 bytes) b
   reply-put b b₁ len e room k =
-      has_room (replyPacket code idm flag1 flag2 bytes) b len (e ∙ sym reply-length) room b₁ (k ∙ ap (λ l. l ++ drop len b) (reply-laid len e))
+      has_room (reply_packet code idm flag1 flag2 bytes) b len (e ∙ sym reply-length) room b₁ (k ∙ ap (λ l. l ++ drop len b) (reply-laid len e))
 
-head-length : (len code flag1 flag2 : ℕ) (idm : List ℕ) → length idm ≡ idmSize → length (len ∷ code ∷ idm ++ (flag1 ∷ flag2 ∷ [])) ≡ flagsEnd
+head-length : (len code flag1 flag2 : ℕ) (idm : List ℕ) → length idm ≡ idm_size → length (len ∷ code ∷ idm ++ (flag1 ∷ flag2 ∷ [])) ≡ flags_end
 head-length len code flag1 flag2 idm h = omega (arith, length-append idm (flag1 ∷ flag2 ∷ []))
 
-pub flags-put : (code flag1 flag2 : ℕ) (idm head b b₁ : List ℕ) → length idm ≡ idmSize → flagsEnd ≤ length b → head ≡ flagsEnd ∷ code ∷ idm ++ (flag1 ∷ flag2 ∷ [])
-    → b₁ ≡ take 0 b ++ (head ++ drop (0 + length head) b) → left (answered flagsEnd) b₁ ≡ putFrame (replyPacket code idm flag1 flag2 []) b
-flags-put code flag1 flag2 idm head b b₁ h room k e =
-    let n : length head ≡ flagsEnd = ap length k ∙ head-length flagsEnd code flag1 flag2 idm h in
-    let one : b₁ ≡ head ++ drop flagsEnd b = e ∙ ap (λ j. take 0 b ++ (head ++ drop (0 + j) b)) n in
-    reply-put code flag1 flag2 idm [] h b b₁ flagsEnd refl room
-    (one ∙ ap (λ l. l ++ drop flagsEnd b) (k ∙ sym (append-nil (flagsEnd ∷ code ∷ idm ++ (flag1 ∷ flag2 ∷ [])))))
+pub flags_put : (code flag1 flag2 : ℕ) (idm head b b₁ : List ℕ) → length idm ≡ idm_size → flags_end ≤ length b → head ≡ flags_end ∷ code ∷ idm ++ (flag1 ∷ flag2 ∷ [])
+    → b₁ ≡ take 0 b ++ (head ++ drop (0 + length head) b) → left (answered flags_end) b₁ ≡ put_frame (reply_packet code idm flag1 flag2 []) b
+flags_put code flag1 flag2 idm head b b₁ h room k e =
+    let n : length head ≡ flags_end = ap length k ∙ head-length flags_end code flag1 flag2 idm h in
+    let one : b₁ ≡ head ++ drop flags_end b = e ∙ ap (λ j. take 0 b ++ (head ++ drop (0 + j) b)) n in
+    reply-put code flag1 flag2 idm [] h b b₁ flags_end refl room
+    (one ∙ ap (λ l. l ++ drop flags_end b) (k ∙ sym (append-nil (flags_end ∷ code ∷ idm ++ (flag1 ∷ flag2 ∷ [])))))
 
-pub blocks-no-room : (code flag1 flag2 : ℕ) (idm bytes b : List ℕ) → length idm ≡ idmSize → length b < blocksOffset + length bytes
-    → left (refused (plain 2)) b ≡ putFrame (replyPacket code idm flag1 flag2 (length bytes / blockSize ∷ bytes)) b
-blocks-no-room code flag1 flag2 idm bytes b h k =
-    no_room (replyPacket code idm flag1 flag2 (length bytes / blockSize ∷ bytes)) b (blocksOffset + length bytes) (omega (arith, reply-length code flag1 flag2 idm (length bytes / blockSize ∷ bytes) h)) k
+pub blocks_no_room : (code flag1 flag2 : ℕ) (idm bytes b : List ℕ) → length idm ≡ idm_size → length b < blocks_offset + length bytes
+    → left (refused (plain 2)) b ≡ put_frame (reply_packet code idm flag1 flag2 (length bytes / block_size ∷ bytes)) b
+blocks_no_room code flag1 flag2 idm bytes b h k =
+    no_room (reply_packet code idm flag1 flag2 (length bytes / block_size ∷ bytes)) b (blocks_offset + length bytes) (omega (arith, reply-length code flag1 flag2 idm (length bytes / block_size ∷ bytes) h)) k
 
-pub blocks-put : (code flag1 flag2 : ℕ) (idm bytes head b b₁ b₂ b₃ : List ℕ) → length idm ≡ idmSize → blocksOffset + length bytes ≤ length b
-    → head ≡ (blocksOffset + length bytes) ∷ code ∷ idm ++ (flag1 ∷ flag2 ∷ []) → b₁ ≡ take 0 b ++ (head ++ drop (0 + length head) b)
-    → b₂ ≡ take flagsEnd b₁ ++ ((length bytes / blockSize ∷ []) ++ drop blocksOffset b₁) → b₃ ≡ take blocksOffset b₂ ++ (bytes ++ drop (blocksOffset + length bytes) b₂)
-    → left (answered (blocksOffset + length bytes)) b₃ ≡ putFrame (replyPacket code idm flag1 flag2 (length bytes / blockSize ∷ bytes)) b
-blocks-put code flag1 flag2 idm bytes head b b₁ b₂ b₃ h room k e₁ e₂ e₃ =
-    let len : ℕ = blocksOffset + length bytes in
-    let n : length head ≡ flagsEnd = ap length k ∙ head-length len code flag1 flag2 idm h in
-    let number : List ℕ = length bytes / blockSize ∷ [] in
-    let one : b₁ ≡ head ++ drop flagsEnd b = e₁ ∙ ap (λ j. take 0 b ++ (head ++ drop (0 + j) b)) n in
-    let two : b₂ ≡ (head ++ number) ++ drop blocksOffset b = e₂ ∙ put-behind b₁ head number b flagsEnd (sym n) one in
-    let at : blocksOffset ≡ length (head ++ number) = sym (length-append head number ∙ ap (λ j. j + 1) n) in
-    let three : b₃ ≡ ((head ++ number) ++ bytes) ++ drop len b = e₃ ∙ put-behind b₂ (head ++ number) bytes b blocksOffset at two in
-    reply-put code flag1 flag2 idm (length bytes / blockSize ∷ bytes) h b b₃ len (omega arith) room
-    (three ∙ ap (λ l. l ++ drop len b) (append_assoc head number bytes ∙ ap (λ l. l ++ (length bytes / blockSize ∷ bytes)) k))
+pub blocks_put : (code flag1 flag2 : ℕ) (idm bytes head b b₁ b₂ b₃ : List ℕ) → length idm ≡ idm_size → blocks_offset + length bytes ≤ length b
+    → head ≡ (blocks_offset + length bytes) ∷ code ∷ idm ++ (flag1 ∷ flag2 ∷ []) → b₁ ≡ take 0 b ++ (head ++ drop (0 + length head) b)
+    → b₂ ≡ take flags_end b₁ ++ ((length bytes / block_size ∷ []) ++ drop blocks_offset b₁) → b₃ ≡ take blocks_offset b₂ ++ (bytes ++ drop (blocks_offset + length bytes) b₂)
+    → left (answered (blocks_offset + length bytes)) b₃ ≡ put_frame (reply_packet code idm flag1 flag2 (length bytes / block_size ∷ bytes)) b
+blocks_put code flag1 flag2 idm bytes head b b₁ b₂ b₃ h room k e₁ e₂ e₃ =
+    let len : ℕ = blocks_offset + length bytes in
+    let n : length head ≡ flags_end = ap length k ∙ head-length len code flag1 flag2 idm h in
+    let number : List ℕ = length bytes / block_size ∷ [] in
+    let one : b₁ ≡ head ++ drop flags_end b = e₁ ∙ ap (λ j. take 0 b ++ (head ++ drop (0 + j) b)) n in
+    let two : b₂ ≡ (head ++ number) ++ drop blocks_offset b = e₂ ∙ put-behind b₁ head number b flags_end (sym n) one in
+    let at : blocks_offset ≡ length (head ++ number) = sym (length-append head number ∙ ap (λ j. j + 1) n) in
+    let three : b₃ ≡ ((head ++ number) ++ bytes) ++ drop len b = e₃ ∙ put-behind b₂ (head ++ number) bytes b blocks_offset at two in
+    reply-put code flag1 flag2 idm (length bytes / block_size ∷ bytes) h b b₃ len (omega arith) room
+    (three ∙ ap (λ l. l ++ drop len b) (append_assoc head number bytes ∙ ap (λ l. l ++ (length bytes / block_size ∷ bytes)) k))
 
 -- ---- what fits
 
 record Named (idm blocks : List ℕ) : Type 0 where
-  pub idm-eight : length idm ≡ idmSize
+  pub idm_eight : length idm ≡ idm_size
   pub some : 1 ≤ length blocks
-  pub few : length blocks ≤ mostBlocks
+  pub few : length blocks ≤ most_blocks
 
-fits : (idm blocks : List ℕ) (r : Bool) → r ≡ requestFits idm blocks → r ≡ true → Named idm blocks
-unfolding requestFits
+fits : (idm blocks : List ℕ) (r : Bool) → r ≡ request_fits idm blocks → r ≡ true → Named idm blocks
+unfolding request_fits
 fits idm blocks r known good =
     let h = sym known ∙ good in
-    let both-h = both_right (idmFits idm) _ h in
+    let both-h = both_right (idm_fits idm) _ h in
     record {
-      idm-eight = eqb-true (length idm) idmSize (both_left (idmFits idm) _ h);
+      idm_eight = eqb-true (length idm) idm_size (both_left (idm_fits idm) _ h);
       some = leb-true 1 (length blocks) (both_left (leb 1 (length blocks)) _ both-h);
-      few = leb-true (length blocks) mostBlocks (both_right (leb 1 (length blocks)) _ both-h);
+      few = leb-true (length blocks) most_blocks (both_right (leb 1 (length blocks)) _ both-h);
     }
 
-write_bytes : (idm blocks bytes : List ℕ) (r : Bool) → r ≡ writeFits idm blocks bytes → r ≡ true → (length bytes ≤ blockSize * mostBlocks) × Named idm blocks
-unfolding writeFits
+write_bytes : (idm blocks bytes : List ℕ) (r : Bool) → r ≡ write_fits_of idm blocks bytes → r ≡ true → (length bytes ≤ block_size * most_blocks) × Named idm blocks
+unfolding write_fits_of
 write_bytes idm blocks bytes r known good =
     let h = sym known ∙ good in
-    let f = fits idm blocks (requestFits idm blocks) refl (both_left (requestFits idm blocks) _ h) in
-    let e : length bytes ≡ blockSize * length blocks = eqb-true (length bytes) (blockSize * length blocks) (both_right (requestFits idm blocks) _ h) in
+    let f = fits idm blocks (request_fits idm blocks) refl (both_left (request_fits idm blocks) _ h) in
+    let e : length bytes ≡ block_size * length blocks = eqb-true (length bytes) (block_size * length blocks) (both_right (request_fits idm blocks) _ h) in
     (omega (arith, f.few), f)
 
 -- of a read's reply: the IDm; with flag 1 at 0 the data of at most 4 blocks
-module _ (idm bytes : List ℕ) (flag1 : ℕ) (r : Bool) (known : r ≡ readReplyFits idm flag1 bytes) (good : r ≡ true) where
-  pub reply-idm : length idm ≡ idmSize
-  unfolding readReplyFits
-  reply-idm = eqb-true (length idm) idmSize (both_left (idmFits idm) _ (sym known ∙ good))
+module _ (idm bytes : List ℕ) (flag1 : ℕ) (r : Bool) (known : r ≡ read_reply_fits idm flag1 bytes) (good : r ≡ true) where
+  pub reply_idm : length idm ≡ idm_size
+  unfolding read_reply_fits
+  reply_idm = eqb-true (length idm) idm_size (both_left (idm_fits idm) _ (sym known ∙ good))
 
-  pub reply-bytes : flag1 ≡ 0 → length bytes ≤ blockSize * mostBlocks
-  unfolding readReplyFits pick areBlocks
-  reply-bytes z =
-      let h : pick (eqb flag1 0) (areBlocks (length bytes)) (eqb (length bytes) 0) ≡ true = both_right (idmFits idm) _ (sym known ∙ good) in
-      let k : areBlocks (length bytes) ≡ true = rw (eq-eqb flag1 0 z) at h in
-      leb-true (length bytes) (blockSize * mostBlocks) (both_right (leb blockSize (length bytes)) _ (both_right (eqb (length bytes % blockSize) 0) _ k))
+  pub reply_bytes_lem : flag1 ≡ 0 → length bytes ≤ block_size * most_blocks
+  unfolding read_reply_fits pick are_blocks_of
+  reply_bytes_lem z =
+      let h : pick (eqb flag1 0) (are_blocks_of (length bytes)) (eqb (length bytes) 0) ≡ true = both_right (idm_fits idm) _ (sym known ∙ good) in
+      let k : are_blocks_of (length bytes) ≡ true = rw (eq-eqb flag1 0 z) at h in
+      leb-true (length bytes) (block_size * most_blocks) (both_right (leb block_size (length bytes)) _ (both_right (eqb (length bytes % block_size) 0) _ k))
 
   module _ (x : Left) (flag2 : ℕ) (b : List ℕ) where
-    pub built-blocks : flag1 ≡ 0 → x ≡ putFrame (replyPacket readReplyCode idm flag1 flag2 (length bytes / blockSize ∷ bytes)) b
-        → x ≡ builtOf (readReplyFits idm flag1 bytes) (readReply idm flag1 flag2 bytes) b
-    unfolding builtOf pick
-    built-blocks z e = rw (sym known ∙ good, eq-eqb flag1 0 z) e
+    pub built_blocks : flag1 ≡ 0 → x ≡ put_frame (reply_packet read_reply_code idm flag1 flag2 (length bytes / block_size ∷ bytes)) b
+        → x ≡ built_of (read_reply_fits idm flag1 bytes) (read_reply_of idm flag1 flag2 bytes) b
+    unfolding built_of pick
+    built_blocks z e = rw (sym known ∙ good, eq-eqb flag1 0 z) e
 
-    pub built-flags : (flag1 ≡ 0 → ⊥) → x ≡ putFrame (replyPacket readReplyCode idm flag1 flag2 []) b
-        → x ≡ builtOf (readReplyFits idm flag1 bytes) (readReply idm flag1 flag2 bytes) b
-    unfolding builtOf pick
-    built-flags n e = rw (sym known ∙ good, ne_eqb flag1 0 n) e
+    pub built_flags : (flag1 ≡ 0 → ⊥) → x ≡ put_frame (reply_packet read_reply_code idm flag1 flag2 []) b
+        → x ≡ built_of (read_reply_fits idm flag1 bytes) (read_reply_of idm flag1 flag2 bytes) b
+    unfolding built_of pick
+    built_flags n e = rw (sym known ∙ good, ne_eqb flag1 0 n) e
 
 -- by the test that a call answered: built, or refused
 module _ (p b : List ℕ) (r t : Bool) (known : r ≡ t) where
-  pub built : (x : Left) → r ≡ true → x ≡ putFrame p b → x ≡ builtOf t p b
-  unfolding builtOf pick
+  pub built : (x : Left) → r ≡ true → x ≡ put_frame p b → x ≡ built_of t p b
+  unfolding built_of pick
   built x good e = rw (sym known ∙ good) e
 
-  pub not-built : r ≡ false → left (refused (numbered BadArgument)) b ≡ builtOf t p b
-  unfolding builtOf pick
-  not-built bad = rw (sym known ∙ bad)
+  pub not_built : r ≡ false → left (refused (numbered BadArgument)) b ≡ built_of t p b
+  unfolding built_of pick
+  not_built bad = rw (sym known ∙ bad)
 
 -- the same where the code made the test itself
 module _ (p b idm : List ℕ) where
-  pub as-built : (x : Left) → length idm ≡ idmSize → x ≡ putFrame p b → x ≡ builtOf (idmFits idm) p b
-  as-built x h e = built p b true (idmFits idm) (sym (eq-eqb (length idm) idmSize h)) x refl e
+  pub as_built : (x : Left) → length idm ≡ idm_size → x ≡ put_frame p b → x ≡ built_of (idm_fits idm) p b
+  as_built x h e = built p b true (idm_fits idm) (sym (eq-eqb (length idm) idm_size h)) x refl e
 
-  pub as-refused : (length idm ≡ idmSize → ⊥) → left (refused (numbered BadArgument)) b ≡ builtOf (idmFits idm) p b
-  as-refused h = not-built p b false (idmFits idm) (sym (ne_eqb (length idm) idmSize h)) refl
+  pub as_refused : (length idm ≡ idm_size → ⊥) → left (refused (numbered BadArgument)) b ≡ built_of (idm_fits idm) p b
+  as_refused h = not_built p b false (idm_fits idm) (sym (ne_eqb (length idm) idm_size h)) refl
 
-module _ (idm blocks : List ℕ) (r : Bool) (known : r ≡ requestFits idm blocks) (good : r ≡ true) where
-  pub fits-idm : length idm ≡ idmSize
-  fits-idm = (fits idm blocks r known good).idm-eight
+module _ (idm blocks : List ℕ) (r : Bool) (known : r ≡ request_fits idm blocks) (good : r ≡ true) where
+  pub fits_idm : length idm ≡ idm_size
+  fits_idm = (fits idm blocks r known good).idm_eight
 
-  pub fits-few : length blocks ≤ mostBlocks
-  fits-few = (fits idm blocks r known good).few
+  pub fits_few : length blocks ≤ most_blocks
+  fits_few = (fits idm blocks r known good).few
 
-  pub fits-some : 1 ≤ length blocks
-  fits-some = (fits idm blocks r known good).some
+  pub fits_some : 1 ≤ length blocks
+  fits_some = (fits idm blocks r known good).some
 
-  pub fits-product : Fits w64 (blockSize * length blocks)
-  fits-product = record { fits = omega (arith, fits-few) }
+  pub fits_product : Fits w64 (block_size * length blocks)
+  fits_product = record { fits = omega (arith, fits_few) }
 
-module _ (idm blocks bytes : List ℕ) (r : Bool) (known : r ≡ writeFits idm blocks bytes) (good : r ≡ true) where
-  pub write-idm : length idm ≡ idmSize
-  write-idm = (write_bytes idm blocks bytes r known good).1.idm-eight
+module _ (idm blocks bytes : List ℕ) (r : Bool) (known : r ≡ write_fits_of idm blocks bytes) (good : r ≡ true) where
+  pub write_idm : length idm ≡ idm_size
+  write_idm = (write_bytes idm blocks bytes r known good).1.idm_eight
 
-  pub write-few : length blocks ≤ mostBlocks
-  write-few = (write_bytes idm blocks bytes r known good).1.few
+  pub write_few : length blocks ≤ most_blocks
+  write_few = (write_bytes idm blocks bytes r known good).1.few
 
-  pub write-few-bytes : length bytes ≤ blockSize * mostBlocks
-  write-few-bytes = (write_bytes idm blocks bytes r known good).0
+  pub write_few_bytes : length bytes ≤ block_size * most_blocks
+  write_few_bytes = (write_bytes idm blocks bytes r known good).0
 
-module _ (idm blocks bytes : List ℕ) (h : writeFits idm blocks bytes ≡ true) where
-  pub write-named : requestFits idm blocks ≡ true
-  unfolding writeFits
-  write-named = both_left (requestFits idm blocks) _ h
+module _ (idm blocks bytes : List ℕ) (h : write_fits_of idm blocks bytes ≡ true) where
+  pub write_named : request_fits idm blocks ≡ true
+  unfolding write_fits_of
+  write_named = both_left (request_fits idm blocks) _ h
 
-  pub write-sixteen : length bytes ≡ blockSize * length blocks
-  unfolding writeFits
-  write-sixteen = eqb-true (length bytes) (blockSize * length blocks) (both_right (requestFits idm blocks) _ h)
+  pub write_sixteen : length bytes ≡ block_size * length blocks
+  unfolding write_fits_of
+  write_sixteen = eqb-true (length bytes) (block_size * length blocks) (both_right (request_fits idm blocks) _ h)

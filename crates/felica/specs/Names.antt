@@ -3,61 +3,61 @@
 use Rattle.std.specs.Prelude.{ℕ, ◌+◌}
 
 -- the bytes of an IDm and of a block, and the most blocks of a request
-abbrev pub idmSize : ℕ
-idmSize = 8
+abbrev pub idm_size : ℕ
+idm_size = 8
 
-abbrev pub blockSize : ℕ
-blockSize = 16
+abbrev pub block_size : ℕ
+block_size = 16
 
-abbrev pub mostBlocks : ℕ
-mostBlocks = 4
+abbrev pub most_blocks : ℕ
+most_blocks = 4
 
 -- an element of the block list: its bytes, and the first of them (bit 7 for two bytes, access mode 000, the first service)
-abbrev pub elementSize : ℕ
-elementSize = 2
+abbrev pub element_size : ℕ
+element_size = 2
 
 abbrev pub element : ℕ
 element = 0x80
 
 -- of every packet: the code, the IDm, and what follows it
-abbrev pub codeOffset : ℕ
-codeOffset = 1
+abbrev pub code_offset : ℕ
+code_offset = 1
 
-abbrev pub idmOffset : ℕ
-idmOffset = 2
+abbrev pub idm_offset : ℕ
+idm_offset = 2
 
-abbrev pub idmEnd : ℕ
-idmEnd = idmOffset + idmSize
+abbrev pub idm_end : ℕ
+idm_end = idm_offset + idm_size
 
 -- a request names one service
-abbrev pub oneService : ℕ
-oneService = 0x01
+abbrev pub one_service : ℕ
+one_service = 0x01
 
 -- of a request: the number of services, the service code, the number of blocks, and the bytes up to the block list
-abbrev pub servicesOffset : ℕ
-servicesOffset = idmEnd
+abbrev pub services_offset : ℕ
+services_offset = idm_end
 
-abbrev pub serviceLowOffset : ℕ
-serviceLowOffset = servicesOffset + 1
+abbrev pub service_low_offset : ℕ
+service_low_offset = services_offset + 1
 
-abbrev pub serviceHighOffset : ℕ
-serviceHighOffset = serviceLowOffset + 1
+abbrev pub service_high_offset : ℕ
+service_high_offset = service_low_offset + 1
 
-abbrev pub countOffset : ℕ
-countOffset = serviceHighOffset + 1
+abbrev pub count_offset : ℕ
+count_offset = service_high_offset + 1
 
-abbrev pub requestHead : ℕ
-requestHead = countOffset + 1
+abbrev pub request_head : ℕ
+request_head = count_offset + 1
 
 -- of a reply: the status flags, where they end and the number of blocks stands, and the block data
-abbrev pub flag1Offset : ℕ
-flag1Offset = idmEnd
+abbrev pub flag1_offset : ℕ
+flag1_offset = idm_end
 
-abbrev pub flag2Offset : ℕ
-flag2Offset = flag1Offset + 1
+abbrev pub flag2_offset : ℕ
+flag2_offset = flag1_offset + 1
 
-abbrev pub flagsEnd : ℕ
-flagsEnd = flag2Offset + 1
+abbrev pub flags_end : ℕ
+flags_end = flag2_offset + 1
 
-abbrev pub blocksOffset : ℕ
-blocksOffset = flagsEnd + 1
+abbrev pub blocks_offset : ℕ
+blocks_offset = flags_end + 1

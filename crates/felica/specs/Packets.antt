@@ -3,80 +3,80 @@
 use Rattle.std.specs.Prelude.{Bool, List, [], ◌∷◌, ◌++◌, ℕ, suc, ◌*◌, ◌/◌, ◌%◌, eqb, leb, length}
 use Rattle.errors.specs.Choice.{pick}
 use Rattle.errors.specs.Refusals.{refused, plain, numbered}
-use Rattle.framing.specs.Build.{Left, left, putFrame}
+use Rattle.framing.specs.Build.{Left, left, put_frame}
 use Rattle.framing.specs.Lists.{both}
-use Rattle.felica.specs.Names.{idmSize, blockSize, mostBlocks, element, oneService}
+use Rattle.felica.specs.Names.{idm_size, block_size, most_blocks, element, one_service}
 use Rattle.errors.specs.declared.Refusal.TheVariants.{BadArgument}
 
 -- the codes
 abbrev pub read_code : ℕ
 read_code = 0x06
 
-abbrev pub readReplyCode : ℕ
-readReplyCode = 0x07
+abbrev pub read_reply_code : ℕ
+read_reply_code = 0x07
 
-abbrev pub writeCode : ℕ
-writeCode = 0x08
+abbrev pub write_code : ℕ
+write_code = 0x08
 
-abbrev pub writeReplyCode : ℕ
-writeReplyCode = 0x09
+abbrev pub write_reply_code : ℕ
+write_reply_code = 0x09
 
 -- every packet begins with LEN, the number of its bytes, LEN included
 unfoldable pub packet : List ℕ → List ℕ
 packet bytes = suc (length bytes) ∷ bytes
 
 -- the block list: of each element the first byte, and the block number
-unfoldable pub blockList : List ℕ → List ℕ
-blockList [] = []
-blockList (number ∷ numbers) = element ∷ number ∷ blockList numbers
+unfoldable pub block_list : List ℕ → List ℕ
+block_list [] = []
+block_list (number ∷ numbers) = element ∷ number ∷ block_list numbers
 
 -- code, IDm, one service, its code low byte first, the number of blocks, the block list, and what follows it
 unfoldable pub request : ℕ → List ℕ → ℕ → List ℕ → List ℕ → List ℕ
 request code idm service blocks bytes =
-    packet (code ∷ idm ++ (oneService ∷ service % 256 ∷ service / 256 ∷ length blocks ∷ blockList blocks ++ bytes))
+    packet (code ∷ idm ++ (one_service ∷ service % 256 ∷ service / 256 ∷ length blocks ∷ block_list blocks ++ bytes))
 
-abbrev pub readRequest : List ℕ → ℕ → List ℕ → List ℕ
-readRequest idm service blocks = request read_code idm service blocks []
+abbrev pub read_request_of : List ℕ → ℕ → List ℕ → List ℕ
+read_request_of idm service blocks = request read_code idm service blocks []
 
-abbrev pub writeRequest : List ℕ → ℕ → List ℕ → List ℕ → List ℕ
-writeRequest idm service blocks bytes = request writeCode idm service blocks bytes
+abbrev pub write_request_of : List ℕ → ℕ → List ℕ → List ℕ → List ℕ
+write_request_of idm service blocks bytes = request write_code idm service blocks bytes
 
 -- code, IDm, status flags 1 and 2, and what follows them
-unfoldable pub replyPacket : ℕ → List ℕ → ℕ → ℕ → List ℕ → List ℕ
-replyPacket code idm flag1 flag2 bytes = packet (code ∷ idm ++ (flag1 ∷ flag2 ∷ bytes))
+unfoldable pub reply_packet : ℕ → List ℕ → ℕ → ℕ → List ℕ → List ℕ
+reply_packet code idm flag1 flag2 bytes = packet (code ∷ idm ++ (flag1 ∷ flag2 ∷ bytes))
 
 -- number of blocks and block data, 16 bytes each, only where status flag 1 is 00
-abbrev pub blocksRead : ℕ → List ℕ → List ℕ
-blocksRead flag1 bytes = pick (eqb flag1 0) (length bytes / blockSize ∷ bytes) []
+abbrev pub blocks_read : ℕ → List ℕ → List ℕ
+blocks_read flag1 bytes = pick (eqb flag1 0) (length bytes / block_size ∷ bytes) []
 
-abbrev pub readReply : List ℕ → ℕ → ℕ → List ℕ → List ℕ
-readReply idm flag1 flag2 bytes = replyPacket readReplyCode idm flag1 flag2 (blocksRead flag1 bytes)
+abbrev pub read_reply_of : List ℕ → ℕ → ℕ → List ℕ → List ℕ
+read_reply_of idm flag1 flag2 bytes = reply_packet read_reply_code idm flag1 flag2 (blocks_read flag1 bytes)
 
-abbrev pub writeReply : List ℕ → ℕ → ℕ → List ℕ
-writeReply idm flag1 flag2 = replyPacket writeReplyCode idm flag1 flag2 []
+abbrev pub write_reply_of : List ℕ → ℕ → ℕ → List ℕ
+write_reply_of idm flag1 flag2 = reply_packet write_reply_code idm flag1 flag2 []
 
 -- ---- what there is a packet of
 
 -- an IDm has 8 bytes
-abbrev pub idmFits : List ℕ → Bool
-idmFits idm = eqb (length idm) idmSize
+abbrev pub idm_fits : List ℕ → Bool
+idm_fits idm = eqb (length idm) idm_size
 
 -- 1 to 4 blocks are asked for
-unfoldable pub requestFits : List ℕ → List ℕ → Bool
-requestFits idm blocks = both (idmFits idm) (both (leb 1 (length blocks)) (leb (length blocks) mostBlocks))
+unfoldable pub request_fits : List ℕ → List ℕ → Bool
+request_fits idm blocks = both (idm_fits idm) (both (leb 1 (length blocks)) (leb (length blocks) most_blocks))
 
 -- 16 bytes a block are written
-unfoldable pub writeFits : List ℕ → List ℕ → List ℕ → Bool
-writeFits idm blocks bytes = both (requestFits idm blocks) (eqb (length bytes) (blockSize * length blocks))
+unfoldable pub write_fits_of : List ℕ → List ℕ → List ℕ → Bool
+write_fits_of idm blocks bytes = both (request_fits idm blocks) (eqb (length bytes) (block_size * length blocks))
 
 -- 16 bytes a block, 1 to 4 blocks
-unfoldable pub areBlocks : ℕ → Bool
-areBlocks n = both (eqb (n % blockSize) 0) (both (leb blockSize n) (leb n (blockSize * mostBlocks)))
+unfoldable pub are_blocks_of : ℕ → Bool
+are_blocks_of n = both (eqb (n % block_size) 0) (both (leb block_size n) (leb n (block_size * most_blocks)))
 
 -- no block data where status flag 1 is not 00
-unfoldable pub readReplyFits : List ℕ → ℕ → List ℕ → Bool
-readReplyFits idm flag1 bytes = both (idmFits idm) (pick (eqb flag1 0) (areBlocks (length bytes)) (eqb (length bytes) 0))
+unfoldable pub read_reply_fits : List ℕ → ℕ → List ℕ → Bool
+read_reply_fits idm flag1 bytes = both (idm_fits idm) (pick (eqb flag1 0) (are_blocks_of (length bytes)) (eqb (length bytes) 0))
 
 -- what building answers and leaves in the buffer b: 4 where there is no such packet, then 2, nothing written; else the packet at the buffer's start
-unfoldable pub builtOf : Bool → List ℕ → List ℕ → Left
-builtOf fits p b = pick fits (putFrame p b) (left (refused (numbered BadArgument)) b)
+unfoldable pub built_of : Bool → List ℕ → List ℕ → Left
+built_of fits p b = pick fits (put_frame p b) (left (refused (numbered BadArgument)) b)

@@ -1,4 +1,4 @@
--- Taking apart undoes building, and takes apart nothing else: `requestOf` gives the fields exactly where the bytes are a request of them.
+-- Taking apart undoes building, and takes apart nothing else: `request_of` gives the fields exactly where the bytes are a request of them.
 use Rattle.std.specs.Prelude.{◌≡◌, refl, Bool, true, false, eqb, leb}
 use Rattle.std.proofs.Math.Path.{sym, ap, ap₂}
 use Rattle.std.proofs.Common.{◌∙◌, subst, arith, length-take, take-append-drop, drop_of_length-le, drop-drop, take_at, drop_at}
@@ -10,27 +10,27 @@ use Rattle.std.proofs.Math.Seq.{drop-cons}
 use Rattle.errors.specs.Choice.{pick}
 use Rattle.framing.specs.Lists.{both, Bytes}
 use Rattle.framing.specs.Valid.{both_left, both_right}
-use Rattle.felica.specs.Names.{idmSize, blockSize, mostBlocks, elementSize, element, codeOffset, idmOffset, servicesOffset, serviceLowOffset, serviceHighOffset, countOffset, requestHead, oneService}
-use Rattle.felica.specs.Packets.{packet, blockList, request, readRequest, writeRequest, read_code, writeCode, requestFits, writeFits}
-use Rattle.felica.specs.Fields.{idmIn, serviceIn, countIn, listIn, blockDataIn, numbersIn, isBlockList, asksBlocks, isRequest, reads, writes, noRequest, requestOf}
+use Rattle.felica.specs.Names.{idm_size, block_size, most_blocks, element_size, element, code_offset, idm_offset, services_offset, service_low_offset, service_high_offset, count_offset, request_head, one_service}
+use Rattle.felica.specs.Packets.{packet, block_list, request, read_request_of, write_request_of, read_code, write_code, request_fits, write_fits_of}
+use Rattle.felica.specs.Fields.{idm_in, service_in, count_in, list_in, block_data_in, numbers_in, is_block_list_of, asks_blocks, is_request_of, reads, writes, no_request, request_of}
 use Rattle.felica.specs.Lists.{eight, list_length}
-use Rattle.felica.specs.Taken.{list-within}
-use Rattle.felica.specs.Laid.{request-length, fits-idm, fits-few, fits-some, write-named, write-sixteen}
+use Rattle.felica.specs.Taken.{list_within}
+use Rattle.felica.specs.Laid.{request-length, fits_idm, fits_few, fits_some, write_named, write_sixteen}
 
 -- ---- block lists
 
-numbers-back : (l : List ℕ) → numbersIn (blockList l) ≡ l
-unfolding blockList numbersIn
-numbers-back [] = refl
-numbers-back (x ∷ l) = ap (λ r. x ∷ r) (numbers-back l)
+numbers_back : (l : List ℕ) → numbers_in (block_list l) ≡ l
+unfolding block_list numbers_in
+numbers_back [] = refl
+numbers_back (x ∷ l) = ap (λ r. x ∷ r) (numbers_back l)
 
-is-list : (l : List ℕ) → isBlockList (blockList l) ≡ true
-unfolding blockList isBlockList
-is-list [] = refl
-is-list (x ∷ l) = is-list l
+is_list : (l : List ℕ) → is_block_list_of (block_list l) ≡ true
+unfolding block_list is_block_list_of
+is_list [] = refl
+is_list (x ∷ l) = is_list l
 
-list_back : (l : List ℕ) → isBlockList l ≡ true → blockList (numbersIn l) ≡ l
-unfolding blockList numbersIn isBlockList
+list_back : (l : List ℕ) → is_block_list_of l ≡ true → block_list (numbers_in l) ≡ l
+unfolding block_list numbers_in is_block_list_of
 list_back [] h = refl
 list_back (x ∷ []) h = absurd (let z : ◌≡◌ {A = Bool} false true = h in let e : ◌≡◌ {A = ℕ} 0 1 = cc in omega arith)
 list_back (x ∷ y ∷ l) h =
@@ -40,224 +40,224 @@ list_back (x ∷ y ∷ l) h =
 
 pub record RequestParts (p : List ℕ) (code : ℕ) (idm : List ℕ) (service : ℕ) (blocks bytes : List ℕ) : Type 0 where
   pub len : get_or p 0 0 ≡ length p
-  pub codeIs : get_or p codeOffset 0 ≡ code
-  pub one : get_or p servicesOffset 0 ≡ 1
-  pub idmIs : idmIn p ≡ idm
-  pub serviceIs : serviceIn p ≡ service
-  pub count : countIn p ≡ length blocks
-  pub list : listIn p ≡ blockList blocks
-  pub bytesIs : blockDataIn (countIn p) p ≡ bytes
+  pub code_is : get_or p code_offset 0 ≡ code
+  pub one : get_or p services_offset 0 ≡ 1
+  pub idm_is : idm_in p ≡ idm
+  pub service_is : service_in p ≡ service
+  pub count : count_in p ≡ length blocks
+  pub list : list_in p ≡ block_list blocks
+  pub bytes_is : block_data_in (count_in p) p ≡ bytes
 
-eight-parts : (code service a b c d e f g h : ℕ) (blocks bytes : List ℕ)
+eight_parts : (code service a b c d e f g h : ℕ) (blocks bytes : List ℕ)
     → RequestParts (request code (a ∷ b ∷ c ∷ d ∷ e ∷ f ∷ g ∷ h ∷ []) service blocks bytes) code (a ∷ b ∷ c ∷ d ∷ e ∷ f ∷ g ∷ h ∷ []) service blocks bytes
 unfolding request packet
-eight-parts code service a b c d e f g h blocks bytes =
+eight_parts code service a b c d e f g h blocks bytes =
     record {
       len = refl;
-      codeIs = refl;
+      code_is = refl;
       one = refl;
-      idmIs = refl;
-      serviceIs = omega arith;
+      idm_is = refl;
+      service_is = omega arith;
       count = refl;
-      list = take_at (blockList blocks) bytes (elementSize * length blocks) (list_length blocks);
-      bytesIs =
-          sym (drop-drop (elementSize * length blocks) requestHead (request code (a ∷ b ∷ c ∷ d ∷ e ∷ f ∷ g ∷ h ∷ []) service blocks bytes))
-          ∙ drop_at (blockList blocks) bytes (elementSize * length blocks) (list_length blocks);
+      list = take_at (block_list blocks) bytes (element_size * length blocks) (list_length blocks);
+      bytes_is =
+          sym (drop-drop (element_size * length blocks) request_head (request code (a ∷ b ∷ c ∷ d ∷ e ∷ f ∷ g ∷ h ∷ []) service blocks bytes))
+          ∙ drop_at (block_list blocks) bytes (element_size * length blocks) (list_length blocks);
     }
 
-pub parts : (code service : ℕ) (idm blocks bytes : List ℕ) → length idm ≡ idmSize → RequestParts (request code idm service blocks bytes) code idm service blocks bytes
+pub parts : (code service : ℕ) (idm blocks bytes : List ℕ) → length idm ≡ idm_size → RequestParts (request code idm service blocks bytes) code idm service blocks bytes
 parts code service idm blocks bytes h =
     subst (λ l. RequestParts (request code l service blocks bytes) code l service blocks bytes) (eight idm h)
-    (eight-parts code service (get_or idm 0 0) (get_or idm 1 0) (get_or idm 2 0) (get_or idm 3 0) (get_or idm 4 0) (get_or idm 5 0) (get_or idm 6 0) (get_or idm 7 0) blocks bytes)
+    (eight_parts code service (get_or idm 0 0) (get_or idm 1 0) (get_or idm 2 0) (get_or idm 3 0) (get_or idm 4 0) (get_or idm 5 0) (get_or idm 6 0) (get_or idm 7 0) blocks bytes)
 
 -- ---- build, then take apart
 
-module _ (code service s : ℕ) (idm blocks bytes : List ℕ) (h : length idm ≡ idmSize) (some : 1 ≤ length blocks) (few : length blocks ≤ mostBlocks) where
-  is-request : length (request code idm service blocks bytes) ≡ requestHead + (elementSize + s) * length blocks → isRequest code s (request code idm service blocks bytes) ≡ true
-  unfolding isRequest asksBlocks
+module _ (code service s : ℕ) (idm blocks bytes : List ℕ) (h : length idm ≡ idm_size) (some : 1 ≤ length blocks) (few : length blocks ≤ most_blocks) where
+  is-request : length (request code idm service blocks bytes) ≡ request_head + (element_size + s) * length blocks → is_request_of code s (request code idm service blocks bytes) ≡ true
+  unfolding is_request_of asks_blocks
   is-request n =
       let p : List ℕ = request code idm service blocks bytes in
       let q = parts code service idm blocks bytes h in
-      rw (eq-eqb (get_or p 0 0) (length p) q.len, eq-eqb (get_or p codeOffset 0) code q.codeIs, eq-eqb (get_or p servicesOffset 0) 1 q.one, q.list, q.count, le-leb 1 (length blocks) some, le-leb (length blocks) mostBlocks few, eq-eqb (length p) (requestHead + (elementSize + s) * length blocks) n)
-      (is-list blocks)
+      rw (eq-eqb (get_or p 0 0) (length p) q.len, eq-eqb (get_or p code_offset 0) code q.code_is, eq-eqb (get_or p services_offset 0) 1 q.one, q.list, q.count, le-leb 1 (length blocks) some, le-leb (length blocks) most_blocks few, eq-eqb (length p) (request_head + (element_size + s) * length blocks) n)
+      (is_list blocks)
 
   -- another code
-  no-request : (other t : ℕ) → eqb code other ≡ false → isRequest other t (request code idm service blocks bytes) ≡ false
-  unfolding isRequest
+  no-request : (other t : ℕ) → eqb code other ≡ false → is_request_of other t (request code idm service blocks bytes) ≡ false
+  unfolding is_request_of
   no-request other t ne =
       let p : List ℕ = request code idm service blocks bytes in
       let q = parts code service idm blocks bytes h in
-      rw (eq-eqb (get_or p 0 0) (length p) q.len, q.codeIs, ne)
+      rw (eq-eqb (get_or p 0 0) (length p) q.len, q.code_is, ne)
 
-  numbers : numbersIn (listIn (request code idm service blocks bytes)) ≡ blocks
-  numbers = ap numbersIn (parts code service idm blocks bytes h).list ∙ numbers-back blocks
+  numbers : numbers_in (list_in (request code idm service blocks bytes)) ≡ blocks
+  numbers = ap numbers_in (parts code service idm blocks bytes h).list ∙ numbers_back blocks
 
-pub read_back : (idm blocks : List ℕ) (service : ℕ) → requestFits idm blocks ≡ true → requestOf (readRequest idm service blocks) ≡ reads idm service blocks
-unfolding requestOf pick
+pub read_back : (idm blocks : List ℕ) (service : ℕ) → request_fits idm blocks ≡ true → request_of (read_request_of idm service blocks) ≡ reads idm service blocks
+unfolding request_of pick
 read_back idm blocks service f =
-    let h = fits-idm idm blocks true (sym f) refl in
-    let few = fits-few idm blocks true (sym f) refl in
-    let some = fits-some idm blocks true (sym f) refl in
+    let h = fits_idm idm blocks true (sym f) refl in
+    let few = fits_few idm blocks true (sym f) refl in
+    let some = fits_some idm blocks true (sym f) refl in
     let q = parts read_code service idm blocks [] h in
     rw (is-request read_code service 0 idm blocks [] h some few (omega (arith, request-length read_code service idm blocks [] h)))
-    (ap (λ i. reads i (serviceIn (readRequest idm service blocks)) (numbersIn (listIn (readRequest idm service blocks)))) q.idmIs
-    ∙ ap₂ (reads idm) q.serviceIs (numbers read_code service 0 idm blocks [] h some few))
+    (ap (λ i. reads i (service_in (read_request_of idm service blocks)) (numbers_in (list_in (read_request_of idm service blocks)))) q.idm_is
+    ∙ ap₂ (reads idm) q.service_is (numbers read_code service 0 idm blocks [] h some few))
 
-pub write-back : (idm blocks bytes : List ℕ) (service : ℕ) → writeFits idm blocks bytes ≡ true
-    → requestOf (writeRequest idm service blocks bytes) ≡ writes idm service blocks bytes
-unfolding requestOf pick
-write-back idm blocks bytes service f =
-    let g = write-named idm blocks bytes f in
-    let n = write-sixteen idm blocks bytes f in
-    let h = fits-idm idm blocks true (sym g) refl in
-    let few = fits-few idm blocks true (sym g) refl in
-    let some = fits-some idm blocks true (sym g) refl in
-    let p : List ℕ = writeRequest idm service blocks bytes in
-    let q = parts writeCode service idm blocks bytes h in
-    rw (no-request writeCode service blockSize idm blocks bytes h some few read_code 0 refl, is-request writeCode service blockSize idm blocks bytes h some few (omega (arith, n, request-length writeCode service idm blocks bytes h)))
-    (ap₂ (λ i l. writes i (serviceIn p) (numbersIn (listIn p)) l) q.idmIs q.bytesIs
-    ∙ ap₂ (λ x y. writes idm x y bytes) q.serviceIs (numbers writeCode service blockSize idm blocks bytes h some few))
+pub write_back : (idm blocks bytes : List ℕ) (service : ℕ) → write_fits_of idm blocks bytes ≡ true
+    → request_of (write_request_of idm service blocks bytes) ≡ writes idm service blocks bytes
+unfolding request_of pick
+write_back idm blocks bytes service f =
+    let g = write_named idm blocks bytes f in
+    let n = write_sixteen idm blocks bytes f in
+    let h = fits_idm idm blocks true (sym g) refl in
+    let few = fits_few idm blocks true (sym g) refl in
+    let some = fits_some idm blocks true (sym g) refl in
+    let p : List ℕ = write_request_of idm service blocks bytes in
+    let q = parts write_code service idm blocks bytes h in
+    rw (no-request write_code service block_size idm blocks bytes h some few read_code 0 refl, is-request write_code service block_size idm blocks bytes h some few (omega (arith, n, request-length write_code service idm blocks bytes h)))
+    (ap₂ (λ i l. writes i (service_in p) (numbers_in (list_in p)) l) q.idm_is q.bytes_is
+    ∙ ap₂ (λ x y. writes idm x y bytes) q.service_is (numbers write_code service block_size idm blocks bytes h some few))
 
 -- ---- what is taken apart is a request
 
-module _ (code s : ℕ) (p : List ℕ) (good : isRequest code s p ≡ true) where
+module _ (code s : ℕ) (p : List ℕ) (good : is_request_of code s p ≡ true) where
   len : get_or p 0 0 ≡ length p
-  unfolding isRequest
+  unfolding is_request_of
   len = eqb-true (get_or p 0 0) (length p) (both_left (eqb (get_or p 0 0) (length p)) _ good)
 
-  behind-len : both (eqb (get_or p codeOffset 0) code) (both (eqb (get_or p servicesOffset 0) 1) (asksBlocks s p)) ≡ true
-  unfolding isRequest
+  behind-len : both (eqb (get_or p code_offset 0) code) (both (eqb (get_or p services_offset 0) 1) (asks_blocks s p)) ≡ true
+  unfolding is_request_of
   behind-len = both_right (eqb (get_or p 0 0) (length p)) _ good
 
-  behind-code : both (eqb (get_or p servicesOffset 0) 1) (asksBlocks s p) ≡ true
-  behind-code = both_right (eqb (get_or p codeOffset 0) code) _ behind-len
+  behind-code : both (eqb (get_or p services_offset 0) 1) (asks_blocks s p) ≡ true
+  behind-code = both_right (eqb (get_or p code_offset 0) code) _ behind-len
 
-  asked : both (leb 1 (countIn p)) (both (leb (countIn p) mostBlocks) (both (eqb (length p) (requestHead + (elementSize + s) * countIn p)) (isBlockList (listIn p)))) ≡ true
-  unfolding asksBlocks
-  asked = both_right (eqb (get_or p servicesOffset 0) 1) _ behind-code
+  asked : both (leb 1 (count_in p)) (both (leb (count_in p) most_blocks) (both (eqb (length p) (request_head + (element_size + s) * count_in p)) (is_block_list_of (list_in p)))) ≡ true
+  unfolding asks_blocks
+  asked = both_right (eqb (get_or p services_offset 0) 1) _ behind-code
 
-  some : 1 ≤ countIn p
-  some = leb-true 1 (countIn p) (both_left (leb 1 (countIn p)) _ asked)
+  some : 1 ≤ count_in p
+  some = leb-true 1 (count_in p) (both_left (leb 1 (count_in p)) _ asked)
 
-  few : countIn p ≤ mostBlocks
-  few = leb-true (countIn p) mostBlocks (both_left (leb (countIn p) mostBlocks) _ (both_right (leb 1 (countIn p)) _ asked))
+  few : count_in p ≤ most_blocks
+  few = leb-true (count_in p) most_blocks (both_left (leb (count_in p) most_blocks) _ (both_right (leb 1 (count_in p)) _ asked))
 
-  listed : both (eqb (length p) (requestHead + (elementSize + s) * countIn p)) (isBlockList (listIn p)) ≡ true
-  listed = both_right (leb (countIn p) mostBlocks) _ (both_right (leb 1 (countIn p)) _ asked)
+  listed : both (eqb (length p) (request_head + (element_size + s) * count_in p)) (is_block_list_of (list_in p)) ≡ true
+  listed = both_right (leb (count_in p) most_blocks) _ (both_right (leb 1 (count_in p)) _ asked)
 
-  whole : length p ≡ requestHead + (elementSize + s) * countIn p
-  whole = eqb-true (length p) (requestHead + (elementSize + s) * countIn p) (both_left (eqb (length p) (requestHead + (elementSize + s) * countIn p)) _ listed)
+  whole : length p ≡ request_head + (element_size + s) * count_in p
+  whole = eqb-true (length p) (request_head + (element_size + s) * count_in p) (both_left (eqb (length p) (request_head + (element_size + s) * count_in p)) _ listed)
 
-  room : requestHead + elementSize * countIn p ≤ length p
-  room = list-within p s (countIn p) whole few
+  room : request_head + element_size * count_in p ≤ length p
+  room = list_within p s (count_in p) whole few
 
-  list : blockList (numbersIn (listIn p)) ≡ listIn p
-  list = list_back (listIn p) (both_right (eqb (length p) (requestHead + (elementSize + s) * countIn p)) _ listed)
+  list : block_list (numbers_in (list_in p)) ≡ list_in p
+  list = list_back (list_in p) (both_right (eqb (length p) (request_head + (element_size + s) * count_in p)) _ listed)
 
-  numbered : length (numbersIn (listIn p)) ≡ countIn p
+  numbered : length (numbers_in (list_in p)) ≡ count_in p
   numbered =
-      let n : elementSize * length (numbersIn (listIn p)) ≡ length (listIn p) = sym (list_length (numbersIn (listIn p))) ∙ ap length list in
-      omega (arith, n, length-take (elementSize * countIn p) (drop requestHead p), length-drop requestHead p, room)
+      let n : element_size * length (numbers_in (list_in p)) ≡ length (list_in p) = sym (list_length (numbers_in (list_in p))) ∙ ap length list in
+      omega (arith, n, length-take (element_size * count_in p) (drop request_head p), length-drop request_head p, room)
 
-  idm-eight : length (idmIn p) ≡ idmSize
-  idm-eight = omega (arith, length-take idmSize (drop idmOffset p), length-drop idmOffset p, room)
+  idm_eight : length (idm_in p) ≡ idm_size
+  idm_eight = omega (arith, length-take idm_size (drop idm_offset p), length-drop idm_offset p, room)
 
-  named : requestFits (idmIn p) (numbersIn (listIn p)) ≡ true
-  unfolding requestFits
+  named : request_fits (idm_in p) (numbers_in (list_in p)) ≡ true
+  unfolding request_fits
   named =
-      rw (eq-eqb (length (idmIn p)) idmSize idm-eight, numbered, le-leb 1 (countIn p) some)
-      (le-leb (countIn p) mostBlocks few)
+      rw (eq-eqb (length (idm_in p)) idm_size idm_eight, numbered, le-leb 1 (count_in p) some)
+      (le-leb (count_in p) most_blocks few)
 
   -- the bytes are those of its fields
-  is : Bytes p → p ≡ request code (idmIn p) (serviceIn p) (numbersIn (listIn p)) (blockDataIn (countIn p) p)
+  is : Bytes p → p ≡ request code (idm_in p) (service_in p) (numbers_in (list_in p)) (block_data_in (count_in p) p)
   unfolding request packet
   is bytes =
-      let low : get_or p serviceLowOffset 0 ≡ serviceIn p % 256 = omega (arith, bytes serviceLowOffset, bytes serviceHighOffset) in
-      let high : get_or p serviceHighOffset 0 ≡ serviceIn p / 256 = omega (arith, bytes serviceLowOffset, bytes serviceHighOffset) in
-      let number : get_or p countOffset 0 ≡ length (numbersIn (listIn p)) = sym numbered in
-      let first : get_or p codeOffset 0 ≡ code = eqb-true (get_or p codeOffset 0) code (both_left (eqb (get_or p codeOffset 0) code) _ behind-len) in
-      let one : get_or p servicesOffset 0 ≡ 1 = eqb-true (get_or p servicesOffset 0) 1 (both_left (eqb (get_or p servicesOffset 0) 1) _ behind-code) in
-      let tail : drop requestHead p ≡ blockList (numbersIn (listIn p)) ++ blockDataIn (countIn p) p =
-      sym (take-append-drop (elementSize * countIn p) (drop requestHead p)) ∙ ap₂ (λ x y. x ++ y) (sym list) (drop-drop (elementSize * countIn p) requestHead p) in
-      let from-services : drop servicesOffset p ≡ oneService ∷ serviceIn p % 256 ∷ serviceIn p / 256 ∷ length (numbersIn (listIn p)) ∷ blockList (numbersIn (listIn p)) ++ blockDataIn (countIn p) p =
-      drop-cons p servicesOffset 0 (omega (arith, room))
-      ∙ ap₂ (λ x r. x ∷ r) one (drop-cons p serviceLowOffset 0 (omega (arith, room))
-      ∙ ap₂ (λ x r. x ∷ r) low (drop-cons p serviceHighOffset 0 (omega (arith, room))
-      ∙ ap₂ (λ x r. x ∷ r) high (drop-cons p countOffset 0 (omega (arith, room))
+      let low : get_or p service_low_offset 0 ≡ service_in p % 256 = omega (arith, bytes service_low_offset, bytes service_high_offset) in
+      let high : get_or p service_high_offset 0 ≡ service_in p / 256 = omega (arith, bytes service_low_offset, bytes service_high_offset) in
+      let number : get_or p count_offset 0 ≡ length (numbers_in (list_in p)) = sym numbered in
+      let first : get_or p code_offset 0 ≡ code = eqb-true (get_or p code_offset 0) code (both_left (eqb (get_or p code_offset 0) code) _ behind-len) in
+      let one : get_or p services_offset 0 ≡ 1 = eqb-true (get_or p services_offset 0) 1 (both_left (eqb (get_or p services_offset 0) 1) _ behind-code) in
+      let tail : drop request_head p ≡ block_list (numbers_in (list_in p)) ++ block_data_in (count_in p) p =
+      sym (take-append-drop (element_size * count_in p) (drop request_head p)) ∙ ap₂ (λ x y. x ++ y) (sym list) (drop-drop (element_size * count_in p) request_head p) in
+      let from-services : drop services_offset p ≡ one_service ∷ service_in p % 256 ∷ service_in p / 256 ∷ length (numbers_in (list_in p)) ∷ block_list (numbers_in (list_in p)) ++ block_data_in (count_in p) p =
+      drop-cons p services_offset 0 (omega (arith, room))
+      ∙ ap₂ (λ x r. x ∷ r) one (drop-cons p service_low_offset 0 (omega (arith, room))
+      ∙ ap₂ (λ x r. x ∷ r) low (drop-cons p service_high_offset 0 (omega (arith, room))
+      ∙ ap₂ (λ x r. x ∷ r) high (drop-cons p count_offset 0 (omega (arith, room))
       ∙ ap₂ (λ x r. x ∷ r) number tail))) in
-      let from-idm : drop idmOffset p ≡ idmIn p ++ drop servicesOffset p = sym (take-append-drop idmSize (drop idmOffset p)) ∙ ap (λ r. idmIn p ++ r) (drop-drop idmSize idmOffset p) in
-      let from-code : drop codeOffset p ≡ code ∷ idmIn p ++ (oneService ∷ serviceIn p % 256 ∷ serviceIn p / 256 ∷ length (numbersIn (listIn p)) ∷ blockList (numbersIn (listIn p)) ++ blockDataIn (countIn p) p) =
-      drop-cons p codeOffset 0 (omega (arith, room)) ∙ ap₂ (λ x r. x ∷ r) first (from-idm ∙ ap (λ r. idmIn p ++ r) from-services) in
-      let n : get_or p 0 0 ≡ suc (length (drop codeOffset p)) = omega (arith, len, length-drop codeOffset p, room) in
-      drop-cons p 0 0 (omega (arith, room)) ∙ ap (λ x. x ∷ drop codeOffset p) n ∙ ap (λ r. suc (length r) ∷ r) from-code
+      let from-idm : drop idm_offset p ≡ idm_in p ++ drop services_offset p = sym (take-append-drop idm_size (drop idm_offset p)) ∙ ap (λ r. idm_in p ++ r) (drop-drop idm_size idm_offset p) in
+      let from-code : drop code_offset p ≡ code ∷ idm_in p ++ (one_service ∷ service_in p % 256 ∷ service_in p / 256 ∷ length (numbers_in (list_in p)) ∷ block_list (numbers_in (list_in p)) ++ block_data_in (count_in p) p) =
+      drop-cons p code_offset 0 (omega (arith, room)) ∙ ap₂ (λ x r. x ∷ r) first (from-idm ∙ ap (λ r. idm_in p ++ r) from-services) in
+      let n : get_or p 0 0 ≡ suc (length (drop code_offset p)) = omega (arith, len, length-drop code_offset p, room) in
+      drop-cons p 0 0 (omega (arith, room)) ∙ ap (λ x. x ∷ drop code_offset p) n ∙ ap (λ r. suc (length r) ∷ r) from-code
 
 pub record IsReadRequest (p idm : List ℕ) (service : ℕ) (blocks : List ℕ) : Type 0 where
-  pub is : p ≡ readRequest idm service blocks
-  pub fits : requestFits idm blocks ≡ true
+  pub is : p ≡ read_request_of idm service blocks
+  pub fits : request_fits idm blocks ≡ true
 
 pub record IsWriteRequest (p idm : List ℕ) (service : ℕ) (blocks bytes : List ℕ) : Type 0 where
-  pub is : p ≡ writeRequest idm service blocks bytes
-  pub fits : writeFits idm blocks bytes ≡ true
+  pub is : p ≡ write_request_of idm service blocks bytes
+  pub fits : write_fits_of idm blocks bytes ≡ true
 
-read_here : (p : List ℕ) → Bytes p → isRequest read_code 0 p ≡ true → IsReadRequest p (idmIn p) (serviceIn p) (numbersIn (listIn p))
+read_here : (p : List ℕ) → Bytes p → is_request_of read_code 0 p ≡ true → IsReadRequest p (idm_in p) (service_in p) (numbers_in (list_in p))
 read_here p bytes h =
-    let n : length p ≤ requestHead + elementSize * countIn p = omega (arith, whole read_code 0 p h) in
+    let n : length p ≤ request_head + element_size * count_in p = omega (arith, whole read_code 0 p h) in
     record {
-      is = is read_code 0 p h bytes ∙ ap (request read_code (idmIn p) (serviceIn p) (numbersIn (listIn p))) (drop_of_length-le p {i = requestHead + elementSize * countIn p} n);
+      is = is read_code 0 p h bytes ∙ ap (request read_code (idm_in p) (service_in p) (numbers_in (list_in p))) (drop_of_length-le p {i = request_head + element_size * count_in p} n);
       fits = named read_code 0 p h;
     }
 
-write-here : (p : List ℕ) → Bytes p → isRequest writeCode blockSize p ≡ true → IsWriteRequest p (idmIn p) (serviceIn p) (numbersIn (listIn p)) (blockDataIn (countIn p) p)
-unfolding writeFits
-write-here p bytes h =
-    let n : length (blockDataIn (countIn p) p) ≡ blockSize * length (numbersIn (listIn p)) =
-    omega (arith, whole writeCode blockSize p h, numbered writeCode blockSize p h, length-drop (requestHead + elementSize * countIn p) p) in
+write_here : (p : List ℕ) → Bytes p → is_request_of write_code block_size p ≡ true → IsWriteRequest p (idm_in p) (service_in p) (numbers_in (list_in p)) (block_data_in (count_in p) p)
+unfolding write_fits_of
+write_here p bytes h =
+    let n : length (block_data_in (count_in p) p) ≡ block_size * length (numbers_in (list_in p)) =
+    omega (arith, whole write_code block_size p h, numbered write_code block_size p h, length-drop (request_head + element_size * count_in p) p) in
     record {
-      is = is writeCode blockSize p h bytes;
-      fits = rw (named writeCode blockSize p h) (eq-eqb (length (blockDataIn (countIn p) p)) (blockSize * length (numbersIn (listIn p))) n);
+      is = is write_code block_size p h bytes;
+      fits = rw (named write_code block_size p h) (eq-eqb (length (block_data_in (count_in p) p)) (block_size * length (numbers_in (list_in p))) n);
     }
 
 -- exactly where the bytes are a request of these fields
-pub read_only : (p idm : List ℕ) (service : ℕ) (blocks : List ℕ) → Bytes p → requestOf p ≡ reads idm service blocks → IsReadRequest p idm service blocks
-unfolding requestOf pick
-read_only p idm service blocks bytes h = go (isRequest read_code 0 p) refl (isRequest writeCode blockSize p) h
+pub read_only : (p idm : List ℕ) (service : ℕ) (blocks : List ℕ) → Bytes p → request_of p ≡ reads idm service blocks → IsReadRequest p idm service blocks
+unfolding request_of pick
+read_only p idm service blocks bytes h = go (is_request_of read_code 0 p) refl (is_request_of write_code block_size p) h
   where
-    go : (t : Bool) → isRequest read_code 0 p ≡ t → (u : Bool)
-        → pick t (reads (idmIn p) (serviceIn p) (numbersIn (listIn p))) (pick u (writes (idmIn p) (serviceIn p) (numbersIn (listIn p)) (blockDataIn (countIn p) p)) noRequest) ≡ reads idm service blocks
+    go : (t : Bool) → is_request_of read_code 0 p ≡ t → (u : Bool)
+        → pick t (reads (idm_in p) (service_in p) (numbers_in (list_in p))) (pick u (writes (idm_in p) (service_in p) (numbers_in (list_in p)) (block_data_in (count_in p) p)) no_request) ≡ reads idm service blocks
         → IsReadRequest p idm service blocks
     go true e u k =
-        let a : idmIn p ≡ idm = cc in
-        let b : serviceIn p ≡ service = cc in
-        let c : numbersIn (listIn p) ≡ blocks = cc in
+        let a : idm_in p ≡ idm = cc in
+        let b : service_in p ≡ service = cc in
+        let c : numbers_in (list_in p) ≡ blocks = cc in
         rw (a, b, c) at (read_here p bytes e)
     go false e true k = absurd (let z : ◌≡◌ {A = ℕ} 0 1 = cc in omega arith)
     go false e false k = absurd (let z : ◌≡◌ {A = ℕ} 0 1 = cc in omega arith)
 
-pub write-only : (p idm : List ℕ) (service : ℕ) (blocks sent : List ℕ) → Bytes p → requestOf p ≡ writes idm service blocks sent → IsWriteRequest p idm service blocks sent
-unfolding requestOf pick
-write-only p idm service blocks sent bytes h = go (isRequest read_code 0 p) (isRequest writeCode blockSize p) refl h
+pub write_only : (p idm : List ℕ) (service : ℕ) (blocks sent : List ℕ) → Bytes p → request_of p ≡ writes idm service blocks sent → IsWriteRequest p idm service blocks sent
+unfolding request_of pick
+write_only p idm service blocks sent bytes h = go (is_request_of read_code 0 p) (is_request_of write_code block_size p) refl h
   where
-    go : (t u : Bool) → isRequest writeCode blockSize p ≡ u
-        → pick t (reads (idmIn p) (serviceIn p) (numbersIn (listIn p))) (pick u (writes (idmIn p) (serviceIn p) (numbersIn (listIn p)) (blockDataIn (countIn p) p)) noRequest) ≡ writes idm service blocks sent
+    go : (t u : Bool) → is_request_of write_code block_size p ≡ u
+        → pick t (reads (idm_in p) (service_in p) (numbers_in (list_in p))) (pick u (writes (idm_in p) (service_in p) (numbers_in (list_in p)) (block_data_in (count_in p) p)) no_request) ≡ writes idm service blocks sent
         → IsWriteRequest p idm service blocks sent
     go true u e k = absurd (let z : ◌≡◌ {A = ℕ} 0 1 = cc in omega arith)
     go false true e k =
-        let a : idmIn p ≡ idm = cc in
-        let b : serviceIn p ≡ service = cc in
-        let c : numbersIn (listIn p) ≡ blocks = cc in
-        let d : blockDataIn (countIn p) p ≡ sent = cc in
-        rw (a, b, c, d) at (write-here p bytes e)
+        let a : idm_in p ≡ idm = cc in
+        let b : service_in p ≡ service = cc in
+        let c : numbers_in (list_in p) ≡ blocks = cc in
+        let d : block_data_in (count_in p) p ≡ sent = cc in
+        rw (a, b, c, d) at (write_here p bytes e)
     go false false e k = absurd (let z : ◌≡◌ {A = ℕ} 0 1 = cc in omega arith)
 
 -- none: the bytes are no request
-pub none_read : (p idm : List ℕ) (service : ℕ) (blocks : List ℕ) → requestOf p ≡ noRequest → IsReadRequest p idm service blocks → ⊥
+pub none_read : (p idm : List ℕ) (service : ℕ) (blocks : List ℕ) → request_of p ≡ no_request → IsReadRequest p idm service blocks → ⊥
 none_read p idm service blocks h r =
-    let k : requestOf p ≡ reads idm service blocks = ap requestOf r.is ∙ read_back idm blocks service r.fits in
+    let k : request_of p ≡ reads idm service blocks = ap request_of r.is ∙ read_back idm blocks service r.fits in
     let z : ◌≡◌ {A = ℕ} 0 1 = cc in
     omega arith
 
-pub none_written : (p idm : List ℕ) (service : ℕ) (blocks bytes : List ℕ) → requestOf p ≡ noRequest → IsWriteRequest p idm service blocks bytes → ⊥
+pub none_written : (p idm : List ℕ) (service : ℕ) (blocks bytes : List ℕ) → request_of p ≡ no_request → IsWriteRequest p idm service blocks bytes → ⊥
 none_written p idm service blocks bytes h r =
-    let k : requestOf p ≡ writes idm service blocks bytes = ap requestOf r.is ∙ write-back idm blocks bytes service r.fits in
+    let k : request_of p ≡ writes idm service blocks bytes = ap request_of r.is ∙ write_back idm blocks bytes service r.fits in
     let z : ◌≡◌ {A = ℕ} 0 1 = cc in
     omega arith

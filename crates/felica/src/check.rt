@@ -1,7 +1,7 @@
 // What a reply says to the one who sent the request (document 02, N5).
 ghost use Rattle.std.specs.Prelude.{◌≡◌};
-ghost use Rattle.felica.specs.Fields.{idmIn, countIn};
-ghost use Rattle.felica.specs.Checks.{is_complete, isFrom, byFlags, checkOf, readCheck, writeCheck};
+ghost use Rattle.felica.specs.Fields.{idm_in, count_in};
+ghost use Rattle.felica.specs.Checks.{is_complete, is_from_of, by_flags_of, check_of, read_check, write_check};
 
 use super::reply::{FLAG1_OFFSET, FLAG2_OFFSET, FLAGS_END, has_blocks};
 use super::request::COUNT_OFFSET;
@@ -34,7 +34,7 @@ fn is_complete(whole: bool, reply: &[u8]) -> bool
 
 // The reply has this code, and comes from the card of this IDm.
 fn is_from(code: u8, idm: &[u8], reply: &[u8]) -> bool
-    ensures { result ≡ isFrom code idm.now reply.now }
+    ensures { result ≡ is_from_of code idm.now reply.now }
 {
     if byte_at(reply, CODE_OFFSET) == code {
         framing::is_exactly(super::idm(reply), idm)
@@ -45,7 +45,7 @@ fn is_from(code: u8, idm: &[u8], reply: &[u8]) -> bool
 
 // Flag 1 at 0; else 20, with both flags.
 fn by_flags(flag1: u8, flag2: u8) -> Checked
-    ensures { result ≡ byFlags flag1 flag2 }
+    ensures { result ≡ by_flags_of flag1 flag2 }
 {
     if flag1 == 0 {
         Checked::Good
@@ -56,7 +56,7 @@ fn by_flags(flag1: u8, flag2: u8) -> Checked
 
 // 16, 21, 20 in this order.
 fn check_reply(code: u8, idm: &[u8], whole: bool, reply: &[u8]) -> Checked
-    ensures { result ≡ checkOf code idm.now whole reply.now }
+    ensures { result ≡ check_of code idm.now whole reply.now }
 {
     if is_complete(whole, reply) {
         if is_from(code, idm, reply) {
@@ -71,7 +71,7 @@ fn check_reply(code: u8, idm: &[u8], whole: bool, reply: &[u8]) -> Checked
 
 // The reply to a read request, by the request's IDm and number of blocks.
 pub fn check_read(request: &[u8], reply: &[u8]) -> Checked
-    ensures { result ≡ readCheck (idmIn request.now) (countIn request.now) reply.now }
+    ensures { result ≡ read_check (idm_in request.now) (count_in request.now) reply.now }
 {
     let n = byte_at(request, COUNT_OFFSET);
     check_reply(READ_REPLY_CODE, idm(request), has_blocks(n, reply), reply)
@@ -79,7 +79,7 @@ pub fn check_read(request: &[u8], reply: &[u8]) -> Checked
 
 // The reply to a write request.
 pub fn check_write(request: &[u8], reply: &[u8]) -> Checked
-    ensures { result ≡ writeCheck (idmIn request.now) reply.now }
+    ensures { result ≡ write_check (idm_in request.now) reply.now }
 {
     check_reply(
         WRITE_REPLY_CODE,

@@ -1,10 +1,12 @@
 // FeliCa's commands without encryption (JIS X 6319-4), for one service and 1 to 4 blocks: requests and replies built and taken apart.
+#![tactic(auto)]
+
 pub mod check;
 pub mod reply;
 pub mod request;
 
 ghost use Rattle.std.specs.Prelude.{◌≡◌, ◌++◌, ◌+◌, ◌≤◌, ◌<◌, length, take, drop, get_or};
-ghost use Rattle.felica.specs.Fields.{idmIn};
+ghost use Rattle.felica.specs.Fields.{idm_in};
 
 // The codes.
 pub const READ_CODE: u8 = 0x06;
@@ -61,7 +63,7 @@ fn put_part(part: &[u8], buffer: &mut [u8], at: usize)
 
 // The IDm of a packet: bytes 2 to 9, as far as there are any.
 pub fn idm(packet: &[u8]) -> &[u8]
-    ensures { result.now ≡ idmIn packet.now }
+    ensures { result.now ≡ idm_in packet.now }
 {
     let n = packet.len();
     if n < IDM_OFFSET {

@@ -1,9 +1,9 @@
 // Replies to Read and Write Without Encryption. `flag1` and `flag2` are their status flags.
 ghost use Rattle.std.specs.Prelude.{◌≡◌, [], ◌∷◌, ◌++◌, ◌*◌, ◌/◌, ◌≤◌, length};
-ghost use Rattle.framing.specs.Build.{returned, left, putFrame};
-ghost use Rattle.felica.specs.Names.{idmSize, blockSize, mostBlocks};
-ghost use Rattle.felica.specs.Packets.{replyPacket, readReply, writeReply, areBlocks, readReplyFits, builtOf, idmFits};
-ghost use Rattle.felica.specs.Fields.{replyFieldsIn, replyFieldsOf, isReply, hasBlocks, isReadReply, isWriteReply, readsBlocks, blocksIn};
+ghost use Rattle.framing.specs.Build.{returned, left, put_frame};
+ghost use Rattle.felica.specs.Names.{idm_size, block_size, most_blocks};
+ghost use Rattle.felica.specs.Packets.{reply_packet, read_reply_of, write_reply_of, are_blocks_of, read_reply_fits, built_of, idm_fits};
+ghost use Rattle.felica.specs.Fields.{reply_fields_in, reply_fields_of, is_reply_of, has_blocks_of, is_read_reply_of, is_write_reply_of, reads_blocks_of, blocks_in};
 
 use super::{
     BLOCK_SIZE, CODE_OFFSET, IDM_SIZE, MOST_BLOCKS, READ_REPLY_CODE, WRITE_REPLY_CODE, byte_at,
@@ -31,7 +31,7 @@ pub enum Reply {
 
 // Whether there are 16 bytes for each of 1 to 4 blocks.
 fn are_blocks(n: usize) -> bool
-    ensures { result ≡ areBlocks n }
+    ensures { result ≡ are_blocks_of n }
 {
     if n % BLOCK_SIZE != 0 {
         return false;
@@ -44,7 +44,7 @@ fn are_blocks(n: usize) -> bool
 
 // Whether there is a reply from this card with this flag and this block data.
 fn read_fits(idm: &[u8], flag1: u8, bytes: &[u8]) -> bool
-    ensures { result ≡ readReplyFits idm.now flag1 bytes.now }
+    ensures { result ≡ read_reply_fits idm.now flag1 bytes.now }
 {
     if idm.len() != IDM_SIZE {
         return false;
@@ -58,7 +58,7 @@ fn read_fits(idm: &[u8], flag1: u8, bytes: &[u8]) -> bool
 
 // The bytes of a reply up to its flags.
 fn head(len: u8, code: u8, idm: &[u8], flag1: u8, flag2: u8) -> [u8; FLAGS_END]
-    requires { length idm.now ≡ idmSize }
+    requires { length idm.now ≡ idm_size }
     ensures { result ≡ len ∷ code ∷ idm.now ++ (flag1 ∷ flag2 ∷ []) }
 {
     [
@@ -68,8 +68,8 @@ fn head(len: u8, code: u8, idm: &[u8], flag1: u8, flag2: u8) -> [u8; FLAGS_END]
 
 // Writes a reply without block data.
 fn put_flags(code: u8, idm: &[u8], flag1: u8, flag2: u8, buffer: &mut [u8]) -> Built
-    requires { length idm.now ≡ idmSize }
-    ensures { left (returned result) buffer.new ≡ putFrame (replyPacket code idm.now flag1 flag2 []) buffer.old }
+    requires { length idm.now ≡ idm_size }
+    ensures { left (returned result) buffer.new ≡ put_frame (reply_packet code idm.now flag1 flag2 []) buffer.old }
 {
     if buffer.len() < FLAGS_END {
         return Built::Refused(Refusal::ShortBuffer);
@@ -81,8 +81,8 @@ fn put_flags(code: u8, idm: &[u8], flag1: u8, flag2: u8, buffer: &mut [u8]) -> B
 
 // Writes a reply with the number of blocks and their data.
 fn put_blocks(code: u8, idm: &[u8], flag1: u8, flag2: u8, bytes: &[u8], buffer: &mut [u8]) -> Built
-    requires { (length idm.now ≡ idmSize) × (length bytes.now ≤ blockSize * mostBlocks) }
-    ensures { left (returned result) buffer.new ≡ putFrame (replyPacket code idm.now flag1 flag2 (length bytes.now / blockSize ∷ bytes.now)) buffer.old }
+    requires { (length idm.now ≡ idm_size) × (length bytes.now ≤ block_size * most_blocks) }
+    ensures { left (returned result) buffer.new ≡ put_frame (reply_packet code idm.now flag1 flag2 (length bytes.now / block_size ∷ bytes.now)) buffer.old }
 {
     let len = BLOCKS_OFFSET + bytes.len();
     if buffer.len() < len {
@@ -98,7 +98,7 @@ fn put_blocks(code: u8, idm: &[u8], flag1: u8, flag2: u8, bytes: &[u8], buffer: 
 // The reply to a read; 4 where the IDm has not 8 bytes, or there is not block data of 1 to 4 blocks where flag 1 is 0 and else none,
 // then 2, and nothing is written.
 pub fn build_read_reply(idm: &[u8], flag1: u8, flag2: u8, bytes: &[u8], buffer: &mut [u8]) -> Built
-    ensures { left (returned result) buffer.new ≡ builtOf (readReplyFits idm.now flag1 bytes.now) (readReply idm.now flag1 flag2 bytes.now) buffer.old }
+    ensures { left (returned result) buffer.new ≡ built_of (read_reply_fits idm.now flag1 bytes.now) (read_reply_of idm.now flag1 flag2 bytes.now) buffer.old }
 {
     if read_fits(idm, flag1, bytes) {
         if flag1 == 0 {
@@ -113,7 +113,7 @@ pub fn build_read_reply(idm: &[u8], flag1: u8, flag2: u8, bytes: &[u8], buffer: 
 
 // The reply to a write; 4 where the IDm has not 8 bytes.
 pub fn build_write_reply(idm: &[u8], flag1: u8, flag2: u8, buffer: &mut [u8]) -> Built
-    ensures { left (returned result) buffer.new ≡ builtOf (idmFits idm.now) (writeReply idm.now flag1 flag2) buffer.old }
+    ensures { left (returned result) buffer.new ≡ built_of (idm_fits idm.now) (write_reply_of idm.now flag1 flag2) buffer.old }
 {
     if idm.len() == IDM_SIZE {
         put_flags(WRITE_REPLY_CODE, idm, flag1, flag2, buffer)
@@ -124,7 +124,7 @@ pub fn build_write_reply(idm: &[u8], flag1: u8, flag2: u8, buffer: &mut [u8]) ->
 
 // Whether the packet has its length, the flags and this code.
 fn is_reply(code: u8, packet: &[u8]) -> bool
-    ensures { result ≡ isReply code packet.now }
+    ensures { result ≡ is_reply_of code packet.now }
 {
     if packet.len() < FLAGS_END {
         return false;
@@ -137,7 +137,7 @@ fn is_reply(code: u8, packet: &[u8]) -> bool
 
 // Whether n blocks stand behind the flags, and their number.
 pub(crate) fn has_blocks(n: u8, packet: &[u8]) -> bool
-    ensures { result ≡ hasBlocks n packet.now }
+    ensures { result ≡ has_blocks_of n packet.now }
 {
     if byte_at(packet, FLAGS_END) != n {
         return false;
@@ -147,7 +147,7 @@ pub(crate) fn has_blocks(n: u8, packet: &[u8]) -> bool
 
 // Whether 1 to 4 blocks stand behind the flags where flag 1 is 0, and else nothing.
 fn reads_blocks(packet: &[u8]) -> bool
-    ensures { result ≡ readsBlocks packet.now }
+    ensures { result ≡ reads_blocks_of packet.now }
 {
     if byte_at(packet, FLAG1_OFFSET) == 0 {
         let n = byte_at(packet, FLAGS_END);
@@ -164,7 +164,7 @@ fn reads_blocks(packet: &[u8]) -> bool
 }
 
 fn is_read_reply(packet: &[u8]) -> bool
-    ensures { result ≡ isReadReply packet.now }
+    ensures { result ≡ is_read_reply_of packet.now }
 {
     if is_reply(READ_REPLY_CODE, packet) {
         reads_blocks(packet)
@@ -174,7 +174,7 @@ fn is_read_reply(packet: &[u8]) -> bool
 }
 
 fn is_write_reply(packet: &[u8]) -> bool
-    ensures { result ≡ isWriteReply packet.now }
+    ensures { result ≡ is_write_reply_of packet.now }
 {
     if is_reply(WRITE_REPLY_CODE, packet) {
         packet.len() == FLAGS_END
@@ -185,7 +185,7 @@ fn is_write_reply(packet: &[u8]) -> bool
 
 // A reply taken apart; other bytes give nothing.
 pub fn parse_reply(packet: &[u8]) -> Reply
-    ensures { replyFieldsIn result packet.now ≡ replyFieldsOf packet.now }
+    ensures { reply_fields_in result packet.now ≡ reply_fields_of packet.now }
 {
     let flag1 = byte_at(packet, FLAG1_OFFSET);
     let flag2 = byte_at(packet, FLAG2_OFFSET);
@@ -200,7 +200,7 @@ pub fn parse_reply(packet: &[u8]) -> Reply
 
 // What stands behind the flags and the number of blocks: a read's block data.
 pub fn blocks_read(packet: &[u8]) -> &[u8]
-    ensures { result.now ≡ blocksIn packet.now }
+    ensures { result.now ≡ blocks_in packet.now }
 {
     let n = packet.len();
     if n < BLOCKS_OFFSET {

@@ -1,9 +1,9 @@
 // Requests: Read and Write Without Encryption.
 ghost use Rattle.std.specs.Prelude.{◌≡◌, ◌++◌, ◌+◌, ◌*◌, ◌≤◌, length, take, drop};
-ghost use Rattle.framing.specs.Build.{returned, left, putFrame};
-ghost use Rattle.felica.specs.Names.{idmSize, blockSize, mostBlocks, elementSize, requestHead};
-ghost use Rattle.felica.specs.Packets.{request, blockList, readRequest, writeRequest, requestFits, writeFits, builtOf};
-ghost use Rattle.felica.specs.Fields.{isRequest, asksBlocks, isBlockList, countIn, blockDataIn, fourIn, askedIn, parsedRequest};
+ghost use Rattle.framing.specs.Build.{returned, left, put_frame};
+ghost use Rattle.felica.specs.Names.{idm_size, block_size, most_blocks, element_size, request_head};
+ghost use Rattle.felica.specs.Packets.{request, block_list, read_request_of, write_request_of, request_fits, write_fits_of, built_of};
+ghost use Rattle.felica.specs.Fields.{is_request_of, asks_blocks, is_block_list_of, count_in, block_data_in, four_in, asked_in, parsed_request};
 
 use super::{
     BLOCK_SIZE, BlockNumbers, CODE_OFFSET, IDM_SIZE, MOST_BLOCKS, READ_CODE, WRITE_CODE, byte_at,
@@ -48,7 +48,7 @@ pub enum Request {
 
 // Whether there is a request for this card and these blocks.
 fn fits(idm: &[u8], blocks: &[u8]) -> bool
-    ensures { result ≡ requestFits idm.now blocks.now }
+    ensures { result ≡ request_fits idm.now blocks.now }
 {
     if idm.len() != IDM_SIZE {
         return false;
@@ -60,7 +60,7 @@ fn fits(idm: &[u8], blocks: &[u8]) -> bool
 }
 
 fn write_fits(idm: &[u8], blocks: &[u8], bytes: &[u8]) -> bool
-    ensures { result ≡ writeFits idm.now blocks.now bytes.now }
+    ensures { result ≡ write_fits_of idm.now blocks.now bytes.now }
 {
     if fits(idm, blocks) {
         bytes.len() == BLOCK_SIZE * blocks.len()
@@ -78,8 +78,8 @@ fn put_request(
     bytes: &[u8],
     buffer: &mut [u8],
 ) -> Built
-    requires { (length idm.now ≡ idmSize) × (length blocks.now ≤ mostBlocks) × (length bytes.now ≤ blockSize * mostBlocks) }
-    ensures { left (returned result) buffer.new ≡ putFrame (request code idm.now service blocks.now bytes.now) buffer.old }
+    requires { (length idm.now ≡ idm_size) × (length blocks.now ≤ most_blocks) × (length bytes.now ≤ block_size * most_blocks) }
+    ensures { left (returned result) buffer.new ≡ put_frame (request code idm.now service blocks.now bytes.now) buffer.old }
 {
     let n = blocks.len();
     let at = REQUEST_HEAD + ELEMENT_SIZE * n;
@@ -111,8 +111,8 @@ fn put_request(
 
 // Writes the block list behind the head of a request.
 fn put_list(blocks: &[u8], buffer: &mut [u8])
-    requires { (length blocks.now ≤ mostBlocks) × (requestHead + elementSize * length blocks.now ≤ length buffer.old) }
-    ensures { buffer.new ≡ take requestHead buffer.old ++ (blockList blocks.now ++ drop (requestHead + elementSize * length blocks.now) buffer.old) }
+    requires { (length blocks.now ≤ most_blocks) × (request_head + element_size * length blocks.now ≤ length buffer.old) }
+    ensures { buffer.new ≡ take request_head buffer.old ++ (block_list blocks.now ++ drop (request_head + element_size * length blocks.now) buffer.old) }
 {
     let list = [
         ELEMENT,
@@ -129,7 +129,7 @@ fn put_list(blocks: &[u8], buffer: &mut [u8])
 
 // Read Without Encryption of these blocks; 4 where the IDm has not 8 bytes or there are not 1 to 4 blocks, then 2, and nothing is written.
 pub fn build_read_request(idm: &[u8], service: u16, blocks: &[u8], buffer: &mut [u8]) -> Built
-    ensures { left (returned result) buffer.new ≡ builtOf (requestFits idm.now blocks.now) (readRequest idm.now service blocks.now) buffer.old }
+    ensures { left (returned result) buffer.new ≡ built_of (request_fits idm.now blocks.now) (read_request_of idm.now service blocks.now) buffer.old }
 {
     if fits(idm, blocks) {
         put_request(READ_CODE, idm, service, blocks, &[], buffer)
@@ -146,7 +146,7 @@ pub fn build_write_request(
     bytes: &[u8],
     buffer: &mut [u8],
 ) -> Built
-    ensures { left (returned result) buffer.new ≡ builtOf (writeFits idm.now blocks.now bytes.now) (writeRequest idm.now service blocks.now bytes.now) buffer.old }
+    ensures { left (returned result) buffer.new ≡ built_of (write_fits_of idm.now blocks.now bytes.now) (write_request_of idm.now service blocks.now bytes.now) buffer.old }
 {
     if write_fits(idm, blocks, bytes) {
         put_request(WRITE_CODE, idm, service, blocks, bytes, buffer)
@@ -157,7 +157,7 @@ pub fn build_write_request(
 
 // Whether these are two-byte block list elements of the first service.
 fn is_block_list(list: &[u8]) -> bool
-    ensures { result ≡ isBlockList list.now }
+    ensures { result ≡ is_block_list_of list.now }
 {
     let mut i = 0;
     while i + 1 < list.len() {
@@ -171,8 +171,8 @@ fn is_block_list(list: &[u8]) -> bool
 
 // Whether 1 to 4 blocks are asked for with `size` bytes of data each, and nothing stands behind them.
 fn asks_blocks(size: usize, packet: &[u8]) -> bool
-    requires { size ≤ blockSize }
-    ensures { result ≡ asksBlocks size packet.now }
+    requires { size ≤ block_size }
+    ensures { result ≡ asks_blocks size packet.now }
 {
     let n = number_at(packet, COUNT_OFFSET);
     if n < 1 {
@@ -189,8 +189,8 @@ fn asks_blocks(size: usize, packet: &[u8]) -> bool
 
 // Whether the packet is a request of a code with `size` bytes of data a block.
 fn is_request(code: u8, size: usize, packet: &[u8]) -> bool
-    requires { size ≤ blockSize }
-    ensures { result ≡ isRequest code size packet.now }
+    requires { size ≤ block_size }
+    ensures { result ≡ is_request_of code size packet.now }
 {
     if number_at(packet, 0) != packet.len() {
         return false;
@@ -213,7 +213,7 @@ fn service_code(low: u8, high: u8) -> u16
 
 // The block numbers of a list's first four elements, 0 where it has fewer.
 fn block_numbers(list: &[u8]) -> BlockNumbers
-    ensures { result ≡ fourIn list.now }
+    ensures { result ≡ four_in list.now }
 {
     BlockNumbers(
         byte_at(list, 1),
@@ -225,8 +225,8 @@ fn block_numbers(list: &[u8]) -> BlockNumbers
 
 // What a request asks for.
 fn asked_for(packet: &[u8]) -> Asked
-    requires { requestHead + elementSize * countIn packet.now ≤ length packet.now }
-    ensures { result ≡ askedIn packet.now }
+    requires { request_head + element_size * count_in packet.now ≤ length packet.now }
+    ensures { result ≡ asked_in packet.now }
 {
     let count = byte_at(packet, COUNT_OFFSET);
     let end = REQUEST_HEAD + ELEMENT_SIZE * wide(count);
@@ -242,7 +242,7 @@ fn asked_for(packet: &[u8]) -> Asked
 
 // A request taken apart; other bytes give nothing.
 pub fn parse_request(packet: &[u8]) -> Request
-    ensures { result ≡ parsedRequest packet.now }
+    ensures { result ≡ parsed_request packet.now }
 {
     if is_request(READ_CODE, 0, packet) {
         return Request::Read(asked_for(packet));
@@ -255,7 +255,7 @@ pub fn parse_request(packet: &[u8]) -> Request
 
 // What stands behind the list of `count` blocks: a write's block data.
 pub fn block_data(packet: &[u8], count: u8) -> &[u8]
-    ensures { result.now ≡ blockDataIn count packet.now }
+    ensures { result.now ≡ block_data_in count packet.now }
 {
     let at = REQUEST_HEAD + ELEMENT_SIZE * (count as usize);
     let n = packet.len();

@@ -2,9 +2,9 @@
 use Rattle.std.specs.Prelude.{ℕ, ◌+◌, min, List, ◌++◌, length, take, drop, nat_lt}
 use Rattle.errors.specs.Refusals.{Returned, answered, refused, numbered, plain}
 use Rattle.errors.specs.declared.Refusal.TheVariants.{OverLong, ShortBuffer}
-use Rattle.framing.specs.Frames.{frame_of, dataStart, longest}
+use Rattle.framing.specs.Frames.{frame_of, data_start_of, longest}
 use Rattle.errors.specs.Choice.{pick}
-use Rattle.framing.specs.Names.{endingSize}
+use Rattle.framing.specs.Names.{ending_size}
 use Rattle.framing.specs.declared.Built.{Built}
 use Rattle.framing.specs.declared.Built.TheVariants.{Frame, Refused}
 use Rattle.framing.specs.declared.FrameFormat.{FrameFormat}
@@ -18,8 +18,8 @@ returned (Frame n) = answered n
 returned (Refused e) = refused (numbered e)
 
 -- the longest payload under a format: its limit, as far as its length form reaches
-unfoldable pub limitOf : FrameFormat → ℕ
-limitOf f = min f.limit (longest f.length)
+unfoldable pub limit_of : FrameFormat → ℕ
+limit_of f = min f.limit (longest f.length)
 
 -- what was returned, and the buffer after it
 pub record Left : Type 0 where
@@ -29,18 +29,18 @@ pub record Left : Type 0 where
 abbrev pub left : Returned → List ℕ → Left
 left o b = record { result = o; buffer = b }
 
-unfoldable pub putFrame : List ℕ → List ℕ → Left
-putFrame frame b = pick (nat_lt (length b) (length frame)) (left (refused (plain 2)) b) (left (answered (length frame)) (frame ++ drop (length frame) b))
+unfoldable pub put_frame : List ℕ → List ℕ → Left
+put_frame frame b = pick (nat_lt (length b) (length frame)) (left (refused (plain 2)) b) (left (answered (length frame)) (frame ++ drop (length frame) b))
 
-unfoldable pub buildOf : FrameFormat → List ℕ → List ℕ → Left
-buildOf f payload b = pick (nat_lt (limitOf f) (length payload)) (left (refused (plain 3)) b) (putFrame (frame_of f.length payload) b)
+unfoldable pub build_of : FrameFormat → List ℕ → List ℕ → Left
+build_of f payload b = pick (nat_lt (limit_of f) (length payload)) (left (refused (plain 3)) b) (put_frame (frame_of f.length payload) b)
 
 -- head and ending put around the n bytes that stand at their place in the buffer b
 unfoldable pub enclosed : LengthEncoding → ℕ → List ℕ → List ℕ
-enclosed e n b = frame_of e (take n (drop (dataStart e n) b)) ++ drop (dataStart e n + n + endingSize) b
+enclosed e n b = frame_of e (take n (drop (data_start_of e n) b)) ++ drop (data_start_of e n + n + ending_size) b
 
 -- where the payload is put, or why not
 unfoldable pub place_of : FrameFormat → ℕ → ℕ → Place
 place_of f n room =
-    pick (nat_lt (limitOf f) n) (Place.Refused OverLong)
-    (pick (nat_lt room (dataStart f.length n + n + endingSize)) (Place.Refused ShortBuffer) (At (dataStart f.length n)))
+    pick (nat_lt (limit_of f) n) (Place.Refused OverLong)
+    (pick (nat_lt room (data_start_of f.length n + n + ending_size)) (Place.Refused ShortBuffer) (At (data_start_of f.length n)))

@@ -13,8 +13,8 @@ module _ (b p : List ℕ) (s : ℕ) (room : s + length p ≤ length b) where
       rw (e, take-length p, take_all (length b - s) (drop s b), drop_of_length-le (drop s b) {i = length b - s} rest, append-nil, drop-drop (length p) s b)
 
   -- the copy is what stands there now
-  pub copied-here : take (length p) (drop s (take s b ++ (p ++ drop (s + length p) b))) ≡ p
-  copied-here =
+  pub copied_here : take (length p) (drop s (take s b ++ (p ++ drop (s + length p) b))) ≡ p
+  copied_here =
       let l : length (take s b) ≡ s = length-take-le s b (omega arith) in
       rw (drop_at (take s b) (p ++ drop (s + length p) b) s l) (take_at p (drop (s + length p) b) (length p) refl)
 
@@ -28,10 +28,10 @@ module _ (b p : List ℕ) (s : ℕ) (room : s + length p ≤ length b) where
       ∙ drop-drop k (s + length p) b
 
 -- two bytes put at s, and a list copied behind them
-pub copied-two : (b l : List ℕ) (s x y : ℕ) → s + (length l + 2) ≤ length b → (part : List ℕ)
+pub copied_two : (b l : List ℕ) (s x y : ℕ) → s + (length l + 2) ≤ length b → (part : List ℕ)
     → part ≡ take (length l) l ++ drop (length l) (take (length b - (s + 2)) (drop (s + 2) (slice_set (slice_set b s x) (s + 1) y)))
     → put_mid (s + 2) (length b - (s + 2)) (slice_set (slice_set b s x) (s + 1) y) part ≡ take s b ++ ((x ∷ y ∷ l) ++ drop (s + length (x ∷ y ∷ l)) b)
-copied-two b l s x y room part e =
+copied_two b l s x y room part e =
     let b₁ : List ℕ = slice_set (slice_set b s x) (s + 1) y in
     let same : length b₁ ≡ length b = length-set (slice_set b s x) (s + 1) y ∙ length-set b s x in
     let two : b₁ ≡ take s b ++ (x ∷ y ∷ []) ++ drop (s + 2) b

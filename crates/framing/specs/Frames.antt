@@ -2,7 +2,7 @@
 -- The manual's payload is TFI and data together, as document 01 has it. ExtendedLittleEndian is document 01's alone.
 use Rattle.std.specs.Prelude.{ℕ, ◌+◌, ◌-◌, ◌/◌, ◌%◌, List, [], ◌∷◌, ◌++◌, length, nat_lt}
 use Rattle.errors.specs.Choice.{pick}
-use Rattle.framing.specs.Names.{normalStart, extendedStart, longestNormal, longestExtended, shortestExtended}
+use Rattle.framing.specs.Names.{normal_start, extended_start, longest_normal, longest_extended, shortest_extended}
 use Rattle.framing.specs.declared.LengthEncoding.{LengthEncoding}
 use Rattle.framing.specs.declared.LengthEncoding.TheVariants.{Normal, ExtendedLittleEndian, NormalOrExtendedBigEndian}
 
@@ -11,8 +11,8 @@ total [] = 0
 total (b ∷ bs) = b + total bs
 
 -- LCS and DCS: the byte that brings the sum of the bytes to a multiple of 256
-unfoldable pub checksumOf : List ℕ → ℕ
-checksumOf bs = (256 - total bs % 256) % 256
+unfoldable pub checksum_of : List ℕ → ℕ
+checksum_of bs = (256 - total bs % 256) % 256
 
 -- preamble 00 and start code 00 FF
 abbrev pub sof : List ℕ
@@ -20,40 +20,40 @@ sof = 0x00 ∷ 0x00 ∷ 0xFF ∷ []
 
 -- DCS and postamble
 abbrev pub ending : List ℕ → List ℕ
-ending payload = checksumOf payload ∷ 0x00 ∷ []
+ending payload = checksum_of payload ∷ 0x00 ∷ []
 
 -- preamble, start code, LEN, LCS
-abbrev pub normalHead : ℕ → List ℕ
-normalHead len = 0x00 ∷ 0x00 ∷ 0xFF ∷ len ∷ checksumOf (len ∷ []) ∷ []
+abbrev pub normal_head : ℕ → List ℕ
+normal_head len = 0x00 ∷ 0x00 ∷ 0xFF ∷ len ∷ checksum_of (len ∷ []) ∷ []
 
 -- preamble, start code, FF FF, the two length bytes, LCS
-abbrev pub extendedHead : List ℕ → List ℕ
-extendedHead lens = 0x00 ∷ 0x00 ∷ 0xFF ∷ 0xFF ∷ 0xFF ∷ lens ++ (checksumOf lens ∷ [])
+abbrev pub extended_head : List ℕ → List ℕ
+extended_head lens = 0x00 ∷ 0x00 ∷ 0xFF ∷ 0xFF ∷ 0xFF ∷ lens ++ (checksum_of lens ∷ [])
 
 -- LENM and LENL, in the order of the form
-unfoldable pub lengthBytes : LengthEncoding → ℕ → List ℕ
-lengthBytes Normal n = n / 256 ∷ n % 256 ∷ []
-lengthBytes ExtendedLittleEndian n = n % 256 ∷ n / 256 ∷ []
-lengthBytes NormalOrExtendedBigEndian n = n / 256 ∷ n % 256 ∷ []
+unfoldable pub length_bytes : LengthEncoding → ℕ → List ℕ
+length_bytes Normal n = n / 256 ∷ n % 256 ∷ []
+length_bytes ExtendedLittleEndian n = n % 256 ∷ n / 256 ∷ []
+length_bytes NormalOrExtendedBigEndian n = n / 256 ∷ n % 256 ∷ []
 
 -- the normal and the extended information frame of a payload
-unfoldable pub normalFrame : List ℕ → List ℕ
-normalFrame payload = normalHead (length payload) ++ payload ++ ending payload
+unfoldable pub normal_frame : List ℕ → List ℕ
+normal_frame payload = normal_head (length payload) ++ payload ++ ending payload
 
-unfoldable pub extendedFrame : LengthEncoding → List ℕ → List ℕ
-extendedFrame e payload = extendedHead (lengthBytes e (length payload)) ++ payload ++ ending payload
+unfoldable pub extended_frame : LengthEncoding → List ℕ → List ℕ
+extended_frame e payload = extended_head (length_bytes e (length payload)) ++ payload ++ ending payload
 
 -- the head of a frame by the length form and the payload's length
 unfoldable pub head_of : LengthEncoding → ℕ → List ℕ
-head_of Normal n = normalHead n
-head_of ExtendedLittleEndian n = extendedHead (lengthBytes ExtendedLittleEndian n)
-head_of NormalOrExtendedBigEndian n = pick (nat_lt n shortestExtended) (normalHead n) (extendedHead (lengthBytes NormalOrExtendedBigEndian n))
+head_of Normal n = normal_head n
+head_of ExtendedLittleEndian n = extended_head (length_bytes ExtendedLittleEndian n)
+head_of NormalOrExtendedBigEndian n = pick (nat_lt n shortest_extended) (normal_head n) (extended_head (length_bytes NormalOrExtendedBigEndian n))
 
 -- how long that is
-unfoldable pub dataStart : LengthEncoding → ℕ → ℕ
-dataStart Normal n = normalStart
-dataStart ExtendedLittleEndian n = extendedStart
-dataStart NormalOrExtendedBigEndian n = pick (nat_lt n shortestExtended) normalStart extendedStart
+unfoldable pub data_start_of : LengthEncoding → ℕ → ℕ
+data_start_of Normal n = normal_start
+data_start_of ExtendedLittleEndian n = extended_start
+data_start_of NormalOrExtendedBigEndian n = pick (nat_lt n shortest_extended) normal_start extended_start
 
 -- the frame that carries a payload under a length form: normal, extended, or normal below 256 bytes and else extended
 unfoldable pub frame_of : LengthEncoding → List ℕ → List ℕ
@@ -61,13 +61,13 @@ frame_of e payload = head_of e (length payload) ++ payload ++ ending payload
 
 -- the longest payload that a length form can carry
 abbrev pub longest : LengthEncoding → ℕ
-longest Normal = longestNormal
-longest ExtendedLittleEndian = longestExtended
-longest NormalOrExtendedBigEndian = longestExtended
+longest Normal = longest_normal
+longest ExtendedLittleEndian = longest_extended
+longest NormalOrExtendedBigEndian = longest_extended
 
 abbrev pub ack : List ℕ
 ack = 0x00 ∷ 0x00 ∷ 0xFF ∷ 0x00 ∷ 0xFF ∷ 0x00 ∷ []
 
 -- document 01's six-byte error frame
-abbrev pub errorFrame : List ℕ
-errorFrame = 0x00 ∷ 0x00 ∷ 0xFF ∷ 0xFF ∷ 0xFF ∷ 0x00 ∷ []
+abbrev pub error_frame : List ℕ
+error_frame = 0x00 ∷ 0x00 ∷ 0xFF ∷ 0xFF ∷ 0xFF ∷ 0x00 ∷ []

@@ -5,17 +5,17 @@ abbrev pub both : Bool → Bool → Bool
 both true b = b
 both false b = false
 
-pub both-assoc : (a b c : Bool) → both (both a b) c ≡ both a (both b c)
-both-assoc true b c = refl
-both-assoc false b c = refl
+pub both_assoc : (a b c : Bool) → both (both a b) c ≡ both a (both b c)
+both_assoc true b c = refl
+both_assoc false b c = refl
 
-pub both-true-r : (a : Bool) → both a true ≡ a
-both-true-r true = refl
-both-true-r false = refl
+pub both_true_r : (a : Bool) → both a true ≡ a
+both_true_r true = refl
+both_true_r false = refl
 
-pub both-false-r : (a b : Bool) → b ≡ false → both a b ≡ false
-both-false-r true b h = h
-both-false-r false b h = refl
+pub both_false_r : (a b : Bool) → b ≡ false → both a b ≡ false
+both_false_r true b h = h
+both_false_r false b h = refl
 
 -- each element is a byte
 abbrev pub Bytes : List ℕ → Type 0

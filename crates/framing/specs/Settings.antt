@@ -9,7 +9,7 @@ use Rattle.framing.specs.declared.LengthEncoding.{LengthEncoding}
 use Rattle.framing.specs.declared.LengthEncoding.TheVariants.{Normal, ExtendedLittleEndian, NormalOrExtendedBigEndian}
 use Rattle.framing.specs.declared.settings.Setting.{Setting}
 use Rattle.framing.specs.declared.settings.Setting.TheVariants.{Format, Nothing}
-use Rattle.framing.specs.Names.{hostToController, controllerToHost}
+use Rattle.framing.specs.Names.{host_to_controller, controller_to_host}
 
 abbrev pub format_of : LengthEncoding → ErrorDetection → FrameFormat
 format_of e d = record { length = e; error = d; limit = longest e }
@@ -28,13 +28,13 @@ abbrev pub rcs956 : FrameFormat
 rcs956 = format_of NormalOrExtendedBigEndian ErrorFrame
 
 -- a payload's TFI says where it goes; a code and bytes follow
-abbrev pub payloadFrom : ℕ → ℕ → List ℕ → List ℕ
-payloadFrom direction code bytes = direction ∷ code ∷ bytes
+abbrev pub payload_from : ℕ → ℕ → List ℕ → List ℕ
+payload_from direction code bytes = direction ∷ code ∷ bytes
 
 -- a command's payload: TFI D4, the code, the data
-abbrev pub commandPayload : ℕ → List ℕ → List ℕ
-commandPayload code bytes = payloadFrom hostToController code bytes
+abbrev pub command_payload : ℕ → List ℕ → List ℕ
+command_payload code bytes = payload_from host_to_controller code bytes
 
 -- its response's: TFI D5, the code plus 1 as a byte, the bytes
-abbrev pub responsePayload : ℕ → List ℕ → List ℕ
-responsePayload code bytes = payloadFrom controllerToHost ((code + 1) % 256) bytes
+abbrev pub response_payload : ℕ → List ℕ → List ℕ
+response_payload code bytes = payload_from controller_to_host ((code + 1) % 256) bytes

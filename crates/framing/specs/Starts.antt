@@ -6,7 +6,7 @@ use Rattle.std.proofs.lemmas.Bool.{false≢true}
 use Rattle.std.proofs.Math.ListN.{drop_of_length-le}
 use Rattle.std.proofs.Math.Seq.{drop-cons}
 use Rattle.errors.specs.Choice.{same, same_self, same_not}
-use Rattle.framing.specs.Lists.{starts, both, both-assoc, both-false-r}
+use Rattle.framing.specs.Lists.{starts, both, both_assoc, both_false_r}
 
 -- a comparison byte by byte, with the answer after i equal bytes as its first argument
 module _ (f p : List ℕ) (i : ℕ) (so_far : starts f p ≡ starts (drop i f) (drop i p)) where
@@ -14,29 +14,29 @@ module _ (f p : List ℕ) (i : ℕ) (so_far : starts f p ≡ starts (drop i f) (
   unfolding starts
   starts-done h = sym (so_far ∙ rw (drop_of_length-le f))
 
-  pub starts-short : i < length f → length p ≤ i → false ≡ starts f p
+  pub starts_short : i < length f → length p ≤ i → false ≡ starts f p
   unfolding starts
-  starts-short h k = sym (so_far ∙ rw (drop-cons f i 0, drop_of_length-le p))
+  starts_short h k = sym (so_far ∙ rw (drop-cons f i 0, drop_of_length-le p))
 
   step : i < length f → i < length p → starts f p ≡ both (slice_index f i == slice_index p i) (starts (drop (suc i) f) (drop (suc i) p))
   unfolding starts
   step h k = so_far ∙ rw (drop-cons f i 0, drop-cons p i 0)
 
-  pub starts-differ : i < length f → i < length p → (slice_index p i ≢ slice_index f i) → false ≡ starts f p
-  starts-differ h k n = sym (step h k ∙ rw (ne_eqb (slice_index f i) (slice_index p i) (λ e. n (sym e))))
+  pub starts_differ : i < length f → i < length p → (slice_index p i ≢ slice_index f i) → false ≡ starts f p
+  starts_differ h k n = sym (step h k ∙ rw (ne_eqb (slice_index f i) (slice_index p i) (λ e. n (sym e))))
 
-  pub starts-agree : i < length f → i < length p → slice_index p i ≡ slice_index f i → starts f p ≡ starts (drop (i + 1) f) (drop (i + 1) p)
-  starts-agree h k e = step h k ∙ rw (eq-eqb (slice_index f i) (slice_index p i) (sym e), add-one)
+  pub starts_agree : i < length f → i < length p → slice_index p i ≡ slice_index f i → starts f p ≡ starts (drop (i + 1) f) (drop (i + 1) p)
+  starts_agree h k e = step h k ∙ rw (eq-eqb (slice_index f i) (slice_index p i) (sym e), add-one)
 
 pub starts-append : (f g p : List ℕ) → starts (f ++ g) p ≡ both (starts f p) (starts g (drop (length f) p))
 unfolding starts
 starts-append [] g p = refl
 starts-append (x ∷ f) g [] = refl
-starts-append (x ∷ f) g (y ∷ p) = ap (λ t. both (x == y) t) (starts-append f g p) ∙ sym (both-assoc (x == y) (starts f p) (starts g (drop (length f) p)))
+starts-append (x ∷ f) g (y ∷ p) = ap (λ t. both (x == y) t) (starts-append f g p) ∙ sym (both_assoc (x == y) (starts f p) (starts g (drop (length f) p)))
 
-pub starts-cons : (x : ℕ) (f p : List ℕ) (k : ℕ) → k < length p → starts (x ∷ f) (drop k p) ≡ both (x == slice_index p k) (starts f (drop (suc k) p))
+pub starts_cons : (x : ℕ) (f p : List ℕ) (k : ℕ) → k < length p → starts (x ∷ f) (drop k p) ≡ both (x == slice_index p k) (starts f (drop (suc k) p))
 unfolding starts
-starts-cons x f p k h = rw (drop-cons p k 0)
+starts_cons x f p k h = rw (drop-cons p k 0)
 
 pub starts-take : (n : ℕ) (p : List ℕ) → starts (take n p) p ≡ true
 unfolding starts
@@ -45,26 +45,26 @@ starts-take (suc n) [] = refl
 starts-take (suc n) (x ∷ p) = rw (eq-eqb x x refl) (starts-take n p)
 
 -- a list starts with none that is longer
-pub starts-long : (f p : List ℕ) → length p < length f → starts f p ≡ false
+pub starts_long : (f p : List ℕ) → length p < length f → starts f p ≡ false
 unfolding starts
-starts-long [] p h = absurd (not-suc-le-zero h)
-starts-long (x ∷ f) [] h = refl
-starts-long (x ∷ f) (y ∷ p) h = both-false-r (x == y) (starts f p) (starts-long f p (le_of_suc-le-suc h))
+starts_long [] p h = absurd (not-suc-le-zero h)
+starts_long (x ∷ f) [] h = refl
+starts_long (x ∷ f) (y ∷ p) h = both_false_r (x == y) (starts f p) (starts_long f p (le_of_suc-le-suc h))
 
-pub starts-whole : (f r : List ℕ) → starts f (f ++ r) ≡ true
+pub starts_whole : (f r : List ℕ) → starts f (f ++ r) ≡ true
 unfolding starts
-starts-whole [] r = refl
-starts-whole (x ∷ f) r = rw (eq-eqb x x refl) (starts-whole f r)
+starts_whole [] r = refl
+starts_whole (x ∷ f) r = rw (eq-eqb x x refl) (starts_whole f r)
 
-pub starts-self : (f : List ℕ) → starts f f ≡ true
-starts-self f = ap (starts f) (sym (append-nil f)) ∙ starts-whole f []
+pub starts_self : (f : List ℕ) → starts f f ≡ true
+starts_self f = ap (starts f) (sym (append-nil f)) ∙ starts_whole f []
 
 -- a packet that starts with f is f and the rest
-pub starts-split : (f p : List ℕ) → starts f p ≡ true → p ≡ f ++ drop (length f) p
+pub starts_split : (f p : List ℕ) → starts f p ≡ true → p ≡ f ++ drop (length f) p
 unfolding starts
-starts-split [] p h = refl
-starts-split (x ∷ f) [] h = absurd (false≢true h)
-starts-split (x ∷ f) (y ∷ p) h = go (x == y) refl h (starts-split f p)
+starts_split [] p h = refl
+starts_split (x ∷ f) [] h = absurd (false≢true h)
+starts_split (x ∷ f) (y ∷ p) h = go (x == y) refl h (starts_split f p)
   where
     go : (t : Bool) → (x == y) ≡ t → both t (starts f p) ≡ true → (starts f p ≡ true → p ≡ f ++ drop (length f) p) → y ∷ p ≡ x ∷ (f ++ drop (length f) p)
     go true e k again = ap₂ (λ a l. a ∷ l) (sym (eqb-true x y e)) (again k)
@@ -78,5 +78,5 @@ pub same-starts : (f p : List ℕ) (r : Bool) → length p ≡ length f → r �
 same-starts f p r n h = h ∙ go (starts f p) refl
   where
     go : (t : Bool) → starts f p ≡ t → t ≡ same f p
-    go true e = let q : p ≡ f = starts-split f p e ∙ ap (λ l. f ++ l) (drop_of_length-le p {i = length f} (omega arith)) ∙ append-nil f in rw q (sym (same_self f))
-    go false e = sym (same_not f p (λ q. false≢true (sym e ∙ ap (λ l. starts f l) (sym q) ∙ starts-self f)))
+    go true e = let q : p ≡ f = starts_split f p e ∙ ap (λ l. f ++ l) (drop_of_length-le p {i = length f} (omega arith)) ∙ append-nil f in rw q (sym (same_self f))
+    go false e = sym (same_not f p (λ q. false≢true (sym e ∙ ap (λ l. starts f l) (sym q) ∙ starts_self f)))

@@ -4,7 +4,7 @@ use Rattle.std.proofs.Common.{ap, sym, ◌∙◌, add_assoc, add_comm, arith, ta
 use Rattle.std.proofs.Math.Nat.{mod-add-mod}
 use Rattle.std.proofs.Math.Seq.{take-append-add}
 use Rattle.std.proofs.lemmas.List.{drop-append-le}
-use Rattle.framing.specs.Frames.{total, checksumOf}
+use Rattle.framing.specs.Frames.{total, checksum_of}
 use Rattle.framing.specs.Checks.{between}
 use Rattle.framing.specs.Names.{piece_size}
 
@@ -57,14 +57,14 @@ pieces l w s t hs ht h h₁ h₂ =
     joined l w s t (rw whole at hs) (rw end at ht)
 
 -- the checksum is a byte, and the only one that brings the sum to a multiple of 256
-pub checksum-byte : (l : List ℕ) → checksumOf l < 256
-unfolding checksumOf
-checksum-byte l = omega arith
+pub checksum_byte : (l : List ℕ) → checksum_of l < 256
+unfolding checksum_of
+checksum_byte l = omega arith
 
-pub checksum-sum : (l : List ℕ) → (total l + checksumOf l) % 256 ≡ 0
-unfolding checksumOf
-checksum-sum l = omega arith
+pub checksum_sum : (l : List ℕ) → (total l + checksum_of l) % 256 ≡ 0
+unfolding checksum_of
+checksum_sum l = omega arith
 
-pub checksum-only : (l : List ℕ) (b : ℕ) → b < 256 → (total l + b) % 256 ≡ 0 → b ≡ checksumOf l
-unfolding checksumOf
-checksum-only l b h e = omega arith
+pub checksum_only : (l : List ℕ) (b : ℕ) → b < 256 → (total l + b) % 256 ≡ 0 → b ≡ checksum_of l
+unfolding checksum_of
+checksum_only l b h e = omega arith

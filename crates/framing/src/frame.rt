@@ -1,8 +1,8 @@
 // The RC-S956's frames (frame.rs): its format, the frames of a command and of its response, and a command taken out of its frame.
 ghost use Rattle.std.specs.Prelude.{◌≡◌};
-ghost use Rattle.framing.specs.Build.{returned, left, buildOf};
-ghost use Rattle.framing.specs.Settings.{rcs956, payloadFrom, commandPayload, responsePayload};
-ghost use Rattle.framing.specs.Commands.{behindDirection, commandIn};
+ghost use Rattle.framing.specs.Build.{returned, left, build_of};
+ghost use Rattle.framing.specs.Settings.{rcs956, payload_from, command_payload, response_payload};
+ghost use Rattle.framing.specs.Commands.{behind_direction_of, command_in};
 
 use super::{Built, ErrorDetection, FrameFormat, FrameType, LengthEncoding, Place, names};
 
@@ -34,7 +34,7 @@ impl Rcs956Format {
 
 // Writes the frame of a payload of TFI, a code and bytes.
 fn build_directed(direction: u8, code: u8, bytes: &[u8], buffer: &mut [u8]) -> Built
-    ensures { left (returned result) buffer.new ≡ buildOf rcs956 (payloadFrom direction code bytes.now) buffer.old }
+    ensures { left (returned result) buffer.new ≡ build_of rcs956 (payload_from direction code bytes.now) buffer.old }
 {
     let n = bytes.len() + 2;
     match super::room_for(Rcs956Format::format(), n, buffer.len()) {
@@ -51,14 +51,14 @@ fn build_directed(direction: u8, code: u8, bytes: &[u8], buffer: &mut [u8]) -> B
 
 // Writes the frame of a command: TFI, the code and its data.
 pub fn build_command(code: u8, bytes: &[u8], buffer: &mut [u8]) -> Built
-    ensures { left (returned result) buffer.new ≡ buildOf rcs956 (commandPayload code bytes.now) buffer.old }
+    ensures { left (returned result) buffer.new ≡ build_of rcs956 (command_payload code bytes.now) buffer.old }
 {
     build_directed(HOST_TO_CONTROLLER, code, bytes, buffer)
 }
 
 // Writes the frame of a response to a command of this code: TFI, the code plus 1 and the response's bytes.
 pub fn build_response(code: u8, bytes: &[u8], buffer: &mut [u8]) -> Built
-    ensures { left (returned result) buffer.new ≡ buildOf rcs956 (responsePayload code bytes.now) buffer.old }
+    ensures { left (returned result) buffer.new ≡ build_of rcs956 (response_payload code bytes.now) buffer.old }
 {
     build_directed(
         CONTROLLER_TO_HOST,
@@ -70,7 +70,7 @@ pub fn build_response(code: u8, bytes: &[u8], buffer: &mut [u8]) -> Built
 
 // What follows TFI in the payload of a command: the code and its data. The empty part where it is none.
 fn behind_direction(payload: &[u8]) -> &[u8]
-    ensures { result.now ≡ behindDirection payload.now }
+    ensures { result.now ≡ behind_direction_of payload.now }
 {
     if payload.len() == 0 {
         return &payload[0..0];
@@ -83,7 +83,7 @@ fn behind_direction(payload: &[u8]) -> &[u8]
 
 // The code and the data of the command whose frame the bytes are; the empty part where they are none.
 pub fn command_in(written: &[u8]) -> &[u8]
-    ensures { result.now ≡ commandIn written.now }
+    ensures { result.now ≡ command_in written.now }
 {
     let found = super::parse(Rcs956Format::format(), written);
     match found {

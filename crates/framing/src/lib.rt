@@ -1,4 +1,6 @@
 // Frames on the host link of the PN532 family (framing.rs): checksums, the six settings, build and parse.
+#![tactic(auto)]
+
 pub mod frame;
 mod names;
 pub mod padded;
@@ -6,13 +8,13 @@ pub mod settings;
 mod sums;
 
 ghost use Rattle.std.specs.Prelude.{◌≡◌, ◌+◌, ◌-◌, ◌^◌, ◌<◌, ◌≤◌, min, Bool, [], ◌∷◌, ◌++◌, length, drop};
-ghost use Rattle.framing.specs.Frames.{sof, longest, normalHead, extendedHead, head_of, dataStart};
+ghost use Rattle.framing.specs.Frames.{sof, longest, normal_head, extended_head, head_of, data_start_of};
 ghost use Rattle.errors.specs.Choice.{same};
 ghost use Rattle.framing.specs.Lists.{starts};
-ghost use Rattle.framing.specs.Names.{normalStart, extendedStart, endingSize, longestExtended, shortestExtended};
-ghost use Rattle.framing.specs.Build.{returned, left, buildOf, enclosed, place_of};
-ghost use Rattle.framing.specs.Parse.{isError, normalOf, extendedOf, data_of, parseOf, payloadOf};
-ghost use Rattle.framing.specs.Checks.{hasMarker, marked, pairLength, checked};
+ghost use Rattle.framing.specs.Names.{normal_start, extended_start, ending_size, longest_extended, shortest_extended};
+ghost use Rattle.framing.specs.Build.{returned, left, build_of, enclosed, place_of};
+ghost use Rattle.framing.specs.Parse.{is_error_of, normal_of, extended_of, data_of, parse_of, payload_of};
+ghost use Rattle.framing.specs.Checks.{has_marker_of, marked, pair_length_of, checked};
 
 use errors::Refusal;
 pub use names::{ACK_BYTES, ACK_SIZE};
@@ -97,7 +99,7 @@ pub fn is_exactly(packet: &[u8], bytes: &[u8]) -> bool
 
 // The error form's own test.
 fn is_error(error: ErrorDetection, packet: &[u8]) -> bool
-    ensures { result ≡ isError error packet.now }
+    ensures { result ≡ is_error_of error packet.now }
 {
     match error {
         ErrorDetection::ErrorFrame => is_exactly(packet, &names::ERROR_BYTES),
@@ -112,7 +114,7 @@ fn is_error(error: ErrorDetection, packet: &[u8]) -> bool
 
 // The marker of an extended frame.
 fn has_marker(packet: &[u8]) -> bool
-    ensures { result ≡ hasMarker packet.now }
+    ensures { result ≡ has_marker_of packet.now }
 {
     if packet.len() < names::NORMAL_START {
         return false;
@@ -134,7 +136,7 @@ fn is_extended(encoding: LengthEncoding, packet: &[u8]) -> bool
 
 // The length that two length bytes give, in the order of the form.
 fn pair_length(encoding: LengthEncoding, first: u8, second: u8) -> usize
-    ensures { (result ≡ pairLength encoding first second) × (result ≤ longestExtended) }
+    ensures { (result ≡ pair_length_of encoding first second) × (result ≤ longest_extended) }
 {
     match encoding {
         LengthEncoding::Normal => first as usize * 256 + second as usize,
@@ -168,7 +170,7 @@ fn validated(packet: &[u8], from: usize, start: usize, len: usize) -> bool
 // A normal frame at the start of a packet that has the start bytes.
 fn parse_normal(packet: &[u8]) -> FrameType
     requires { starts sof packet.now ≡ Bool.true }
-    ensures { result ≡ normalOf packet.now }
+    ensures { result ≡ normal_of packet.now }
 {
     if packet.len() < names::NORMAL_START {
         return FrameType::Nothing;
@@ -188,7 +190,7 @@ fn parse_normal(packet: &[u8]) -> FrameType
 // An extended frame at the start of a packet that has the start bytes and the marker.
 fn parse_extended(encoding: LengthEncoding, packet: &[u8]) -> FrameType
     requires { (starts sof packet.now ≡ Bool.true) × (marked encoding packet.now ≡ Bool.true) }
-    ensures { result ≡ extendedOf encoding packet.now }
+    ensures { result ≡ extended_of encoding packet.now }
 {
     if packet.len() < names::EXTENDED_START {
         return FrameType::Nothing;
@@ -223,7 +225,7 @@ fn parse_data(encoding: LengthEncoding, packet: &[u8]) -> FrameType
 
 // What the packet starts with; bytes behind the frame are allowed.
 pub fn parse(format: FrameFormat, packet: &[u8]) -> FrameType
-    ensures { result ≡ parseOf format packet.now }
+    ensures { result ≡ parse_of format packet.now }
 {
     let length = format.length;
     let error = format.error;
@@ -248,7 +250,7 @@ fn least(a: usize, b: usize) -> usize
 
 // The part of the packet that a data frame's payload occupies; of any other answer the empty part.
 pub fn payload(packet: &[u8], found: FrameType) -> &[u8]
-    ensures { result.now ≡ payloadOf found packet.now }
+    ensures { result.now ≡ payload_of found packet.now }
 {
     match found {
         FrameType::Data {
@@ -274,7 +276,7 @@ fn wide(byte: u8) -> usize
 
 // Where the payload starts in a frame of n bytes of payload.
 fn data_start(encoding: LengthEncoding, n: usize) -> usize
-    ensures { result ≡ dataStart encoding n }
+    ensures { result ≡ data_start_of encoding n }
 {
     match encoding {
         LengthEncoding::Normal => names::NORMAL_START,
@@ -301,8 +303,8 @@ fn longest_payload(encoding: LengthEncoding) -> usize
 }
 
 fn put_normal_head(buffer: &mut [u8], n: usize)
-    requires { (n < shortestExtended) × (normalStart ≤ length buffer.old) }
-    ensures { buffer.new ≡ normalHead n ++ drop normalStart buffer.old }
+    requires { (n < shortest_extended) × (normal_start ≤ length buffer.old) }
+    ensures { buffer.new ≡ normal_head n ++ drop normal_start buffer.old }
 {
     let len = n as u8;
     buffer[0] = 0x00;
@@ -313,8 +315,8 @@ fn put_normal_head(buffer: &mut [u8], n: usize)
 }
 
 fn put_extended_head(buffer: &mut [u8], first: u8, second: u8)
-    requires { extendedStart ≤ length buffer.old }
-    ensures { buffer.new ≡ extendedHead (first ∷ second ∷ []) ++ drop extendedStart buffer.old }
+    requires { extended_start ≤ length buffer.old }
+    ensures { buffer.new ≡ extended_head (first ∷ second ∷ []) ++ drop extended_start buffer.old }
 {
     buffer[0] = 0x00;
     buffer[1] = 0x00;
@@ -328,8 +330,8 @@ fn put_extended_head(buffer: &mut [u8], first: u8, second: u8)
 
 // The head of a frame of n bytes of payload.
 fn put_head(encoding: LengthEncoding, n: usize, buffer: &mut [u8])
-    requires { (n ≤ longest encoding) × (dataStart encoding n ≤ length buffer.old) }
-    ensures { buffer.new ≡ head_of encoding n ++ drop (dataStart encoding n) buffer.old }
+    requires { (n ≤ longest encoding) × (data_start_of encoding n ≤ length buffer.old) }
+    ensures { buffer.new ≡ head_of encoding n ++ drop (data_start_of encoding n) buffer.old }
 {
     let high = (n / 256 % 256) as u8;
     let low = (n % 256) as u8;
@@ -348,7 +350,7 @@ fn put_head(encoding: LengthEncoding, n: usize, buffer: &mut [u8])
 
 // Puts head and ending around the n bytes of payload that stand at their place in the buffer.
 fn enclose(encoding: LengthEncoding, n: usize, buffer: &mut [u8])
-    requires { (n ≤ longest encoding) × (dataStart encoding n + n + endingSize ≤ length buffer.old) }
+    requires { (n ≤ longest encoding) × (data_start_of encoding n + n + ending_size ≤ length buffer.old) }
     ensures { buffer.new ≡ enclosed encoding n buffer.old }
 {
     let start = data_start(encoding, n);
@@ -383,7 +385,7 @@ fn room_for(format: FrameFormat, n: usize, room: usize) -> Place
 
 // Writes the frame that carries the payload at the buffer's start; the rest of the buffer keeps its bytes.
 pub fn build(format: FrameFormat, payload: &[u8], buffer: &mut [u8]) -> Built
-    ensures { left (returned result) buffer.new ≡ buildOf format payload.now buffer.old }
+    ensures { left (returned result) buffer.new ≡ build_of format payload.now buffer.old }
 {
     let n = payload.len();
     let length = format.length;

@@ -1,10 +1,10 @@
 // Packets of boards that pad the start: up to 16 zeros before the start bytes (document 02, N2).
 ghost use Rattle.std.specs.Prelude.{◌≡◌, ◌≤◌};
-ghost use Rattle.framing.specs.Names.{extendedStart};
-ghost use Rattle.framing.specs.Padded.{mostZeros, extraZeros, zerosIn, parsePadded};
+ghost use Rattle.framing.specs.Names.{extended_start};
+ghost use Rattle.framing.specs.Padded.{most_zeros, extra_zeros_of, zeros_in, parse_padded_of};
 ghost use Rattle.framing.specs.Padded.{shifted_by};
-ghost use Rattle.framing.specs.Unpadded.{extraAt};
-ghost use Rattle.framing.specs.PaddedAnswers.{payloadStart};
+ghost use Rattle.framing.specs.Unpadded.{extra_at_of};
+ghost use Rattle.framing.specs.PaddedAnswers.{payload_start};
 
 use super::{FrameFormat, FrameType, names};
 
@@ -20,7 +20,7 @@ pub const MOST_ZEROS: usize = 16;
 
 // The extra zeros of a packet whose first byte other than 0 is `byte`, behind n zeros.
 fn extra_at(n: usize, byte: u8) -> usize
-    ensures { result ≡ extraAt n byte }
+    ensures { result ≡ extra_at_of n byte }
 {
     if byte != names::START_END {
         return 0;
@@ -33,7 +33,7 @@ fn extra_at(n: usize, byte: u8) -> usize
 
 // How many extra zeros a packet has.
 pub fn extra_zeros(packet: &[u8]) -> usize
-    ensures { result ≡ extraZeros packet.now }
+    ensures { result ≡ extra_zeros_of packet.now }
 {
     let end = super::least(packet.len(), MOST_ZEROS + names::SOF_SIZE);
     let mut n = 0;
@@ -48,14 +48,14 @@ pub fn extra_zeros(packet: &[u8]) -> usize
 
 // How many bytes are stepped over in a mode.
 fn zeros_in(padded: bool, packet: &[u8]) -> usize
-    ensures { result ≡ zerosIn padded packet.now }
+    ensures { result ≡ zeros_in padded packet.now }
 {
     if padded { extra_zeros(packet) } else { 0 }
 }
 
 // The answer with its place counted from `zeros` bytes further in front.
 fn shifted_by(zeros: usize, found: FrameType) -> FrameType
-    requires { (zeros ≤ mostZeros) × (payloadStart found ≤ extendedStart) }
+    requires { (zeros ≤ most_zeros) × (payload_start found ≤ extended_start) }
     ensures { result ≡ shifted_by zeros found }
 {
     match found {
@@ -72,7 +72,7 @@ fn shifted_by(zeros: usize, found: FrameType) -> FrameType
 
 // What the packet starts with, behind its extra zeros where the padded mode is on.
 pub fn parse_padded(format: FrameFormat, padded: bool, packet: &[u8]) -> Padded
-    ensures { result ≡ parsePadded format padded packet.now }
+    ensures { result ≡ parse_padded_of format padded packet.now }
 {
     let zeros = zeros_in(padded, packet);
     let found = super::parse(format, &packet[zeros..]);

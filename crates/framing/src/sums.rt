@@ -1,6 +1,6 @@
 // Sums of bytes modulo 256, in a byte that wraps, and the checksums that are made of them.
 ghost use Rattle.std.specs.Prelude.{◌≡◌, ◌-◌, ◌%◌, ◌≤◌, [], ◌∷◌, length, drop};
-ghost use Rattle.framing.specs.Frames.{total, checksumOf};
+ghost use Rattle.framing.specs.Frames.{total, checksum_of};
 ghost use Rattle.framing.specs.Checks.{matches};
 ghost use Rattle.framing.specs.Names.{piece_size};
 
@@ -48,20 +48,20 @@ fn sum(bytes: &[u8]) -> u8
 
 // The byte that brings the sum of the bytes to a multiple of 256.
 pub fn checksum(bytes: &[u8]) -> u8
-    ensures { result ≡ checksumOf bytes.now }
+    ensures { result ≡ checksum_of bytes.now }
 {
     std::num::wrapping_sub_u8(0, sum(bytes))
 }
 
 pub fn length_checksum(len: u8) -> u8
-    ensures { result ≡ checksumOf (len ∷ []) }
+    ensures { result ≡ checksum_of (len ∷ []) }
 {
     std::num::wrapping_sub_u8(0, len)
 }
 
 // The checksum of two length bytes.
 pub fn pair_checksum(first: u8, second: u8) -> u8
-    ensures { result ≡ checksumOf (first ∷ second ∷ []) }
+    ensures { result ≡ checksum_of (first ∷ second ∷ []) }
 {
     std::num::wrapping_sub_u8(0, std::num::wrapping_add_u8(first, second))
 }

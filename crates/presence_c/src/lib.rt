@@ -1,9 +1,11 @@
 // The C interface of the list of present cards, as include/presence.h describes it: the list is updated in place.
+#![tactic(auto)]
+
 pub mod outcome;
 
 ghost use Rattle.std.specs.Prelude.{◌≡◌};
-ghost use Rattle.presence_list.specs.Steps.{emptyList};
-ghost use Rattle.presence_c.specs.Outcomes.{report, reportFor};
+ghost use Rattle.presence_list.specs.Steps.{empty_list};
+ghost use Rattle.presence_c.specs.Outcomes.{report, report_for};
 
 use outcome::Outcome;
 use presence_list::list::Presence;
@@ -11,7 +13,7 @@ use presence_list::list::Presence;
 // Nobody is there, and no round was accepted.
 #[unsafe(no_mangle)]
 pub extern "C" fn presence_empty() -> Presence
-    ensures { result ≡ emptyList }
+    ensures { result ≡ empty_list }
 {
     Presence::empty()
 }
@@ -19,7 +21,7 @@ pub extern "C" fn presence_empty() -> Presence
 // A round, with its number and its records of 20 bytes each.
 #[unsafe(no_mangle)]
 pub extern "C" fn presence_round(list: &mut Presence, number: u32, records: &[u8]) -> Outcome
-    ensures { report list.new result ≡ reportFor list.old number records.now }
+    ensures { report list.new result ≡ report_for list.old number records.now }
 {
     let state = list.state;
     let step = state.round(

@@ -1,6 +1,6 @@
 // What the host is given for a round, in numbers.
 ghost use Rattle.std.specs.Prelude.{◌≡◌};
-ghost use Rattle.presence_c.specs.Outcomes.{outcomeOf};
+ghost use Rattle.presence_c.specs.Outcomes.{outcome_of};
 
 use presence_list::list::Answer;
 
@@ -15,7 +15,7 @@ pub struct Outcome {
 
 impl Outcome {
     pub fn of(answer: Answer) -> Outcome
-        ensures { result ≡ outcomeOf answer }
+        ensures { result ≡ outcome_of answer }
     {
         match answer {
             Answer::Accepted(arrived, departed) => Outcome {

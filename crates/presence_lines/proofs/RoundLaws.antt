@@ -12,22 +12,22 @@ use lib.Dec.{eqb, ltb, leb}
 use lib.ListN.{length, take, drop, replicate, length-append, length-take, length-drop, drop_of_length-le}
 use lib.Seq.{drop-cons, take_at}
 use Rattle.bytes.specs.Bytes.{index_of, slice}
-use Rattle.errors.specs.Choice.{pick, same, same-is}
+use Rattle.errors.specs.Choice.{pick, same, same_is}
 use Rattle.targets.specs.Bitrates.{ascii}
-use Rattle.bench.specs.Hex.{isHex, pairsOf}
+use Rattle.bench.specs.Hex.{is_hex_of, pairs_of}
 use Rattle.bench.specs.HexLaws.{length_pairs}
 use Rattle.bench.specs.Numbers.{number_of, number_in}
 use Rattle.bench.specs.TextLaws.{at-start}
 use Rattle.bench.specs.Texts.{over, Placed, Appends}
-use Rattle.bench.specs.WordLaws.{wordsBehind, words-behind, next_word}
-use Rattle.bench.specs.Words.{ahead, wordsOf}
+use Rattle.bench.specs.WordLaws.{words_behind, words_behind_lem, next_word}
+use Rattle.bench.specs.Words.{ahead, words_of_lem}
 use Rattle.bench.specs.declared.number.Number.{Number}
 use Rattle.bench.specs.declared.number.Number.TheVariants.{Value, Unreadable as NoNumber}
-use Rattle.presence_lines.specs.Lines.{lineLimit, recordsRoom, kinds, bitrates, placeAmong, beforeColon, behindColon, kindNamed, bitrateOf, identifierOf, isCard, recordWith, overLength, identified, recordOfWord, areCards, recordsOfWords, said, saidRound, said_of, colon}
+use Rattle.presence_lines.specs.Lines.{line_limit, records_room, kinds, bitrates, place_among, before_colon, behind_colon, kind_named_of, bitrate_of, identifier_of, is_card, record_with, over_length, identified, record_of_word, are_cards, records_of_words, said, said_round, said_of, colon}
 use Rattle.presence_lines.specs.Readings.{PutsRecord}
 use Rattle.presence_lines.specs.declared.read.Cards.{Cards}
 use Rattle.presence_lines.specs.declared.read.Cards.TheVariants.{Bytes, Unreadable}
-use Rattle.presence_list.specs.Names.{recordSize, identifierLimit, lastCardKind, lastBitrate}
+use Rattle.presence_list.specs.Names.{record_size, identifier_limit, last_card_kind, last_bitrate}
 
 -- ---- a card has 8 bytes or more
 
@@ -35,42 +35,42 @@ Long : ℕ → List (List ℕ) → Type 0
 Long k [] = Unit {0}
 Long k (x ∷ xs) = (k ≤ length x) × Long k xs
 
-place-long : (k : ℕ) (w : List ℕ) (xs : List (List ℕ)) → Long k xs → placeAmong w xs < length xs → k ≤ length w
-unfolding Long placeAmong pick
-place-long k w [] l h = absurd (omega arith)
-place-long k w (x ∷ xs) l h = go (place-long k w xs l.1) (same x w) refl h
+place_long : (k : ℕ) (w : List ℕ) (xs : List (List ℕ)) → Long k xs → place_among w xs < length xs → k ≤ length w
+unfolding Long place_among pick
+place_long k w [] l h = absurd (omega arith)
+place_long k w (x ∷ xs) l h = go (place_long k w xs l.1) (same x w) refl h
   where
-    go : (placeAmong w xs < length xs → k ≤ length w) → (t : Bool) → same x w ≡ t → pick t 0 (suc (placeAmong w xs)) < suc (length xs) → k ≤ length w
-    go later true e g = omega (arith, ap length (same-is x w e), l.0)
+    go : (place_among w xs < length xs → k ≤ length w) → (t : Bool) → same x w ≡ t → pick t 0 (suc (place_among w xs)) < suc (length xs) → k ≤ length w
+    go later true e g = omega (arith, ap length (same_is x w e), l.0)
     go later false e g = later (omega arith)
 
-kind-long : (w : List ℕ) → placeAmong w kinds ≤ lastCardKind → 1 ≤ length w
-unfolding Long kinds wordsOf ahead pick
-kind-long w h = place-long 1 w kinds (omega arith, (omega arith, (omega arith, (omega arith, (omega arith, tt))))) (omega arith)
+kind_long : (w : List ℕ) → place_among w kinds ≤ last_card_kind → 1 ≤ length w
+unfolding Long kinds words_of_lem ahead pick
+kind_long w h = place_long 1 w kinds (omega arith, (omega arith, (omega arith, (omega arith, (omega arith, tt))))) (omega arith)
 
-bitrate-long : (w : List ℕ) → placeAmong w bitrates ≤ lastBitrate → 4 ≤ length w
-unfolding Long bitrates wordsOf ahead pick
-bitrate-long w h = place-long 4 w bitrates (omega arith, (omega arith, (omega arith, (omega arith, (omega arith, (omega arith, (omega arith, tt))))))) (omega arith)
+bitrate_long : (w : List ℕ) → place_among w bitrates ≤ last_bitrate → 4 ≤ length w
+unfolding Long bitrates words_of_lem ahead pick
+bitrate_long w h = place_long 4 w bitrates (omega arith, (omega arith, (omega arith, (omega arith, (omega arith, (omega arith, (omega arith, tt))))))) (omega arith)
 
-hex-long : (w : List ℕ) → isHex w ≡ true → 1 ≤ length w
-unfolding isHex same pick
-hex-long [] h = absurd (false≢true h)
-hex-long (x ∷ w) h = omega arith
+hex_long : (w : List ℕ) → is_hex_of w ≡ true → 1 ≤ length w
+unfolding is_hex_of same pick
+hex_long [] h = absurd (false≢true h)
+hex_long (x ∷ w) h = omega arith
 
-card-long : (w : List ℕ) → isCard w ≡ true → 8 ≤ length w
-unfolding isCard beforeColon behindColon pick
-card-long w h = go (leb (kindNamed w) lastCardKind) (leb (bitrateOf w) lastBitrate) (isHex (identifierOf w)) refl refl refl h
+card_long : (w : List ℕ) → is_card w ≡ true → 8 ≤ length w
+unfolding is_card before_colon behind_colon pick
+card_long w h = go (leb (kind_named_of w) last_card_kind) (leb (bitrate_of w) last_bitrate) (is_hex_of (identifier_of w)) refl refl refl h
   where
-    go : (t u v : Bool) → leb (kindNamed w) lastCardKind ≡ t → leb (bitrateOf w) lastBitrate ≡ u → isHex (identifierOf w) ≡ v → pick t (pick u (pick v (leb (length (identifierOf w) / 2) 1024) false) false) false ≡ true → 8 ≤ length w
+    go : (t u v : Bool) → leb (kind_named_of w) last_card_kind ≡ t → leb (bitrate_of w) last_bitrate ≡ u → is_hex_of (identifier_of w) ≡ v → pick t (pick u (pick v (leb (length (identifier_of w) / 2) 1024) false) false) false ≡ true → 8 ≤ length w
     go true true true e f g i =
         let k : ℕ = index_of colon w in
         let r : List ℕ = drop (index_of colon w + 1) w in
         let j : ℕ = index_of colon (drop (index_of colon w + 1) w) in
         omega (
           arith,
-          kind-long (beforeColon w) (leb-true (kindNamed w) lastCardKind e),
-          bitrate-long (behindColon (behindColon w)) (leb-true (bitrateOf w) lastBitrate f),
-          hex-long (identifierOf w) g,
+          kind_long (before_colon w) (leb-true (kind_named_of w) last_card_kind e),
+          bitrate_long (behind_colon (behind_colon w)) (leb-true (bitrate_of w) last_bitrate f),
+          hex_long (identifier_of w) g,
           length-take k w,
           length-drop (k + 1) w,
           length-take j r,
@@ -82,22 +82,22 @@ card-long w h = go (leb (kindNamed w) lastCardKind) (leb (bitrateOf w) lastBitra
 
 -- ---- room for the records
 
-with-short : (kind n rate : ℕ) (p : List ℕ) → length p ≤ identifierLimit → length (recordWith kind p n rate) ≤ recordSize
-unfolding recordWith
-with-short kind n rate p h =
-    let zeros : List ℕ = take (identifierLimit - length p) (replicate identifierLimit 0) in
-    omega (arith, length-append ((kind ∷ []) ++ p ++ zeros) (n ∷ rate ∷ 0 ∷ []), length-append ((kind ∷ []) ++ p) zeros, length-append (kind ∷ []) p, length-take {A = ℕ} (identifierLimit - length p) (replicate identifierLimit 0))
+with_short : (kind n rate : ℕ) (p : List ℕ) → length p ≤ identifier_limit → length (record_with kind p n rate) ≤ record_size
+unfolding record_with
+with_short kind n rate p h =
+    let zeros : List ℕ = take (identifier_limit - length p) (replicate identifier_limit 0) in
+    omega (arith, length-append ((kind ∷ []) ++ p ++ zeros) (n ∷ rate ∷ 0 ∷ []), length-append ((kind ∷ []) ++ p) zeros, length-append (kind ∷ []) p, length-take {A = ℕ} (identifier_limit - length p) (replicate identifier_limit 0))
 
-record-short : (w : List ℕ) → length (recordOfWord w) ≤ recordSize
-unfolding recordOfWord identified pick
-record-short w = go (identifierOf w)
+record_short : (w : List ℕ) → length (record_of_word w) ≤ record_size
+unfolding record_of_word identified pick
+record_short w = go (identifier_of w)
   where
-    go : (u : List ℕ) → length (identified (kindNamed w) u (bitrateOf w)) ≤ recordSize
-    go u = by_length (ltb identifierLimit (length u / 2)) refl
+    go : (u : List ℕ) → length (identified (kind_named_of w) u (bitrate_of w)) ≤ record_size
+    go u = by_length (ltb identifier_limit (length u / 2)) refl
       where
-        by_length : (t : Bool) → ltb identifierLimit (length u / 2) ≡ t → length (pick t (recordWith (kindNamed w) [] overLength (bitrateOf w)) (recordWith (kindNamed w) (pairsOf u) (length u / 2) (bitrateOf w))) ≤ recordSize
-        by_length true e = with-short (kindNamed w) overLength (bitrateOf w) [] (omega arith)
-        by_length false e = with-short (kindNamed w) (length u / 2) (bitrateOf w) (pairsOf u) (omega (arith, length_pairs u, ltb-false identifierLimit (length u / 2) e))
+        by_length : (t : Bool) → ltb identifier_limit (length u / 2) ≡ t → length (pick t (record_with (kind_named_of w) [] over_length (bitrate_of w)) (record_with (kind_named_of w) (pairs_of u) (length u / 2) (bitrate_of w))) ≤ record_size
+        by_length true e = with_short (kind_named_of w) over_length (bitrate_of w) [] (omega arith)
+        by_length false e = with_short (kind_named_of w) (length u / 2) (bitrate_of w) (pairs_of u) (omega (arith, length_pairs u, ltb-false identifier_limit (length u / 2) e))
 
 -- the bytes of some words, with one more for each
 total : List (List ℕ) → ℕ
@@ -108,83 +108,83 @@ total-ahead : (b : ℕ) (w : List ℕ) (ws : List (List ℕ)) → total (ahead b
 unfolding total ahead
 total-ahead b w ws = omega arith
 
-total-words : (l : List ℕ) → total (wordsOf l) ≡ suc (length l)
-unfolding total wordsOf ahead pick
-total-words [] = refl
-total-words (b ∷ l) = go (eqb b 32) (total-words l) (words-behind l)
+total_words : (l : List ℕ) → total (words_of_lem l) ≡ suc (length l)
+unfolding total words_of_lem ahead pick
+total_words [] = refl
+total_words (b ∷ l) = go (eqb b 32) (total_words l) (words_behind_lem l)
   where
-    go : (t : Bool) → total (wordsOf l) ≡ suc (length l) → wordsOf l ≡ take (index_of 32 l) l ∷ wordsBehind (drop (index_of 32 l) l) → total (pick t ([] ∷ wordsOf l) (ahead b (wordsOf l))) ≡ suc (suc (length l))
+    go : (t : Bool) → total (words_of_lem l) ≡ suc (length l) → words_of_lem l ≡ take (index_of 32 l) l ∷ words_behind (drop (index_of 32 l) l) → total (pick t ([] ∷ words_of_lem l) (ahead b (words_of_lem l))) ≡ suc (suc (length l))
     go true h e = omega (arith, h)
-    go false h e = ap (λ (x : List (List ℕ)). total (ahead b x)) e ∙ total-ahead b (take (index_of 32 l) l) (wordsBehind (drop (index_of 32 l) l)) ∙ ap suc (sym (ap total e) ∙ h)
+    go false h e = ap (λ (x : List (List ℕ)). total (ahead b x)) e ∙ total-ahead b (take (index_of 32 l) l) (words_behind (drop (index_of 32 l) l)) ∙ ap suc (sym (ap total e) ∙ h)
 
-total-behind : (l : List ℕ) → total (wordsBehind l) ≤ length l
-unfolding wordsBehind total
+total-behind : (l : List ℕ) → total (words_behind l) ≤ length l
+unfolding words_behind total
 total-behind [] = omega arith
-total-behind (b ∷ l) = omega (arith, total-words l)
+total-behind (b ∷ l) = omega (arith, total_words l)
 
-records-short : (ws : List (List ℕ)) → areCards ws ≡ true → 9 * length (recordsOfWords ws) ≤ recordSize * total ws
-unfolding areCards recordsOfWords total pick
-records-short [] h = omega arith
-records-short (w ∷ ws) h = go (records-short ws) (isCard w) refl h
+records_short : (ws : List (List ℕ)) → are_cards ws ≡ true → 9 * length (records_of_words ws) ≤ record_size * total ws
+unfolding are_cards records_of_words total pick
+records_short [] h = omega arith
+records_short (w ∷ ws) h = go (records_short ws) (is_card w) refl h
   where
-    go : (areCards ws ≡ true → 9 * length (recordsOfWords ws) ≤ recordSize * total ws) → (t : Bool) → isCard w ≡ t → pick t (areCards ws) false ≡ true → 9 * length (recordOfWord w ++ recordsOfWords ws) ≤ recordSize * (suc (length w) + total ws)
-    go later true e g = omega (arith, length-append (recordOfWord w) (recordsOfWords ws), record-short w, card-long w e, later g)
+    go : (are_cards ws ≡ true → 9 * length (records_of_words ws) ≤ record_size * total ws) → (t : Bool) → is_card w ≡ t → pick t (are_cards ws) false ≡ true → 9 * length (record_of_word w ++ records_of_words ws) ≤ record_size * (suc (length w) + total ws)
+    go later true e g = omega (arith, length-append (record_of_word w) (records_of_words ws), record_short w, card_long w e, later g)
     go later false e g = absurd (false≢true g)
 
-room : (l : List ℕ) (at : ℕ) → length l ≤ lineLimit → areCards (wordsBehind (drop at l)) ≡ true → length (recordsOfWords (wordsBehind (drop at l))) ≤ recordsRoom
-room l at h e = omega (arith, records-short (wordsBehind (drop at l)) e, total-behind (drop at l), length-drop at l)
+room : (l : List ℕ) (at : ℕ) → length l ≤ line_limit → are_cards (words_behind (drop at l)) ≡ true → length (records_of_words (words_behind (drop at l))) ≤ records_room
+room l at h e = omega (arith, records_short (words_behind (drop at l)) e, total-behind (drop at l), length-drop at l)
 
 -- ---- the words of a line
 
 module _ (l : List ℕ) (end : ℕ) (found : end ≡ 0 + index_of 32 (slice 0 (length l) l)) where
-  first-are : wordsOf l ≡ take end l ∷ wordsBehind (drop end l)
-  first-are = let size : end - 0 ≡ end = omega arith in next_word l 0 end (omega arith) found ∙ ap (λ (k : ℕ). take k l ∷ wordsBehind (drop end l)) size
+  first-are : words_of_lem l ≡ take end l ∷ words_behind (drop end l)
+  first-are = let size : end - 0 ≡ end = omega arith in next_word l 0 end (omega arith) found ∙ ap (λ (k : ℕ). take k l ∷ words_behind (drop end l)) size
 
-  pub one_word : length l ≤ end → none ≡ said_of (wordsOf l)
-  unfolding said_of wordsBehind
+  pub one_word : length l ≤ end → none ≡ said_of (words_of_lem l)
+  unfolding said_of words_behind
   one_word h = rw (first-are, drop_of_length-le l {i = end} h)
 
   module _ (inside : end < length l) (second : ℕ) (again : second ≡ end + 1 + index_of 32 (slice (end + 1) (length l) l)) where
-    words_are : wordsOf l ≡ take end l ∷ take (second - (end + 1)) (drop (end + 1) l) ∷ wordsBehind (drop second l)
-    unfolding wordsBehind
+    words_are : words_of_lem l ≡ take end l ∷ take (second - (end + 1)) (drop (end + 1) l) ∷ words_behind (drop second l)
+    unfolding words_behind
     words_are =
         first-are
-        ∙ ap (λ (x : List (List ℕ)). take end l ∷ x) (ap wordsBehind (drop-cons l end 0 inside) ∙ ap (λ (j : ℕ). wordsOf (drop j l)) (sym (add-one end)) ∙ next_word l (end + 1) second (omega arith) again)
+        ∙ ap (λ (x : List (List ℕ)). take end l ∷ x) (ap words_behind (drop-cons l end 0 inside) ∙ ap (λ (j : ℕ). words_of_lem (drop j l)) (sym (add-one end)) ∙ next_word l (end + 1) second (omega arith) again)
 
     module _ (t : Bool) (test : t ≡ same (ascii "round") (take end l)) where
-      pub another-word : t ≡ false → none ≡ said_of (wordsOf l)
+      pub another_word : t ≡ false → none ≡ said_of (words_of_lem l)
       unfolding said_of pick
-      another-word h = rw (words_are, ← test, h)
+      another_word h = rw (words_are, ← test, h)
 
       module _ (w : List ℕ) (n : Number) (yes : t ≡ true) (w-is : w ≡ take (second - (end + 1)) (drop (end + 1) l)) (number : number_in n ≡ number_of w) where
-        said-is : said_of (wordsOf l) ≡ saidRound (number_in n) (wordsBehind (drop second l))
+        said-is : said_of (words_of_lem l) ≡ said_round (number_in n) (words_behind (drop second l))
         unfolding said_of pick
         said-is = rw (words_are, ← test, yes, ← w-is, ← number)
 
-        pub no_number : n ≡ NoNumber → none ≡ said_of (wordsOf l)
-        unfolding saidRound
-        no_number h = sym (said-is ∙ ap (λ (x : Number). saidRound (number_in x) (wordsBehind (drop second l))) h)
+        pub no_number : n ≡ NoNumber → none ≡ said_of (words_of_lem l)
+        unfolding said_round
+        no_number h = sym (said-is ∙ ap (λ (x : Number). said_round (number_in x) (words_behind (drop second l))) h)
 
-        module _ (k : ℕ) (r : Cards) (b o : List ℕ) (n-is : n ≡ Value k) (puts : PutsRecord r (areCards (wordsBehind (drop second l))) 0 (recordsOfWords (wordsBehind (drop second l))) b o) where
-          cards-are : said_of (wordsOf l) ≡ pick (areCards (wordsBehind (drop second l))) (some (said k (recordsOfWords (wordsBehind (drop second l))))) none
-          unfolding saidRound
-          cards-are = said-is ∙ ap (λ (x : Number). saidRound (number_in x) (wordsBehind (drop second l))) n-is
+        module _ (k : ℕ) (r : Cards) (b o : List ℕ) (n-is : n ≡ Value k) (puts : PutsRecord r (are_cards (words_behind (drop second l))) 0 (records_of_words (words_behind (drop second l))) b o) where
+          cards-are : said_of (words_of_lem l) ≡ pick (are_cards (words_behind (drop second l))) (some (said k (records_of_words (words_behind (drop second l))))) none
+          unfolding said_round
+          cards-are = said-is ∙ ap (λ (x : Number). said_round (number_in x) (words_behind (drop second l))) n-is
 
-          pub no-cards : r ≡ Unreadable → none ≡ said_of (wordsOf l)
+          pub no_cards : r ≡ Unreadable → none ≡ said_of (words_of_lem l)
           unfolding pick
-          no-cards h =
-              let not : areCards (wordsBehind (drop second l)) ≡ false = rw h at puts in
-              sym (cards-are ∙ ap (λ (x : Bool). pick x (some (said k (recordsOfWords (wordsBehind (drop second l))))) none) not)
+          no_cards h =
+              let not : are_cards (words_behind (drop second l)) ≡ false = rw h at puts in
+              sym (cards-are ∙ ap (λ (x : Bool). pick x (some (said k (records_of_words (words_behind (drop second l))))) none) not)
 
-          pub round-said : (m : ℕ) → r ≡ Bytes m → length l ≤ lineLimit → recordsRoom ≤ length b → (some (said k (take m o)) ≡ said_of (wordsOf l)) × (m ≤ recordsRoom)
+          pub round_said : (m : ℕ) → r ≡ Bytes m → length l ≤ line_limit → records_room ≤ length b → (some (said k (take m o)) ≡ said_of (words_of_lem l)) × (m ≤ records_room)
           unfolding pick over
-          round-said m h short large =
-              let ws : List (List ℕ) = wordsBehind (drop second l) in
-              let put : (areCards (wordsBehind (drop second l)) ≡ true) × Appends 0 (recordsOfWords (wordsBehind (drop second l))) b m o = rw h at puts in
-              let cards : areCards (wordsBehind (drop second l)) ≡ true = put.0 in
-              let fits : length (recordsOfWords ws) ≤ recordsRoom = room l second short cards in
-              let placed = at-start (recordsOfWords ws) b o m put.1 (omega arith) in
-              let size : m ≡ length (recordsOfWords ws) = ap (λ (x : Placed). x.next) placed ∙ zero-add (length (recordsOfWords ws)) in
-              let filled : o ≡ over 0 (recordsOfWords ws) b = ap (λ (x : Placed). x.buffer) placed in
-              let here : take m o ≡ recordsOfWords ws = ap (take m) filled ∙ take_at (recordsOfWords ws) (drop (0 + length (recordsOfWords ws)) b) m (sym size) in
-              (sym (cards-are ∙ ap (λ (x : Bool). pick x (some (said k (recordsOfWords ws))) none) cards ∙ ap (λ (x : List ℕ). some (said k x)) (sym here)), omega arith)
+          round_said m h short large =
+              let ws : List (List ℕ) = words_behind (drop second l) in
+              let put : (are_cards (words_behind (drop second l)) ≡ true) × Appends 0 (records_of_words (words_behind (drop second l))) b m o = rw h at puts in
+              let cards : are_cards (words_behind (drop second l)) ≡ true = put.0 in
+              let fits : length (records_of_words ws) ≤ records_room = room l second short cards in
+              let placed = at-start (records_of_words ws) b o m put.1 (omega arith) in
+              let size : m ≡ length (records_of_words ws) = ap (λ (x : Placed). x.next) placed ∙ zero-add (length (records_of_words ws)) in
+              let filled : o ≡ over 0 (records_of_words ws) b = ap (λ (x : Placed). x.buffer) placed in
+              let here : take m o ≡ records_of_words ws = ap (take m) filled ∙ take_at (records_of_words ws) (drop (0 + length (records_of_words ws)) b) m (sym size) in
+              (sym (cards-are ∙ ap (λ (x : Bool). pick x (some (said k (records_of_words ws))) none) cards ∙ ap (λ (x : List ℕ). some (said k x)) (sym here)), omega arith)

@@ -1,11 +1,13 @@
 // The lines of the program `presence`: a round in; the arrivals, the departures and the list out.
+#![tactic(auto)]
+
 mod print;
 mod read;
 
 ghost use Rattle.std.specs.Prelude.{◌≡◌, [], ◌∷◌, length};
 ghost use Rattle.bench.specs.Texts.{Appends};
 ghost use Rattle.presence_list.specs.Sizes.{FewAfter};
-ghost use Rattle.presence_lines.specs.Lines.{recordsRoom, unreadable as unreadableText, text_of, answer_of, afterLine, lineReply};
+ghost use Rattle.presence_lines.specs.Lines.{records_room, unreadable as unreadable_text, text_of, answer_of, after_line, line_reply};
 ghost use Rattle.bench.specs.Lines.{feed};
 
 use bench::lines::{Line, Unread};
@@ -30,14 +32,14 @@ pub struct Answered {
 }
 
 fn room() -> [u8; RECORDS_ROOM]
-    ensures { length result ≡ recordsRoom }
+    ensures { length result ≡ records_room }
 {
     [0u8; RECORDS_ROOM]
 }
 
 // A line that cannot be read: the list stays as it was.
 fn unreadable(list: Presence, out: &mut [u8]) -> Answered
-    ensures { (result.list ≡ list) × Appends 0 unreadableText out.old result.len out.new }
+    ensures { (result.list ≡ list) × Appends 0 unreadable_text out.old result.len out.new }
 {
     let len = print::put_refused(RoundRefusal::AtOnce(Refusal::BadArgument), out);
     Answered { list, len }
@@ -92,7 +94,7 @@ fn fed(answer: Answered, out: &mut [u8]) -> Answered
 
 // The answer to a line that stands at the start of `line`, with its line feed; nothing at the end of the input.
 pub fn reply(list: Presence, next: Line, line: &[u8], out: &mut [u8; ANSWER_ROOM]) -> Answered
-    ensures { afterLine result.list result.len out.new ≡ lineReply list next line.now out.old }
+    ensures { after_line result.list result.len out.new ≡ line_reply list next line.now out.old }
 {
     match next {
         Line::Text(n) => {

@@ -1,9 +1,9 @@
 // What is printed for a round. Each function gives the place behind its text; a text that has no room is not put.
 ghost use Rattle.std.specs.Prelude.{◌*◌, ◌≤◌, ◌<◌, length, take, drop};
 ghost use Rattle.bench.specs.Texts.{Appends};
-ghost use Rattle.presence_list.specs.Names.{recordSize, cardLimit, cardsSize};
+ghost use Rattle.presence_list.specs.Names.{record_size, card_limit, cards_size};
 ghost use Rattle.presence_list.specs.Memory.{pieces};
-ghost use Rattle.presence_lines.specs.Lines.{cardText, rateText, cardsText, refusedText, listsText};
+ghost use Rattle.presence_lines.specs.Lines.{card_text, rate_text, cards_text, refused_text, lists_text};
 
 use super::read::HELD;
 use bench::{hex, prefix, text, words};
@@ -13,8 +13,8 @@ use presence_list::{BITRATE_OFFSET, LENGTH_OFFSET, RECORD_SIZE};
 
 // A card of the list as `KIND:HEX`, a space before it.
 fn put_card(cards: &[u8], i: usize, out: &mut [u8], at: usize) -> usize
-    requires { (i < cardLimit) × (cardsSize ≤ length cards.now) }
-    ensures { Appends at (cardText (take recordSize (drop (recordSize * i) cards.now))) out.old result out.new }
+    requires { (i < card_limit) × (cards_size ≤ length cards.now) }
+    ensures { Appends at (card_text (take record_size (drop (record_size * i) cards.now))) out.old result out.new }
 {
     let start = RECORD_SIZE * i;
     let from = start + 1;
@@ -29,8 +29,8 @@ fn put_card(cards: &[u8], i: usize, out: &mut [u8], at: usize) -> usize
 
 // Its bitrate, where it is shown.
 fn put_bitrate(cards: &[u8], i: usize, shown: bool, out: &mut [u8], at: usize) -> usize
-    requires { (i < cardLimit) × (cardsSize ≤ length cards.now) }
-    ensures { Appends at (rateText shown (take recordSize (drop (recordSize * i) cards.now))) out.old result out.new }
+    requires { (i < card_limit) × (cards_size ≤ length cards.now) }
+    ensures { Appends at (rate_text shown (take record_size (drop (record_size * i) cards.now))) out.old result out.new }
 {
     if shown {
         let bitrate = cards[RECORD_SIZE * i + BITRATE_OFFSET] as usize;
@@ -46,8 +46,8 @@ fn put_bitrate(cards: &[u8], i: usize, shown: bool, out: &mut [u8], at: usize) -
 
 // The first cards of a list.
 fn put_cards(cards: &[u8], count: usize, shown: bool, out: &mut [u8], at: usize) -> usize
-    requires { (count ≤ cardLimit) × (cardsSize ≤ length cards.now) }
-    ensures { Appends at (cardsText shown (pieces count cards.now)) out.old result out.new }
+    requires { (count ≤ card_limit) × (cards_size ≤ length cards.now) }
+    ensures { Appends at (cards_text shown (pieces count cards.now)) out.old result out.new }
 {
     let mut next = at;
     let mut i = 0;
@@ -60,7 +60,7 @@ fn put_cards(cards: &[u8], count: usize, shown: bool, out: &mut [u8], at: usize)
 }
 
 pub(crate) fn put_refused(refusal: RoundRefusal, out: &mut [u8]) -> usize
-    ensures { Appends 0 (refusedText refusal) out.old result out.new }
+    ensures { Appends 0 (refused_text refusal) out.old result out.new }
 {
     let numbered = refusal.numbered();
     let at = text::put(b"refused ", out, 0);
@@ -77,8 +77,8 @@ pub(crate) fn put_report(
     count: usize,
     out: &mut [u8],
 ) -> usize
-    requires { (came ≤ cardLimit) × (left ≤ cardLimit) × (count ≤ cardLimit) }
-    ensures { Appends 0 (listsText (pieces came arrived.now) (pieces left departed.now) (pieces count cards.now)) out.old result out.new }
+    requires { (came ≤ card_limit) × (left ≤ card_limit) × (count ≤ card_limit) }
+    ensures { Appends 0 (lists_text (pieces came arrived.now) (pieces left departed.now) (pieces count cards.now)) out.old result out.new }
 {
     let first = text::put(b"arrived", out, 0);
     let second = put_cards(arrived, came, false, out, first);

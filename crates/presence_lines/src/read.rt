@@ -1,12 +1,12 @@
 // A line taken apart: `round`, the number, and the cards.
 ghost use Rattle.std.specs.Prelude.{◌≡◌, Bool, ◌≤◌, length, drop};
-ghost use Rattle.bench.specs.Hex.{isHex};
+ghost use Rattle.bench.specs.Hex.{is_hex_of};
 ghost use Rattle.bench.specs.Texts.{Appends};
-ghost use Rattle.bench.specs.Words.{wordsOf};
-ghost use Rattle.bench.specs.WordLaws.{wordsBehind};
-ghost use Rattle.presence_lines.specs.Lines.{lineLimit, recordsRoom, placeAmong, beforeColon, behindColon, isIdentifier, isCard, recordWith, identified, recordOfWord, areCards, recordsOfWords, said_of};
-ghost use Rattle.presence_lines.specs.Readings.{PutsRecord, readIn, readBytes};
-ghost use Rattle.presence_list.specs.Names.{identifierLimit};
+ghost use Rattle.bench.specs.Words.{words_of_lem};
+ghost use Rattle.bench.specs.WordLaws.{words_behind};
+ghost use Rattle.presence_lines.specs.Lines.{line_limit, records_room, place_among, before_colon, behind_colon, is_identifier, is_card, record_with, identified, record_of_word, are_cards, records_of_words, said_of};
+ghost use Rattle.presence_lines.specs.Readings.{PutsRecord, read_in, read_bytes};
+ghost use Rattle.presence_list.specs.Names.{identifier_limit};
 
 use bench::number::Number;
 use bench::{Put, hex, number, prefix, text, words};
@@ -40,7 +40,7 @@ pub(crate) enum Cards {
 
 // The place of the word among the words of a text; how many they are where it is none of them.
 fn index_among(word: &[u8], text: &[u8]) -> usize
-    ensures { result ≡ placeAmong word.now (wordsOf text.now) }
+    ensures { result ≡ place_among word.now (words_of_lem text.now) }
 {
     let n = words::count(text);
     let mut i = 0;
@@ -54,14 +54,14 @@ fn index_among(word: &[u8], text: &[u8]) -> usize
 }
 
 fn before_colon(word: &[u8]) -> &[u8]
-    ensures { result.now ≡ beforeColon word.now }
+    ensures { result.now ≡ before_colon word.now }
 {
     let n = bytes::scan::find(word, 0, word.len(), b':');
     &word[..n]
 }
 
 fn behind_colon(word: &[u8]) -> &[u8]
-    ensures { result.now ≡ behindColon word.now }
+    ensures { result.now ≡ behind_colon word.now }
 {
     let n = bytes::scan::find(word, 0, word.len(), b':');
     if n < word.len() {
@@ -73,7 +73,7 @@ fn behind_colon(word: &[u8]) -> &[u8]
 
 // Whether the word is HEX that can be read.
 fn is_identifier(word: &[u8]) -> bool
-    ensures { result ≡ isIdentifier word.now }
+    ensures { result ≡ is_identifier word.now }
 {
     if hex::is_hex(word) {
         return word.len() / 2 <= HEX_LIMIT;
@@ -89,8 +89,8 @@ fn put_record(
     records: &mut [u8],
     at: usize,
 ) -> usize
-    requires { length identifier.now ≤ identifierLimit }
-    ensures { Appends at (recordWith kind identifier.now len bitrate) records.old result records.new }
+    requires { length identifier.now ≤ identifier_limit }
+    ensures { Appends at (record_with kind identifier.now len bitrate) records.old result records.new }
 {
     let zeros = [0u8; HELD];
     let head = [kind];
@@ -103,7 +103,7 @@ fn put_record(
 
 // The record of an identifier; of one that is too long for it the length alone, as one over the limit.
 fn put_identified(kind: u8, word: &[u8], bitrate: u8, records: &mut [u8], at: usize) -> usize
-    requires { isHex word.now ≡ Bool.true }
+    requires { is_hex_of word.now ≡ Bool.true }
     ensures { Appends at (identified kind word.now bitrate) records.old result records.new }
 {
     let mut identifier = [0u8; HELD];
@@ -119,7 +119,7 @@ fn put_identified(kind: u8, word: &[u8], bitrate: u8, records: &mut [u8], at: us
 
 // Puts the record of a card, `KIND:HEX:BITRATE`, into the buffer from a place on.
 fn read_card(word: &[u8], records: &mut [u8], at: usize) -> Cards
-    ensures { PutsRecord result (isCard word.now) at (recordOfWord word.now) records.old records.new }
+    ensures { PutsRecord result (is_card word.now) at (record_of_word word.now) records.old records.new }
 {
     let rest = behind_colon(word);
     let kind = index_among(before_colon(word), b"A T1 B F DEP");
@@ -140,7 +140,7 @@ fn read_card(word: &[u8], records: &mut [u8], at: usize) -> Cards
 // Puts the records of the cards behind a place of the line into the buffer, each behind the other.
 fn read_cards(line: &[u8], from: usize, records: &mut [u8]) -> Cards
     requires { from ≤ length line.now }
-    ensures { PutsRecord result (areCards (wordsBehind (drop from line.now))) 0 (recordsOfWords (wordsBehind (drop from line.now))) records.old records.new }
+    ensures { PutsRecord result (are_cards (words_behind (drop from line.now))) 0 (records_of_words (words_behind (drop from line.now))) records.old records.new }
 {
     let n = line.len();
     let mut at = from;
@@ -158,8 +158,8 @@ fn read_cards(line: &[u8], from: usize, records: &mut [u8]) -> Cards
 
 // The round that the line says, its records at the start of the lent buffer.
 pub(crate) fn read_line(line: &[u8], records: &mut [u8]) -> Read
-    requires { (length line.now ≤ lineLimit) × (recordsRoom ≤ length records.old) }
-    ensures { (readIn result records.new ≡ said_of (wordsOf line.now)) × (readBytes result ≤ recordsRoom) }
+    requires { (length line.now ≤ line_limit) × (records_room ≤ length records.old) }
+    ensures { (read_in result records.new ≡ said_of (words_of_lem line.now)) × (read_bytes result ≤ records_room) }
 {
     let n = line.len();
     let end = bytes::scan::find(line, 0, n, b' ');

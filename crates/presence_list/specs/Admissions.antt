@@ -11,12 +11,12 @@ use Rattle.presence_list.specs.declared.list.Answer.{Answer}
 use Rattle.presence_list.specs.declared.list.Answer.TheVariants.{Refused as Failed}
 use Rattle.presence_list.specs.declared.list.Admission.{Admission}
 use Rattle.presence_list.specs.declared.list.Admission.TheVariants.{Admitted, Refused}
-use Rattle.presence_list.specs.Names.{cardLimit, cardsSize}
+use Rattle.presence_list.specs.Names.{card_limit, cards_size}
 use Rattle.presence_list.specs.CardsAt.{CardsAt}
-use Rattle.presence_list.specs.Lookups.{cards-at-in-range}
-use Rattle.presence_list.specs.Memory.{pieces, longIn, inRangeIn, ascending}
+use Rattle.presence_list.specs.Lookups.{cards_at_in_range}
+use Rattle.presence_list.specs.Memory.{pieces, long_in, in_range_in, ascending}
 use Rattle.presence_list.specs.Presence.{any, every}
-use Rattle.presence_list.specs.Steps.{afterRound, byAdmission, roundStep, listInRange, recordsOf, admissionOf, readableIn, staleAt}
+use Rattle.presence_list.specs.Steps.{after_round, by_admission, round_step, list_in_range, records_of, admission_of, readable_in, stale_at}
 
 -- a choice that is true has a true test, where its other way is false
 chosen : (t u : Bool) → pick t u false ≡ true → (t ≡ true) × (u ≡ true)
@@ -24,47 +24,47 @@ unfolding pick
 chosen true u h = (refl, h)
 chosen false u h = (cc, cc)
 
-pub range-cards-at : (s : State) (c : Seq ℕ) → length c ≡ cardsSize → listInRange s c ≡ true → CardsAt s.count c × (s.count ≤ cardLimit)
-unfolding listInRange pick pieces every ascending
-range-cards-at s c l h = go (eqb s.begun 0) h
+pub range_cards_at : (s : State) (c : Seq ℕ) → length c ≡ cards_size → list_in_range s c ≡ true → CardsAt s.count c × (s.count ≤ card_limit)
+unfolding list_in_range pick pieces every ascending
+range_cards_at s c l h = go (eqb s.begun 0) h
   where
-    none : (k : ℕ) → k ≡ 0 → CardsAt k c × (k ≤ cardLimit)
+    none : (k : ℕ) → k ≡ 0 → CardsAt k c × (k ≤ card_limit)
     none k e = rw e (record { room = omega arith; fit = tt; sorted = tt }, omega arith)
 
-    some : pick (eqb s.begun 1) (pick (leb s.count cardLimit) (pick (every inRangeIn (pieces s.count c)) (ascending (pieces s.count c)) false) false) false ≡ true
-        → CardsAt s.count c × (s.count ≤ cardLimit)
+    some : pick (eqb s.begun 1) (pick (leb s.count card_limit) (pick (every in_range_in (pieces s.count c)) (ascending (pieces s.count c)) false) false) false ≡ true
+        → CardsAt s.count c × (s.count ≤ card_limit)
     some h =
-        let a = chosen (leb s.count cardLimit) _ (chosen (eqb s.begun 1) _ h).1 in
-        let b = chosen (every inRangeIn (pieces s.count c)) _ a.1 in
-        let m = leb-true s.count cardLimit a.0 in
-        (cards-at-in-range s.count c (omega arith) b.0 b.1, m)
+        let a = chosen (leb s.count card_limit) _ (chosen (eqb s.begun 1) _ h).1 in
+        let b = chosen (every in_range_in (pieces s.count c)) _ a.1 in
+        let m = leb-true s.count card_limit a.0 in
+        (cards_at_in_range s.count c (omega arith) b.0 b.1, m)
 
     go : (t : Bool)
         → pick t (eqb s.count 0)
-        (pick (eqb s.begun 1) (pick (leb s.count cardLimit) (pick (every inRangeIn (pieces s.count c)) (ascending (pieces s.count c)) false) false) false) ≡ true
-        → CardsAt s.count c × (s.count ≤ cardLimit)
+        (pick (eqb s.begun 1) (pick (leb s.count card_limit) (pick (every in_range_in (pieces s.count c)) (ascending (pieces s.count c)) false) false) false) ≡ true
+        → CardsAt s.count c × (s.count ≤ card_limit)
     go true h = none s.count (eqb-true s.count 0 h)
     go false h = some h
 
 -- it has no more cards than a list takes
-pub range-few : (s : State) (c : Seq ℕ) → listInRange s c ≡ true → s.count ≤ cardLimit
-unfolding listInRange pick
-range-few s c h = go (eqb s.begun 0) h
+pub range_few : (s : State) (c : Seq ℕ) → list_in_range s c ≡ true → s.count ≤ card_limit
+unfolding list_in_range pick
+range_few s c h = go (eqb s.begun 0) h
   where
     go : (t : Bool)
         → pick t (eqb s.count 0)
-        (pick (eqb s.begun 1) (pick (leb s.count cardLimit) (pick (every inRangeIn (pieces s.count c)) (ascending (pieces s.count c)) false) false) false) ≡ true
-        → s.count ≤ cardLimit
+        (pick (eqb s.begun 1) (pick (leb s.count card_limit) (pick (every in_range_in (pieces s.count c)) (ascending (pieces s.count c)) false) false) false) ≡ true
+        → s.count ≤ card_limit
     go true h = let z = eqb-true s.count 0 h in omega arith
-    go false h = leb-true s.count cardLimit (chosen (leb s.count cardLimit) _ (chosen (eqb s.begun 1) _ h).1).0
+    go false h = leb-true s.count card_limit (chosen (leb s.count card_limit) _ (chosen (eqb s.begun 1) _ h).1).0
 
-pub admitted : (s : State) (c : Seq ℕ) (n : ℕ) (b : Seq ℕ) (r : Admission) → r ≡ admissionOf s c n b → r ≡ Admitted → (listInRange s c ≡ true) × (any longIn (recordsOf b) ≡ false)
-unfolding admissionOf pick
-admitted s c n b r p q = go (any longIn (recordsOf b)) (listInRange s c) refl refl (sym p ∙ q)
+pub admitted : (s : State) (c : Seq ℕ) (n : ℕ) (b : Seq ℕ) (r : Admission) → r ≡ admission_of s c n b → r ≡ Admitted → (list_in_range s c ≡ true) × (any long_in (records_of b) ≡ false)
+unfolding admission_of pick
+admitted s c n b r p q = go (any long_in (records_of b)) (list_in_range s c) refl refl (sym p ∙ q)
   where
-    go : (t u : Bool) → any longIn (recordsOf b) ≡ t → listInRange s c ≡ u
-        → pick t (Refused (AtOnce OverLong)) (pick u (pick (readableIn b) (pick (staleAt s n) (Refused StaleRound) Admitted) (Refused (AtOnce BadArgument))) (Refused (AtOnce OutOfTurn))) ≡ Admitted
-        → (listInRange s c ≡ true) × (any longIn (recordsOf b) ≡ false)
+    go : (t u : Bool) → any long_in (records_of b) ≡ t → list_in_range s c ≡ u
+        → pick t (Refused (AtOnce OverLong)) (pick u (pick (readable_in b) (pick (stale_at s n) (Refused StaleRound) Admitted) (Refused (AtOnce BadArgument))) (Refused (AtOnce OutOfTurn))) ≡ Admitted
+        → (list_in_range s c ≡ true) × (any long_in (records_of b) ≡ false)
     go true u e f h = absurd (never h)
       where
         never : ◌≡◌ {A = Admission} (Refused (AtOnce OverLong)) Admitted → ⊥
@@ -77,16 +77,16 @@ admitted s c n b r p q = go (any longIn (recordsOf b)) (listInRange s c) refl re
 
 -- a refused round leaves all as it was
 pub left_as : (s : State) (c a d : Seq ℕ) (n : ℕ) (b : Seq ℕ) (t : State) (g : Answer) (r : Admission) (e : RoundRefusal)
-    → (t ≡ s) × (g ≡ Failed e) → r ≡ Refused e → r ≡ admissionOf s c n b → afterRound t c a d g ≡ roundStep s c a d n b
-unfolding roundStep
+    → (t ≡ s) × (g ≡ Failed e) → r ≡ Refused e → r ≡ admission_of s c n b → after_round t c a d g ≡ round_step s c a d n b
+unfolding round_step
 left_as s c a d n b t g r e p q f =
-    ap₂ (λ (x : State) (y : Answer). afterRound x c a d y) p.0 p.1 ∙ ap (λ (x : Admission). byAdmission x s c a d n b) (sym q ∙ f)
+    ap₂ (λ (x : State) (y : Answer). after_round x c a d y) p.0 p.1 ∙ ap (λ (x : Admission). by_admission x s c a d n b) (sym q ∙ f)
 
 module _ (s : State) (c : Seq ℕ) where
-  pub range-ascends : (r u : Bool) → (s.begun ≡ 0 → ⊥) → s.begun ≡ 1 → s.count ≤ cardLimit → u ≡ every inRangeIn (pieces s.count c) → u ≡ true → r ≡ ascending (pieces s.count c) → r ≡ listInRange s c
-  unfolding listInRange pick
-  range-ascends r u a b l p q e = rw (ne_eqb s.begun 0 a, eq-eqb s.begun 1 b, le-leb s.count cardLimit l, ← p, q) e
+  pub range_ascends : (r u : Bool) → (s.begun ≡ 0 → ⊥) → s.begun ≡ 1 → s.count ≤ card_limit → u ≡ every in_range_in (pieces s.count c) → u ≡ true → r ≡ ascending (pieces s.count c) → r ≡ list_in_range s c
+  unfolding list_in_range pick
+  range_ascends r u a b l p q e = rw (ne_eqb s.begun 0 a, eq-eqb s.begun 1 b, le-leb s.count card_limit l, ← p, q) e
 
-  pub range-broken : (u : Bool) → (s.begun ≡ 0 → ⊥) → s.begun ≡ 1 → s.count ≤ cardLimit → u ≡ every inRangeIn (pieces s.count c) → u ≡ false → false ≡ listInRange s c
-  unfolding listInRange pick
-  range-broken u a b l p q = rw (ne_eqb s.begun 0 a, eq-eqb s.begun 1 b, le-leb s.count cardLimit l, ← p, q)
+  pub range_broken : (u : Bool) → (s.begun ≡ 0 → ⊥) → s.begun ≡ 1 → s.count ≤ card_limit → u ≡ every in_range_in (pieces s.count c) → u ≡ false → false ≡ list_in_range s c
+  unfolding list_in_range pick
+  range_broken u a b l p q = rw (ne_eqb s.begun 0 a, eq-eqb s.begun 1 b, le-leb s.count card_limit l, ← p, q)

@@ -10,35 +10,35 @@ use Rattle.std.proofs.Math.ListN.{length, set}
 use Rattle.std.proofs.lemmas.List.{set-append_left}
 use borrow.Author.Tests.{eq-eqb, ne_eqb}
 use Rattle.errors.specs.Choice.{pick}
-use Rattle.presence_list.specs.Names.{recordSize, missedOffset}
+use Rattle.presence_list.specs.Names.{record_size, missed_offset}
 use Rattle.presence_list.specs.Keyed.{has, without}
-use Rattle.presence_list.specs.Memory.{pieces, concatenated, laid, putBehind, Whole, missedIn, cardIn, aged}
-use Rattle.presence_list.specs.MemoryLaws.{piece-at, length-pieces, pieces_whole, length-joined, joined-append, laid-behind, length-laid}
+use Rattle.presence_list.specs.Memory.{pieces, concatenated, laid, put_behind, Whole, missed_in, card_in, aged}
+use Rattle.presence_list.specs.MemoryLaws.{piece_at, length-pieces, pieces_whole, length-joined, joined-append, laid-behind, length-laid}
 use Rattle.presence_list.specs.Turns.{take_more}
-use Rattle.presence_list.specs.Checks.{byte-in}
+use Rattle.presence_list.specs.Checks.{byte_in_lem}
 
-pub added-laid : (es fs : List (List ℕ)) (b : List ℕ) (n : ℕ) → Whole es → n ≡ length es → putBehind n fs (laid es b) ≡ laid (es ++ fs) b
-unfolding putBehind laid
+pub added-laid : (es fs : List (List ℕ)) (b : List ℕ) (n : ℕ) → Whole es → n ≡ length es → put_behind n fs (laid es b) ≡ laid (es ++ fs) b
+unfolding put_behind laid
 added-laid es fs b n w e =
-    let j : length (concatenated es) ≡ recordSize * n = let i = length-joined es w in omega arith in
+    let j : length (concatenated es) ≡ record_size * n = let i = length-joined es w in omega arith in
     let all : n + length fs ≡ length (es ++ fs) = let i = length-append es fs in omega arith in
-    ap₂ (λ (x y : List ℕ). x ++ (concatenated fs ++ y)) (take_at (concatenated es) (drop (recordSize * length es) b) (recordSize * n) j)
-    (laid-behind es b (n + length fs) w (omega arith) ∙ ap (λ (k : ℕ). drop (recordSize * k) b) all)
-    ∙ sym (append_assoc (concatenated es) (concatenated fs) (drop (recordSize * length (es ++ fs)) b))
-    ∙ ap (λ (l : List ℕ). l ++ drop (recordSize * length (es ++ fs)) b) (sym (joined-append es fs))
+    ap₂ (λ (x y : List ℕ). x ++ (concatenated fs ++ y)) (take_at (concatenated es) (drop (record_size * length es) b) (record_size * n) j)
+    (laid-behind es b (n + length fs) w (omega arith) ∙ ap (λ (k : ℕ). drop (record_size * k) b) all)
+    ∙ sym (append_assoc (concatenated es) (concatenated fs) (drop (record_size * length (es ++ fs)) b))
+    ∙ ap (λ (l : List ℕ). l ++ drop (record_size * length (es ++ fs)) b) (sym (joined-append es fs))
 
-pub added_none : (n : ℕ) (b : List ℕ) → b ≡ putBehind n [] b
-unfolding putBehind concatenated
-added_none n b = sym (ap (λ (k : ℕ). take (recordSize * n) b ++ drop (recordSize * k) b) (none n) ∙ take-append-drop (recordSize * n) b)
+pub added_none : (n : ℕ) (b : List ℕ) → b ≡ put_behind n [] b
+unfolding put_behind concatenated
+added_none n b = sym (ap (λ (k : ℕ). take (record_size * n) b ++ drop (record_size * k) b) (none n) ∙ take-append-drop (record_size * n) b)
   where
     none : (n : ℕ) → n + 0 ≡ n
     none n = omega arith
 
-pub added-one : (n : ℕ) (e b : List ℕ) → length e ≡ recordSize → take (recordSize * n) b ++ (e ++ drop (recordSize * n + length e) b) ≡ putBehind n (e ∷ []) b
-unfolding putBehind concatenated
+pub added-one : (n : ℕ) (e b : List ℕ) → length e ≡ record_size → take (record_size * n) b ++ (e ++ drop (record_size * n + length e) b) ≡ put_behind n (e ∷ []) b
+unfolding put_behind concatenated
 added-one n e b h =
-    let next : recordSize * n + length e ≡ recordSize * (n + 1) = omega arith in
-    ap₂ (λ (x : List ℕ) (k : ℕ). take (recordSize * n) b ++ (x ++ drop k b)) (sym (append-nil e)) next
+    let next : record_size * n + length e ≡ record_size * (n + 1) = omega arith in
+    ap₂ (λ (x : List ℕ) (k : ℕ). take (record_size * n) b ++ (x ++ drop k b)) (sym (append-nil e)) next
 
 -- a byte of the one that was put
 set-behind : (xs ys : List ℕ) (i a : ℕ) → set (xs ++ ys) (length xs + i) a ≡ xs ++ set ys i a
@@ -51,15 +51,15 @@ set-behind (x ∷ xs) ys i a = ap (λ (k : ℕ). set (x ∷ (xs ++ ys)) k a) (on
     one : (m n : ℕ) → suc m + n ≡ suc (m + n)
     one m n = omega arith
 
-pub added-set : (n k a : ℕ) (e b : List ℕ) → recordSize * n ≤ length b → length e ≡ recordSize → k < recordSize
-    → set (take (recordSize * n) b ++ (e ++ drop (recordSize * n + length e) b)) (recordSize * n + k) a ≡ putBehind n (set e k a ∷ []) b
+pub added-set : (n k a : ℕ) (e b : List ℕ) → record_size * n ≤ length b → length e ≡ record_size → k < record_size
+    → set (take (record_size * n) b ++ (e ++ drop (record_size * n + length e) b)) (record_size * n + k) a ≡ put_behind n (set e k a ∷ []) b
 added-set n k a e b room h l =
-    let t : length (take (recordSize * n) b) ≡ recordSize * n = length-take-le (recordSize * n) b room in
-    let d : List ℕ = drop (recordSize * n + length e) b in
-    ap (λ (i : ℕ). set (take (recordSize * n) b ++ (e ++ d)) (i + k) a) (sym t)
-    ∙ set-behind (take (recordSize * n) b) (e ++ d) k a
-    ∙ ap (λ (x : List ℕ). take (recordSize * n) b ++ x) (set-append_left e d k a (omega arith))
-    ∙ ap (λ (i : ℕ). take (recordSize * n) b ++ (set e k a ++ drop (recordSize * n + i) b)) (sym (length-set e k a))
+    let t : length (take (record_size * n) b) ≡ record_size * n = length-take-le (record_size * n) b room in
+    let d : List ℕ = drop (record_size * n + length e) b in
+    ap (λ (i : ℕ). set (take (record_size * n) b ++ (e ++ d)) (i + k) a) (sym t)
+    ∙ set-behind (take (record_size * n) b) (e ++ d) k a
+    ∙ ap (λ (x : List ℕ). take (record_size * n) b ++ x) (set-append_left e d k a (omega arith))
+    ∙ ap (λ (i : ℕ). take (record_size * n) b ++ (set e k a ++ drop (record_size * n + i) b)) (sym (length-set e k a))
     ∙ added-one n (set e k a) b (length-set e k a ∙ h)
 
 -- a list of records that is made record by record
@@ -79,24 +79,24 @@ abbrev pub Grown : (List (List ℕ) → List (List ℕ)) → List ℕ → ℕ �
 Grown f b count i n out₀ out =
     (i ≤ count) × (n ≤ i) × (n ≡ length (f (take i (pieces count b)))) × (out ≡ laid (f (take i (pieces count b))) out₀) × (length out ≡ length out₀)
 
-module _ (f : List (List ℕ) → List (List ℕ)) (g : Growing f) (b : List ℕ) (count : ℕ) (out₀ : List ℕ) (room : recordSize * count ≤ length b) (out-room : recordSize * count ≤ length out₀) where
-  pub grown-none : Grown f b count 0 0 out₀ out₀
+module _ (f : List (List ℕ) → List (List ℕ)) (g : Growing f) (b : List ℕ) (count : ℕ) (out₀ : List ℕ) (room : record_size * count ≤ length b) (out-room : record_size * count ≤ length out₀) where
+  pub grown_none : Grown f b count 0 0 out₀ out₀
   unfolding laid concatenated
-  grown-none = (omega arith, omega arith, ap length (sym g.none), ap (λ (l : List (List ℕ)). laid l out₀) (sym g.none), refl)
+  grown_none = (omega arith, omega arith, ap length (sym g.none), ap (λ (l : List (List ℕ)). laid l out₀) (sym g.none), refl)
 
-  pub grown-more : (i n r : ℕ) (out out₁ e : List ℕ) → Grown f b count i n out₀ out → i < count → e ≡ take recordSize (drop (recordSize * i) b)
-      → r ≡ n + length (f (e ∷ [])) → out₁ ≡ putBehind n (f (e ∷ [])) out → Grown f b count (i + 1) r out₀ out₁
-  grown-more i n r out out₁ e inv h p q s =
+  pub grown_more : (i n r : ℕ) (out out₁ e : List ℕ) → Grown f b count i n out₀ out → i < count → e ≡ take record_size (drop (record_size * i) b)
+      → r ≡ n + length (f (e ∷ [])) → out₁ ≡ put_behind n (f (e ∷ [])) out → Grown f b count (i + 1) r out₀ out₁
+  grown_more i n r out out₁ e inv h p q s =
       let all : List (List ℕ) = pieces count b in
       let size : length all ≡ count = length-pieces count b in
       let whole-all : Whole all = pieces_whole count b room in
       let now : List (List ℕ) = f (take i all) in
       let next : f (take (i + 1) all) ≡ now ++ f (e ∷ []) =
-      ap f (take_more all i [] (omega arith) ∙ ap (λ (x : List ℕ). take i all ++ x ∷ []) (piece-at count i b h ∙ sym p)) ∙ g.more (take i all) (e ∷ []) in
+      ap f (take_more all i [] (omega arith) ∙ ap (λ (x : List ℕ). take i all ++ x ∷ []) (piece_at count i b h ∙ sym p)) ∙ g.more (take i all) (e ∷ []) in
       let w : Whole now = g.whole (take i all) (take_whole i all whole-all) in
       let lays : out₁ ≡ laid (f (take (i + 1) all)) out₀ =
       s
-      ∙ ap (putBehind n (f (e ∷ []))) inv.3
+      ∙ ap (put_behind n (f (e ∷ []))) inv.3
       ∙ added-laid now (f (e ∷ [])) out₀ n w inv.2
       ∙ ap (λ (l : List (List ℕ)). laid l out₀) (sym next) in
       let counts : r ≡ length (f (take (i + 1) all)) =
@@ -109,8 +109,8 @@ module _ (f : List (List ℕ) → List (List ℕ)) (g : Growing f) (b : List ℕ
         ap length lays ∙ length-laid (f (take (i + 1) all)) out₀ (g.whole (take (i + 1) all) (take_whole (i + 1) all whole-all)) (omega arith),
       )
 
-  pub grown-all : (i n : ℕ) (out : List ℕ) → Grown f b count i n out₀ out → count ≤ i → (n ≡ length (f (pieces count b))) × (out ≡ laid (f (pieces count b)) out₀)
-  grown-all i n out inv h =
+  pub grown_all : (i n : ℕ) (out : List ℕ) → Grown f b count i n out₀ out → count ≤ i → (n ≡ length (f (pieces count b))) × (out ≡ laid (f (pieces count b)) out₀)
+  grown_all i n out inv h =
       let full : take i (pieces count b) ≡ pieces count b = take_all i (pieces count b) (let s = length-pieces count b in omega arith) in
       (inv.2 ∙ ap (λ (l : List (List ℕ)). length (f l)) full, inv.3 ∙ ap (λ (l : List (List ℕ)). laid (f l) out₀) full)
 
@@ -118,79 +118,79 @@ module _ where
   aged-more : (xs ys : List (List ℕ)) → aged (xs ++ ys) ≡ aged xs ++ aged ys
   unfolding aged pick
   aged-more [] ys = refl
-  aged-more (e ∷ es) ys = go (eqb (missedIn e) 0) (aged-more es ys)
+  aged-more (e ∷ es) ys = go (eqb (missed_in e) 0) (aged-more es ys)
     where
-      go : (t : Bool) → aged (es ++ ys) ≡ aged es ++ aged ys → pick t (set e missedOffset 1 ∷ aged (es ++ ys)) (aged (es ++ ys)) ≡ pick t (set e missedOffset 1 ∷ aged es) (aged es) ++ aged ys
-      go true r = ap (λ (l : List (List ℕ)). set e missedOffset 1 ∷ l) r
+      go : (t : Bool) → aged (es ++ ys) ≡ aged es ++ aged ys → pick t (set e missed_offset 1 ∷ aged (es ++ ys)) (aged (es ++ ys)) ≡ pick t (set e missed_offset 1 ∷ aged es) (aged es) ++ aged ys
+      go true r = ap (λ (l : List (List ℕ)). set e missed_offset 1 ∷ l) r
       go false r = r
 
-  pub aged-whole : (es : List (List ℕ)) → Whole es → Whole (aged es)
+  pub aged_whole : (es : List (List ℕ)) → Whole es → Whole (aged es)
   unfolding aged pick
-  aged-whole [] w = tt
-  aged-whole (e ∷ es) w = go (eqb (missedIn e) 0) (aged-whole es w.1)
+  aged_whole [] w = tt
+  aged_whole (e ∷ es) w = go (eqb (missed_in e) 0) (aged_whole es w.1)
     where
-      go : (t : Bool) → Whole (aged es) → Whole (pick t (set e missedOffset 1 ∷ aged es) (aged es))
-      go true r = (length-set e missedOffset 1 ∙ w.0, r)
+      go : (t : Bool) → Whole (aged es) → Whole (pick t (set e missed_offset 1 ∷ aged es) (aged es))
+      go true r = (length-set e missed_offset 1 ∙ w.0, r)
       go false r = r
 
-  pub aged-short : (es : List (List ℕ)) → length (aged es) ≤ length es
+  pub aged_short : (es : List (List ℕ)) → length (aged es) ≤ length es
   unfolding aged pick
-  aged-short [] = omega arith
-  aged-short (e ∷ es) = go (eqb (missedIn e) 0) (aged-short es)
+  aged_short [] = omega arith
+  aged_short (e ∷ es) = go (eqb (missed_in e) 0) (aged_short es)
     where
-      go : (t : Bool) → length (aged es) ≤ length es → length (pick t (set e missedOffset 1 ∷ aged es) (aged es)) ≤ suc (length es)
+      go : (t : Bool) → length (aged es) ≤ length es → length (pick t (set e missed_offset 1 ∷ aged es) (aged es)) ≤ suc (length es)
       go true r = omega arith
       go false r = omega arith
 
-  pub aged-grows : Growing aged
+  pub aged_grows : Growing aged
   unfolding aged
-  aged-grows = record { none = refl; more = aged-more; whole = aged-whole; short = aged-short }
+  aged_grows = record { none = refl; more = aged-more; whole = aged_whole; short = aged_short }
 
-  pub aged-out : (b : List ℕ) (at : ℕ) → (get_or b (at + missedOffset) 0 ≡ 0 → ⊥) → aged (take recordSize (drop at b) ∷ []) ≡ []
+  pub aged_out : (b : List ℕ) (at : ℕ) → (get_or b (at + missed_offset) 0 ≡ 0 → ⊥) → aged (take record_size (drop at b) ∷ []) ≡ []
   unfolding aged pick
-  aged-out b at h = rw (byte-in b at missedOffset (omega arith), ne_eqb (get_or b (at + missedOffset) 0) 0 h)
+  aged_out b at h = rw (byte_in_lem b at missed_offset (omega arith), ne_eqb (get_or b (at + missed_offset) 0) 0 h)
 
-  pub aged-stays : (b : List ℕ) (at : ℕ) → get_or b (at + missedOffset) 0 ≡ 0 → aged (take recordSize (drop at b) ∷ []) ≡ set (take recordSize (drop at b)) missedOffset 1 ∷ []
+  pub aged_stays : (b : List ℕ) (at : ℕ) → get_or b (at + missed_offset) 0 ≡ 0 → aged (take record_size (drop at b) ∷ []) ≡ set (take record_size (drop at b)) missed_offset 1 ∷ []
   unfolding aged pick
-  aged-stays b at h = rw (byte-in b at missedOffset (omega arith), eq-eqb (get_or b (at + missedOffset) 0) 0 h)
+  aged_stays b at h = rw (byte_in_lem b at missed_offset (omega arith), eq-eqb (get_or b (at + missed_offset) 0) 0 h)
 
 module _ (other : List (List ℕ)) where
-  without_more : (xs ys : List (List ℕ)) → without cardIn other (xs ++ ys) ≡ without cardIn other xs ++ without cardIn other ys
+  without_more : (xs ys : List (List ℕ)) → without card_in other (xs ++ ys) ≡ without card_in other xs ++ without card_in other ys
   unfolding without pick
   without_more [] ys = refl
-  without_more (e ∷ es) ys = go (has cardIn (cardIn e) other) (without_more es ys)
+  without_more (e ∷ es) ys = go (has card_in (card_in e) other) (without_more es ys)
     where
-      go : (t : Bool) → without cardIn other (es ++ ys) ≡ without cardIn other es ++ without cardIn other ys
-          → pick t (without cardIn other (es ++ ys)) (e ∷ without cardIn other (es ++ ys)) ≡ pick t (without cardIn other es) (e ∷ without cardIn other es) ++ without cardIn other ys
+      go : (t : Bool) → without card_in other (es ++ ys) ≡ without card_in other es ++ without card_in other ys
+          → pick t (without card_in other (es ++ ys)) (e ∷ without card_in other (es ++ ys)) ≡ pick t (without card_in other es) (e ∷ without card_in other es) ++ without card_in other ys
       go true r = r
       go false r = ap (λ (l : List (List ℕ)). e ∷ l) r
 
-  pub without-whole : (es : List (List ℕ)) → Whole es → Whole (without cardIn other es)
+  pub without_whole : (es : List (List ℕ)) → Whole es → Whole (without card_in other es)
   unfolding without pick
-  without-whole [] w = tt
-  without-whole (e ∷ es) w = go (has cardIn (cardIn e) other) (without-whole es w.1)
+  without_whole [] w = tt
+  without_whole (e ∷ es) w = go (has card_in (card_in e) other) (without_whole es w.1)
     where
-      go : (t : Bool) → Whole (without cardIn other es) → Whole (pick t (without cardIn other es) (e ∷ without cardIn other es))
+      go : (t : Bool) → Whole (without card_in other es) → Whole (pick t (without card_in other es) (e ∷ without card_in other es))
       go true r = r
       go false r = (w.0, r)
 
-  pub without-short : (es : List (List ℕ)) → length (without cardIn other es) ≤ length es
+  pub without_short : (es : List (List ℕ)) → length (without card_in other es) ≤ length es
   unfolding without pick
-  without-short [] = omega arith
-  without-short (e ∷ es) = go (has cardIn (cardIn e) other) (without-short es)
+  without_short [] = omega arith
+  without_short (e ∷ es) = go (has card_in (card_in e) other) (without_short es)
     where
-      go : (t : Bool) → length (without cardIn other es) ≤ length es → length (pick t (without cardIn other es) (e ∷ without cardIn other es)) ≤ suc (length es)
+      go : (t : Bool) → length (without card_in other es) ≤ length es → length (pick t (without card_in other es) (e ∷ without card_in other es)) ≤ suc (length es)
       go true r = omega arith
       go false r = omega arith
 
-  pub without-grows : Growing (without cardIn other)
+  pub without_grows : Growing (without card_in other)
   unfolding without
-  without-grows = record { none = refl; more = without_more; whole = without-whole; short = without-short }
+  without_grows = record { none = refl; more = without_more; whole = without_whole; short = without_short }
 
-  pub without-known : (e c : List ℕ) (r : Bool) → c ≡ cardIn e → r ≡ has cardIn c other → r ≡ true → without cardIn other (e ∷ []) ≡ []
+  pub without-known : (e c : List ℕ) (r : Bool) → c ≡ card_in e → r ≡ has card_in c other → r ≡ true → without card_in other (e ∷ []) ≡ []
   unfolding without pick
   without-known e c r p q t = rw (← p, ← q, t)
 
-  pub without-new : (e c : List ℕ) (r : Bool) → c ≡ cardIn e → r ≡ has cardIn c other → r ≡ false → without cardIn other (e ∷ []) ≡ e ∷ []
+  pub without_new : (e c : List ℕ) (r : Bool) → c ≡ card_in e → r ≡ has card_in c other → r ≡ false → without card_in other (e ∷ []) ≡ e ∷ []
   unfolding without pick
-  without-new e c r p q t = rw (← p, ← q, t)
+  without_new e c r p q t = rw (← p, ← q, t)

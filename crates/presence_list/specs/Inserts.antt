@@ -4,57 +4,57 @@ use Rattle.std.proofs.Common.{sym, ◌∙◌, arith, length-append, take-append-
 use Rattle.std.proofs.Math.Path.{ap, ap₂}
 use mathlib.Core.List.{List, ◌∷◌, ◌++◌, append_assoc}
 use Rattle.std.proofs.Math.ListN.{take, drop}
-use Rattle.presence_list.specs.Names.{recordSize}
+use Rattle.presence_list.specs.Names.{record_size}
 use Rattle.presence_list.specs.Memory.{pieces, concatenated, laid}
 use Rattle.presence_list.specs.MemoryLaws.{length-pieces, joined-pieces, joined-append, take-pieces, drop-pieces}
 
 module _ (b e : List ℕ) (p m : ℕ) where
   -- a list's first p records, one, and m others that lie from a place on
-  around : (r : List ℕ) → concatenated (pieces p b ++ e ∷ pieces m r) ≡ take (recordSize * p) b ++ (e ++ take (recordSize * m) r)
+  around : (r : List ℕ) → concatenated (pieces p b ++ e ∷ pieces m r) ≡ take (record_size * p) b ++ (e ++ take (record_size * m) r)
   unfolding concatenated
   around r = joined-append (pieces p b) (e ∷ pieces m r) ∙ ap₂ (λ (x y : List ℕ). x ++ (e ++ y)) (joined-pieces p b) (joined-pieces m r)
 
   size : (r : List ℕ) → length (pieces p b ++ e ∷ pieces m r) ≡ p + m + 1
   size r = let k = length-append (pieces p b) (e ∷ pieces m r) in let i = length-pieces p b in let j = length-pieces m r in omega arith
 
-  behind : (r : List ℕ) → laid (pieces p b ++ e ∷ pieces m r) b ≡ take (recordSize * p) b ++ (e ++ (take (recordSize * m) r ++ drop (recordSize * (p + m + 1)) b))
+  behind : (r : List ℕ) → laid (pieces p b ++ e ∷ pieces m r) b ≡ take (record_size * p) b ++ (e ++ (take (record_size * m) r ++ drop (record_size * (p + m + 1)) b))
   unfolding laid
   behind r =
-      ap₂ (λ (x : List ℕ) (k : ℕ). x ++ drop (recordSize * k) b) (around r) (size r)
-      ∙ append_assoc (take (recordSize * p) b) (e ++ take (recordSize * m) r) (drop (recordSize * (p + m + 1)) b)
-      ∙ ap (λ (x : List ℕ). take (recordSize * p) b ++ x) (append_assoc e (take (recordSize * m) r) (drop (recordSize * (p + m + 1)) b))
+      ap₂ (λ (x : List ℕ) (k : ℕ). x ++ drop (record_size * k) b) (around r) (size r)
+      ∙ append_assoc (take (record_size * p) b) (e ++ take (record_size * m) r) (drop (record_size * (p + m + 1)) b)
+      ∙ ap (λ (x : List ℕ). take (record_size * p) b ++ x) (append_assoc e (take (record_size * m) r) (drop (record_size * (p + m + 1)) b))
 
-pub inserted : (b e b₁ b₂ : List ℕ) (count p : ℕ) → p ≤ count → length e ≡ recordSize
-    → (take (recordSize * p) b₁ ≡ take (recordSize * p) b) × (drop (recordSize * p + recordSize) b₁ ≡ take (recordSize * count - recordSize * p) (drop (recordSize * p) b) ++ drop (recordSize * count + recordSize) b)
-    → b₂ ≡ take (recordSize * p) b₁ ++ (e ++ drop (recordSize * p + length e) b₁) → b₂ ≡ laid (take p (pieces count b) ++ e ∷ drop p (pieces count b)) b
+pub inserted : (b e b₁ b₂ : List ℕ) (count p : ℕ) → p ≤ count → length e ≡ record_size
+    → (take (record_size * p) b₁ ≡ take (record_size * p) b) × (drop (record_size * p + record_size) b₁ ≡ take (record_size * count - record_size * p) (drop (record_size * p) b) ++ drop (record_size * count + record_size) b)
+    → b₂ ≡ take (record_size * p) b₁ ++ (e ++ drop (record_size * p + length e) b₁) → b₂ ≡ laid (take p (pieces count b) ++ e ∷ drop p (pieces count b)) b
 inserted b e b₁ b₂ count p h n s q =
     let m : ℕ = count - p in
     let all : count ≡ p + m = omega arith in
-    let apart : recordSize * count - recordSize * p ≡ recordSize * m = omega arith in
-    let end : recordSize * count + recordSize ≡ recordSize * (p + m + 1) = omega arith in
-    let wide : recordSize * p + length e ≡ recordSize * p + recordSize = omega arith in
+    let apart : record_size * count - record_size * p ≡ record_size * m = omega arith in
+    let end : record_size * count + record_size ≡ record_size * (p + m + 1) = omega arith in
+    let wide : record_size * p + length e ≡ record_size * p + record_size = omega arith in
     q
     ∙ ap₂ (λ (x y : List ℕ). x ++ (e ++ y)) s.0
-    (ap (λ (k : ℕ). drop k b₁) wide ∙ s.1 ∙ ap₂ (λ (i j : ℕ). take i (drop (recordSize * p) b) ++ drop j b) apart end)
-    ∙ sym (behind b e p m (drop (recordSize * p) b))
+    (ap (λ (k : ℕ). drop k b₁) wide ∙ s.1 ∙ ap₂ (λ (i j : ℕ). take i (drop (record_size * p) b) ++ drop j b) apart end)
+    ∙ sym (behind b e p m (drop (record_size * p) b))
     ∙ ap (λ (l : List (List ℕ)). laid l b)
     (ap₂ (λ (x y : List (List ℕ)). x ++ e ∷ y) (sym (take-pieces p m b)) (sym (drop-pieces p m b))
     ∙ ap (λ (k : ℕ). take p (pieces k b) ++ e ∷ drop p (pieces k b)) (sym all))
 
-pub replaced : (b e b₂ : List ℕ) (count p : ℕ) → p < count → length e ≡ recordSize → recordSize * count ≤ length b
-    → b₂ ≡ take (recordSize * p) b ++ (e ++ drop (recordSize * p + length e) b) → b₂ ≡ laid (take p (pieces count b) ++ e ∷ drop (suc p) (pieces count b)) b
+pub replaced : (b e b₂ : List ℕ) (count p : ℕ) → p < count → length e ≡ record_size → record_size * count ≤ length b
+    → b₂ ≡ take (record_size * p) b ++ (e ++ drop (record_size * p + length e) b) → b₂ ≡ laid (take p (pieces count b) ++ e ∷ drop (suc p) (pieces count b)) b
 replaced b e b₂ count p h n room q =
     let m : ℕ = count - suc p in
     let all : count ≡ suc p + m = omega arith in
     let less : count ≡ p + suc m = omega arith in
-    let wide : recordSize * p + length e ≡ recordSize * suc p = omega arith in
-    let end : recordSize * suc p + recordSize * m ≡ recordSize * (p + m + 1) = omega arith in
+    let wide : record_size * p + length e ≡ record_size * suc p = omega arith in
+    let end : record_size * suc p + record_size * m ≡ record_size * (p + m + 1) = omega arith in
     q
-    ∙ ap (λ (x : List ℕ). take (recordSize * p) b ++ (e ++ x))
+    ∙ ap (λ (x : List ℕ). take (record_size * p) b ++ (e ++ x))
     (ap (λ (k : ℕ). drop k b) wide
-    ∙ sym (take-append-drop (recordSize * m) (drop (recordSize * suc p) b))
-    ∙ ap (λ (x : List ℕ). take (recordSize * m) (drop (recordSize * suc p) b) ++ x) (drop-drop (recordSize * m) (recordSize * suc p) b ∙ ap (λ (k : ℕ). drop k b) end))
-    ∙ sym (behind b e p m (drop (recordSize * suc p) b))
+    ∙ sym (take-append-drop (record_size * m) (drop (record_size * suc p) b))
+    ∙ ap (λ (x : List ℕ). take (record_size * m) (drop (record_size * suc p) b) ++ x) (drop-drop (record_size * m) (record_size * suc p) b ∙ ap (λ (k : ℕ). drop k b) end))
+    ∙ sym (behind b e p m (drop (record_size * suc p) b))
     ∙ ap (λ (l : List (List ℕ)). laid l b)
     (ap₂ (λ (x y : List (List ℕ)). x ++ e ∷ y)
     (sym (take-pieces p (suc m) b) ∙ ap (λ (k : ℕ). take p (pieces k b)) (sym less))

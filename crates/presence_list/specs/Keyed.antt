@@ -15,9 +15,9 @@ module _ {A : Type 0} (key : A → List ℕ) where
   supersede x (y ∷ ys) = pick (before (key y) (key x)) (y ∷ supersede x ys) (x ∷ pick (same (key x) (key y)) ys (y ∷ ys))
 
   -- one after the other
-  unfoldable pub supersedeAll : List A → List A → List A
-  supersedeAll l [] = l
-  supersedeAll l (x ∷ xs) = supersedeAll (supersede x l) xs
+  unfoldable pub supersede_all : List A → List A → List A
+  supersede_all l [] = l
+  supersede_all l (x ∷ xs) = supersede_all (supersede x l) xs
 
   -- whether a list has a key
   unfoldable pub has : List ℕ → List A → Bool

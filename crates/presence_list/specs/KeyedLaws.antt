@@ -9,13 +9,13 @@ use native.Mathlib.Omega.{arith}
 use Rattle.std.proofs.Math.ListN.{length, take, drop}
 use Rattle.errors.specs.Choice.{pick, same}
 use Rattle.presence_list.specs.Order.{before}
-use Rattle.presence_list.specs.OrderLaws.{before-trans, first-not, Compared, behind, equal, ahead, compared}
-use Rattle.presence_list.specs.Keyed.{All, supersede, supersedeAll, has, without, place, Below, Sorted, only}
+use Rattle.presence_list.specs.OrderLaws.{before_trans, first_not, Compared, behind, equal, ahead, compared}
+use Rattle.presence_list.specs.Keyed.{All, supersede, supersede_all, has, without, place, Below, Sorted, only}
 
 module _ {A : Type 0} (key : A → List ℕ) where
-  pub below-trans : (i k : List ℕ) (l : List A) → before i k ≡ true → Below key k l → Below key i l
-  below-trans i k [] h b = tt
-  below-trans i k (y ∷ ys) h b = (before-trans i k (key y) h b.0, below-trans i k ys h b.1)
+  pub below_trans : (i k : List ℕ) (l : List A) → before i k ≡ true → Below key k l → Below key i l
+  below_trans i k [] h b = tt
+  below_trans i k (y ∷ ys) h b = (before_trans i k (key y) h b.0, below_trans i k ys h b.1)
 
   below-supersede : (k : List ℕ) (x : A) (l : List A) → before k (key x) ≡ true → Below key k l → Below key k (supersede key x l)
   unfolding supersede pick
@@ -28,20 +28,20 @@ module _ {A : Type 0} (key : A → List ℕ) where
       go (ahead p q s) r = rw (p, s) (h, b)
 
   -- a list in order stays in order
-  pub supersede-sorted : (x : A) (l : List A) → Sorted key l → Sorted key (supersede key x l)
+  pub supersede_sorted : (x : A) (l : List A) → Sorted key l → Sorted key (supersede key x l)
   unfolding supersede pick
-  supersede-sorted x [] o = (tt, tt)
-  supersede-sorted x (y ∷ ys) o = go (compared (key x) (key y)) (supersede-sorted x ys o.1)
+  supersede_sorted x [] o = (tt, tt)
+  supersede_sorted x (y ∷ ys) o = go (compared (key x) (key y)) (supersede_sorted x ys o.1)
     where
       go : Compared (key x) (key y) → Sorted key (supersede key x ys) → Sorted key (supersede key x (y ∷ ys))
       go (behind p q s) r = rw p (below-supersede (key y) x ys p o.0, r)
       go (equal e p q s) r = rw (p, s) (rw e o.0, o.1)
-      go (ahead p q s) r = rw (p, s) ((q, below-trans (key x) (key y) ys q o.0), o)
+      go (ahead p q s) r = rw (p, s) ((q, below_trans (key x) (key y) ys q o.0), o)
 
-  pub all-sorted : (l xs : List A) → Sorted key l → Sorted key (supersedeAll key l xs)
-  unfolding supersedeAll
-  all-sorted l [] o = o
-  all-sorted l (x ∷ xs) o = all-sorted (supersede key x l) xs (supersede-sorted x l o)
+  pub all_sorted : (l xs : List A) → Sorted key l → Sorted key (supersede_all key l xs)
+  unfolding supersede_all
+  all_sorted l [] o = o
+  all_sorted l (x ∷ xs) o = all_sorted (supersede key x l) xs (supersede_sorted x l o)
 
   pub supersede-all : (p : A → Type 0) (x : A) (l : List A) → p x → All p l → All p (supersede key x l)
   unfolding supersede pick
@@ -53,21 +53,21 @@ module _ {A : Type 0} (key : A → List ℕ) where
       go (equal e b q s) r = rw (b, s) (h, a.1)
       go (ahead b q s) r = rw (b, s) (h, a)
 
-  pub all-all : (p : A → Type 0) (l xs : List A) → All p l → All p xs → All p (supersedeAll key l xs)
-  unfolding supersedeAll
+  pub all-all : (p : A → Type 0) (l xs : List A) → All p l → All p xs → All p (supersede_all key l xs)
+  unfolding supersede_all
   all-all p l [] a b = a
   all-all p l (x ∷ xs) a b = all-all p (supersede key x l) xs (supersede-all p x l b.0 a) b.1
 
-  pub all_append : (l xs ys : List A) → supersedeAll key l (xs ++ ys) ≡ supersedeAll key (supersedeAll key l xs) ys
-  unfolding supersedeAll
+  pub all_append : (l xs ys : List A) → supersede_all key l (xs ++ ys) ≡ supersede_all key (supersede_all key l xs) ys
+  unfolding supersede_all
   all_append l [] ys = refl
   all_append l (x ∷ xs) ys = all_append (supersede key x l) xs ys
 
   -- it grows by one at most, and never shrinks
-  pub supersede-grows : (x : A) (l : List A) → (length l ≤ length (supersede key x l)) × (length (supersede key x l) ≤ length l + 1)
+  pub supersede_grows : (x : A) (l : List A) → (length l ≤ length (supersede key x l)) × (length (supersede key x l) ≤ length l + 1)
   unfolding supersede pick
-  supersede-grows x [] = (omega arith, omega arith)
-  supersede-grows x (y ∷ ys) = go (compared (key x) (key y)) (supersede-grows x ys)
+  supersede_grows x [] = (omega arith, omega arith)
+  supersede_grows x (y ∷ ys) = go (compared (key x) (key y)) (supersede_grows x ys)
     where
       go : Compared (key x) (key y) → (length ys ≤ length (supersede key x ys)) × (length (supersede key x ys) ≤ length ys + 1)
           → (length (y ∷ ys) ≤ length (supersede key x (y ∷ ys))) × (length (supersede key x (y ∷ ys)) ≤ length (y ∷ ys) + 1)
@@ -75,36 +75,36 @@ module _ {A : Type 0} (key : A → List ℕ) where
       go (equal e p q s) r = rw (p, s) (omega arith, omega arith)
       go (ahead p q s) r = rw (p, s) (omega arith, omega arith)
 
-  pub all-grows : (l xs : List A) → length l ≤ length (supersedeAll key l xs)
-  unfolding supersedeAll
-  all-grows l [] = omega arith
-  all-grows l (x ∷ xs) = let g = supersede-grows x l in let r = all-grows (supersede key x l) xs in omega arith
+  pub all_grows : (l xs : List A) → length l ≤ length (supersede_all key l xs)
+  unfolding supersede_all
+  all_grows l [] = omega arith
+  all_grows l (x ∷ xs) = let g = supersede_grows x l in let r = all_grows (supersede key x l) xs in omega arith
 
-  pub supersede-below : (x : A) (l : List A) → Below key (key x) l → supersede key x l ≡ x ∷ l
+  pub supersede_below : (x : A) (l : List A) → Below key (key x) l → supersede key x l ≡ x ∷ l
   unfolding supersede pick
-  supersede-below x [] b = refl
-  supersede-below x (y ∷ ys) b = let f = first-not (key x) (key y) b.0 in rw (f.0, f.1)
+  supersede_below x [] b = refl
+  supersede_below x (y ∷ ys) b = let f = first_not (key x) (key y) b.0 in rw (f.0, f.1)
 
   has-not-below : (k : List ℕ) (l : List A) → Below key k l → has key k l ≡ false
   unfolding has pick
   has-not-below k [] b = refl
-  has-not-below k (y ∷ ys) b = rw (first-not k (key y) b.0).1 (has-not-below k ys b.1)
+  has-not-below k (y ∷ ys) b = rw (first_not k (key y) b.0).1 (has-not-below k ys b.1)
 
   -- the place
-  pub place-le : (k : List ℕ) (l : List A) → place key k l ≤ length l
+  pub place_le : (k : List ℕ) (l : List A) → place key k l ≤ length l
   unfolding place pick
-  place-le k [] = omega arith
-  place-le k (y ∷ ys) = go (before (key y) k) (place-le k ys)
+  place_le k [] = omega arith
+  place_le k (y ∷ ys) = go (before (key y) k) (place_le k ys)
     where
       go : (t : Bool) → place key k ys ≤ length ys → pick t (suc (place key k ys)) 0 ≤ suc (length ys)
       go true r = omega arith
       go false r = omega arith
 
-  pub place-not : (k : List ℕ) (l : List A) (d : A) (i : ℕ) → i < length l → before (key (get_or l i d)) k ≡ false → place key k l ≤ i
+  pub place_not : (k : List ℕ) (l : List A) (d : A) (i : ℕ) → i < length l → before (key (get_or l i d)) k ≡ false → place key k l ≤ i
   unfolding place pick
-  place-not k [] d i h b = omega arith
-  place-not k (y ∷ ys) d zero h b = rw b (omega arith)
-  place-not k (y ∷ ys) d (suc i) h b = go (before (key y) k) (place-not k ys d i (omega arith) b)
+  place_not k [] d i h b = omega arith
+  place_not k (y ∷ ys) d zero h b = rw b (omega arith)
+  place_not k (y ∷ ys) d (suc i) h b = go (before (key y) k) (place_not k ys d i (omega arith) b)
     where
       go : (t : Bool) → place key k ys ≤ i → pick t (suc (place key k ys)) 0 ≤ suc i
       go true r = omega arith
@@ -121,7 +121,7 @@ module _ {A : Type 0} (key : A → List ℕ) where
   place-behind k (y ∷ ys) d zero o h b = rw b (omega arith)
   place-behind k (y ∷ ys) d (suc i) o h b =
       let r = place-behind k ys d i o.1 (omega arith) b in
-      rw (before-trans (key y) (key (get_or ys i d)) k (below_at (key y) ys d i (omega arith) o.0) b) (omega arith)
+      rw (before_trans (key y) (key (get_or ys i d)) k (below_at (key y) ys d i (omega arith) o.0) b) (omega arith)
 
   -- whether a key is there is seen at its place
   pub has-at : (k : List ℕ) (l : List A) (d : A) → Sorted key l → place key k l < length l → has key k l ≡ not (before k (key (get_or l (place key k l) d)))
@@ -134,12 +134,12 @@ module _ {A : Type 0} (key : A → List ℕ) where
           → pick (same k (key y)) true (has key k ys) ≡ not (before k (key (get_or (y ∷ ys) (pick (before (key y) k) (suc (place key k ys)) 0) d)))
       go (behind p q s) f h = let l : place key k ys < length ys = omega (arith, rw p at h) in rw (p, s) (f l)
       go (equal e p q s) f h = rw (p, s, q)
-      go (ahead p q s) f h = rw (p, s, q) (has-not-below k ys (below-trans k (key y) ys q o.0))
+      go (ahead p q s) f h = rw (p, s, q) (has-not-below k ys (below_trans k (key y) ys q o.0))
 
-  pub has-not-end : (k : List ℕ) (l : List A) → length l ≤ place key k l → has key k l ≡ false
+  pub has_not_end : (k : List ℕ) (l : List A) → length l ≤ place key k l → has key k l ≡ false
   unfolding place has pick
-  has-not-end k [] h = refl
-  has-not-end k (y ∷ ys) h = go (compared k (key y)) (has-not-end k ys) h
+  has_not_end k [] h = refl
+  has_not_end k (y ∷ ys) h = go (compared k (key y)) (has_not_end k ys) h
     where
       go : Compared k (key y) → (length ys ≤ place key k ys → has key k ys ≡ false) → suc (length ys) ≤ pick (before (key y) k) (suc (place key k ys)) 0
           → pick (same k (key y)) true (has key k ys) ≡ false
@@ -148,10 +148,10 @@ module _ {A : Type 0} (key : A → List ℕ) where
       go (ahead p q s) f h = absurd (omega (arith, rw p at h))
 
   -- what supersedes goes to its place
-  pub supersede-new : (x : A) (l : List A) → has key (key x) l ≡ false → supersede key x l ≡ take (place key (key x) l) l ++ x ∷ drop (place key (key x) l) l
+  pub supersede_new : (x : A) (l : List A) → has key (key x) l ≡ false → supersede key x l ≡ take (place key (key x) l) l ++ x ∷ drop (place key (key x) l) l
   unfolding supersede place has pick
-  supersede-new x [] h = refl
-  supersede-new x (y ∷ ys) h = go (compared (key x) (key y)) (supersede-new x ys) h
+  supersede_new x [] h = refl
+  supersede_new x (y ∷ ys) h = go (compared (key x) (key y)) (supersede_new x ys) h
     where
       go : Compared (key x) (key y) → (has key (key x) ys ≡ false → supersede key x ys ≡ take (place key (key x) ys) ys ++ x ∷ drop (place key (key x) ys) ys)
           → pick (same (key x) (key y)) true (has key (key x) ys) ≡ false
@@ -161,14 +161,14 @@ module _ {A : Type 0} (key : A → List ℕ) where
       go (equal e p q s) f h = let bad : ◌≡◌ {A = Bool} true false = rw s at h in cc
       go (ahead p q s) f h = rw (p, s)
 
-  pub supersede-old : (x : A) (l : List A) → Sorted key l → has key (key x) l ≡ true
+  pub supersede_old : (x : A) (l : List A) → Sorted key l → has key (key x) l ≡ true
       → (place key (key x) l < length l) × (supersede key x l ≡ take (place key (key x) l) l ++ x ∷ drop (suc (place key (key x) l)) l)
   unfolding supersede place has pick
-  supersede-old x [] o h = let bad : ◌≡◌ {A = Bool} false true = h in (absurd (never bad), cc)
+  supersede_old x [] o h = let bad : ◌≡◌ {A = Bool} false true = h in (absurd (never bad), cc)
     where
       never : ◌≡◌ {A = Bool} false true → ⊥
       never b = let z : ◌≡◌ {A = ℕ} 0 1 = cc in omega arith
-  supersede-old x (y ∷ ys) o h = go (compared (key x) (key y)) (supersede-old x ys o.1) h
+  supersede_old x (y ∷ ys) o h = go (compared (key x) (key y)) (supersede_old x ys o.1) h
     where
       go : Compared (key x) (key y)
           → (has key (key x) ys ≡ true → (place key (key x) ys < length ys) × (supersede key x ys ≡ take (place key (key x) ys) ys ++ x ∷ drop (suc (place key (key x) ys)) ys))
@@ -179,7 +179,7 @@ module _ {A : Type 0} (key : A → List ℕ) where
       go (behind p q s) f h = let r = f (rw s at h) in rw p (omega arith, ap (λ (l : List A). y ∷ l) r.1)
       go (equal e p q s) f h = rw (p, s) (omega arith, refl)
       go (ahead p q s) f h =
-          let none = has-not-below (key x) ys (below-trans (key x) (key y) ys q o.0) in
+          let none = has-not-below (key x) ys (below_trans (key x) (key y) ys q o.0) in
           let bad : ◌≡◌ {A = Bool} false true = sym none ∙ (rw s at h) in
           (absurd (never bad), cc)
         where
@@ -206,10 +206,10 @@ module _ {A : Type 0} (key : A → List ℕ) where
       go (behind p z s) true e r = rw (p, e, p, r)
       go (behind p z s) false e r = rw (p, e, r)
       go (equal d p z s) true e r = rw (p, s, h, e, p, s)
-      go (equal d p z s) false e r = rw (p, s, h, e) (sym (supersede-below x (only q ys) (below-only q (key x) ys (rw d o.0))))
+      go (equal d p z s) false e r = rw (p, s, h, e) (sym (supersede_below x (only q ys) (below-only q (key x) ys (rw d o.0))))
       go (ahead p z s) t e r =
           rw (p, s, h)
-          (sym (supersede-below x (only q (y ∷ ys)) (below-only q (key x) (y ∷ ys) (z, below-trans (key x) (key y) ys z o.0))))
+          (sym (supersede_below x (only q (y ∷ ys)) (below-only q (key x) (y ∷ ys) (z, below_trans (key x) (key y) ys z o.0))))
 
 -- by another form of the same things
 module _ {A B : Type 0} (key : A → List ℕ) (key' : B → List ℕ) (f : A → B) (keeps : (a : A) → key' (f a) ≡ key a) where
@@ -224,10 +224,10 @@ module _ {A B : Type 0} (key : A → List ℕ) (key' : B → List ℕ) (f : A �
       go false true r = refl
       go false false r = refl
 
-  pub map-all : (l xs : List A) → map f (supersedeAll key l xs) ≡ supersedeAll key' (map f l) (map f xs)
-  unfolding supersedeAll
+  pub map-all : (l xs : List A) → map f (supersede_all key l xs) ≡ supersede_all key' (map f l) (map f xs)
+  unfolding supersede_all
   map-all l [] = refl
-  map-all l (x ∷ xs) = map-all (supersede key x l) xs ∙ ap (λ (m : List B). supersedeAll key' m (map f xs)) (map-supersede x l)
+  map-all l (x ∷ xs) = map-all (supersede key x l) xs ∙ ap (λ (m : List B). supersede_all key' m (map f xs)) (map-supersede x l)
 
   pub map-has : (k : List ℕ) (l : List A) → has key k l ≡ has key' k (map f l)
   unfolding has

@@ -2,32 +2,32 @@
 use Rattle.std.specs.Prelude.{ℕ, ◌*◌}
 
 -- the last kind, DEP, and the last bitrate, 848B
-abbrev pub lastCardKind : ℕ
-lastCardKind = 4
+abbrev pub last_card_kind : ℕ
+last_card_kind = 4
 
-abbrev pub lastBitrate : ℕ
-lastBitrate = 6
+abbrev pub last_bitrate : ℕ
+last_bitrate = 6
 
 -- the bytes of an identifier, and the cards of a list, at most
-abbrev pub identifierLimit : ℕ
-identifierLimit = 16
+abbrev pub identifier_limit : ℕ
+identifier_limit = 16
 
-abbrev pub cardLimit : ℕ
-cardLimit = 64
+abbrev pub card_limit : ℕ
+card_limit = 64
 
 -- the bytes of a record, and the places of its identifier's length, its bitrate, and whether the card was missed
-abbrev pub recordSize : ℕ
-recordSize = 20
+abbrev pub record_size : ℕ
+record_size = 20
 
-abbrev pub lengthOffset : ℕ
-lengthOffset = 17
+abbrev pub length_offset : ℕ
+length_offset = 17
 
-abbrev pub bitrateOffset : ℕ
-bitrateOffset = 18
+abbrev pub bitrate_offset : ℕ
+bitrate_offset = 18
 
-abbrev pub missedOffset : ℕ
-missedOffset = 19
+abbrev pub missed_offset : ℕ
+missed_offset = 19
 
 -- the bytes of a list's cards
-abbrev pub cardsSize : ℕ
-cardsSize = cardLimit * recordSize
+abbrev pub cards_size : ℕ
+cards_size = card_limit * record_size

@@ -30,14 +30,14 @@ unfolding before pick
 before_self [] = refl
 before_self (x ∷ xs) = rw (eq-eqb x x refl) (before_self xs)
 
-pub before-trans : (a b c : List ℕ) → before a b ≡ true → before b c ≡ true → before a c ≡ true
+pub before_trans : (a b c : List ℕ) → before a b ≡ true → before b c ≡ true → before a c ≡ true
 unfolding before pick
-before-trans [] [] c p q = cc
-before-trans [] (y ∷ ys) [] p q = cc
-before-trans [] (y ∷ ys) (z ∷ zs) p q = refl
-before-trans (x ∷ xs) [] c p q = cc
-before-trans (x ∷ xs) (y ∷ ys) [] p q = cc
-before-trans (x ∷ xs) (y ∷ ys) (z ∷ zs) p q = go (numbers x y) (numbers y z) p q (before-trans xs ys zs)
+before_trans [] [] c p q = cc
+before_trans [] (y ∷ ys) [] p q = cc
+before_trans [] (y ∷ ys) (z ∷ zs) p q = refl
+before_trans (x ∷ xs) [] c p q = cc
+before_trans (x ∷ xs) (y ∷ ys) [] p q = cc
+before_trans (x ∷ xs) (y ∷ ys) (z ∷ zs) p q = go (numbers x y) (numbers y z) p q (before_trans xs ys zs)
   where
     go : Numbers x y → Numbers y z → pick (eqb x y) (before xs ys) (ltb x y) ≡ true → pick (eqb y z) (before ys zs) (ltb y z) ≡ true
         → (before xs ys ≡ true → before ys zs ≡ true → before xs zs ≡ true) → pick (eqb x z) (before xs zs) (ltb x z) ≡ true
@@ -73,8 +73,8 @@ compared (x ∷ xs) (y ∷ ys) = go (numbers x y) (compared xs ys)
     go (even e) (ahead p q s) = ahead (rw (eq-eqb y x (sym e)) p) (rw (eq-eqb x y e) q) (rw (eq-eqb x y e) s)
 
 -- what comes first does not come behind, nor is it the same
-pub first-not : (k j : List ℕ) → before k j ≡ true → (before j k ≡ false) × (same k j ≡ false)
-first-not k j h = go (compared k j)
+pub first_not : (k j : List ℕ) → before k j ≡ true → (before j k ≡ false) × (same k j ≡ false)
+first_not k j h = go (compared k j)
   where
     go : Compared k j → (before j k ≡ false) × (same k j ≡ false)
     go (behind p q s) = (cc, cc)

@@ -1,14 +1,14 @@
 -- Any list of rounds, the refused ones among them, handed to the code one after the other.
 use Rattle.std.specs.Prelude.{List as Seq, [], ◌∷◌, map, ℕ, ◌%◌, eqb, length}
-use Rattle.errors.specs.Refusals.{roundNumbered}
+use Rattle.errors.specs.Refusals.{round_numbered}
 use Rattle.presence_list.specs.declared.list.Presence.{Presence}
 use Rattle.presence_list.specs.declared.list.Round.{Round as Result}
 use Rattle.presence_list.specs.declared.list.Answer.{Answer as CodeAnswer}
 use Rattle.presence_list.specs.declared.list.Answer.TheVariants.{Accepted, Refused}
-use Rattle.presence_list.specs.Names.{recordSize}
-use Rattle.presence_list.specs.Memory.{pieces, foundIn}
+use Rattle.presence_list.specs.Names.{record_size}
+use Rattle.presence_list.specs.Memory.{pieces, found_in}
 use Rattle.presence_list.specs.Presence.{Found, Round, RoundAnswer, accepted, refused}
-use Rattle.presence_list.specs.Steps.{recordsOf, roundOf}
+use Rattle.presence_list.specs.Steps.{records_of, round_of}
 
 -- a round as it is handed in: its number, and its records' bytes
 pub record RoundInput : Type 0 where
@@ -16,27 +16,27 @@ pub record RoundInput : Type 0 where
   pub records : Seq ℕ
 
 -- the round that it stands for
-abbrev pub roundIn : RoundInput → Round
-roundIn i = record { number = i.number; found = map foundIn (recordsOf i.records); whole = eqb (length i.records % recordSize) 0 }
+abbrev pub round_in : RoundInput → Round
+round_in i = record { number = i.number; found = map found_in (records_of i.records); whole = eqb (length i.records % record_size) 0 }
 
 -- the cards of a list
-abbrev pub presentIn : Presence → Seq Found
-presentIn l = map foundIn (pieces l.state.count l.cards)
+abbrev pub present_in : Presence → Seq Found
+present_in l = map found_in (pieces l.state.count l.cards)
 
 -- what a round's answer says
-abbrev pub answerSaid : Presence → CodeAnswer → RoundAnswer
-answerSaid l (Accepted x y) =
-    accepted (record { arrived = map foundIn (pieces x l.arrived); departed = map foundIn (pieces y l.departed); present = presentIn l })
-answerSaid l (Refused e) = refused (roundNumbered e).number
+abbrev pub answer_said : Presence → CodeAnswer → RoundAnswer
+answer_said l (Accepted x y) =
+    accepted (record { arrived = map found_in (pieces x l.arrived); departed = map found_in (pieces y l.departed); present = present_in l })
+answer_said l (Refused e) = refused (round_numbered e).number
 
-abbrev pub roundAnswerIn : Result → RoundAnswer
-roundAnswerIn r = answerSaid r.list r.answer
+abbrev pub round_answer_in : Result → RoundAnswer
+round_answer_in r = answer_said r.list r.answer
 
 -- the list that is kept, and all the answers
-unfoldable pub presenceAfter : Presence → Seq RoundInput → Presence
-presenceAfter l [] = l
-presenceAfter l (i ∷ is) = presenceAfter (roundOf l i.number i.records).list is
+unfoldable pub presence_after : Presence → Seq RoundInput → Presence
+presence_after l [] = l
+presence_after l (i ∷ is) = presence_after (round_of l i.number i.records).list is
 
-unfoldable pub roundAnswersIn : Presence → Seq RoundInput → Seq RoundAnswer
-roundAnswersIn l [] = []
-roundAnswersIn l (i ∷ is) = roundAnswerIn (roundOf l i.number i.records) ∷ roundAnswersIn (roundOf l i.number i.records).list is
+unfoldable pub round_answers_in : Presence → Seq RoundInput → Seq RoundAnswer
+round_answers_in l [] = []
+round_answers_in l (i ∷ is) = round_answer_in (round_of l i.number i.records) ∷ round_answers_in (round_of l i.number i.records).list is

@@ -11,32 +11,32 @@ use Rattle.presence_list.specs.declared.list.Answer.{Answer}
 use Rattle.presence_list.specs.declared.list.Answer.TheVariants.{Accepted, Refused}
 use Rattle.presence_list.specs.declared.list.Admission.{Admission}
 use Rattle.presence_list.specs.declared.list.Admission.TheVariants.{Admitted, Refused as NotAdmitted}
-use Rattle.presence_list.specs.Names.{recordSize, cardLimit, cardsSize}
-use Rattle.presence_list.specs.Keyed.{supersedeAll, without}
-use Rattle.presence_list.specs.Memory.{pieces, laid, cardIn, longIn, isKnownIn, inRangeIn, ascending, aged, keptRecords}
+use Rattle.presence_list.specs.Names.{record_size, card_limit, cards_size}
+use Rattle.presence_list.specs.Keyed.{supersede_all, without}
+use Rattle.presence_list.specs.Memory.{pieces, laid, card_in, long_in, is_known_in, in_range_in, ascending, aged, kept_records}
 use Rattle.presence_list.specs.Presence.{any, every}
 
 -- a list of which nothing is out of range or order; it is empty before the first accepted round
-unfoldable pub listInRange : State → Seq ℕ → Bool
-listInRange s cards =
+unfoldable pub list_in_range : State → Seq ℕ → Bool
+list_in_range s cards =
     pick (eqb s.begun 0) (eqb s.count 0)
-    (pick (eqb s.begun 1) (pick (leb s.count cardLimit) (pick (every inRangeIn (pieces s.count cards)) (ascending (pieces s.count cards)) false) false) false)
+    (pick (eqb s.begun 1) (pick (leb s.count card_limit) (pick (every in_range_in (pieces s.count cards)) (ascending (pieces s.count cards)) false) false) false)
 
-unfoldable pub staleAt : State → ℕ → Bool
-staleAt s n = pick (eqb s.begun 0) false (leb n s.number)
+unfoldable pub stale_at : State → ℕ → Bool
+stale_at s n = pick (eqb s.begun 0) false (leb n s.number)
 
 -- the lent records
-abbrev pub recordsOf : Seq ℕ → Seq (Seq ℕ)
-recordsOf b = pieces (length b / recordSize) b
+abbrev pub records_of : Seq ℕ → Seq (Seq ℕ)
+records_of b = pieces (length b / record_size) b
 
-unfoldable pub readableIn : Seq ℕ → Bool
-readableIn b = pick (eqb (length b % recordSize) 0) (every isKnownIn (recordsOf b)) false
+unfoldable pub readable_in : Seq ℕ → Bool
+readable_in b = pick (eqb (length b % record_size) 0) (every is_known_in (records_of b)) false
 
-unfoldable pub admissionOf : State → Seq ℕ → ℕ → Seq ℕ → Admission
-admissionOf s cards n b =
-    pick (any longIn (recordsOf b)) (NotAdmitted (AtOnce OverLong))
-    (pick (listInRange s cards)
-    (pick (readableIn b) (pick (staleAt s n) (NotAdmitted StaleRound) Admitted) (NotAdmitted (AtOnce BadArgument)))
+unfoldable pub admission_of : State → Seq ℕ → ℕ → Seq ℕ → Admission
+admission_of s cards n b =
+    pick (any long_in (records_of b)) (NotAdmitted (AtOnce OverLong))
+    (pick (list_in_range s cards)
+    (pick (readable_in b) (pick (stale_at s n) (NotAdmitted StaleRound) Admitted) (NotAdmitted (AtOnce BadArgument)))
     (NotAdmitted (AtOnce OutOfTurn)))
 
 -- what a round leaves
@@ -47,42 +47,42 @@ pub record AfterRound : Type 0 where
   pub departed : Seq ℕ
   pub answer : Answer
 
-abbrev pub afterRound : State → Seq ℕ → Seq ℕ → Seq ℕ → Answer → AfterRound
-afterRound s c a d r = record { state = s; cards = c; arrived = a; departed = d; answer = r }
+abbrev pub after_round : State → Seq ℕ → Seq ℕ → Seq ℕ → Answer → AfterRound
+after_round s c a d r = record { state = s; cards = c; arrived = a; departed = d; answer = r }
 
-abbrev pub refusedRound : State → Seq ℕ → Seq ℕ → Seq ℕ → RoundRefusal → AfterRound
-refusedRound s c a d r = afterRound s c a d (Refused r)
+abbrev pub refused_round : State → Seq ℕ → Seq ℕ → Seq ℕ → RoundRefusal → AfterRound
+refused_round s c a d r = after_round s c a d (Refused r)
 
 -- the list's records after a round
-abbrev pub listAfter : Seq (Seq ℕ) → Seq (Seq ℕ) → Seq (Seq ℕ)
-listAfter now found = supersedeAll cardIn (aged now) (keptRecords found)
+abbrev pub list_after : Seq (Seq ℕ) → Seq (Seq ℕ) → Seq (Seq ℕ)
+list_after now found = supersede_all card_in (aged now) (kept_records found)
 
 -- what is left of a list, arrivals and departures where the list's records now become others
 abbrev pub changed : Seq (Seq ℕ) → Seq (Seq ℕ) → ℕ → Seq ℕ → Seq ℕ → AfterRound
 changed now next n a d =
-    afterRound (record { number = n; begun = 1; count = length next }) (laid next (replicate cardsSize 0)) (laid (without cardIn now next) a) (laid (without cardIn next now) d)
-    (Accepted (length (without cardIn now next)) (length (without cardIn next now)))
+    after_round (record { number = n; begun = 1; count = length next }) (laid next (replicate cards_size 0)) (laid (without card_in now next) a) (laid (without card_in next now) d)
+    (Accepted (length (without card_in now next)) (length (without card_in next now)))
 
-unfoldable pub acceptOf : State → Seq ℕ → Seq ℕ → Seq ℕ → ℕ → Seq ℕ → AfterRound
-acceptOf s c a d n b =
-    pick (ltb cardLimit (length (listAfter (pieces s.count c) (recordsOf b)))) (refusedRound s c a d ListFull)
-    (changed (pieces s.count c) (listAfter (pieces s.count c) (recordsOf b)) n a d)
+unfoldable pub accept_of : State → Seq ℕ → Seq ℕ → Seq ℕ → ℕ → Seq ℕ → AfterRound
+accept_of s c a d n b =
+    pick (ltb card_limit (length (list_after (pieces s.count c) (records_of b)))) (refused_round s c a d ListFull)
+    (changed (pieces s.count c) (list_after (pieces s.count c) (records_of b)) n a d)
 
-abbrev pub byAdmission : Admission → State → Seq ℕ → Seq ℕ → Seq ℕ → ℕ → Seq ℕ → AfterRound
-byAdmission Admitted s c a d n b = acceptOf s c a d n b
-byAdmission (NotAdmitted r) s c a d n b = refusedRound s c a d r
+abbrev pub by_admission : Admission → State → Seq ℕ → Seq ℕ → Seq ℕ → ℕ → Seq ℕ → AfterRound
+by_admission Admitted s c a d n b = accept_of s c a d n b
+by_admission (NotAdmitted r) s c a d n b = refused_round s c a d r
 
-unfoldable pub roundStep : State → Seq ℕ → Seq ℕ → Seq ℕ → ℕ → Seq ℕ → AfterRound
-roundStep s c a d n b = byAdmission (admissionOf s c n b) s c a d n b
+unfoldable pub round_step : State → Seq ℕ → Seq ℕ → Seq ℕ → ℕ → Seq ℕ → AfterRound
+round_step s c a d n b = by_admission (admission_of s c n b) s c a d n b
 
 -- the same of a list by value
-abbrev pub asList : AfterRound → Round
-asList r = record { list = record { cards = r.cards; arrived = r.arrived; departed = r.departed; state = r.state }; answer = r.answer }
+abbrev pub as_list : AfterRound → Round
+as_list r = record { list = record { cards = r.cards; arrived = r.arrived; departed = r.departed; state = r.state }; answer = r.answer }
 
-unfoldable pub roundOf : Presence → ℕ → Seq ℕ → Round
-roundOf l n b = asList (roundStep l.state l.cards l.arrived l.departed n b)
+unfoldable pub round_of : Presence → ℕ → Seq ℕ → Round
+round_of l n b = as_list (round_step l.state l.cards l.arrived l.departed n b)
 
-abbrev pub emptyList : Presence
-emptyList =
+abbrev pub empty_list : Presence
+empty_list =
     record
-    { cards = replicate cardsSize 0; arrived = replicate cardsSize 0; departed = replicate cardsSize 0; state = record { number = 0; begun = 0; count = 0 } }
+    { cards = replicate cards_size 0; arrived = replicate cards_size 0; departed = replicate cards_size 0; state = record { number = 0; begun = 0; count = 0 } }

@@ -6,10 +6,10 @@ use Rattle.std.proofs.Math.Bool.{true}
 use mathlib.Core.List.{List, [], ◌∷◌, ◌++◌}
 use Rattle.std.proofs.Math.ListN.{length, drop, get_or, drop_of_length-le}
 use Rattle.errors.specs.Choice.{pick}
-use Rattle.presence_list.specs.Names.{recordSize}
+use Rattle.presence_list.specs.Names.{record_size}
 use Rattle.presence_list.specs.Order.{before}
-use Rattle.presence_list.specs.Memory.{pieces, cardIn, ascending}
-use Rattle.presence_list.specs.MemoryLaws.{piece-at}
+use Rattle.presence_list.specs.Memory.{pieces, card_in, ascending}
+use Rattle.presence_list.specs.MemoryLaws.{piece_at}
 use Rattle.presence_list.specs.Presence.{any, every}
 
 -- the rest of a list from place i on, by its first element
@@ -17,25 +17,25 @@ pub rest_at : {A : Type 0} (l : List A) (i : ℕ) (d : A) → i < length l → d
 rest_at l i d h = rw (add-one i) (drop-cons l i d h)
 
 -- a byte of a piece
-pub byte_at : (n i k : ℕ) (b : List ℕ) → i < n → k < recordSize → get_or (get_or (pieces n b) i []) k 0 ≡ get_or b (recordSize * i + k) 0
-byte_at n i k b h j = ap (λ (e : List ℕ). get_or e k 0) (piece-at n i b h) ∙ get_or-take recordSize (drop (recordSize * i) b) k 0 j ∙ get_or-drop (recordSize * i) b k 0
+pub byte_at : (n i k : ℕ) (b : List ℕ) → i < n → k < record_size → get_or (get_or (pieces n b) i []) k 0 ≡ get_or b (record_size * i + k) 0
+byte_at n i k b h j = ap (λ (e : List ℕ). get_or e k 0) (piece_at n i b h) ∙ get_or-take record_size (drop (record_size * i) b) k 0 j ∙ get_or-drop (record_size * i) b k 0
 
 module _ (a b : List ℕ) (i : ℕ) (rest : before a b ≡ before (drop i a) (drop i b)) where
-  pub before-short : i < length a → length b ≤ i → false ≡ before a b
+  pub before_short : i < length a → length b ≤ i → false ≡ before a b
   unfolding before
-  before-short h k = rw (rest, rest_at a i 0 h, drop_of_length-le b {i = i} k)
+  before_short h k = rw (rest, rest_at a i 0 h, drop_of_length-le b {i = i} k)
 
   first : i < length a → i < length b → before a b ≡ pick (eqb (get_or a i 0) (get_or b i 0)) (before (drop (i + 1) a) (drop (i + 1) b)) (ltb (get_or a i 0) (get_or b i 0))
   unfolding before
   first h k = rest ∙ ap₂ before (rest_at a i 0 h) (rest_at b i 0 k)
 
-  pub before-differ : i < length a → i < length b → (get_or a i 0 ≡ get_or b i 0 → ⊥) → ltb (get_or a i 0) (get_or b i 0) ≡ before a b
+  pub before_differ : i < length a → i < length b → (get_or a i 0 ≡ get_or b i 0 → ⊥) → ltb (get_or a i 0) (get_or b i 0) ≡ before a b
   unfolding pick
-  before-differ h k n = sym (first h k ∙ (rw (ne_eqb (get_or a i 0) (get_or b i 0) n)))
+  before_differ h k n = sym (first h k ∙ (rw (ne_eqb (get_or a i 0) (get_or b i 0) n)))
 
-  pub before-turn : i < length a → i < length b → get_or a i 0 ≡ get_or b i 0 → before a b ≡ before (drop (i + 1) a) (drop (i + 1) b)
+  pub before_turn : i < length a → i < length b → get_or a i 0 ≡ get_or b i 0 → before a b ≡ before (drop (i + 1) a) (drop (i + 1) b)
   unfolding pick
-  before-turn h k e = first h k ∙ (rw (eq-eqb (get_or a i 0) (get_or b i 0) e))
+  before_turn h k e = first h k ∙ (rw (eq-eqb (get_or a i 0) (get_or b i 0) e))
 
   pub before-end : length a ≤ i → ltb i (length b) ≡ before a b
   unfolding before
@@ -59,17 +59,17 @@ module _ {A : Type 0} (q : A → Bool) (l : List A) (i : ℕ) (d : A) where
   unfolding any pick
   any_found r h t = rw (r, rest_at l i d h, t)
 
-  pub any-turn : any q l ≡ any q (drop i l) → i < length l → q (get_or l i d) ≡ false → any q l ≡ any q (drop (i + 1) l)
+  pub any_turn : any q l ≡ any q (drop i l) → i < length l → q (get_or l i d) ≡ false → any q l ≡ any q (drop (i + 1) l)
   unfolding any pick
-  any-turn r h t = r ∙ ap (any q) (rest_at l i d h) ∙ (rw t)
+  any_turn r h t = r ∙ ap (any q) (rest_at l i d h) ∙ (rw t)
 
-  pub every-not : every q l ≡ every q (drop i l) → i < length l → q (get_or l i d) ≡ false → false ≡ every q l
+  pub every_not : every q l ≡ every q (drop i l) → i < length l → q (get_or l i d) ≡ false → false ≡ every q l
   unfolding every pick
-  every-not r h t = rw (r, rest_at l i d h, t)
+  every_not r h t = rw (r, rest_at l i d h, t)
 
-  pub every-turn : every q l ≡ every q (drop i l) → i < length l → q (get_or l i d) ≡ true → every q l ≡ every q (drop (i + 1) l)
+  pub every_turn : every q l ≡ every q (drop i l) → i < length l → q (get_or l i d) ≡ true → every q l ≡ every q (drop (i + 1) l)
   unfolding every pick
-  every-turn r h t = r ∙ ap (every q) (rest_at l i d h) ∙ (rw t)
+  every_turn r h t = r ∙ ap (every q) (rest_at l i d h) ∙ (rw t)
 
 module _ {A : Type 0} (q : A → Bool) (l : List A) (i : ℕ) where
   pub any-end : any q l ≡ any q (drop i l) → length l ≤ i → false ≡ any q l
@@ -110,20 +110,20 @@ any_at q (x ∷ xs) (suc i) d e h = any_at q xs i d (go (q x) e) (omega arith)
     go false e = e
 
 module _ (l : List (List ℕ)) (i : ℕ) (rest : ascending l ≡ ascending (drop i l)) where
-  pair : i + 1 < length l → ascending l ≡ pick (before (cardIn (get_or l i [])) (cardIn (get_or l (i + 1) []))) (ascending (drop (i + 1) l)) false
+  pair : i + 1 < length l → ascending l ≡ pick (before (card_in (get_or l i [])) (card_in (get_or l (i + 1) []))) (ascending (drop (i + 1) l)) false
   unfolding ascending
   pair h =
       rest
       ∙ ap ascending (rest_at l i [] (omega arith) ∙ ap (λ (m : List (List ℕ)). get_or l i [] ∷ m) (rest_at l (i + 1) [] h))
-      ∙ ap (λ (m : List (List ℕ)). pick (before (cardIn (get_or l i [])) (cardIn (get_or l (i + 1) []))) (ascending m) false) (sym (rest_at l (i + 1) [] h))
+      ∙ ap (λ (m : List (List ℕ)). pick (before (card_in (get_or l i [])) (card_in (get_or l (i + 1) []))) (ascending m) false) (sym (rest_at l (i + 1) [] h))
 
-  pub ascending-not : i + 1 < length l → before (cardIn (get_or l i [])) (cardIn (get_or l (i + 1) [])) ≡ false → false ≡ ascending l
+  pub ascending_not : i + 1 < length l → before (card_in (get_or l i [])) (card_in (get_or l (i + 1) [])) ≡ false → false ≡ ascending l
   unfolding pick
-  ascending-not h t = sym (pair h ∙ (rw t))
+  ascending_not h t = sym (pair h ∙ (rw t))
 
-  pub ascending-turn : i + 1 < length l → before (cardIn (get_or l i [])) (cardIn (get_or l (i + 1) [])) ≡ true → ascending l ≡ ascending (drop (i + 1) l)
+  pub ascending_turn : i + 1 < length l → before (card_in (get_or l i [])) (card_in (get_or l (i + 1) [])) ≡ true → ascending l ≡ ascending (drop (i + 1) l)
   unfolding pick
-  ascending-turn h t = pair h ∙ (rw t)
+  ascending_turn h t = pair h ∙ (rw t)
 
   pub ascending-end : length l ≤ i + 1 → true ≡ ascending l
   unfolding ascending

@@ -1,4 +1,6 @@
 // Document 02, N9: the list of present cards, kept round by round.
+#![tactic(auto)]
+
 pub mod list;
 mod lists;
 mod order;

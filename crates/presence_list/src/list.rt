@@ -1,8 +1,8 @@
 // The list of present cards: a round's number and records go in, and the list, the arrivals and the departures come out.
 ghost use Rattle.std.specs.Prelude.{◌≡◌, Bool};
-ghost use Rattle.presence_list.specs.Memory.{longIn};
+ghost use Rattle.presence_list.specs.Memory.{long_in};
 ghost use Rattle.presence_list.specs.Presence.{any};
-ghost use Rattle.presence_list.specs.Steps.{listInRange, staleAt, recordsOf, readableIn, admissionOf, afterRound, acceptOf, roundStep, roundOf, emptyList};
+ghost use Rattle.presence_list.specs.Steps.{list_in_range, stale_at, records_of, readable_in, admission_of, after_round, accept_of, round_step, round_of, empty_list};
 
 use super::lists::{age, without};
 use super::put::{CARD_LIMIT, supersede_all};
@@ -61,7 +61,7 @@ pub enum Admission {
 impl State {
     // Whether the list is one that can be: each field in its range, and the cards in order.
     fn is_in_range(self, cards: &[u8; CARDS_SIZE]) -> bool
-        ensures { result ≡ listInRange self cards.now }
+        ensures { result ≡ list_in_range self cards.now }
     {
         let count = self.count as usize;
         if self.begun == 0 {
@@ -79,7 +79,7 @@ impl State {
 
     // Whether the number is not above that of the last accepted round.
     fn is_stale(self, number: u32) -> bool
-        ensures { result ≡ staleAt self number }
+        ensures { result ≡ stale_at self number }
     {
         if self.begun == 0 {
             return false;
@@ -89,7 +89,7 @@ impl State {
 
     // Refusals in their order: 3, 1, 4, 27.
     fn admit(self, cards: &[u8; CARDS_SIZE], number: u32, records: &[u8]) -> Admission
-        ensures { result ≡ admissionOf self cards.now number records.now }
+        ensures { result ≡ admission_of self cards.now number records.now }
     {
         if any_over_long(records) {
             return Admission::Refused(RoundRefusal::AtOnce(Refusal::OverLong));
@@ -124,8 +124,8 @@ impl State {
         number: u32,
         records: &[u8],
     ) -> RoundEffect
-        requires { (listInRange self cards.old ≡ Bool.true) × (any longIn (recordsOf records.now) ≡ Bool.false) }
-        ensures { afterRound result.state cards.new arrived.new departed.new result.answer ≡ acceptOf self cards.old arrived.old departed.old number records.now }
+        requires { (list_in_range self cards.old ≡ Bool.true) × (any long_in (records_of records.now) ≡ Bool.false) }
+        ensures { after_round result.state cards.new arrived.new departed.new result.answer ≡ accept_of self cards.old arrived.old departed.old number records.now }
     {
         let count = self.count as usize;
         let mut list = [0u8; CARDS_SIZE];
@@ -156,7 +156,7 @@ impl State {
         number: u32,
         records: &[u8],
     ) -> RoundEffect
-        ensures { afterRound result.state cards.new arrived.new departed.new result.answer ≡ roundStep self cards.old arrived.old departed.old number records.now }
+        ensures { after_round result.state cards.new arrived.new departed.new result.answer ≡ round_step self cards.old arrived.old departed.old number records.now }
     {
         match self.admit(cards, number, records) {
             Admission::Admitted => self.accept(cards, arrived, departed, number, records),
@@ -167,7 +167,7 @@ impl State {
 
 // Whether the records are whole, and their kinds and bitrates some that there are.
 fn are_readable(records: &[u8]) -> bool
-    ensures { result ≡ readableIn records.now }
+    ensures { result ≡ readable_in records.now }
 {
     if records.len() % RECORD_SIZE == 0 {
         return are_known(records);
@@ -178,7 +178,7 @@ fn are_readable(records: &[u8]) -> bool
 impl Presence {
     // Nobody is there, and no round was accepted.
     pub fn empty() -> Presence
-        ensures { result ≡ emptyList }
+        ensures { result ≡ empty_list }
     {
         Presence {
             cards: [0; CARDS_SIZE],
@@ -194,7 +194,7 @@ impl Presence {
 
     // A round, with its number and its records of 20 bytes each.
     pub fn round(self, number: u32, records: &[u8]) -> Round
-        ensures { result ≡ roundOf self number records.now }
+        ensures { result ≡ round_of self number records.now }
     {
         let mut cards = self.cards;
         let mut arrived = self.arrived;

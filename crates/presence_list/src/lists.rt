@@ -1,8 +1,8 @@
 // Lists of records in the order of their cards: a card's place, who is in the one and not in the other, and the list before a round.
 ghost use Rattle.std.specs.Prelude.{◌≡◌, [], ◌∷◌, ◌+◌, ◌*◌, ◌≤◌, length, take, drop};
-ghost use Rattle.presence_list.specs.Names.{recordSize, identifierLimit};
-ghost use Rattle.presence_list.specs.Keyed.{place as place_of, has, without as withoutOf};
-ghost use Rattle.presence_list.specs.Memory.{pieces, laid, putBehind, cardIn, lengthIn, aged};
+ghost use Rattle.presence_list.specs.Names.{record_size, identifier_limit};
+ghost use Rattle.presence_list.specs.Keyed.{place as place_of, has, without as without_of};
+ghost use Rattle.presence_list.specs.Memory.{pieces, laid, put_behind, card_in, length_in, aged};
 ghost use Rattle.presence_list.specs.CardsAt.{CardsAt};
 
 use super::order::before;
@@ -11,7 +11,7 @@ use super::records::{MISSED_OFFSET, RECORD_SIZE, card_at, put_at};
 // Where a card's place is: behind all that come before it.
 pub(crate) fn place(cards: &[u8], count: usize, card: &[u8]) -> usize
     requires { CardsAt count cards.now }
-    ensures { result ≡ place_of cardIn card.now (pieces count cards.now) }
+    ensures { result ≡ place_of card_in card.now (pieces count cards.now) }
 {
     let mut low = 0;
     let mut high = count;
@@ -28,8 +28,8 @@ pub(crate) fn place(cards: &[u8], count: usize, card: &[u8]) -> usize
 
 // Whether the list has the card whose place this is.
 pub(crate) fn is_at(cards: &[u8], count: usize, place: usize, card: &[u8]) -> bool
-    requires { CardsAt count cards.now × (place ≡ place_of cardIn card.now (pieces count cards.now)) }
-    ensures { result ≡ has cardIn card.now (pieces count cards.now) }
+    requires { CardsAt count cards.now × (place ≡ place_of card_in card.now (pieces count cards.now)) }
+    ensures { result ≡ has card_in card.now (pieces count cards.now) }
 {
     if place < count {
         return !before(card, card_at(cards, RECORD_SIZE * place));
@@ -46,8 +46,8 @@ fn put_missing(
     out: &mut [u8],
     n: usize,
 ) -> usize
-    requires { CardsAt size other.now × (at + recordSize ≤ length cards.now) × (lengthIn (take recordSize (drop at cards.now)) ≤ identifierLimit) × (recordSize * n + recordSize ≤ length out.old) }
-    ensures { (result ≡ n + length (withoutOf cardIn (pieces size other.now) (take recordSize (drop at cards.now) ∷ []))) × (out.new ≡ putBehind n (withoutOf cardIn (pieces size other.now) (take recordSize (drop at cards.now) ∷ [])) out.old) }
+    requires { CardsAt size other.now × (at + record_size ≤ length cards.now) × (length_in (take record_size (drop at cards.now)) ≤ identifier_limit) × (record_size * n + record_size ≤ length out.old) }
+    ensures { (result ≡ n + length (without_of card_in (pieces size other.now) (take record_size (drop at cards.now) ∷ []))) × (out.new ≡ put_behind n (without_of card_in (pieces size other.now) (take record_size (drop at cards.now) ∷ [])) out.old) }
 {
     let card = card_at(cards, at);
     let p = place(other, size, card);
@@ -66,8 +66,8 @@ pub(crate) fn without(
     count: usize,
     out: &mut [u8],
 ) -> usize
-    requires { CardsAt size other.now × CardsAt count cards.now × (recordSize * count ≤ length out.old) }
-    ensures { (result ≡ length (withoutOf cardIn (pieces size other.now) (pieces count cards.now))) × (out.new ≡ laid (withoutOf cardIn (pieces size other.now) (pieces count cards.now)) out.old) }
+    requires { CardsAt size other.now × CardsAt count cards.now × (record_size * count ≤ length out.old) }
+    ensures { (result ≡ length (without_of card_in (pieces size other.now) (pieces count cards.now))) × (out.new ≡ laid (without_of card_in (pieces size other.now) (pieces count cards.now)) out.old) }
 {
     let mut n = 0;
     let mut i = 0;
@@ -80,8 +80,8 @@ pub(crate) fn without(
 
 // Puts a record behind the first `n` of `out`, as missed, where it was not missed before; and how many they are then.
 fn put_aged(cards: &[u8], at: usize, out: &mut [u8], n: usize) -> usize
-    requires { (at + recordSize ≤ length cards.now) × (recordSize * n + recordSize ≤ length out.old) }
-    ensures { (result ≡ n + length (aged (take recordSize (drop at cards.now) ∷ []))) × (out.new ≡ putBehind n (aged (take recordSize (drop at cards.now) ∷ [])) out.old) }
+    requires { (at + record_size ≤ length cards.now) × (record_size * n + record_size ≤ length out.old) }
+    ensures { (result ≡ n + length (aged (take record_size (drop at cards.now) ∷ []))) × (out.new ≡ put_behind n (aged (take record_size (drop at cards.now) ∷ [])) out.old) }
 {
     if cards[at + MISSED_OFFSET] != 0 {
         return n;
@@ -94,7 +94,7 @@ fn put_aged(cards: &[u8], at: usize, out: &mut [u8], n: usize) -> usize
 // The list before the records of a round, put at the start of `out`: who was missed already has left, and all others are missed until they
 // are seen. The answer is how many they are.
 pub(crate) fn age(cards: &[u8], count: usize, out: &mut [u8]) -> usize
-    requires { (recordSize * count ≤ length cards.now) × (recordSize * count ≤ length out.old) }
+    requires { (record_size * count ≤ length cards.now) × (record_size * count ≤ length out.old) }
     ensures { (result ≡ length (aged (pieces count cards.now))) × (out.new ≡ laid (aged (pieces count cards.now)) out.old) }
 {
     let mut n = 0;

@@ -1,10 +1,10 @@
 // The order of cards, as texts of bytes.
 ghost use Rattle.std.specs.Prelude.{◌≡◌};
-ghost use Rattle.presence_list.specs.Order.{before as beforeOf};
+ghost use Rattle.presence_list.specs.Order.{before as before_of};
 
 // Whether the first text comes before the second: by the first byte in which they differ, and a prefix first.
 pub(crate) fn before(first: &[u8], second: &[u8]) -> bool
-    ensures { result ≡ beforeOf first.now second.now }
+    ensures { result ≡ before_of first.now second.now }
 {
     let mut i = 0;
     while i < first.len() {

@@ -1,8 +1,8 @@
 // Records put into a list, each in its place and instead of the older record of its card.
 ghost use Rattle.std.specs.Prelude.{◌≡◌, Bool, ◌++◌, ◌∷◌, ◌+◌, ◌*◌, ◌-◌, ◌/◌, ◌≤◌, ◌<◌, length, take, drop};
-ghost use Rattle.presence_list.specs.Names.{recordSize, identifierLimit, cardLimit, cardsSize};
-ghost use Rattle.presence_list.specs.Keyed.{supersede, supersedeAll};
-ghost use Rattle.presence_list.specs.Memory.{pieces, laid, cardIn, lengthIn, longIn, keptRecord, keptRecords};
+ghost use Rattle.presence_list.specs.Names.{record_size, identifier_limit, card_limit, cards_size};
+ghost use Rattle.presence_list.specs.Keyed.{supersede, supersede_all};
+ghost use Rattle.presence_list.specs.Memory.{pieces, laid, card_in, length_in, long_in, kept_record, kept_records};
 ghost use Rattle.presence_list.specs.Presence.{any};
 ghost use Rattle.presence_list.specs.CardsAt.{CardsAt, PutAll};
 
@@ -14,8 +14,8 @@ pub const CARD_LIMIT: usize = 64;
 
 // Moves the bytes from `at` to `end` up by a record.
 fn shift(cards: &mut [u8], at: usize, end: usize)
-    requires { (at ≤ end) × (end + recordSize ≤ length cards.old) }
-    ensures { (take at cards.new ≡ take at cards.old) × (drop (at + recordSize) cards.new ≡ take (end - at) (drop at cards.old) ++ drop (end + recordSize) cards.old) }
+    requires { (at ≤ end) × (end + record_size ≤ length cards.old) }
+    ensures { (take at cards.new ≡ take at cards.old) × (drop (at + record_size) cards.new ≡ take (end - at) (drop at cards.old) ++ drop (end + record_size) cards.old) }
 {
     let mut i = end;
     while at < i {
@@ -26,7 +26,7 @@ fn shift(cards: &mut [u8], at: usize, end: usize)
 
 // Puts a record between those of a list of so many.
 fn insert(entry: &[u8; RECORD_SIZE], cards: &mut [u8], count: usize, place: usize)
-    requires { (place ≤ count) × (recordSize * count + recordSize ≤ length cards.old) }
+    requires { (place ≤ count) × (record_size * count + record_size ≤ length cards.old) }
     ensures { cards.new ≡ laid (take place (pieces count cards.old) ++ entry.now ∷ drop place (pieces count cards.old)) cards.old }
 {
     let at = RECORD_SIZE * place;
@@ -36,8 +36,8 @@ fn insert(entry: &[u8; RECORD_SIZE], cards: &mut [u8], count: usize, place: usiz
 
 // Puts a record into the list. The answer is how many cards the list has then; where they are more than it takes, nothing is put.
 fn supersede(found: &[u8], cards: &mut [u8], count: usize) -> usize
-    requires { (length found.now ≡ recordSize) × (lengthIn found.now ≤ identifierLimit) × CardsAt count cards.old × (count ≤ cardLimit) × (cardsSize ≤ length cards.old) }
-    ensures { (result ≡ length (supersede cardIn (keptRecord found.now) (pieces count cards.old))) × (result ≤ cardLimit → cards.new ≡ laid (supersede cardIn (keptRecord found.now) (pieces count cards.old)) cards.old) }
+    requires { (length found.now ≡ record_size) × (length_in found.now ≤ identifier_limit) × CardsAt count cards.old × (count ≤ card_limit) × (cards_size ≤ length cards.old) }
+    ensures { (result ≡ length (supersede card_in (kept_record found.now) (pieces count cards.old))) × (result ≤ card_limit → cards.new ≡ laid (supersede card_in (kept_record found.now) (pieces count cards.old)) cards.old) }
 {
     let card = card_at(found, 0);
     let entry = entry_of(found);
@@ -55,8 +55,8 @@ fn supersede(found: &[u8], cards: &mut [u8], count: usize) -> usize
 
 // Puts the records into the list, one after the other. The answer is how many cards the list has then, or more than it takes.
 pub(crate) fn supersede_all(records: &[u8], cards: &mut [u8], count: usize) -> usize
-    requires { (any longIn (pieces (length records.now / recordSize) records.now) ≡ Bool.false) × CardsAt count cards.old × (count ≤ cardLimit) × (cardsSize ≤ length cards.old) }
-    ensures { PutAll result (supersedeAll cardIn (pieces count cards.old) (keptRecords (pieces (length records.now / recordSize) records.now))) cards.old cards.new }
+    requires { (any long_in (pieces (length records.now / record_size) records.now) ≡ Bool.false) × CardsAt count cards.old × (count ≤ card_limit) × (cards_size ≤ length cards.old) }
+    ensures { PutAll result (supersede_all card_in (pieces count cards.old) (kept_records (pieces (length records.now / record_size) records.now))) cards.old cards.new }
 {
     let size = records.len() / RECORD_SIZE;
     let mut n = count;

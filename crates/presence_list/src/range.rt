@@ -1,7 +1,7 @@
 // What is looked at before a round is taken: the lent records, and the list.
 ghost use Rattle.std.specs.Prelude.{◌≡◌, Bool, ◌+◌, ◌*◌, ◌/◌, ◌≤◌, length, take, drop};
-ghost use Rattle.presence_list.specs.Names.{recordSize};
-ghost use Rattle.presence_list.specs.Memory.{pieces, longIn, isKnownIn, inRangeIn, ascending as ascendingOf};
+ghost use Rattle.presence_list.specs.Names.{record_size};
+ghost use Rattle.presence_list.specs.Memory.{pieces, long_in, is_known_in, in_range_in, ascending as ascending_of};
 ghost use Rattle.presence_list.specs.Presence.{any, every};
 
 use super::order::before;
@@ -17,7 +17,7 @@ pub const LAST_BITRATE: u8 = 6;
 
 // Whether an identifier of the records is too long.
 pub(crate) fn any_over_long(records: &[u8]) -> bool
-    ensures { result ≡ any longIn (pieces (length records.now / recordSize) records.now) }
+    ensures { result ≡ any long_in (pieces (length records.now / record_size) records.now) }
 {
     let size = records.len() / RECORD_SIZE;
     let mut i = 0;
@@ -32,8 +32,8 @@ pub(crate) fn any_over_long(records: &[u8]) -> bool
 
 // Whether the kind and the bitrate of the record that starts at a place are some.
 fn is_known(records: &[u8], at: usize) -> bool
-    requires { at + recordSize ≤ length records.now }
-    ensures { result ≡ isKnownIn (take recordSize (drop at records.now)) }
+    requires { at + record_size ≤ length records.now }
+    ensures { result ≡ is_known_in (take record_size (drop at records.now)) }
 {
     if records[at] <= LAST_CARD_KIND {
         return records[at + BITRATE_OFFSET] <= LAST_BITRATE;
@@ -43,7 +43,7 @@ fn is_known(records: &[u8], at: usize) -> bool
 
 // Whether all kinds and bitrates of the records are some.
 pub(crate) fn are_known(records: &[u8]) -> bool
-    ensures { result ≡ every isKnownIn (pieces (length records.now / recordSize) records.now) }
+    ensures { result ≡ every is_known_in (pieces (length records.now / record_size) records.now) }
 {
     let size = records.len() / RECORD_SIZE;
     let mut i = 0;
@@ -58,8 +58,8 @@ pub(crate) fn are_known(records: &[u8]) -> bool
 
 // Whether the fields of the list's record that starts at a place are in range.
 fn is_in_range(cards: &[u8], at: usize) -> bool
-    requires { at + recordSize ≤ length cards.now }
-    ensures { result ≡ inRangeIn (take recordSize (drop at cards.now)) }
+    requires { at + record_size ≤ length cards.now }
+    ensures { result ≡ in_range_in (take record_size (drop at cards.now)) }
 {
     if cards[at + LENGTH_OFFSET] <= IDENTIFIER_LIMIT {
         if cards[at + MISSED_OFFSET] <= 1 {
@@ -71,8 +71,8 @@ fn is_in_range(cards: &[u8], at: usize) -> bool
 
 // Whether the fields of all records of a list are in range.
 pub(crate) fn are_in_range(cards: &[u8], count: usize) -> bool
-    requires { recordSize * count ≤ length cards.now }
-    ensures { result ≡ every inRangeIn (pieces count cards.now) }
+    requires { record_size * count ≤ length cards.now }
+    ensures { result ≡ every in_range_in (pieces count cards.now) }
 {
     let mut i = 0;
     while i < count {
@@ -86,8 +86,8 @@ pub(crate) fn are_in_range(cards: &[u8], count: usize) -> bool
 
 // Whether each card of a list comes before the next.
 pub(crate) fn are_ascending(cards: &[u8], count: usize) -> bool
-    requires { (recordSize * count ≤ length cards.now) × (every inRangeIn (pieces count cards.now) ≡ Bool.true) }
-    ensures { result ≡ ascendingOf (pieces count cards.now) }
+    requires { (record_size * count ≤ length cards.now) × (every in_range_in (pieces count cards.now) ≡ Bool.true) }
+    ensures { result ≡ ascending_of (pieces count cards.now) }
 {
     let mut i = 1;
     while i < count {

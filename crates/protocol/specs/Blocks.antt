@@ -1,30 +1,30 @@
 -- Read and Write Without Encryption (document 02, N5), each sent through InCommunicateThru: the card's reply stands behind the status byte.
 use Rattle.std.specs.Prelude.{List, [], ℕ, ◌+◌, ◌*◌, length, drop}
-use Rattle.felica.specs.Names.{blockSize, blocksOffset}
-use Rattle.felica.specs.Packets.{readRequest, writeRequest}
-use Rattle.felica.specs.Checks.{readCheck, writeCheck}
+use Rattle.felica.specs.Names.{block_size, blocks_offset}
+use Rattle.felica.specs.Packets.{read_request_of, write_request_of}
+use Rattle.felica.specs.Checks.{read_check, write_check}
 use Rattle.felica.specs.declared.check.Checked.{Checked}
 use Rattle.felica.specs.declared.check.Checked.TheVariants.{Good, Faulty}
 use Rattle.protocol.specs.Scripts.{Script, finish, done, refuse, part}
-use Rattle.protocol.specs.Chipset.{inCommunicateThru}
+use Rattle.protocol.specs.Chipset.{in_communicate_thru_of}
 
 -- a reply that is good, or 16, 21 or 20
-abbrev pub byCheck : Script → Checked → Script
-byCheck s Good = s
-byCheck s (Faulty r) = refuse r
+abbrev pub by_check : Script → Checked → Script
+by_check s Good = s
+by_check s (Faulty r) = refuse r
 
 -- where block data starts in a response: behind the status byte, in the card's reply
-abbrev pub responseBlocksOffset : ℕ
-responseBlocksOffset = 1 + blocksOffset
+abbrev pub response_blocks_offset : ℕ
+response_blocks_offset = 1 + blocks_offset
 
 -- the block data, 16 bytes a block in the order asked for
-abbrev pub blockBytes : ℕ → List ℕ → Script
-blockBytes n bs = finish (done (part 0 bs responseBlocksOffset (blockSize * n)))
+abbrev pub block_bytes : ℕ → List ℕ → Script
+block_bytes n bs = finish (done (part 0 bs response_blocks_offset (block_size * n)))
 
-abbrev pub readBlocks : List ℕ → ℕ → List ℕ → ℕ → Script
-readBlocks idm service blocks ms =
-    inCommunicateThru (readRequest idm service blocks) ms (λ bs. byCheck (blockBytes (length blocks) bs) (readCheck idm (length blocks) (drop 1 bs)))
+abbrev pub read_blocks : List ℕ → ℕ → List ℕ → ℕ → Script
+read_blocks idm service blocks ms =
+    in_communicate_thru_of (read_request_of idm service blocks) ms (λ bs. by_check (block_bytes (length blocks) bs) (read_check idm (length blocks) (drop 1 bs)))
 
-abbrev pub writeBlocks : List ℕ → ℕ → List ℕ → List ℕ → ℕ → Script
-writeBlocks idm service blocks bytes ms =
-    inCommunicateThru (writeRequest idm service blocks bytes) ms (λ bs. byCheck (finish (done [])) (writeCheck idm (drop 1 bs)))
+abbrev pub write_blocks : List ℕ → ℕ → List ℕ → List ℕ → ℕ → Script
+write_blocks idm service blocks bytes ms =
+    in_communicate_thru_of (write_request_of idm service blocks bytes) ms (λ bs. by_check (finish (done [])) (write_check idm (drop 1 bs)))

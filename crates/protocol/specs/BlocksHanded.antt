@@ -8,12 +8,12 @@ use Rattle.std.proofs.Math.ListN.{length}
 use Rattle.std.proofs.Math.Seq.{take_all}
 use Rattle.errors.specs.Choice.{pick}
 use Rattle.exchange.specs.Packets.{response}
-use Rattle.felica.specs.Names.{idmSize, blockSize}
-use Rattle.felica.specs.Packets.{readReply, writeReply, readReplyCode}
-use Rattle.felica.specs.Accepted.{read-good, write-good}
+use Rattle.felica.specs.Names.{idm_size, block_size}
+use Rattle.felica.specs.Packets.{read_reply_of, write_reply_of, read_reply_code}
+use Rattle.felica.specs.Accepted.{read_good, write_good}
 use Rattle.felica.specs.Replies.{parts}
-use Rattle.protocol.specs.Scripts.{Script, finish, command, reset, fieldPause, Byte, value, part, done}
-use Rattle.protocol.specs.Blocks.{readBlocks, writeBlocks, responseBlocksOffset}
+use Rattle.protocol.specs.Scripts.{Script, finish, command, reset, field_pause, Byte, value, part, done}
+use Rattle.protocol.specs.Blocks.{read_blocks, write_blocks, response_blocks_offset}
 use Rattle.protocol.specs.Values.{part-values}
 
 -- what a script of one command comes to upon the response to it
@@ -21,7 +21,7 @@ abbrev pub upon : List ℕ → Script → Script
 upon bs (finish a) = finish a
 upon bs (command code clock bytes f) = f (response bs)
 upon bs (reset s) = reset s
-upon bs (fieldPause s) = fieldPause s
+upon bs (field_pause s) = field_pause s
 
 -- the script ends with these bytes
 pub record HandsOut (s : Script) (bytes : List ℕ) : Type 0 where
@@ -29,20 +29,20 @@ pub record HandsOut (s : Script) (bytes : List ℕ) : Type 0 where
   pub ends : s ≡ finish (done answer)
   pub values : map value answer ≡ bytes
 
-module _ (idm blocks bytes : List ℕ) (service ms flag2 : ℕ) (h : length idm ≡ idmSize) where
+module _ (idm blocks bytes : List ℕ) (service ms flag2 : ℕ) (h : length idm ≡ idm_size) where
   -- the response is a status of 0 and the card's reply
-  pub read-handed : length bytes ≡ blockSize * length blocks → HandsOut (upon (0 ∷ readReply idm 0 flag2 bytes) (readBlocks idm service blocks ms)) bytes
+  pub read_handed : length bytes ≡ block_size * length blocks → HandsOut (upon (0 ∷ read_reply_of idm 0 flag2 bytes) (read_blocks idm service blocks ms)) bytes
   unfolding pick
-  read-handed e =
-      let p : List ℕ = readReply idm 0 flag2 bytes in
-      let q = parts readReplyCode 0 flag2 idm (length bytes / blockSize ∷ bytes) h in
+  read_handed e =
+      let p : List ℕ = read_reply_of idm 0 flag2 bytes in
+      let q = parts read_reply_code 0 flag2 idm (length bytes / block_size ∷ bytes) h in
       record {
-        answer = part 0 (0 ∷ p) responseBlocksOffset (blockSize * length blocks);
-        ends = rw (read-good idm bytes (length blocks) flag2 h e) refl;
+        answer = part 0 (0 ∷ p) response_blocks_offset (block_size * length blocks);
+        ends = rw (read_good idm bytes (length blocks) flag2 h e) refl;
         values =
-            part-values 0 (0 ∷ p) responseBlocksOffset (blockSize * length blocks) (omega (arith, q.size, e))
-            ∙ ap (take (blockSize * length blocks)) q.rest ∙ take_all (blockSize * length blocks) bytes (omega (arith, e));
+            part-values 0 (0 ∷ p) response_blocks_offset (block_size * length blocks) (omega (arith, q.size, e))
+            ∙ ap (take (block_size * length blocks)) q.rest ∙ take_all (block_size * length blocks) bytes (omega (arith, e));
       }
 
-  pub write-handed : HandsOut (upon (0 ∷ writeReply idm 0 flag2) (writeBlocks idm service blocks bytes ms)) []
-  write-handed = record { answer = []; ends = rw (write-good idm flag2 h) refl; values = refl }
+  pub write_handed : HandsOut (upon (0 ∷ write_reply_of idm 0 flag2) (write_blocks idm service blocks bytes ms)) []
+  write_handed = record { answer = []; ends = rw (write_good idm flag2 h) refl; values = refl }

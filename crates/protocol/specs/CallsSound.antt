@@ -3,64 +3,64 @@ use Rattle.std.specs.Prelude.{◌≡◌, List, [], ℕ, ◌+◌, ◌*◌, ◌/�
 use Rattle.std.proofs.Common.{sym, arith}
 use Rattle.protocol.specs.Discovery as discovery
 use Rattle.protocol.specs.Scripts.{ask}
-use Rattle.protocol.specs.Rules.{Rule, version, noBytes, all_bytes, registersWritten, firstByte, listedTarget, exchangedData, thru, jump, status, initiatorCommand, targetStatus, ruleScript}
-use Rattle.protocol.specs.Calls.{Row, row, resets, row_of, Call, opening, reader, request, device, unknown, limit, deviceLimit, callFrames, openingFrames, codeFrames, paddedMode}
-use Rattle.protocol.specs.Calls.{DeviceCall, detectTypeA, detectTypeASplit, detectTypeB, detectTypeF, detectDep, transceive, pollTypeF, readWithoutEncryption, writeWithoutEncryption}
-use Rattle.protocol.specs.Starts.{limited, rowStart, deviceStart, start_of}
+use Rattle.protocol.specs.Rules.{Rule, version, no_bytes_of, all_bytes, registers_written, first_byte_of, listed_target, exchanged_data, thru, jump, status, initiator_command, target_status, rule_script}
+use Rattle.protocol.specs.Calls.{Row, row, resets, row_of, Call, opening, reader, request, device, unknown, limit, device_limit, call_frames, opening_frames, code_frames, padded_mode}
+use Rattle.protocol.specs.Calls.{DeviceCall, detect_type_a_of, detect_type_a_split, detect_type_b_of, detect_type_f_of, detect_dep_of, transceive, poll_type_f, read_without_encryption, write_without_encryption}
+use Rattle.protocol.specs.Starts.{limited, row_start, device_start, start_of}
 use Rattle.protocol.specs.Arguments.{words_in}
-use Rattle.protocol.specs.Own.{onlyCards, versionAndName, ruleForm, rowForm, deviceForm, form_of, no-codes, polledCodes}
-use Rattle.protocol.specs.Sound.{Within, Correct, Sound, sound-if, version-name, target-answer, correct-rules, sound-rules, no_bytes}
-use Rattle.protocol.specs.BlocksSound.{block-rules}
-use Rattle.protocol.specs.PollSound.{words_count, codes-within, codes-correct}
+use Rattle.protocol.specs.Own.{only_cards, version_and_name, rule_form, row_form, device_form, form_of, no_codes, polled_codes}
+use Rattle.protocol.specs.Sound.{Within, Correct, Sound, sound_if, version_name, target_answer_lem, correct_rules, sound_rules, no_bytes}
+use Rattle.protocol.specs.BlocksSound.{block_rules}
+use Rattle.protocol.specs.PollSound.{words_count, codes_within, codes_correct}
 
 -- a command, by its rule
-rule-sound : (code clock : ℕ) (bytes : List ℕ) (q : Rule) → Sound (ruleForm q) (limited bytes (ask code clock bytes (ruleScript q))) callFrames
-rule-sound code clock bytes version = search sound-rules depth 60
-rule-sound code clock bytes noBytes = search sound-rules depth 60
-rule-sound code clock bytes all_bytes = search sound-rules depth 60
-rule-sound code clock bytes registersWritten = search sound-rules depth 60
-rule-sound code clock bytes firstByte = search sound-rules depth 60
-rule-sound code clock bytes listedTarget = search sound-rules depth 60
-rule-sound code clock bytes exchangedData = search sound-rules depth 60
-rule-sound code clock bytes thru = search sound-rules depth 60
-rule-sound code clock bytes jump = search sound-rules depth 60
-rule-sound code clock bytes status = search sound-rules depth 60
-rule-sound code clock bytes initiatorCommand = search sound-rules depth 60
-rule-sound code clock bytes targetStatus = search sound-rules depth 60
+rule_sound : (code clock : ℕ) (bytes : List ℕ) (q : Rule) → Sound (rule_form q) (limited bytes (ask code clock bytes (rule_script q))) call_frames
+rule_sound code clock bytes version = search sound_rules depth 60
+rule_sound code clock bytes no_bytes_of = search sound_rules depth 60
+rule_sound code clock bytes all_bytes = search sound_rules depth 60
+rule_sound code clock bytes registers_written = search sound_rules depth 60
+rule_sound code clock bytes first_byte_of = search sound_rules depth 60
+rule_sound code clock bytes listed_target = search sound_rules depth 60
+rule_sound code clock bytes exchanged_data = search sound_rules depth 60
+rule_sound code clock bytes thru = search sound_rules depth 60
+rule_sound code clock bytes jump = search sound_rules depth 60
+rule_sound code clock bytes status = search sound_rules depth 60
+rule_sound code clock bytes initiator_command = search sound_rules depth 60
+rule_sound code clock bytes target_status = search sound_rules depth 60
 
-row-sound : (w : Row) → Sound (rowForm w) (rowStart w) callFrames
-row-sound (row holds code clock bytes q) = sound-if (ruleForm q) holds _ _ callFrames (rule-sound code clock bytes q) tt
-row-sound resets = search sound-rules depth 60
+row_sound : (w : Row) → Sound (row_form w) (row_start w) call_frames
+row_sound (row holds code clock bytes q) = sound_if (rule_form q) holds _ _ call_frames (rule_sound code clock bytes q) tt
+row_sound resets = search sound_rules depth 60
 
-typeA-sound : (code : ℕ) (uid : List ℕ) → Within (discovery.detectTypeA code uid) callFrames × Correct onlyCards (discovery.detectTypeA code uid) []
-typeA-sound code uid = (search sound-rules depth 60, search correct-rules depth 60 fits 4000)
+type_a_sound : (code : ℕ) (uid : List ℕ) → Within (discovery.detect_type_a_of code uid) call_frames × Correct only_cards (discovery.detect_type_a_of code uid) []
+type_a_sound code uid = (search sound_rules depth 60, search correct_rules depth 60 fits 4000)
 
-split-sound : (code : ℕ) (uid : List ℕ) → Within (discovery.detectTypeASplit code uid) callFrames × Correct onlyCards (discovery.detectTypeASplit code uid) []
-split-sound code uid = (search sound-rules depth 60, search (target-answer, correct-rules) depth 60 fits 4000)
+split_sound : (code : ℕ) (uid : List ℕ) → Within (discovery.detect_type_a_split code uid) call_frames × Correct only_cards (discovery.detect_type_a_split code uid) []
+split_sound code uid = (search sound_rules depth 60, search (target_answer_lem, correct_rules) depth 60 fits 4000)
 
 -- a list of system codes
-words-sound : (code : ℕ) (words : List ℕ) → Within (discovery.pollTypeF code (words_in words)) (codeFrames * (length words / 2))
-    × Correct (polledCodes (length words / 2)) (discovery.pollTypeF code (words_in words)) []
-words-sound code words =
+words_sound : (code : ℕ) (words : List ℕ) → Within (discovery.poll_type_f code (words_in words)) (code_frames * (length words / 2))
+    × Correct (polled_codes (length words / 2)) (discovery.poll_type_f code (words_in words)) []
+words_sound code words =
     let codes : List ℕ = words_in words in
     let e : 0 + length codes ≡ length codes = omega arith in
-    let right = codes-correct code 0 [] codes [] record { placed = no_bytes; polled = no-codes } in
-    rw (sym (words_count words)) (codes-within code 0 0 [] codes, rw (sym e) right)
+    let right = codes_correct code 0 [] codes [] record { placed = no_bytes; polled = no_codes } in
+    rw (sym (words_count words)) (codes_within code 0 0 [] codes, rw (sym e) right)
 
-device-sound : (d : DeviceCall) → Sound (deviceForm d) (deviceStart d) (deviceLimit d)
-device-sound (detectTypeA text uid) = search (typeA-sound, sound-rules) depth 60
-device-sound (detectTypeASplit text uid) = search (split-sound, sound-rules) depth 60
-device-sound (detectTypeB text sensbReq) = search sound-rules depth 60
-device-sound (detectTypeF text systemCode requestCode timeSlots) = search sound-rules depth 60
-device-sound (pollTypeF text words) = search (words-sound, sound-rules) depth 60
-device-sound (detectDep text atrReq) = search sound-rules depth 60
-device-sound (transceive text selRes ridRes bytes ms) = search sound-rules depth 60
-device-sound (readWithoutEncryption idm service blocks ms) = search (block-rules, sound-rules) depth 60
-device-sound (writeWithoutEncryption idm service blocks bytes ms) = search (block-rules, sound-rules) depth 60
+device_sound : (d : DeviceCall) → Sound (device_form d) (device_start d) (device_limit d)
+device_sound (detect_type_a_of text uid) = search (type_a_sound, sound_rules) depth 60
+device_sound (detect_type_a_split text uid) = search (split_sound, sound_rules) depth 60
+device_sound (detect_type_b_of text sensbReq) = search sound_rules depth 60
+device_sound (detect_type_f_of text systemCode requestCode timeSlots) = search sound_rules depth 60
+device_sound (poll_type_f text words) = search (words_sound, sound_rules) depth 60
+device_sound (detect_dep_of text atrReq) = search sound_rules depth 60
+device_sound (transceive text selRes ridRes bytes ms) = search sound_rules depth 60
+device_sound (read_without_encryption idm service blocks ms) = search (block_rules, sound_rules) depth 60
+device_sound (write_without_encryption idm service blocks bytes ms) = search (block_rules, sound_rules) depth 60
 
 pub sound : (c : Call) → Sound (form_of c) (start_of c) (limit c)
 sound (opening mode) =
-    sound-if versionAndName (leb mode paddedMode) _ _ openingFrames (search sound-rules depth 60, search (version-name, correct-rules) depth 60 fits 4000) tt
-sound (reader (request r)) = row-sound (row_of r)
-sound (reader (device d)) = device-sound d
-sound (reader unknown) = search sound-rules depth 60
+    sound_if version_and_name (leb mode padded_mode) _ _ opening_frames (search sound_rules depth 60, search (version_name, correct_rules) depth 60 fits 4000) tt
+sound (reader (request r)) = row_sound (row_of r)
+sound (reader (device d)) = device_sound d
+sound (reader unknown) = search sound_rules depth 60

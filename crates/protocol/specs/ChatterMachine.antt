@@ -3,56 +3,56 @@ use Rattle.std.specs.Prelude.{◌≡◌, refl, List, [], ◌∷◌, map, ℕ}
 use Rattle.std.proofs.Common.{sym, ap, ap₂, ◌∙◌, subst}
 use Rattle.protocol.specs.Scripts.{Byte}
 use Rattle.protocol.specs.Calls.{Call}
-use Rattle.protocol.specs.Session.{Session, Output, orders, answers, rejects, outputs, sessionAfter}
-use Rattle.protocol.specs.Machine.{outputValues, plainAnswer, Machine, givenOut, stateAfter, entries, same_out, still-represents}
-use Rattle.protocol.specs.Runs.{EventAndRoom, callEntries, lines_from, consIf, writeOf, answersIn, writesIn}
+use Rattle.protocol.specs.Session.{Session, Output, orders, answers, rejects, outputs, session_after}
+use Rattle.protocol.specs.Machine.{output_values, plain_answer, Machine, given_out, state_after, entries, same_out, still_represents}
+use Rattle.protocol.specs.Runs.{EventAndRoom, call_entries, lines_from, cons_if, write_of, answers_in, writes_in}
 use Rattle.protocol.specs.Chatter.{waits, Alike, SameFor}
-use Rattle.protocol.specs.ChatterSame.{chatter-same}
+use Rattle.protocol.specs.ChatterSame.{chatter_same}
 
-plain-answers : (outs : List (Output Byte)) → answersIn (map outputValues outs) ≡ map plainAnswer (answersIn outs)
-plain-answers [] = refl
-plain-answers (orders x ∷ outs) = plain-answers outs
-plain-answers (answers a ∷ outs) = ap (λ others. plainAnswer a ∷ others) (plain-answers outs)
-plain-answers (rejects r ∷ outs) = plain-answers outs
+plain_answers : (outs : List (Output Byte)) → answers_in (map output_values outs) ≡ map plain_answer (answers_in outs)
+plain_answers [] = refl
+plain_answers (orders x ∷ outs) = plain_answers outs
+plain_answers (answers a ∷ outs) = ap (λ others. plain_answer a ∷ others) (plain_answers outs)
+plain_answers (rejects r ∷ outs) = plain_answers outs
 
-plain-write : (out : Output Byte) → writeOf (outputValues out) ≡ writeOf out
-plain-write (orders x) = refl
-plain-write (answers a) = refl
-plain-write (rejects r) = refl
+plain_write : (out : Output Byte) → write_of (output_values out) ≡ write_of out
+plain_write (orders x) = refl
+plain_write (answers a) = refl
+plain_write (rejects r) = refl
 
-plain-writes : (outs : List (Output Byte)) → writesIn (map outputValues outs) ≡ writesIn outs
+plain-writes : (outs : List (Output Byte)) → writes_in (map output_values outs) ≡ writes_in outs
 plain-writes [] = refl
-plain-writes (out ∷ outs) = ap₂ consIf (plain-write out) (plain-writes outs)
+plain-writes (out ∷ outs) = ap₂ cons_if (plain_write out) (plain-writes outs)
 
 module _ (M : Machine) where
   -- two lists of inputs, from two states. Afterwards both stand for one session, so that any further inputs give the same of both.
   pub record SameFrom (s t : M.State) (is js : List M.Input) : Type 0 where
-    pub result : answersIn (givenOut M s is) ≡ answersIn (givenOut M t js)
-    pub written : writesIn (givenOut M s is) ≡ writesIn (givenOut M t js)
-    pub counted : M.frames (stateAfter M s is) ≡ M.frames (stateAfter M t js)
-    pub after : (m : Session) × M.Represents (stateAfter M s is) m × M.Represents (stateAfter M t js) m
-    pub later : (ks : List M.Input) → givenOut M (stateAfter M s is) ks ≡ givenOut M (stateAfter M t js) ks
+    pub result : answers_in (given_out M s is) ≡ answers_in (given_out M t js)
+    pub written : writes_in (given_out M s is) ≡ writes_in (given_out M t js)
+    pub counted : M.frames (state_after M s is) ≡ M.frames (state_after M t js)
+    pub after : (m : Session) × M.Represents (state_after M s is) m × M.Represents (state_after M t js) m
+    pub later : (ks : List M.Input) → given_out M (state_after M s is) ks ≡ given_out M (state_after M t js) ks
 
   same_from : (s t : M.State) (m : Session) → M.Represents s m → M.Represents t m → (is js : List M.Input) → SameFor m (entries M is) (entries M js) → SameFrom s t is js
   same_from s t m h k is js e =
-      let n : Session = sessionAfter m (entries M is) in
-      let p : M.Represents (stateAfter M s is) n = still-represents M s m h is in
-      let q : M.Represents (stateAfter M t js) n = subst (λ r. M.Represents (stateAfter M t js) r) (sym e.after) (still-represents M t m k js) in
+      let n : Session = session_after m (entries M is) in
+      let p : M.Represents (state_after M s is) n = still_represents M s m h is in
+      let q : M.Represents (state_after M t js) n = subst (λ r. M.Represents (state_after M t js) r) (sym e.after) (still_represents M t m k js) in
       record {
         result =
-            ap answersIn (same_out M s m h is) ∙ plain-answers (outputs m (entries M is))
-            ∙ ap (map plainAnswer) e.result
-            ∙ sym (plain-answers (outputs m (entries M js))) ∙ sym (ap answersIn (same_out M t m k js));
+            ap answers_in (same_out M s m h is) ∙ plain_answers (outputs m (entries M is))
+            ∙ ap (map plain_answer) e.result
+            ∙ sym (plain_answers (outputs m (entries M js))) ∙ sym (ap answers_in (same_out M t m k js));
         written =
-            ap writesIn (same_out M s m h is) ∙ plain-writes (outputs m (entries M is))
+            ap writes_in (same_out M s m h is) ∙ plain-writes (outputs m (entries M is))
             ∙ e.written
-            ∙ sym (plain-writes (outputs m (entries M js))) ∙ sym (ap writesIn (same_out M t m k js));
-        counted = M.counts (stateAfter M s is) n p ∙ sym (M.counts (stateAfter M t js) n q);
+            ∙ sym (plain-writes (outputs m (entries M js))) ∙ sym (ap writes_in (same_out M t m k js));
+        counted = M.counts (state_after M s is) n p ∙ sym (M.counts (state_after M t js) n q);
         after = (n, p, q);
-        later = λ ks. same_out M (stateAfter M s is) n p ks ∙ sym (same_out M (stateAfter M t js) n q ks);
+        later = λ ks. same_out M (state_after M s is) n p ks ∙ sym (same_out M (state_after M t js) n q ks);
       }
 
-  pub machine-chatter : (s t : M.State) (m : Session) → M.Represents s m → M.Represents t m → (caller : ℕ) (c : Call) (room : ℕ) (es ds : List EventAndRoom) (is js : List M.Input)
-      → entries M is ≡ callEntries caller c room es → entries M js ≡ callEntries caller c room ds
+  pub machine_chatter : (s t : M.State) (m : Session) → M.Represents s m → M.Represents t m → (caller : ℕ) (c : Call) (room : ℕ) (es ds : List EventAndRoom) (is js : List M.Input)
+      → entries M is ≡ call_entries caller c room es → entries M js ≡ call_entries caller c room ds
       → Alike waits (lines_from m caller c room es) (lines_from m caller c room ds) → SameFrom s t is js
-  machine-chatter s t m h k caller c room es ds is js p q a = same_from s t m h k is js (rw (p, q) (chatter-same m caller c room es ds a))
+  machine_chatter s t m h k caller c room es ds is js p q a = same_from s t m h k is js (rw (p, q) (chatter_same m caller c room es ds a))

@@ -4,57 +4,57 @@ use Rattle.std.specs.Prelude.{◌≡◌, refl, true, false, List, [], ◌∷◌,
 use Rattle.std.proofs.Common.{ap, arith}
 use Rattle.errors.specs.declared.Fault.TheVariants.{FalseStart, BrokenFrame}
 use Rattle.framing.specs.Frames.{ack}
-use Rattle.exchange.specs.Packets.{commandFrame}
-use Rattle.exchange.specs.Exchange.{write, read, drain, ok, pkt, time, firstReadTime}
+use Rattle.exchange.specs.Packets.{command_frame}
+use Rattle.exchange.specs.Exchange.{write, read, drain, ok, pkt, time, first_read_time}
 use Rattle.protocol.specs.Scripts.{refused}
-use Rattle.protocol.specs.Calls.{Call, reader, request, version, getFirmwareVersionCode}
-use Rattle.protocol.specs.Session.{noCounts, Session, Output, orders, answers, outputs, bufferNeed}
-use Rattle.protocol.specs.Machine.{outputValues}
-use Rattle.protocol.specs.Runs.{EventAndRoom, idleWith, eventWith, callEntries, lines_from, answersIn}
+use Rattle.protocol.specs.Calls.{Call, reader, request, version, get_firmware_version_code}
+use Rattle.protocol.specs.Session.{no_counts, Session, Output, orders, answers, outputs, buffer_need}
+use Rattle.protocol.specs.Machine.{output_values}
+use Rattle.protocol.specs.Runs.{EventAndRoom, idle_with, event_with, call_entries, lines_from, answers_in}
 use Rattle.protocol.specs.Chatter.{unanswered, Alike, SameFor}
 use Rattle.protocol.specs.Sample.{formats}
-use Rattle.protocol.specs.Names.{commandClock}
+use Rattle.protocol.specs.Names.{command_clock}
 
-abbrev openReader : Session
-openReader = idleWith (record { opened = true; padded = false; caller = 0; counts = noCounts })
+abbrev open_reader : Session
+open_reader = idle_with (record { opened = true; padded = false; caller = 0; counts = no_counts })
 
-abbrev asksVersion : Call
-asksVersion = reader (request version)
+abbrev asks_version : Call
+asks_version = reader (request version)
 
-abbrev falseStart : EventAndRoom
-falseStart = eventWith (pkt (0x00 ∷ [])) bufferNeed
+abbrev false_start : EventAndRoom
+false_start = event_with (pkt (0x00 ∷ [])) buffer_need
 
 -- without ACK before it, and with ACK
 abbrev first : List EventAndRoom
-first = eventWith ok bufferNeed ∷ falseStart ∷ []
+first = event_with ok buffer_need ∷ false_start ∷ []
 
 abbrev second : List EventAndRoom
-second = eventWith ok bufferNeed ∷ eventWith (pkt ack) bufferNeed ∷ falseStart ∷ []
+second = event_with ok buffer_need ∷ event_with (pkt ack) buffer_need ∷ false_start ∷ []
 
-abbrev givenFor : List EventAndRoom → List (Output ℕ)
-givenFor es = map outputValues (outputs openReader (callEntries 0 asksVersion bufferNeed es))
+abbrev given_for : List EventAndRoom → List (Output ℕ)
+given_for es = map output_values (outputs open_reader (call_entries 0 asks_version buffer_need es))
 
 -- the first writes ACK, drains and ends with 9; the second ends with 10
-first_run : givenFor (first ++ (eventWith ok bufferNeed ∷ eventWith time bufferNeed ∷ []))
-    ≡ orders (write (commandFrame getFirmwareVersionCode [])) ∷ orders (read firstReadTime) ∷ orders (write ack) ∷ orders drain ∷ answers (refused FalseStart) ∷ []
+first_run : given_for (first ++ (event_with ok buffer_need ∷ event_with time buffer_need ∷ []))
+    ≡ orders (write (command_frame get_firmware_version_code [])) ∷ orders (read first_read_time) ∷ orders (write ack) ∷ orders drain ∷ answers (refused FalseStart) ∷ []
 unfolding formats
 first_run = refl
 
-second_run : givenFor second ≡ orders (write (commandFrame getFirmwareVersionCode [])) ∷ orders (read firstReadTime) ∷ orders (read commandClock) ∷ answers (refused BrokenFrame) ∷ []
+second_run : given_for second ≡ orders (write (command_frame get_firmware_version_code [])) ∷ orders (read first_read_time) ∷ orders (read command_clock) ∷ answers (refused BrokenFrame) ∷ []
 unfolding formats
 second_run = refl
 
-alike-widened : Alike unanswered (lines_from openReader 0 asksVersion bufferNeed first) (lines_from openReader 0 asksVersion bufferNeed second)
+alike_widened : Alike unanswered (lines_from open_reader 0 asks_version buffer_need first) (lines_from open_reader 0 asks_version buffer_need second)
 unfolding formats
-alike-widened = refl
+alike_widened = refl
 
 -- the first has no answer yet
-answers-differ : answersIn (outputs openReader (callEntries 0 asksVersion bufferNeed first)) ≡ answersIn (outputs openReader (callEntries 0 asksVersion bufferNeed second)) → ⊥
+answers_differ : answers_in (outputs open_reader (call_entries 0 asks_version buffer_need first)) ≡ answers_in (outputs open_reader (call_entries 0 asks_version buffer_need second)) → ⊥
 unfolding formats
-answers-differ e = let z : ◌≡◌ {A = ℕ} 0 1 = ap length e in omega arith
+answers_differ e = let z : ◌≡◌ {A = ℕ} 0 1 = ap length e in omega arith
 
-pub widened-refuted : ((s : Session) (caller : ℕ) (c : Call) (room : ℕ) (es ds : List EventAndRoom)
+pub widened_refuted : ((s : Session) (caller : ℕ) (c : Call) (room : ℕ) (es ds : List EventAndRoom)
     → Alike unanswered (lines_from s caller c room es) (lines_from s caller c room ds)
-    → SameFor s (callEntries caller c room es) (callEntries caller c room ds))
+    → SameFor s (call_entries caller c room es) (call_entries caller c room ds))
     → ⊥
-widened-refuted f = answers-differ (f openReader 0 asksVersion bufferNeed first second alike-widened).result
+widened_refuted f = answers_differ (f open_reader 0 asks_version buffer_need first second alike_widened).result

@@ -1,16 +1,16 @@
 -- Demand 3: from a fresh session, for every list of entries. The statement is `Demand3` in Claim.
 use Rattle.std.specs.Prelude.{List}
-use Rattle.protocol.specs.Session.{Entry, fresh, outputs, sessionAfter}
-use Rattle.protocol.specs.Record.{recordOf, asSeen}
+use Rattle.protocol.specs.Session.{Entry, fresh, outputs, session_after}
+use Rattle.protocol.specs.Record.{record_of, as_seen}
 use Rattle.protocol.specs.Claim.{Demand3}
-use Rattle.protocol.specs.Theorem.{all-claims}
+use Rattle.protocol.specs.Theorem.{all_claims}
 use Rattle.protocol.specs.Once.{once}
-use Rattle.protocol.specs.Count.{eight-counts, counts-right}
+use Rattle.protocol.specs.Count.{eight_counts, counts_right}
 
-pub demand3 : (es : List Entry) → Demand3 es (outputs fresh es) (sessionAfter fresh es).books.counts
+pub demand3 : (es : List Entry) → Demand3 es (outputs fresh es) (session_after fresh es).books.counts
 demand3 es = record {
-  calls = all-claims es;
-  once = once (asSeen (recordOf es (outputs fresh es))).lines;
-  eight = eight-counts es;
-  counted = counts-right es;
+  calls = all_claims es;
+  once = once (as_seen (record_of es (outputs fresh es))).lines;
+  eight = eight_counts es;
+  counted = counts_right es;
 }

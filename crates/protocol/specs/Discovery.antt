@@ -1,188 +1,188 @@
 -- discovery.rs, and `transceive` of device.rs, as scripts. Where a list's data is meant, it stands from position 2 of the response on.
 use Rattle.std.specs.Prelude.{Bool, true, cond, ◌||◌, List, [], ◌∷◌, ◌++◌, map, ℕ, suc, ◌+◌, ◌-◌, ◌/◌, ◌%◌, eqb, ltb, length, take, drop, get_or}
-use Rattle.errors.specs.Refusals.{byStatus}
+use Rattle.errors.specs.Refusals.{by_status}
 use Rattle.errors.specs.declared.Fault.{Fault}
 use Rattle.errors.specs.declared.Fault.TheVariants.{Transport, TimeOut, FalseStart, BrokenFrame, Length, FrameKind, Identifier, Code, Status, ShortResponse, NoCard, CrcA, Rate, CardStatus, OtherCard, UidLayout}
-use Rattle.targets.specs.TypeA.{isTargetData, isType2}
-use Rattle.crc.specs.Crc.{typeA as crcA, checks}
-use Rattle.protocol.specs.Scripts.{Byte, own, commandsLater, Answer, done, type1, uidAndAts, nothing, refused, refusedAfter}
-use Rattle.protocol.specs.Scripts.{Script, finish, command, fieldPause, refuse, either, ifElse, and_then, byte_at, part, rest}
-use Rattle.protocol.specs.Arguments.{word, shortestAtrReq, nfcid3Size, activeByte, nfcid3Offset}
-use Rattle.protocol.specs.Chipset.{readSingleRegister, writeSingleRegister, rfConfiguration, inListPassiveTarget, inDataExchange, inDataExchangeElse, inCommunicateThru, inCommunicateThruElse, inJumpForDepElse}
-use Rattle.protocol.specs.Names.{ciuFifoData, ciuMode, ciuRxMode, ciuTxControl, registersClock, rfNotActivated, timeoutStatus, typeBClock, ridClock, cascadeTag, deselectCode, idmAndPmm, listedIdmOffset, pmmEnd, protocolOffset, selResOffset, sensReq, sensResOffset, targetOffset, uidLengthOffset, uidOffset, wupbCode, wupbParameter, timeoutsItem, timeouts, rxCrcEn, rfFieldItem, fieldOn, noDetectSync, atrResCmd0, atrResCmd1, systemCodeRequest, oneTimeSlot, sensfReqCode, oneTarget, codeType1, cardMark, noCardMark, ridData, txRfEn}
-use Rattle.protocol.specs.Calls.{inCommunicateThruCode, readRegisterCode}
+use Rattle.targets.specs.TypeA.{is_target_data, is_type2}
+use Rattle.crc.specs.Crc.{type_a as crc_a, checks}
+use Rattle.protocol.specs.Scripts.{Byte, own, commands_later, Answer, done, type1, uid_and_ats, nothing, refused, refused_after}
+use Rattle.protocol.specs.Scripts.{Script, finish, command, field_pause, refuse, either, if_else, and_then, byte_at, part, rest}
+use Rattle.protocol.specs.Arguments.{word, shortest_atr_req, nfcid3_size, active_byte, nfcid3_offset}
+use Rattle.protocol.specs.Chipset.{read_single_register_of, write_single_register_of, rf_configuration_of, in_list_passive_target_of, in_data_exchange_of, in_data_exchange_else, in_communicate_thru_of, in_communicate_thru_else, in_jump_for_dep_else}
+use Rattle.protocol.specs.Names.{ciu_fifo_data, ciu_mode, ciu_rx_mode, ciu_tx_control, registers_clock, rf_not_activated, timeout_status, type_b_clock, rid_clock, cascade_tag, deselect_code, idm_and_pmm, listed_idm_offset, pmm_end, protocol_offset, sel_res_offset, sens_req, sens_res_offset, target_offset, uid_length_offset, uid_offset, wupb_code, wupb_parameter, timeouts_item, timeouts, rx_crc_en, rf_field_item, field_on, no_detect_sync, atr_res_cmd0, atr_res_cmd1, system_code_request, one_time_slot, sensf_req_code, one_target, code_type1, card_mark, no_card_mark, rid_data, tx_rf_en}
+use Rattle.protocol.specs.Calls.{in_communicate_thru_code, read_register_code}
 
 -- ---- detect_type_a
 
 -- a UID over 4 bytes gets 0x88 at 0; if then over 8, 0x88 at 4
 abbrev pub prefixed : List ℕ → List ℕ
-prefixed uid = cond (ltb 4 (length uid)) (cascadeTag ∷ uid) uid
+prefixed uid = cond (ltb 4 (length uid)) (cascade_tag ∷ uid) uid
 
 abbrev pub cascaded : List ℕ → List ℕ
-cascaded uid = cond (ltb 8 (length (prefixed uid))) (take 4 (prefixed uid) ++ (cascadeTag ∷ drop 4 (prefixed uid))) (prefixed uid)
+cascaded uid = cond (ltb 8 (length (prefixed uid))) (take 4 (prefixed uid) ++ (cascade_tag ∷ drop 4 (prefixed uid))) (prefixed uid)
 
 -- SENS_RES in the other order, SEL_RES, SDD_RES
-abbrev pub cardA : List ℕ → List Byte
-cardA list = byte_at 0 list (sensResOffset + 1) ∷ byte_at 0 list sensResOffset ∷ byte_at 0 list selResOffset ∷ rest 0 list uidOffset
+abbrev pub card_a : List ℕ → List Byte
+card_a list = byte_at 0 list (sens_res_offset + 1) ∷ byte_at 0 list sens_res_offset ∷ byte_at 0 list sel_res_offset ∷ rest 0 list uid_offset
 
 -- Type 2: the CRC check is switched off in the RX mode before the answer
-abbrev pub withoutCrc : Answer Byte → Script
-withoutCrc a = readSingleRegister ciuRxMode (λ bs. writeSingleRegister ciuRxMode (get_or bs 0 0 % rxCrcEn) (finish a))
+abbrev pub without_crc : Answer Byte → Script
+without_crc a = read_single_register_of ciu_rx_mode (λ bs. write_single_register_of ciu_rx_mode (get_or bs 0 0 % rx_crc_en) (finish a))
 
 -- the answer, at once or behind the RX mode
-abbrev pub byType2 : List ℕ → Answer Byte → Script
-byType2 list a = ifElse (isType2 (get_or list selResOffset 0)) (withoutCrc a) (finish a)
+abbrev pub by_type2 : List ℕ → Answer Byte → Script
+by_type2 list a = if_else (is_type2 (get_or list sel_res_offset 0)) (without_crc a) (finish a)
 
-abbrev pub foundA : List ℕ → Script
-foundA list = ifElse (ltb (length list) uidOffset) (finish nothing) (byType2 list (done (cardA list)))
+abbrev pub found_a : List ℕ → Script
+found_a list = if_else (ltb (length list) uid_offset) (finish nothing) (by_type2 list (done (card_a list)))
 
 -- the RID exchange: 15 is none; short list data gives 16 behind it
-abbrev pub noneOnStatus : Fault → Script
-noneOnStatus r = byStatus (λ _. finish nothing) (refuse r) r
+abbrev pub none_on_status : Fault → Script
+none_on_status r = by_status (λ _. finish nothing) (refuse r) r
 
-abbrev pub cardType1 : List ℕ → List ℕ → Script
-cardType1 list rid = ifElse (ltb (length list) 4) (refuse ShortResponse) (finish (type1 (byte_at 2 list (sensResOffset + 1) ∷ byte_at 2 list sensResOffset ∷ rest 3 rid 1)))
+abbrev pub card_type1 : List ℕ → List ℕ → Script
+card_type1 list rid = if_else (ltb (length list) 4) (refuse ShortResponse) (finish (type1 (byte_at 2 list (sens_res_offset + 1) ∷ byte_at 2 list sens_res_offset ∷ rest 3 rid 1)))
 
-abbrev pub tryType1 : Script
-tryType1 =
-    inListPassiveTarget oneTarget codeType1 [] (finish nothing)
-    (λ list. inDataExchangeElse ridData ridClock (cardType1 list) noneOnStatus)
+abbrev pub try_type1 : Script
+try_type1 =
+    in_list_passive_target_of one_target code_type1 [] (finish nothing)
+    (λ list. in_data_exchange_else rid_data rid_clock (card_type1 list) none_on_status)
 
 -- no target: FIFO 0x26 is none; any other value, or a refused read, leads to the Type 1 try
-abbrev pub noTarget : Script
-noTarget = command readRegisterCode registersClock (word ciuFifoData) (either (λ bs. ifElse (eqb (get_or bs 0 0) sensReq) (finish nothing) tryType1) (λ _. tryType1))
+abbrev pub no_target : Script
+no_target = command read_register_code registers_clock (word ciu_fifo_data) (either (λ bs. if_else (eqb (get_or bs 0 0) sens_req) (finish nothing) try_type1) (λ _. try_type1))
 
-abbrev pub detectTypeA : ℕ → List ℕ → Script
-detectTypeA code uid = inListPassiveTarget oneTarget code (cascaded uid) noTarget foundA
+abbrev pub detect_type_a_of : ℕ → List ℕ → Script
+detect_type_a_of code uid = in_list_passive_target_of one_target code (cascaded uid) no_target found_a
 
 -- ---- detect_type_a in the mode in which UID and ATS are told apart (document 02, N6). The UID's length stands in the data at 3, the
 -- ATS's is its first byte. List data that is no target data of Type A is refused at once.
 
-abbrev pub uidLength : List ℕ → ℕ
-uidLength list = get_or list uidLengthOffset 0
+abbrev pub uid_length : List ℕ → ℕ
+uid_length list = get_or list uid_length_offset 0
 
-abbrev pub atsLength : List ℕ → ℕ
-atsLength list = get_or list (uidOffset + uidLength list) 0
+abbrev pub ats_length : List ℕ → ℕ
+ats_length list = get_or list (uid_offset + uid_length list) 0
 
-abbrev pub foundSplit : List ℕ → Script
-foundSplit list =
-    ifElse (ltb (length list) uidOffset) (finish nothing)
-    (ifElse (isTargetData (drop targetOffset list)) (byType2 list (uidAndAts (cardA list) (uidLength list) (atsLength list))) (refuse UidLayout))
+abbrev pub found_split : List ℕ → Script
+found_split list =
+    if_else (ltb (length list) uid_offset) (finish nothing)
+    (if_else (is_target_data (drop target_offset list)) (by_type2 list (uid_and_ats (card_a list) (uid_length list) (ats_length list))) (refuse UidLayout))
 
-abbrev pub detectTypeASplit : ℕ → List ℕ → Script
-detectTypeASplit code uid = inListPassiveTarget oneTarget code (cascaded uid) noTarget foundSplit
+abbrev pub detect_type_a_split : ℕ → List ℕ → Script
+detect_type_a_split code uid = in_list_passive_target_of one_target code (cascaded uid) no_target found_split
 
 -- ---- detect_type_b
 
 -- the wake-up's failure is none
-abbrev pub wakeUp : ℕ → Script
-wakeUp afi = inCommunicateThruElse (wupbCode ∷ afi ∷ wupbParameter ∷ []) typeBClock (λ bs. finish (done (rest 2 bs 1))) (λ _. finish nothing)
+abbrev pub wake_up : ℕ → Script
+wake_up afi = in_communicate_thru_else (wupb_code ∷ afi ∷ wupb_parameter ∷ []) type_b_clock (λ bs. finish (done (rest 2 bs 1))) (λ _. finish nothing)
 
 -- the deselect's outcome is ignored
 abbrev pub deselect : ℕ → Script
-deselect afi = command inCommunicateThruCode typeBClock (deselectCode ∷ []) (λ _. wakeUp afi)
+deselect afi = command in_communicate_thru_code type_b_clock (deselect_code ∷ []) (λ _. wake_up afi)
 
 -- byte 10 of the data, masked with 9, is 1
-abbrev pub foundB : ℕ → List ℕ → Script
-foundB afi list =
-    ifElse (ltb (length list) (protocolOffset + 1)) (finish nothing)
-    (ifElse (eqb (get_or list protocolOffset 0 % 2) 1) (ifElse (eqb (get_or list protocolOffset 0 / 8 % 2) 0) (deselect afi) (finish nothing)) (finish nothing))
+abbrev pub found_b : ℕ → List ℕ → Script
+found_b afi list =
+    if_else (ltb (length list) (protocol_offset + 1)) (finish nothing)
+    (if_else (eqb (get_or list protocol_offset 0 % 2) 1) (if_else (eqb (get_or list protocol_offset 0 / 8 % 2) 0) (deselect afi) (finish nothing)) (finish nothing))
 
-abbrev pub detectTypeB : ℕ → ℕ → Script
-detectTypeB code afi = inListPassiveTarget oneTarget code (afi ∷ []) (finish nothing) (foundB afi)
+abbrev pub detect_type_b_of : ℕ → ℕ → Script
+detect_type_b_of code afi = in_list_passive_target_of one_target code (afi ∷ []) (finish nothing) (found_b afi)
 
 -- ---- detect_type_f, whose poll is command k
 
-abbrev pub sensfReq : ℕ → ℕ → ℕ → List ℕ
-sensfReq systemCode requestCode timeSlots = sensfReqCode ∷ word systemCode ++ (requestCode ∷ timeSlots ∷ [])
+abbrev pub sensf_req : ℕ → ℕ → ℕ → List ℕ
+sensf_req systemCode requestCode timeSlots = sensf_req_code ∷ word systemCode ++ (requestCode ∷ timeSlots ∷ [])
 
 abbrev pub poll : ℕ → ℕ → List ℕ → Script
 poll k code req =
-    inListPassiveTarget oneTarget code req (refuse NoCard)
-    (λ list. ifElse (ltb (length list) pmmEnd) (refuse ShortResponse) (finish (done (rest k list listedIdmOffset))))
+    in_list_passive_target_of one_target code req (refuse NoCard)
+    (λ list. if_else (ltb (length list) pmm_end) (refuse ShortResponse) (finish (done (rest k list listed_idm_offset))))
 
-abbrev pub detectTypeF : ℕ → List ℕ → Script
-detectTypeF code req =
-    readSingleRegister ciuTxControl
-    (λ bs. ifElse (eqb (get_or bs 0 0 % txRfEn) 0) (rfConfiguration rfFieldItem (fieldOn ∷ []) (fieldPause (poll 2 code req))) (poll 1 code req))
+abbrev pub detect_type_f_of : ℕ → List ℕ → Script
+detect_type_f_of code req =
+    read_single_register_of ciu_tx_control
+    (λ bs. if_else (eqb (get_or bs 0 0 % tx_rf_en) 0) (rf_configuration_of rf_field_item (field_on ∷ []) (field_pause (poll 2 code req))) (poll 1 code req))
 
 -- ---- several system codes: detect_type_f for each
 
 -- the request for a list's code
-abbrev pub systemCodeReq : ℕ → List ℕ
-systemCodeReq systemCode = sensfReq systemCode systemCodeRequest oneTimeSlot
+abbrev pub system_code_req : ℕ → List ℕ
+system_code_req systemCode = sensf_req systemCode system_code_request one_time_slot
 
 -- by 17; a of any other fault
-abbrev pub byNoCard : {A : Type 0} → A → A → Fault → A
-byNoCard x a Transport = a
-byNoCard x a TimeOut = a
-byNoCard x a FalseStart = a
-byNoCard x a BrokenFrame = a
-byNoCard x a Length = a
-byNoCard x a FrameKind = a
-byNoCard x a Identifier = a
-byNoCard x a Code = a
-byNoCard x a (Status s) = a
-byNoCard x a ShortResponse = a
-byNoCard x a NoCard = x
-byNoCard x a CrcA = a
-byNoCard x a Rate = a
-byNoCard x a (CardStatus s t) = a
-byNoCard x a OtherCard = a
-byNoCard x a UidLayout = a
+abbrev pub by_no_card : {A : Type 0} → A → A → Fault → A
+by_no_card x a Transport = a
+by_no_card x a TimeOut = a
+by_no_card x a FalseStart = a
+by_no_card x a BrokenFrame = a
+by_no_card x a Length = a
+by_no_card x a FrameKind = a
+by_no_card x a Identifier = a
+by_no_card x a Code = a
+by_no_card x a (Status s) = a
+by_no_card x a ShortResponse = a
+by_no_card x a NoCard = x
+by_no_card x a CrcA = a
+by_no_card x a Rate = a
+by_no_card x a (CardStatus s t) = a
+by_no_card x a OtherCard = a
+by_no_card x a UidLayout = a
 
 -- what a code adds to the answer: 01, IDm and PMm of an answer that has the optional bytes behind them; 00 where no card was met
-abbrev pub cardMet : List Byte → List Byte
-cardMet bytes = own cardMark ∷ take idmAndPmm bytes
+abbrev pub card_met : List Byte → List Byte
+card_met bytes = own card_mark ∷ take idm_and_pmm bytes
 
-abbrev pub noCardMet : List Byte
-noCardMet = own noCardMark ∷ []
+abbrev pub no_card_met : List Byte
+no_card_met = own no_card_mark ∷ []
 
 -- the end of a code: the list goes on with what the code adds, or ends with the code's fault. detect_type_f has no other ends.
-abbrev pub codeEnd : (List Byte → Script) → (Fault → Script) → Answer Byte → Script
-codeEnd f g (done bytes) = f (cardMet bytes)
-codeEnd f g (type1 bytes) = f (cardMet bytes)
-codeEnd f g (uidAndAts bytes uid ats) = f (cardMet bytes)
-codeEnd f g nothing = f noCardMet
-codeEnd f g (refused r) = byNoCard (f noCardMet) (g r) r
-codeEnd f g (refusedAfter r n) = g r
+abbrev pub code_end : (List Byte → Script) → (Fault → Script) → Answer Byte → Script
+code_end f g (done bytes) = f (card_met bytes)
+code_end f g (type1 bytes) = f (card_met bytes)
+code_end f g (uid_and_ats bytes uid ats) = f (card_met bytes)
+code_end f g nothing = f no_card_met
+code_end f g (refused r) = by_no_card (f no_card_met) (g r) r
+code_end f g (refused_after r n) = g r
 
 -- the codes still to come, at the call's command `first`, behind so many codes that are finished and what they found
-abbrev pub pollCodes : ℕ → ℕ → ℕ → List Byte → List ℕ → Script
-pollCodes code first finished found [] = finish (done found)
-pollCodes code first finished found (systemCode ∷ codes) =
-    and_then (detectTypeF code (systemCodeReq systemCode)) first
-    (λ next a. codeEnd
-    (λ bytes. pollCodes code next (suc finished) (found ++ map (commandsLater first) bytes) codes)
-    (λ r. finish (refusedAfter r finished)) a)
+abbrev pub poll_codes : ℕ → ℕ → ℕ → List Byte → List ℕ → Script
+poll_codes code first finished found [] = finish (done found)
+poll_codes code first finished found (systemCode ∷ codes) =
+    and_then (detect_type_f_of code (system_code_req systemCode)) first
+    (λ next a. code_end
+    (λ bytes. poll_codes code next (suc finished) (found ++ map (commands_later first) bytes) codes)
+    (λ r. finish (refused_after r finished)) a)
 
-abbrev pub pollTypeF : ℕ → List ℕ → Script
-pollTypeF code codes = pollCodes code 0 0 [] codes
+abbrev pub poll_type_f : ℕ → List ℕ → Script
+poll_type_f code codes = poll_codes code 0 0 [] codes
 
 -- ---- detect_dep
 
 -- 15 with 01 or 0A is none
-abbrev pub noPartner : Fault → Script
-noPartner r = byStatus (λ status. ifElse (eqb status timeoutStatus || eqb status rfNotActivated) (finish nothing) (refuse r)) (refuse r) r
+abbrev pub no_partner_of : Fault → Script
+no_partner_of r = by_status (λ status. if_else (eqb status timeout_status || eqb status rf_not_activated) (finish nothing) (refuse r)) (refuse r) r
 
-abbrev pub detectDep : ℕ → List ℕ → Script
-detectDep code atrReq =
-    rfConfiguration timeoutsItem timeouts
-    (inJumpForDepElse (activeByte true) code [] (take nfcid3Size (drop nfcid3Offset atrReq)) (drop shortestAtrReq atrReq)
-    (λ bs. writeSingleRegister ciuMode noDetectSync (finish (done (own atrResCmd0 ∷ own atrResCmd1 ∷ rest 1 bs 2)))) noPartner)
+abbrev pub detect_dep_of : ℕ → List ℕ → Script
+detect_dep_of code atrReq =
+    rf_configuration_of timeouts_item timeouts
+    (in_jump_for_dep_else (active_byte true) code [] (take nfcid3_size (drop nfcid3_offset atrReq)) (drop shortest_atr_req atrReq)
+    (λ bs. write_single_register_of ciu_mode no_detect_sync (finish (done (own atr_res_cmd0 ∷ own atr_res_cmd1 ∷ rest 1 bs 2)))) no_partner_of)
 
 -- ---- transceive
 
 -- Type 2: a reply over 2 bytes must pass CRC_A and loses two bytes
-abbrev pub transceiveType2 : List ℕ → ℕ → Script
-transceiveType2 bytes ms =
-    inCommunicateThru bytes ms
-    (λ bs. ifElse (ltb 3 (length bs))
-    (ifElse (checks crcA (drop 1 bs)) (finish (done (part 0 bs 1 (length bs - 3)))) (refuse CrcA))
+abbrev pub transceive_type2 : List ℕ → ℕ → Script
+transceive_type2 bytes ms =
+    in_communicate_thru_of bytes ms
+    (λ bs. if_else (ltb 3 (length bs))
+    (if_else (checks crc_a (drop 1 bs)) (finish (done (part 0 bs 1 (length bs - 3)))) (refuse CrcA))
     (finish (done (rest 0 bs 1))))
 
-abbrev pub transceiveType1 : List ℕ → ℕ → Script
-transceiveType1 bytes ms = inDataExchange bytes ms (λ bs. finish (done (rest 0 bs 1)))
+abbrev pub transceive_type1 : List ℕ → ℕ → Script
+transceive_type1 bytes ms = in_data_exchange_of bytes ms (λ bs. finish (done (rest 0 bs 1)))
 
-abbrev pub transceiveThru : List ℕ → ℕ → Script
-transceiveThru bytes ms = inCommunicateThru bytes ms (λ bs. finish (done (rest 0 bs 1)))
+abbrev pub transceive_thru : List ℕ → ℕ → Script
+transceive_thru bytes ms = in_communicate_thru_of bytes ms (λ bs. finish (done (rest 0 bs 1)))

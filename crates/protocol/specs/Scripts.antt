@@ -14,25 +14,25 @@ value (own b) = b
 value (card k p b) = b
 
 -- the same byte in a call in which n commands come before
-abbrev pub commandsLater : ℕ → Byte → Byte
-commandsLater n (own b) = own b
-commandsLater n (card k p b) = card (n + k) p b
+abbrev pub commands_later : ℕ → Byte → Byte
+commands_later n (own b) = own b
+commands_later n (card k p b) = card (n + k) p b
 
 -- how a call ends: `done` with bytes, the same of a Type 1 tag, the same with the lengths of a UID and an ATS among them, `none`, or
 -- `refused`, of a list with the number of codes finished
 pub data Answer (B : Type 0) : Type 0 where
   done : List B → Answer B
   type1 : List B → Answer B
-  uidAndAts : List B → ℕ → ℕ → Answer B
+  uid_and_ats : List B → ℕ → ℕ → Answer B
   nothing : Answer B
   refused : Fault → Answer B
-  refusedAfter : Fault → ℕ → Answer B
+  refused_after : Fault → ℕ → Answer B
 
 pub data Script : Type 0 where
   finish : Answer Byte → Script
   command : ℕ → ℕ → List ℕ → (Reply → Script) → Script  -- code, clock in ms, data
   reset : Script → Script  -- `reset_mode`, then the rest
-  fieldPause : Script → Script  -- the field pause, then the rest
+  field_pause : Script → Script  -- the field pause, then the rest
 
 -- ---- forms of the Rust
 
@@ -48,16 +48,16 @@ refuse r = finish (refused r)
 abbrev pub ask : ℕ → ℕ → List ℕ → (List ℕ → Script) → Script
 ask code clock bytes f = command code clock bytes (either f refuse)
 
-abbrev pub ifElse : Bool → Script → Script → Script
-ifElse true a b = a
-ifElse false a b = b
+abbrev pub if_else : Bool → Script → Script → Script
+if_else true a b = a
+if_else false a b = b
 
 -- a script that k commands come before, and behind it what f makes of the commands so far and of its answer
 abbrev pub and_then : Script → ℕ → (ℕ → Answer Byte → Script) → Script
 and_then (finish a) k f = f k a
 and_then (command code clock bytes g) k f = command code clock bytes (λ r. and_then (g r) (suc k) f)
 and_then (reset s) k f = reset (and_then s (suc k) f)
-and_then (fieldPause s) k f = fieldPause (and_then s k f)
+and_then (field_pause s) k f = field_pause (and_then s k f)
 
 -- of the response to command k: the byte at position p, n bytes from there on, all from there on
 abbrev pub byte_at : ℕ → List ℕ → ℕ → Byte

@@ -5,62 +5,62 @@ use Rattle.errors.specs.declared.Refusal.TheVariants.{OutOfTurn, ShortBuffer, Ov
 use Rattle.errors.specs.declared.Fault.TheVariants.{Transport}
 use Rattle.framing.specs.Frames.{ack}
 use Rattle.framing.specs.Padded.{unpadded}
-use Rattle.exchange.specs.Packets.{commandFrame, isAck, Reply}
+use Rattle.exchange.specs.Packets.{command_frame, is_ack, Reply}
 use Rattle.exchange.specs.Exchange.{Order, write, read, drain, pause, Event, ok, bad, pkt, time, fail, late, slept}
-use Rattle.exchange.specs.Exchange.{Result, unfit, pending, ended, onWrite, onRead, onPause, ExchangePhase, sending, advance, ExchangeResult}
-use Rattle.protocol.specs.Scripts.{Byte, Answer, done, type1, uidAndAts, nothing, refused, Script, finish, command, reset, fieldPause, refusedAfter}
-use Rattle.protocol.specs.Calls.{Call, opening, reader, isOpening, isPaddedMode, resetModeCode, resetModeData}
+use Rattle.exchange.specs.Exchange.{Result, unfit, pending, ended, on_write, on_read, on_pause, ExchangePhase, sending, advance, ExchangeResult}
+use Rattle.protocol.specs.Scripts.{Byte, Answer, done, type1, uid_and_ats, nothing, refused, Script, finish, command, reset, field_pause, refused_after}
+use Rattle.protocol.specs.Calls.{Call, opening, reader, is_opening, is_padded_mode, reset_mode_code, reset_mode_data}
 use Rattle.protocol.specs.Starts.{Start, refuses, starts, start_of}
-use Rattle.protocol.specs.Names.{fieldPauseTime, openingReadTime, resetPauseTime, commandClock}
+use Rattle.protocol.specs.Names.{field_pause_time, opening_read_time, reset_pause_time, command_clock}
 
 -- ---- a running call
 
 -- what follows a command's exchange: the script by the reply, or, behind a reset's, its ACK and the script whatever the reply
 pub data Rest : Type 0 where
-  byReply : (Reply → Script) → Rest
-  ofReset : Script → Rest
+  by_reply : (Reply → Script) → Rest
+  of_reset : Script → Rest
 
 pub data Phase : Type 0 where
   exchange : ExchangePhase → Rest → Phase
-  resetAck : Script → Phase  -- `reset_mode`: ACK is being written
-  resetPause : Script → Phase  -- its 10 ms
-  fieldPausing : Script → Phase  -- the field pause
-  openingAck : Script → Phase  -- `Chipset::new`: ACK is being written
-  openingReads : Script → Phase  -- its reads
+  reset_ack : Script → Phase  -- `reset_mode`: ACK is being written
+  reset_pause : Script → Phase  -- its 10 ms
+  field_pausing : Script → Phase  -- the field pause
+  opening_ack : Script → Phase  -- `Chipset::new`: ACK is being written
+  opening_reads : Script → Phase  -- its reads
 
 abbrev pub CallResult : Type 0
 CallResult = Result Phase (Answer Byte)
 
 -- what a script does first
-abbrev pub startScript : Script → CallResult
-startScript (finish a) = ended a
-startScript (command code clock bytes k) = pending (write (commandFrame code bytes)) (exchange (sending code clock) (byReply k))
-startScript (reset s) = pending (write (commandFrame resetModeCode resetModeData)) (exchange (sending resetModeCode commandClock) (ofReset s))
-startScript (fieldPause s) = pending (pause fieldPauseTime) (fieldPausing s)
+abbrev pub start_script : Script → CallResult
+start_script (finish a) = ended a
+start_script (command code clock bytes k) = pending (write (command_frame code bytes)) (exchange (sending code clock) (by_reply k))
+start_script (reset s) = pending (write (command_frame reset_mode_code reset_mode_data)) (exchange (sending reset_mode_code command_clock) (of_reset s))
+start_script (field_pause s) = pending (pause field_pause_time) (field_pausing s)
 
 -- what a reply leads to
-abbrev pub afterReply : Rest → Reply → CallResult
-afterReply (byReply k) r = startScript (k r)
-afterReply (ofReset s) r = pending (write ack) (resetAck s)
+abbrev pub after_reply : Rest → Reply → CallResult
+after_reply (by_reply k) r = start_script (k r)
+after_reply (of_reset s) r = pending (write ack) (reset_ack s)
 
-abbrev pub afterExchange : Rest → ExchangeResult → CallResult
-afterExchange rest unfit = unfit
-afterExchange rest (pending x step) = pending x (exchange step rest)
-afterExchange rest (ended r) = afterReply rest r
+abbrev pub after_exchange : Rest → ExchangeResult → CallResult
+after_exchange rest unfit = unfit
+after_exchange rest (pending x step) = pending x (exchange step rest)
+after_exchange rest (ended r) = after_reply rest r
 
 -- what an event does to a running call
 abbrev pub progress : Phase → Event → CallResult
-progress (exchange step rest) e = afterExchange rest (advance step e)
-progress (resetAck s) e = onWrite unfit (pending (pause resetPauseTime) (resetPause s)) (ended (refused Transport)) e
-progress (resetPause s) e = onPause unfit (startScript s) e
-progress (fieldPausing s) e = onPause unfit (startScript s) e
-progress (openingAck s) e = onWrite unfit (pending (read openingReadTime) (openingReads s)) (ended (refused Transport)) e
-progress (openingReads s) e = onRead unfit (λ _. pending (read openingReadTime) (openingReads s)) (startScript s) (startScript s) unfit e
+progress (exchange step rest) e = after_exchange rest (advance step e)
+progress (reset_ack s) e = on_write unfit (pending (pause reset_pause_time) (reset_pause s)) (ended (refused Transport)) e
+progress (reset_pause s) e = on_pause unfit (start_script s) e
+progress (field_pausing s) e = on_pause unfit (start_script s) e
+progress (opening_ack s) e = on_write unfit (pending (read opening_read_time) (opening_reads s)) (ended (refused Transport)) e
+progress (opening_reads s) e = on_read unfit (λ _. pending (read opening_read_time) (opening_reads s)) (start_script s) (start_script s) unfit e
 
 -- a call begins, an opening by `Chipset::new`
 abbrev pub begin : Bool → Script → CallResult
-begin true s = pending (write ack) (openingAck s)
-begin false s = startScript s
+begin true s = pending (write ack) (opening_ack s)
+begin false s = start_script s
 
 -- no call, or one in its phase
 pub data Running : Type 0 where
@@ -78,62 +78,62 @@ pub record Books : Type 0 where
   pub counts : List ℕ
 
 -- callers are 0 to 7
-abbrev pub lastCaller : ℕ
-lastCaller = 7
+abbrev pub last_caller : ℕ
+last_caller = 7
 
-abbrev pub callerCount : ℕ
-callerCount = 8
+abbrev pub caller_count : ℕ
+caller_count = 8
 
-abbrev pub noCounts : List ℕ
-noCounts = 0 ∷ 0 ∷ 0 ∷ 0 ∷ 0 ∷ 0 ∷ 0 ∷ 0 ∷ []
+abbrev pub no_counts : List ℕ
+no_counts = 0 ∷ 0 ∷ 0 ∷ 0 ∷ 0 ∷ 0 ∷ 0 ∷ 0 ∷ []
 
 -- where an opening begins; those of a fresh session have the mode off
-abbrev pub noBooks : Bool → ℕ → Books
-noBooks padded caller = record { opened = false; padded = padded; caller = caller; counts = noCounts }
+abbrev pub no_books : Bool → ℕ → Books
+no_books padded caller = record { opened = false; padded = padded; caller = caller; counts = no_counts }
 
 -- a call is admitted in an open reader, an opening in any
 abbrev pub admits : Books → Call → Bool
-admits b c = b.opened || isOpening c
+admits b c = b.opened || is_opening c
 
 -- what the doings of a caller's call are booked on: an opening begins the books anew, in its mode
-abbrev pub booksFor : ℕ → Call → Books → Books
-booksFor caller (opening mode) b = noBooks (isPaddedMode mode) caller
-booksFor caller (reader c) b = record { opened = b.opened; padded = b.padded; caller = caller; counts = b.counts }
+abbrev pub books_for : ℕ → Call → Books → Books
+books_for caller (opening mode) b = no_books (is_padded_mode mode) caller
+books_for caller (reader c) b = record { opened = b.opened; padded = b.padded; caller = caller; counts = b.counts }
 
 abbrev pub ceiling : ℕ
 ceiling = 4294967295
 
 -- a write order counts unless it is the bare ACK
-abbrev pub addFrame : Bool → ℕ → ℕ
-addFrame true n = n
-addFrame false n = min (suc n) ceiling
+abbrev pub add_frame : Bool → ℕ → ℕ
+add_frame true n = n
+add_frame false n = min (suc n) ceiling
 
 abbrev pub counted : Order → ℕ → ℕ
-counted (write bytes) n = addFrame (isAck bytes) n
+counted (write bytes) n = add_frame (is_ack bytes) n
 counted (read ms) n = n
 counted drain n = n
 counted (pause us) n = n
 
 -- it counts for its caller
-abbrev pub countedFor : ℕ → Order → List ℕ → List ℕ
-countedFor caller x [] = []
-countedFor zero x (n ∷ ns) = counted x n ∷ ns
-countedFor (suc k) x (n ∷ ns) = n ∷ countedFor k x ns
+abbrev pub counted_for : ℕ → Order → List ℕ → List ℕ
+counted_for caller x [] = []
+counted_for zero x (n ∷ ns) = counted x n ∷ ns
+counted_for (suc k) x (n ∷ ns) = n ∷ counted_for k x ns
 
-abbrev pub bookOrder : Order → Books → Books
-bookOrder x b = record { opened = b.opened; padded = b.padded; caller = b.caller; counts = countedFor b.caller x b.counts }
+abbrev pub book_order : Order → Books → Books
+book_order x b = record { opened = b.opened; padded = b.padded; caller = b.caller; counts = counted_for b.caller x b.counts }
 
 -- an opening that succeeds leaves the reader open, one that fails unopened; any other call leaves it as it was
 abbrev pub succeeds : Answer Byte → Bool
 succeeds (done bytes) = true
 succeeds (type1 bytes) = true
-succeeds (uidAndAts bytes uid ats) = true
+succeeds (uid_and_ats bytes uid ats) = true
 succeeds nothing = false
 succeeds (refused r) = false
-succeeds (refusedAfter r n) = false
+succeeds (refused_after r n) = false
 
-abbrev pub bookAnswer : Call → Answer Byte → Books → Books
-bookAnswer c a b = record { opened = cond (isOpening c) (succeeds a) b.opened; padded = b.padded; caller = b.caller; counts = b.counts }
+abbrev pub book_answer : Call → Answer Byte → Books → Books
+book_answer c a b = record { opened = cond (is_opening c) (succeeds a) b.opened; padded = b.padded; caller = b.caller; counts = b.counts }
 
 -- ---- the session
 
@@ -142,27 +142,27 @@ pub record Session : Type 0 where
   pub books : Books
 
 abbrev pub fresh : Session
-fresh = record { running = idle; books = noBooks false 0 }
+fresh = record { running = idle; books = no_books false 0 }
 
 -- ---- packets
 
 -- a packet, at most
-abbrev pub packetLimit : ℕ
-packetLimit = 1024
+abbrev pub packet_limit : ℕ
+packet_limit = 1024
 
--- an event as the mode sees it: in the padded one a packet, if it is not over-long, is seen without its extra zeros
-abbrev pub withoutZeros : Event → Event
-withoutZeros ok = ok
-withoutZeros bad = bad
-withoutZeros (pkt packet) = pkt (cond (ltb packetLimit (length packet)) packet (unpadded packet))
-withoutZeros time = time
-withoutZeros fail = fail
-withoutZeros late = late
-withoutZeros slept = slept
+-- an event as the mode sees it: in the padded one a packet, if it is not over_long_lem, is seen without its extra zeros
+abbrev pub without_zeros : Event → Event
+without_zeros ok = ok
+without_zeros bad = bad
+without_zeros (pkt packet) = pkt (cond (ltb packet_limit (length packet)) packet (unpadded packet))
+without_zeros time = time
+without_zeros fail = fail
+without_zeros late = late
+without_zeros slept = slept
 
 abbrev pub seen : Bool → Event → Event
 seen false e = e
-seen true e = withoutZeros e
+seen true e = without_zeros e
 
 -- ---- the list
 
@@ -171,9 +171,9 @@ pub data Entry : Type 0 where
   call : ℕ → Call → ℕ → Entry
   event : Event → ℕ → Entry
 
-abbrev pub seenEntry : Bool → Entry → Entry
-seenEntry padded (call caller c room) = call caller c room
-seenEntry padded (event e room) = event (seen padded e) room
+abbrev pub seen_entry : Bool → Entry → Entry
+seen_entry padded (call caller c room) = call caller c room
+seen_entry padded (event e room) = event (seen padded e) room
 
 -- what is given out, as the bench program prints it; `rejects` is a refusal at once, a later one is an answer
 pub data Output (B : Type 0) : Type 0 where
@@ -193,63 +193,63 @@ effect c (pending x phase) = runs c x phase
 effect c (ended a) = ends c a
 
 -- the engine's buffer, at least
-abbrev pub bufferNeed : ℕ
-bufferNeed = 1024
+abbrev pub buffer_need : ℕ
+buffer_need = 1024
 
-abbrev pub withRoom : ℕ → Effect → Effect
-withRoom room o = cond (ltb room bufferNeed) (unchanged ShortBuffer) o
+abbrev pub with_room : ℕ → Effect → Effect
+with_room room o = cond (ltb room buffer_need) (unchanged ShortBuffer) o
 
-abbrev pub packetLength : Event → ℕ
-packetLength e = onRead 0 length 0 0 0 e
+abbrev pub packet_length : Event → ℕ
+packet_length e = on_read 0 length 0 0 0 e
 
 -- an event: 1, 2, 3
 abbrev pub admitted : Event → ℕ → Effect → Effect
-admitted e room o = withRoom room (cond (ltb packetLimit (packetLength e)) (unchanged OverLong) o)
+admitted e room o = with_room room (cond (ltb packet_limit (packet_length e)) (unchanged OverLong) o)
 
-abbrev pub eventEffect : Call → Event → ℕ → CallResult → Effect
-eventEffect c e room unfit = unchanged OutOfTurn
-eventEffect c e room (pending x phase) = admitted e room (effect c (pending x phase))
-eventEffect c e room (ended a) = admitted e room (effect c (ended a))
+abbrev pub event_effect : Call → Event → ℕ → CallResult → Effect
+event_effect c e room unfit = unchanged OutOfTurn
+event_effect c e room (pending x phase) = admitted e room (effect c (pending x phase))
+event_effect c e room (ended a) = admitted e room (effect c (ended a))
 
 -- a call: 1, 2, then 4 for a caller that there is not, then its own refusals
 abbrev pub started : Call → Start → Effect
 started c (refuses r) = unchanged r
-started c (starts s) = effect c (begin (isOpening c) s)
+started c (starts s) = effect c (begin (is_opening c) s)
 
-abbrev pub withCaller : ℕ → Effect → Effect
-withCaller caller o = cond (leb caller lastCaller) o (unchanged BadArgument)
+abbrev pub with_caller : ℕ → Effect → Effect
+with_caller caller o = cond (leb caller last_caller) o (unchanged BadArgument)
 
-abbrev pub callEffect : Bool → ℕ → Call → ℕ → Effect
-callEffect isAdmitted caller c room = cond isAdmitted (withRoom room (withCaller caller (started c (start_of c)))) (unchanged OutOfTurn)
+abbrev pub call_effect : Bool → ℕ → Call → ℕ → Effect
+call_effect is_admitted caller c room = cond is_admitted (with_room room (with_caller caller (started c (start_of c)))) (unchanged OutOfTurn)
 
 abbrev pub effect_of : Running → Books → Entry → Effect
-effect_of idle b (call caller c room) = callEffect (admits b c) caller c room
+effect_of idle b (call caller c room) = call_effect (admits b c) caller c room
 effect_of idle b (event e room) = unchanged OutOfTurn
 effect_of (busy c phase) b (call caller d room) = unchanged OutOfTurn
-effect_of (busy c phase) b (event e room) = eventEffect c (seen b.padded e) room (progress phase (seen b.padded e))
+effect_of (busy c phase) b (event e room) = event_effect c (seen b.padded e) room (progress phase (seen b.padded e))
 
 -- the running call after it, and the books
-abbrev pub runningAfter : Running → Effect → Running
-runningAfter p (unchanged r) = p
-runningAfter p (runs c x phase) = busy c phase
-runningAfter p (ends c a) = idle
+abbrev pub running_after : Running → Effect → Running
+running_after p (unchanged r) = p
+running_after p (runs c x phase) = busy c phase
+running_after p (ends c a) = idle
 
-abbrev pub booksBy : Entry → Books → Books
-booksBy (call caller c room) b = booksFor caller c b
-booksBy (event e room) b = b
+abbrev pub books_by : Entry → Books → Books
+books_by (call caller c room) b = books_for caller c b
+books_by (event e room) b = b
 
-abbrev pub bookEffect : Effect → Books → Books
-bookEffect (unchanged r) b = b
-bookEffect (runs c x phase) b = bookOrder x b
-bookEffect (ends c a) b = bookAnswer c a b
+abbrev pub book_effect : Effect → Books → Books
+book_effect (unchanged r) b = b
+book_effect (runs c x phase) b = book_order x b
+book_effect (ends c a) b = book_answer c a b
 
-abbrev pub booksAfter : Books → Entry → Effect → Books
-booksAfter b e (unchanged r) = b
-booksAfter b e (runs c x phase) = bookEffect (runs c x phase) (booksBy e b)
-booksAfter b e (ends c a) = bookEffect (ends c a) (booksBy e b)
+abbrev pub books_after : Books → Entry → Effect → Books
+books_after b e (unchanged r) = b
+books_after b e (runs c x phase) = book_effect (runs c x phase) (books_by e b)
+books_after b e (ends c a) = book_effect (ends c a) (books_by e b)
 
-abbrev pub afterEffect : Session → Entry → Effect → Session
-afterEffect s e o = record { running = runningAfter s.running o; books = booksAfter s.books e o }
+abbrev pub after_effect : Session → Entry → Effect → Session
+after_effect s e o = record { running = running_after s.running o; books = books_after s.books e o }
 
 abbrev pub given : Effect → Output Byte
 given (unchanged r) = rejects r
@@ -261,17 +261,17 @@ pub record StepResult (S B : Type 0) : Type 0 where
   pub state : S
   pub output : Output B
 
-abbrev pub stepResult : {S B : Type 0} → S → Output B → StepResult S B
-stepResult s o = record { state = s; output = o }
+abbrev pub step_result : {S B : Type 0} → S → Output B → StepResult S B
+step_result s o = record { state = s; output = o }
 
 abbrev pub step : Session → Entry → StepResult Session Byte
-step s e = stepResult (afterEffect s e (effect_of s.running s.books e)) (given (effect_of s.running s.books e))
+step s e = step_result (after_effect s e (effect_of s.running s.books e)) (given (effect_of s.running s.books e))
 
 -- what a list gives out, and the session after it
 abbrev pub outputs : Session → List Entry → List (Output Byte)
 outputs s [] = []
 outputs s (e ∷ es) = (step s e).output ∷ outputs (step s e).state es
 
-abbrev pub sessionAfter : Session → List Entry → Session
-sessionAfter s [] = s
-sessionAfter s (e ∷ es) = sessionAfter (step s e).state es
+abbrev pub session_after : Session → List Entry → Session
+session_after s [] = s
+session_after s (e ∷ es) = session_after (step s e).state es

@@ -42,12 +42,12 @@ abbrev members : List Member
 members = member (array_field u8-field 512) ∷ member (array_field u8-field 1024) ∷ member (array_field u32-field 8) ∷ member (array_field u8-field 3) ∷ member N.the_field ∷ []
 
 -- the machine value of a state
-abbrev pub mN : Core → Val
-mN s = LL.val N.the_type N'.the_laws s
+abbrev pub m_n : Core → Val
+m_n s = LL.val N.the_type N'.the_laws s
 
 -- a state is a value of its type
 abbrev pub Fits : Core → Type 0
-Fits s = Is N.the_row s (mN s ∷ [])
+Fits s = Is N.the_row s (m_n s ∷ [])
 
 module _ (b o : ℕ) where
   abbrev pub Array₀ : List ℕ → Fml
@@ -63,7 +63,7 @@ module _ (b o : ℕ) where
   Array₃ xs = (mem (Array u8 3)).own_at xs b (o + 1568)
 
   abbrev pub Cell : Core → Fml
-  Cell s = fat full_share N'.mir b (o + 1576) (mN s)
+  Cell s = fat full_share N'.mir b (o + 1576) (m_n s)
 
 module _ {M : Type 1} {𝓤 : Ura M} (𝓛 : Logic 𝓤) (b o : ℕ) where
   abbrev pub Back : SProp 𝓤
@@ -83,7 +83,7 @@ module _ {M : Type 1} {𝓤 : Ura M} (𝓛 : Logic 𝓤) (b o : ℕ) where
       rewrite ! 4 (λ (zs : List ℕ). ‵ (Array₀ b o zs)) (map-id d.command) refl $ rewrite ! 3 (λ (zs : List ℕ). ‵ (Array₁ b o zs)) (map-id d.found) refl $ rewrite ! 2 (λ (zs : List ℕ). ‵ (Array₂ b o zs)) (map-id d.frames) refl $ rewrite ! 1 (λ (zs : List ℕ). ‵ (Array₃ b o zs)) (map-id d.books) refl $
       -- the state's cell
       fpick ! (λ vs. fsplit ! $ spelt ! N.the_row (Is N.the_row) (shows 𝓛 N.the_row) (LL.vals N.the_type N'.the_laws) (LL.tells N.the_type N'.the_laws) full_share d.core vs b (o + 1576) $
-      use1 𝓛 (‵ (Cell b o d.core)) (𝓛.laws.raw_at full_share N'.mir b (o + 1576) (mN d.core)) $ move ! (1 ∷ []) $ peeks ! N.the_row (Is N.the_row) (shows 𝓛 N.the_row) d.core (mN d.core ∷ []) (λ is. drop ! $
+      use1 𝓛 (‵ (Cell b o d.core)) (𝓛.laws.raw_at full_share N'.mir b (o + 1576) (m_n d.core)) $ move ! (1 ∷ []) $ peeks ! N.the_row (Is N.the_row) (shows 𝓛 N.the_row) d.core (m_n d.core ∷ []) (λ is. drop ! $
       move ! (4 ∷ 3 ∷ 2 ∷ 1 ∷ []) $ frame ! $ frame ! $ frame ! $ frame ! $ check ! is $ done !))
 
   pub together : (d : Session) → Fits d.core → ent 𝓤 (sep 𝓤 ⟦ Array₀ b o d.command ⟧ (sep 𝓤 ⟦ Array₁ b o d.found ⟧ (sep 𝓤 ⟦ Array₂ b o d.frames ⟧ (sep 𝓤 ⟦ Array₃ b o d.books ⟧ (sep 𝓤 ⟦ Cell b o d.core ⟧ (Back 𝓛 b o)))))) ⟦ (mem T.the_row).own_at d b o ⟧
@@ -91,8 +91,8 @@ module _ {M : Type 1} {𝓤 : Ura M} (𝓛 : Logic 𝓤) (b o : ℕ) where
   together d is =
       qed 𝓛 (‵ (Array₀ b o d.command) ∷ ‵ (Array₁ b o d.found) ∷ ‵ (Array₂ b o d.frames) ∷ ‵ (Array₃ b o d.books) ∷ ‵ (Cell b o d.core) ∷ raw (Back 𝓛 b o) ∷ []) ∵
       rewrite ! 0 (λ (zs : List ℕ). ‵ (Array₀ b o zs)) (sym (map-id d.command)) refl $ rewrite ! 1 (λ (zs : List ℕ). ‵ (Array₁ b o zs)) (sym (map-id d.found)) refl $ rewrite ! 2 (λ (zs : List ℕ). ‵ (Array₂ b o zs)) (sym (map-id d.frames)) refl $ rewrite ! 3 (λ (zs : List ℕ). ‵ (Array₃ b o zs)) (sym (map-id d.books)) refl $
-      owned ! N.the_row (Is N.the_row) (LL.makes N.the_type N'.the_plain 𝓛) d.core (mN d.core ∷ []) is $ move ! (5 ∷ 0 ∷ []) $ use1 𝓛 (‵ (cell_at full_share (N.the_row).mir (mN d.core ∷ []) b (o + 1576))) (𝓛.laws.at_raw full_share N'.mir b (o + 1576) (mN d.core)) $ fjoin ! $
-      fpack ! (List Val) (λ us. fsep (cell_at full_share (N.the_row).mir us b (o + 1576)) ((N.the_row).own_val d.core us)) (mN d.core ∷ []) $ nothing ! $ move ! (1 ∷ 0 ∷ []) $ fjoin ! $ move ! (4 ∷ 0 ∷ []) $ fjoin ! $ move ! (3 ∷ 0 ∷ []) $ fjoin ! $ move ! (2 ∷ 0 ∷ []) $ fjoin ! $ move ! (1 ∷ 0 ∷ []) $ fjoin ! $
+      owned ! N.the_row (Is N.the_row) (LL.makes N.the_type N'.the_plain 𝓛) d.core (m_n d.core ∷ []) is $ move ! (5 ∷ 0 ∷ []) $ use1 𝓛 (‵ (cell_at full_share (N.the_row).mir (m_n d.core ∷ []) b (o + 1576))) (𝓛.laws.at_raw full_share N'.mir b (o + 1576) (m_n d.core)) $ fjoin ! $
+      fpack ! (List Val) (λ us. fsep (cell_at full_share (N.the_row).mir us b (o + 1576)) ((N.the_row).own_val d.core us)) (m_n d.core ∷ []) $ nothing ! $ move ! (1 ∷ 0 ∷ []) $ fjoin ! $ move ! (4 ∷ 0 ∷ []) $ fjoin ! $ move ! (3 ∷ 0 ∷ []) $ fjoin ! $ move ! (2 ∷ 0 ∷ []) $ fjoin ! $ move ! (1 ∷ 0 ∷ []) $ fjoin ! $
       move ! (1 ∷ []) $ use1 𝓛 (raw (wand 𝓤 ⟦ parts_at full_share members 0 ((T.the_type).to d) b o ⟧ ⟦ (mem T.the_row).own_at d b o ⟧))
       (all_e 𝓤 (λ (a : Denots (rows_of members)). wand 𝓤 ⟦ parts_at full_share members 0 a b o ⟧ ⟦ part_at (Struct (shape T.the_type)) full_share a b o ⟧) ((T.the_type).to d)) $ move ! (1 ∷ 0 ∷ []) $
       use2 𝓛 (‵ ((mem T.the_row).own_at d b o)) (apply∗ 𝓤 ⟦ parts_at full_share members 0 ((T.the_type).to d) b o ⟧ ⟦ (mem T.the_row).own_at d b o ⟧) $ done !

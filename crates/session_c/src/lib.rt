@@ -1,10 +1,12 @@
 // The C interface of the session, as include/rcs956.h describes it: the session is updated in place.
+#![tactic(auto)]
+
 pub mod outcome;
 
 ghost use Rattle.core.specs.Prelude.{◌≡◌};
-ghost use Rattle.engine.specs.SessionSteps.{freshSession};
+ghost use Rattle.engine.specs.SessionSteps.{fresh_session};
 ghost use Rattle.session_c.specs.Outcomes.{report};
-ghost use Rattle.session_c.specs.Entries.{hostCall, hostEvent, reportFor};
+ghost use Rattle.session_c.specs.Entries.{host_call, host_event, report_for};
 
 use calls::start::Numbers;
 use engine::session::Session;
@@ -14,7 +16,7 @@ use outcome::Outcome;
 // A session in which no call runs, and with no opening behind it.
 #[unsafe(no_mangle)]
 pub extern "C" fn rcs956_fresh() -> Session
-    ensures { result ≡ freshSession }
+    ensures { result ≡ fresh_session }
 {
     Session::fresh()
 }
@@ -31,7 +33,7 @@ pub extern "C" fn rcs956_call(
     fourth: &[u8],
     buffer: &mut [u8],
 ) -> Outcome
-    ensures { report session.new result buffer.new ≡ reportFor session.old (hostCall number numbers first.now second.now third.now fourth.now buffer.old) }
+    ensures { report session.new result buffer.new ≡ report_for session.old (host_call number numbers first.now second.now third.now fourth.now buffer.old) }
 {
     let core = session.core;
     let progress = state::call(
@@ -60,7 +62,7 @@ pub extern "C" fn rcs956_event(
     packet: &[u8],
     buffer: &mut [u8],
 ) -> Outcome
-    ensures { report session.new result buffer.new ≡ reportFor session.old (hostEvent number packet.now buffer.old) }
+    ensures { report session.new result buffer.new ≡ report_for session.old (host_event number packet.now buffer.old) }
 {
     let core = session.core;
     let progress = by_number::event(

@@ -1,6 +1,6 @@
 // What the host is given, in numbers.
 ghost use Rattle.core.specs.Prelude.{◌≡◌};
-ghost use Rattle.session_c.specs.Outcomes.{bytesOutcome, timeOutcome, lengthsOutcome, refusalOutcome, outcomeOf};
+ghost use Rattle.session_c.specs.Outcomes.{bytes_outcome, time_outcome, lengths_outcome, refusal_outcome, outcome_of};
 
 use engine::core::Output;
 use errors::{Fault, Numbered};
@@ -55,7 +55,7 @@ struct Failure {
 
 impl Outcome {
     fn bytes(kind: u8, len: usize) -> Outcome
-        ensures { result ≡ bytesOutcome kind len }
+        ensures { result ≡ bytes_outcome kind len }
     {
         Outcome {
             kind,
@@ -71,7 +71,7 @@ impl Outcome {
     }
 
     fn uid_and_ats(len: usize, uid: u8, ats: u8) -> Outcome
-        ensures { result ≡ lengthsOutcome len uid ats }
+        ensures { result ≡ lengths_outcome len uid ats }
     {
         Outcome {
             kind: UID_AND_ATS_OUTCOME,
@@ -87,7 +87,7 @@ impl Outcome {
     }
 
     fn timed(kind: u8, time: u32) -> Outcome
-        ensures { result ≡ timeOutcome kind time }
+        ensures { result ≡ time_outcome kind time }
     {
         Outcome {
             kind,
@@ -103,7 +103,7 @@ impl Outcome {
     }
 
     fn refused(kind: u8, numbered: Numbered, finished: u8) -> Outcome
-        ensures { result ≡ refusalOutcome kind numbered finished }
+        ensures { result ≡ refusal_outcome kind numbered finished }
     {
         Outcome {
             kind,
@@ -119,7 +119,7 @@ impl Outcome {
     }
 
     pub fn of(output: Output) -> Outcome
-        ensures { result ≡ outcomeOf output }
+        ensures { result ≡ outcome_of output }
     {
         let failure = match output {
             Output::Ack => return Outcome::bytes(WRITE_OUTCOME, ACK_SIZE),

@@ -1,4 +1,6 @@
 // Sessions with any fields, each handed a call or an event with a buffer of some length: what comes of it, counted.
+#![tactic(auto)]
+
 mod check;
 mod draw;
 mod made;

@@ -1,5 +1,7 @@
 // The scripts of `slowest` played by `session` from fresh. A line in, as `slowest` reads it; out come the line, the number of its script's
 // lines, and each answer that is no order behind the number of its line.
+#![tactic(auto)]
+
 ghost use Rattle.std.specs.Prelude.{◌≡◌, ◌+◌, min};
 
 use bench::lines::{Line, Unread};

@@ -1,5 +1,7 @@
 // Prints every frame of a payload of at most 2 bytes, under the six settings in turn, in hex, one a line (document 02, N12). With an
 // argument it prints a summary of these lines in their place.
+#![tactic(auto)]
+
 mod summary;
 
 use acceptance::{Entry, Reached, lines};

@@ -23,13 +23,13 @@ more n i h = omega arith
 
 -- ---- a loop that tests them, i being the next
 module _ (p : ℕ → Bool) (n i : ℕ) (r : Bool) (so_far : r ≡ all_from p (n - i) i) where
-  pub all-turn : i < n → p i ≡ true → r ≡ all_from p (n - (i + 1)) (i + 1)
+  pub all_turn : i < n → p i ≡ true → r ≡ all_from p (n - (i + 1)) (i + 1)
   unfolding all_from pick
-  all-turn h k = so_far ∙ ap (λ (m : ℕ). all_from p m i) (more n i h) ∙ rw (k, add-one i)
+  all_turn h k = so_far ∙ ap (λ (m : ℕ). all_from p m i) (more n i h) ∙ rw (k, add-one i)
 
-  pub all-not : i < n → p i ≡ false → false ≡ r
+  pub all_not : i < n → p i ≡ false → false ≡ r
   unfolding all_from pick
-  all-not h k = sym (so_far ∙ ap (λ (m : ℕ). all_from p m i) (more n i h) ∙ rw k)
+  all_not h k = sym (so_far ∙ ap (λ (m : ℕ). all_from p m i) (more n i h) ∙ rw k)
 
   pub all_end : n ≤ i → true ≡ r
   unfolding all_from

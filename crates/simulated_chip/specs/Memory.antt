@@ -15,78 +15,78 @@ use Rattle.simulated_chip.specs.declared.chip.State.{State}
 use Rattle.simulated_chip.specs.declared.chip.Chip.{Chip}
 
 -- the bytes of a card, of a text of bytes sent and of a reply's; the replies of a card, and of all
-abbrev pub cardSize : ℕ
-cardSize = 1015
+abbrev pub card_size : ℕ
+card_size = 1015
 
-abbrev pub sentSize : ℕ
-sentSize = 514
+abbrev pub sent_size : ℕ
+sent_size = 514
 
-abbrev pub replySize : ℕ
-replySize = 1013
+abbrev pub reply_size : ℕ
+reply_size = 1013
 
-abbrev pub cardReplies : ℕ
-cardReplies = 9
+abbrev pub card_replies : ℕ
+card_replies = 9
 
 abbrev pub places : ℕ
 places = 36
 
 -- where a card has its BrTy, the number of its replies and its list data
-abbrev pub brTyPlace : ℕ
-brTyPlace = 1
+abbrev pub br_ty_place : ℕ
+br_ty_place = 1
 
-abbrev pub replyCountPlace : ℕ
-replyCountPlace = 2
+abbrev pub reply_count_place : ℕ
+reply_count_place = 2
 
-abbrev pub listDataPlace : ℕ
-listDataPlace = 3
+abbrev pub list_data_place : ℕ
+list_data_place = 3
 
 -- ---- texts
 
-abbrev pub textLength : ℕ → List ℕ → ℕ
-textLength at b = get_or b at 0 + 256 * get_or b (at + 1) 0
+abbrev pub text_length : ℕ → List ℕ → ℕ
+text_length at b = get_or b at 0 + 256 * get_or b (at + 1) 0
 
-unfoldable pub textAt : ℕ → List ℕ → List ℕ
-textAt at b = take (textLength at b) (drop (at + 2) b)
+unfoldable pub text_at_of : ℕ → List ℕ → List ℕ
+text_at_of at b = take (text_length at b) (drop (at + 2) b)
 
-abbrev pub textBytes : List ℕ → List ℕ
-textBytes t = length t % 256 ∷ length t / 256 ∷ t
+abbrev pub text_bytes : List ℕ → List ℕ
+text_bytes t = length t % 256 ∷ length t / 256 ∷ t
 
-unfoldable pub putText : ℕ → List ℕ → List ℕ → List ℕ
-putText at t b = take at b ++ (textBytes t ++ drop (at + length (textBytes t)) b)
+unfoldable pub put_text : ℕ → List ℕ → List ℕ → List ℕ
+put_text at t b = take at b ++ (text_bytes t ++ drop (at + length (text_bytes t)) b)
 
 -- ---- cards
 
 unfoldable pub kind_at : ℕ → Kind
 kind_at n = pick (eqb n 0) TypeA (pick (eqb n 1) TypeB (pick (eqb n 2) TypeF Dep))
 
-unfoldable pub bitrateAt : ℕ → Bitrate
-bitrateAt n = pick (eqb n 0) B106A (pick (eqb n 1) B212F (pick (eqb n 2) B424F B106B))
+unfoldable pub bitrate_at : ℕ → Bitrate
+bitrate_at n = pick (eqb n 0) B106A (pick (eqb n 1) B212F (pick (eqb n 2) B424F B106B))
 
-abbrev pub replyAt : ℕ → List ℕ → List ℕ
-replyAt j replies = textAt (replySize * j) replies
+abbrev pub reply_at : ℕ → List ℕ → List ℕ
+reply_at j replies = text_at_of (reply_size * j) replies
 
-abbrev pub statedAt : ℕ → List ℕ → List ℕ → StatedReply
-statedAt j sent replies = record { sent = textAt (sentSize * j) sent; reply = replyAt j replies }
+abbrev pub stated_at : ℕ → List ℕ → List ℕ → StatedReply
+stated_at j sent replies = record { sent = text_at_of (sent_size * j) sent; reply = reply_at j replies }
 
 -- n replies from the place j on
-abbrev pub statedFrom : ℕ → ℕ → List ℕ → List ℕ → List StatedReply
-statedFrom n j sent replies = list_from (λ (k : ℕ). statedAt k sent replies) n j
+abbrev pub stated_from : ℕ → ℕ → List ℕ → List ℕ → List StatedReply
+stated_from n j sent replies = list_from (λ (k : ℕ). stated_at k sent replies) n j
 
-abbrev pub storedCard : ℕ → List ℕ → List ℕ → List ℕ → Card
-storedCard i cards sent replies =
+abbrev pub stored_card : ℕ → List ℕ → List ℕ → List ℕ → Card
+stored_card i cards sent replies =
     record {
-      kind = kind_at (get_or cards (cardSize * i) 0);
-      bitrate = bitrateAt (get_or cards (cardSize * i + brTyPlace) 0);
-      listData = textAt (cardSize * i + listDataPlace) cards;
-      replies = statedFrom (get_or cards (cardSize * i + replyCountPlace) 0) (cardReplies * i) sent replies;
+      kind = kind_at (get_or cards (card_size * i) 0);
+      bitrate = bitrate_at (get_or cards (card_size * i + br_ty_place) 0);
+      list_data = text_at_of (card_size * i + list_data_place) cards;
+      replies = stated_from (get_or cards (card_size * i + reply_count_place) 0) (card_replies * i) sent replies;
     }
 
-abbrev pub cardsIn : ℕ → List ℕ → List ℕ → List ℕ → List Card
-cardsIn n cards sent replies = list_from (λ (i : ℕ). storedCard i cards sent replies) n 0
+abbrev pub cards_in : ℕ → List ℕ → List ℕ → List ℕ → List Card
+cards_in n cards sent replies = list_from (λ (i : ℕ). stored_card i cards sent replies) n 0
 
 -- of the kind with this number, at the bitrate that has this code
-unfoldable pub isStoredAt : ℕ → ℕ → ℕ → List ℕ → Bool
-isStoredAt kind code at cards = pick (eqb (get_or cards at 0) kind) (eqb (get_or cards (at + brTyPlace) 0) code) false
+unfoldable pub is_stored_at : ℕ → ℕ → ℕ → List ℕ → Bool
+is_stored_at kind code at cards = pick (eqb (get_or cards at 0) kind) (eqb (get_or cards (at + br_ty_place) 0) code) false
 
 -- ---- places: the number behind one, 0 for none
 
@@ -94,14 +94,14 @@ abbrev pub place_in : ℕ → Option ℕ
 place_in zero = none
 place_in (suc n) = some n
 
-abbrev pub placeNumber : Option ℕ → ℕ
-placeNumber none = zero
-placeNumber (some n) = suc n
+abbrev pub place_number : Option ℕ → ℕ
+place_number none = zero
+place_number (some n) = suc n
 
 -- the reply at such a place
-abbrev pub replyIn : ℕ → List ℕ → Option (List ℕ)
-replyIn zero replies = none
-replyIn (suc j) replies = some (replyAt j replies)
+abbrev pub reply_in : ℕ → List ℕ → Option (List ℕ)
+reply_in zero replies = none
+reply_in (suc j) replies = some (reply_at j replies)
 
 -- ---- the chip
 
@@ -109,15 +109,15 @@ abbrev pub bit : Bool → ℕ
 bit true = 1
 bit false = 0
 
-abbrev pub stateIn : State → List ℕ → List ℕ → List ℕ → ChipState
-stateIn s cards sent replies = record { field = cardsIn s.count cards sent replies; found = place_in s.found; isRfFieldOn = eqb s.on 1 }
+abbrev pub state_in : State → List ℕ → List ℕ → List ℕ → ChipState
+state_in s cards sent replies = record { field = cards_in s.count cards sent replies; found = place_in s.found; is_rf_field_on = eqb s.on 1 }
 
 -- the numbers of a state with so many cards
-abbrev pub numbersOf : ℕ → ChipState → State
-numbersOf count s = record { count = count; found = placeNumber s.found; on = bit s.isRfFieldOn }
+abbrev pub numbers_of : ℕ → ChipState → State
+numbers_of count s = record { count = count; found = place_number s.found; on = bit s.is_rf_field_on }
 
-abbrev pub chipState : Chip → ChipState
-chipState c = stateIn c.state c.cards c.sent c.replies
+abbrev pub chip_state : Chip → ChipState
+chip_state c = state_in c.state c.cards c.sent c.replies
 
-abbrev pub freshNumbers : State
-freshNumbers = record { count = 0; found = 0; on = 0 }
+abbrev pub fresh_numbers : State
+fresh_numbers = record { count = 0; found = 0; on = 0 }

@@ -4,10 +4,10 @@ use Rattle.errors.specs.Choice.{pick}
 use Rattle.errors.specs.declared.Refusal.TheVariants.{OutOfTurn, ShortBuffer}
 use Rattle.framing.specs.declared.Built.{Built}
 use Rattle.framing.specs.declared.Built.TheVariants.{Frame, Refused as NotBuilt}
-use Rattle.chip_protocol.specs.Names.{longestPacket, mostCards}
-use Rattle.chip_protocol.specs.Packets.{Received, received, noCommand, receivedIn, responsePacket}
-use Rattle.chip_protocol.specs.Chip.{responseTo, stateAfter}
-use Rattle.simulated_chip.specs.Memory.{cardSize, sentSize, replySize, places, stateIn, numbersOf, freshNumbers}
+use Rattle.chip_protocol.specs.Names.{longest_packet, most_cards}
+use Rattle.chip_protocol.specs.Packets.{Received, received, no_command, received_in, response_packet}
+use Rattle.chip_protocol.specs.Chip.{response_to, state_after}
+use Rattle.simulated_chip.specs.Memory.{card_size, sent_size, reply_size, places, state_in, numbers_of, fresh_numbers}
 use Rattle.simulated_chip.specs.Range.{in_range}
 use Rattle.simulated_chip.specs.declared.chip.State.{State}
 use Rattle.simulated_chip.specs.declared.chip.Chip.{Chip}
@@ -17,9 +17,9 @@ use Rattle.simulated_chip.specs.declared.chip.Answer.TheVariants.{Nothing, Packe
 
 -- ---- a packet at the buffer's start
 
-abbrev pub builtLength : Built → ℕ
-builtLength (Frame n) = n
-builtLength (NotBuilt e) = 0
+abbrev pub built_length : Built → ℕ
+built_length (Frame n) = n
+built_length (NotBuilt e) = 0
 
 abbrev pub at_start : List ℕ → List ℕ → List ℕ
 at_start packet b = packet ++ drop (length packet) b
@@ -36,44 +36,44 @@ pub record AfterStep : Type 0 where
   pub answer : Answer
   pub buffer : List ℕ
 
-abbrev pub afterStep : State → Answer → List ℕ → AfterStep
-afterStep s a b = record { state = s; answer = a; buffer = b }
+abbrev pub after_step : State → Answer → List ℕ → AfterStep
+after_step s a b = record { state = s; answer = a; buffer = b }
 
 module _ (s : State) (cards sent replies : List ℕ) where
-  unfoldable pub commandStep : ℕ → List ℕ → List ℕ → AfterStep
-  commandStep code bytes b =
-      afterStep (numbersOf s.count (stateAfter (stateIn s cards sent replies) code bytes))
-      (Packets (length (responsePacket code (responseTo (stateIn s cards sent replies) code bytes))))
-      (at_start (responsePacket code (responseTo (stateIn s cards sent replies) code bytes)) b)
+  unfoldable pub command_step : ℕ → List ℕ → List ℕ → AfterStep
+  command_step code bytes b =
+      after_step (numbers_of s.count (state_after (state_in s cards sent replies) code bytes))
+      (Packets (length (response_packet code (response_to (state_in s cards sent replies) code bytes))))
+      (at_start (response_packet code (response_to (state_in s cards sent replies) code bytes)) b)
 
-  abbrev pub receivedStep : Received → List ℕ → AfterStep
-  receivedStep (received code bytes) b = commandStep code bytes b
-  receivedStep noCommand b = afterStep s Nothing b
+  abbrev pub received_step : Received → List ℕ → AfterStep
+  received_step (received code bytes) b = command_step code bytes b
+  received_step no_command b = after_step s Nothing b
 
   -- a short buffer first, then a chip out of range
-  unfoldable pub stepIn : List ℕ → List ℕ → AfterStep
-  stepIn written b =
-      pick (ltb (length b) longestPacket) (afterStep s (Refused ShortBuffer) b)
-      (pick (in_range s cards sent replies) (receivedStep (receivedIn written) b) (afterStep s (Refused OutOfTurn) b))
+  unfoldable pub step_in : List ℕ → List ℕ → AfterStep
+  step_in written b =
+      pick (ltb (length b) longest_packet) (after_step s (Refused ShortBuffer) b)
+      (pick (in_range s cards sent replies) (received_step (received_in written) b) (after_step s (Refused OutOfTurn) b))
 
 -- ---- the same by value
 
 unfoldable pub zeros : ℕ → List ℕ
 zeros n = replicate n 0
 
-abbrev pub freshChipMemory : Chip
-freshChipMemory = record { cards = zeros (mostCards * cardSize); sent = zeros (places * sentSize); replies = zeros (places * replySize); state = freshNumbers }
+abbrev pub fresh_chip_memory : Chip
+fresh_chip_memory = record { cards = zeros (most_cards * card_size); sent = zeros (places * sent_size); replies = zeros (places * reply_size); state = fresh_numbers }
 
 pub record LeftBy : Type 0 where
   pub step : ChipStep
   pub buffer : List ℕ
 
-abbrev pub leftBy : ChipStep → List ℕ → LeftBy
-leftBy r b = record { step = r; buffer = b }
+abbrev pub left_by : ChipStep → List ℕ → LeftBy
+left_by r b = record { step = r; buffer = b }
 
-abbrev pub byValue : List ℕ → List ℕ → List ℕ → AfterStep → LeftBy
-byValue cards sent replies x =
-    leftBy (record { chip = record { cards = cards; sent = sent; replies = replies; state = x.state }; answer = x.answer }) x.buffer
+abbrev pub by_value : List ℕ → List ℕ → List ℕ → AfterStep → LeftBy
+by_value cards sent replies x =
+    left_by (record { chip = record { cards = cards; sent = sent; replies = replies; state = x.state }; answer = x.answer }) x.buffer
 
 unfoldable pub step_of : Chip → List ℕ → List ℕ → LeftBy
-step_of c written b = byValue c.cards c.sent c.replies (stepIn c.state c.cards c.sent c.replies written b)
+step_of c written b = by_value c.cards c.sent c.replies (step_in c.state c.cards c.sent c.replies written b)

@@ -1,9 +1,9 @@
 // A card more in the field, a reply more of the card added last: refused with 4 before 3, and nothing changes then.
 ghost use Rattle.std.specs.Prelude.{◌≡◌, ◌+◌, ◌≤◌, ◌<◌, length};
-ghost use Rattle.chip_protocol.specs.Names.{longestListData, longestReply};
-ghost use Rattle.simulated_chip.specs.Memory.{cardSize, places};
-ghost use Rattle.chip_protocol.specs.Add.{wakeUpReply};
-ghost use Rattle.simulated_chip.specs.Additions.{putCard, firstCount, firstSent, firstReply, afterAddition, CardAdmitted, cardPut, addCardIn, ReplyAdmitted, replyPut, addReplyIn, addCardOf, addReplyOf};
+ghost use Rattle.chip_protocol.specs.Names.{longest_list_data, longest_reply};
+ghost use Rattle.simulated_chip.specs.Memory.{card_size, places};
+ghost use Rattle.chip_protocol.specs.Add.{wake_up_reply};
+ghost use Rattle.simulated_chip.specs.Additions.{put_card_of, first_count, first_sent, first_reply, after_addition, CardAdmitted, card_put, add_card_in, ReplyAdmitted, reply_put, add_reply_in, add_card_of, add_reply_of};
 
 use super::admit::{admit_card, admit_reply, br_ty, kind_number};
 use super::chip::{Chip, State};
@@ -36,8 +36,8 @@ pub struct ChipAdded {
 
 // Puts a card to a place.
 fn put_card(cards: &mut [u8], at: usize, kind: u8, code: u8, count: u8, list_data: &[u8])
-    requires { (length list_data.now ≤ longestListData) × (at + cardSize ≤ length cards.old) }
-    ensures { cards.new ≡ putCard at kind code count list_data.now cards.old }
+    requires { (length list_data.now ≤ longest_list_data) × (at + card_size ≤ length cards.old) }
+    ensures { cards.new ≡ put_card_of at kind code count list_data.now cards.old }
 {
     cards[at] = kind;
     cards[at + names::BR_TY_OFFSET] = code;
@@ -53,8 +53,8 @@ fn put_first(
     kind: Kind,
     atqb: &[u8],
 ) -> u8
-    requires { (length (wakeUpReply kind atqb.now) ≤ longestReply) × (place < places) }
-    ensures { (result ≡ firstCount kind) × (sent.new ≡ firstSent kind place sent.old) × (replies.new ≡ firstReply kind place atqb.now replies.old) }
+    requires { (length (wake_up_reply kind atqb.now) ≤ longest_reply) × (place < places) }
+    ensures { (result ≡ first_count kind) × (sent.new ≡ first_sent kind place sent.old) × (replies.new ≡ first_reply kind place atqb.now replies.old) }
 {
     match kind {
         Kind::TypeA => 0,
@@ -90,7 +90,7 @@ impl State {
         atqb: &[u8],
     ) -> AddEffect
         requires { CardAdmitted self.count kind list_data.now atqb.now }
-        ensures { afterAddition result.state cards.new sent.new replies.new result.addition ≡ cardPut self cards.old sent.old replies.old kind bitrate list_data.now atqb.now }
+        ensures { after_addition result.state cards.new sent.new replies.new result.addition ≡ card_put self cards.old sent.old replies.old kind bitrate list_data.now atqb.now }
     {
         let n = self.count as usize;
         let first = put_first(sent, replies, names::REPLY_LIMIT * n, kind, atqb);
@@ -123,7 +123,7 @@ impl State {
         list_data: &[u8],
         atqb: &[u8],
     ) -> AddEffect
-        ensures { afterAddition result.state cards.new sent.new replies.new result.addition ≡ addCardIn self cards.old sent.old replies.old kind bitrate list_data.now atqb.now }
+        ensures { after_addition result.state cards.new sent.new replies.new result.addition ≡ add_card_in self cards.old sent.old replies.old kind bitrate list_data.now atqb.now }
     {
         if self.is_in_range(cards, sent, replies) {
             let count = self.count as usize;
@@ -147,7 +147,7 @@ impl State {
         reply: &[u8],
     ) -> AddEffect
         requires { ReplyAdmitted self.count cards.old bytes.now reply.now }
-        ensures { afterAddition result.state cards.new sent.new replies.new result.addition ≡ replyPut self cards.old sent.old replies.old bytes.now reply.now }
+        ensures { after_addition result.state cards.new sent.new replies.new result.addition ≡ reply_put self cards.old sent.old replies.old bytes.now reply.now }
     {
         let last = self.count as usize - 1;
         let at = CARD_SIZE * last + names::REPLY_COUNT_OFFSET;
@@ -171,7 +171,7 @@ impl State {
         bytes: &[u8],
         reply: &[u8],
     ) -> AddEffect
-        ensures { afterAddition result.state cards.new sent.new replies.new result.addition ≡ addReplyIn self cards.old sent.old replies.old bytes.now reply.now }
+        ensures { after_addition result.state cards.new sent.new replies.new result.addition ≡ add_reply_in self cards.old sent.old replies.old bytes.now reply.now }
     {
         if self.is_in_range(cards, sent, replies) {
             let count = self.count as usize;
@@ -187,7 +187,7 @@ impl State {
 impl Chip {
     // A card more in the field.
     pub fn add_card(self, kind: Kind, bitrate: Bitrate, list_data: &[u8], atqb: &[u8]) -> ChipAdded
-        ensures { result ≡ addCardOf self kind bitrate list_data.now atqb.now }
+        ensures { result ≡ add_card_of self kind bitrate list_data.now atqb.now }
     {
         let mut cards = self.cards;
         let mut sent = self.sent;
@@ -216,7 +216,7 @@ impl Chip {
 
     // A reply more of the card added last.
     pub fn add_reply(self, bytes: &[u8], reply: &[u8]) -> ChipAdded
-        ensures { result ≡ addReplyOf self bytes.now reply.now }
+        ensures { result ≡ add_reply_of self bytes.now reply.now }
     {
         let mut cards = self.cards;
         let mut sent = self.sent;

@@ -1,12 +1,12 @@
 // Whether a card or a reply is taken: 4 before 3.
 ghost use Rattle.std.specs.Prelude.{◌≡◌, Bool, List, ℕ, ◌+◌, ◌≤◌, length};
-ghost use Rattle.chip_protocol.specs.Names.{longestListData, mostCards};
-ghost use Rattle.chip_protocol.specs.Field.{Card, kindNumber, brTy, isBitrateOf, leastListData, protocolFits, crcFits};
-ghost use Rattle.chip_protocol.specs.Add.{wakeUpReply, addCard, addReply};
-ghost use Rattle.simulated_chip.specs.Memory.{listDataPlace, cardsIn};
-ghost use Rattle.simulated_chip.specs.Range.{cardsInRange, sentInRange};
+ghost use Rattle.chip_protocol.specs.Names.{longest_list_data, most_cards};
+ghost use Rattle.chip_protocol.specs.Field.{Card, kind_number, br_ty, is_bitrate_of, least_list_data, protocol_fits, crc_fits};
+ghost use Rattle.chip_protocol.specs.Add.{wake_up_reply, add_card, add_reply};
+ghost use Rattle.simulated_chip.specs.Memory.{list_data_place, cards_in};
+ghost use Rattle.simulated_chip.specs.Range.{cards_in_range, sent_in_range};
 ghost use Rattle.simulated_chip.specs.RangeLaws.{ShortText};
-ghost use Rattle.simulated_chip.specs.Additions.{isSound, additionIn, isProtocolByte, isType2In, limitOfKind, lengthsAddition};
+ghost use Rattle.simulated_chip.specs.Additions.{is_sound, addition_in, is_protocol_byte_of, is_type2_in, limit_of_kind, lengths_addition};
 
 use super::add::Addition;
 use super::memory::{byte_at, text_at, wide};
@@ -19,7 +19,7 @@ use targets::type_a::is_type2;
 
 // The number of a kind in memory.
 pub(crate) fn kind_number(kind: Kind) -> u8
-    ensures { result ≡ kindNumber kind }
+    ensures { result ≡ kind_number kind }
 {
     match kind {
         Kind::TypeA => names::TYPE_A_NUMBER,
@@ -31,7 +31,7 @@ pub(crate) fn kind_number(kind: Kind) -> u8
 
 // The code of a bitrate in memory.
 pub(crate) fn br_ty(bitrate: Bitrate) -> u8
-    ensures { result ≡ brTy bitrate }
+    ensures { result ≡ br_ty bitrate }
 {
     match bitrate {
         Bitrate::B106A => names::CODE_106A,
@@ -47,7 +47,7 @@ pub(crate) fn br_ty(bitrate: Bitrate) -> u8
 
 // Whether the discovery of the kind takes the bitrate.
 fn is_bitrate_of(kind: Kind, bitrate: Bitrate) -> bool
-    ensures { result ≡ isBitrateOf kind bitrate }
+    ensures { result ≡ is_bitrate_of kind bitrate }
 {
     let code = br_ty(bitrate);
     match kind {
@@ -65,7 +65,7 @@ fn is_bitrate_of(kind: Kind, bitrate: Bitrate) -> bool
 
 // The fewest list data for the discovery of a kind.
 fn least_list_data(kind: Kind) -> usize
-    ensures { result ≡ leastListData kind }
+    ensures { result ≡ least_list_data kind }
 {
     match kind {
         Kind::TypeA => names::TYPE_A_NEED,
@@ -77,7 +77,7 @@ fn least_list_data(kind: Kind) -> usize
 
 // Byte 10 of Type B, masked with 09, is 01.
 fn is_protocol_byte(byte: u8) -> bool
-    ensures { result ≡ isProtocolByte byte }
+    ensures { result ≡ is_protocol_byte_of byte }
 {
     if byte % 2 == 1 {
         return byte / 8 % 2 == 0;
@@ -86,7 +86,7 @@ fn is_protocol_byte(byte: u8) -> bool
 }
 
 fn protocol_fits(kind: Kind, list_data: &[u8]) -> bool
-    ensures { result ≡ protocolFits kind list_data.now }
+    ensures { result ≡ protocol_fits kind list_data.now }
 {
     match kind {
         Kind::TypeA => true,
@@ -98,7 +98,7 @@ fn protocol_fits(kind: Kind, list_data: &[u8]) -> bool
 
 // Whether the field has a place, the bitrate is one of the kind, and the list data serves the discovery.
 fn is_sound(count: usize, kind: Kind, bitrate: Bitrate, list_data: &[u8]) -> bool
-    ensures { result ≡ isSound count kind bitrate list_data.now }
+    ensures { result ≡ is_sound count kind bitrate list_data.now }
 {
     if count < names::CARD_LIMIT {
         if is_bitrate_of(kind, bitrate) {
@@ -112,7 +112,7 @@ fn is_sound(count: usize, kind: Kind, bitrate: Bitrate, list_data: &[u8]) -> boo
 
 // The length of the reply to WUPB, of Type B alone.
 fn atqb_length(kind: Kind, atqb: &[u8]) -> usize
-    ensures { result ≡ length (wakeUpReply kind atqb.now) }
+    ensures { result ≡ length (wake_up_reply kind atqb.now) }
 {
     match kind {
         Kind::TypeA => 0,
@@ -130,7 +130,7 @@ pub(crate) fn admit_card(
     list_data: &[u8],
     atqb: &[u8],
 ) -> Addition
-    ensures { (f : List Card) → length f ≡ count → result ≡ additionIn (addCard f kind bitrate list_data.now atqb.now) }
+    ensures { (f : List Card) → length f ≡ count → result ≡ addition_in (add_card f kind bitrate list_data.now atqb.now) }
 {
     if is_sound(count, kind, bitrate, list_data) {
         if list_data.len() <= names::LIST_DATA_LIMIT {
@@ -145,7 +145,7 @@ pub(crate) fn admit_card(
 
 // Whether a reply of over 2 bytes ends in its CRC_A.
 fn has_crc(reply: &[u8]) -> bool
-    ensures { result ≡ crcFits Bool.true reply.now }
+    ensures { result ≡ crc_fits Bool.true reply.now }
 {
     if 2 < reply.len() {
         return crc::check_crc_a(reply);
@@ -155,8 +155,8 @@ fn has_crc(reply: &[u8]) -> bool
 
 // Whether the reply is one that the card that starts at a place can give: a Type 2 card's has its CRC_A.
 fn crc_fits(cards: &[u8], at: usize, reply: &[u8]) -> bool
-    requires { ShortText (at + listDataPlace) longestListData cards.now }
-    ensures { result ≡ crcFits (isType2In at cards.now) reply.now }
+    requires { ShortText (at + list_data_place) longest_list_data cards.now }
+    ensures { result ≡ crc_fits (is_type2_in at cards.now) reply.now }
 {
     if cards[at] == names::TYPE_A_NUMBER {
         if cards[at + names::BR_TY_OFFSET] == names::CODE_106A {
@@ -171,7 +171,7 @@ fn crc_fits(cards: &[u8], at: usize, reply: &[u8]) -> bool
 
 // How many replies a card of the kind with this number has at most.
 fn reply_limit(kind: u8) -> usize
-    ensures { result ≡ limitOfKind kind }
+    ensures { result ≡ limit_of_kind kind }
 {
     if kind == names::TYPE_B_NUMBER {
         return names::REPLY_LIMIT;
@@ -181,7 +181,7 @@ fn reply_limit(kind: u8) -> usize
 
 // The lengths of a reply, and whether a card that has so many takes another.
 fn admit_lengths(bytes: &[u8], reply: &[u8], count: usize, limit: usize) -> Addition
-    ensures { result ≡ lengthsAddition bytes.now reply.now count limit }
+    ensures { result ≡ lengths_addition bytes.now reply.now count limit }
 {
     if reply.len() <= names::REPLY_BYTES_LIMIT {
         if bytes.len() <= names::SENT_BYTES_LIMIT {
@@ -201,8 +201,8 @@ pub(crate) fn admit_reply(
     bytes: &[u8],
     reply: &[u8],
 ) -> Addition
-    requires { (count ≤ mostCards) × (cardsInRange cards.now ≡ Bool.true) × (sentInRange sent.now ≡ Bool.true) }
-    ensures { (replies : List ℕ) → result ≡ additionIn (addReply (cardsIn count cards.now sent.now replies) bytes.now reply.now) }
+    requires { (count ≤ most_cards) × (cards_in_range cards.now ≡ Bool.true) × (sent_in_range sent.now ≡ Bool.true) }
+    ensures { (replies : List ℕ) → result ≡ addition_in (add_reply (cards_in count cards.now sent.now replies) bytes.now reply.now) }
 {
     if count == 0 {
         return Addition::Refused(Refusal::BadArgument);

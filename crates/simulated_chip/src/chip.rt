@@ -1,13 +1,13 @@
 // The chip: the bytes that a host wrote go in, and the packet behind ACK and the chip after it come out.
 ghost use Rattle.std.specs.Prelude.{◌≡◌, Bool, List, ℕ, ◌*◌, ◌≤◌, eqb, length, drop};
-ghost use Rattle.chip_protocol.specs.Names.{longestPacket, longestResponse, mostCards};
-ghost use Rattle.chip_protocol.specs.Packets.{responsePacket};
-ghost use Rattle.chip_protocol.specs.Chip.{responseTo, fieldOnAfter, stateAfter};
-ghost use Rattle.simulated_chip.specs.Memory.{cardSize, sentSize, replySize, places, bit, stateIn, numbersOf, freshNumbers};
+ghost use Rattle.chip_protocol.specs.Names.{longest_packet, longest_response, most_cards};
+ghost use Rattle.chip_protocol.specs.Packets.{response_packet};
+ghost use Rattle.chip_protocol.specs.Chip.{response_to, field_on_after, state_after};
+ghost use Rattle.simulated_chip.specs.Memory.{card_size, sent_size, reply_size, places, bit, state_in, numbers_of, fresh_numbers};
 ghost use Rattle.simulated_chip.specs.Range.{in_range};
 ghost use Rattle.simulated_chip.specs.RangeLaws.{NumbersFit};
-ghost use Rattle.simulated_chip.specs.Responses.{responseIn, Short, Puts};
-ghost use Rattle.simulated_chip.specs.Steps.{builtLength, PutPacket, afterStep, commandStep, stepIn, zeros, freshChipMemory, leftBy, step_of};
+ghost use Rattle.simulated_chip.specs.Responses.{response_in, Short, Puts};
+ghost use Rattle.simulated_chip.specs.Steps.{built_length, PutPacket, after_step, command_step, step_in, zeros, fresh_chip_memory, left_by, step_of};
 
 use super::memory::byte_at;
 use super::names;
@@ -62,7 +62,7 @@ pub struct ChipStep {
 
 impl State {
     pub fn fresh() -> State
-        ensures { result ≡ freshNumbers }
+        ensures { result ≡ fresh_numbers }
     {
         State {
             count: 0,
@@ -100,7 +100,7 @@ impl State {
     // The state after a command.
     fn after(self, cards: &[u8; CARDS_SIZE], code: u8, bytes: &[u8]) -> State
         requires { NumbersFit self cards.now }
-        ensures { (sent replies : List ℕ) → result ≡ numbersOf self.count (stateAfter (stateIn self cards.now sent replies) code bytes.now) }
+        ensures { (sent replies : List ℕ) → result ≡ numbers_of self.count (state_after (state_in self cards.now sent replies) code bytes.now) }
     {
         let count = self.count as usize;
         match code {
@@ -139,7 +139,7 @@ impl State {
         out: &mut [u8; RESPONSE_LIMIT],
     ) -> ResponseSize
         requires { in_range self cards.now sent.now replies.now ≡ Bool.true }
-        ensures { Puts result out.new (responseTo (stateIn self cards.now sent.now replies.now) code bytes.now) }
+        ensures { Puts result out.new (response_to (state_in self cards.now sent.now replies.now) code bytes.now) }
     {
         let count = self.count as usize;
         let found = self.found as usize;
@@ -181,8 +181,8 @@ impl State {
         bytes: &[u8],
         buffer: &mut [u8],
     ) -> StepEffect
-        requires { (in_range self cards.now sent.now replies.now ≡ Bool.true) × (longestPacket ≤ length buffer.old) }
-        ensures { afterStep result.state result.answer buffer.new ≡ commandStep self cards.now sent.now replies.now code bytes.now buffer.old }
+        requires { (in_range self cards.now sent.now replies.now ≡ Bool.true) × (longest_packet ≤ length buffer.old) }
+        ensures { after_step result.state result.answer buffer.new ≡ command_step self cards.now sent.now replies.now code bytes.now buffer.old }
     {
         let mut out = [0u8; RESPONSE_LIMIT];
         let size = self.respond(cards, sent, replies, code, bytes, &mut out);
@@ -200,7 +200,7 @@ impl State {
         written: &[u8],
         buffer: &mut [u8],
     ) -> StepEffect
-        ensures { afterStep result.state result.answer buffer.new ≡ stepIn self cards.now sent.now replies.now written.now buffer.old }
+        ensures { after_step result.state result.answer buffer.new ≡ step_in self cards.now sent.now replies.now written.now buffer.old }
     {
         if buffer.len() < names::PACKET_SIZE {
             return self.answers(Answer::Refused(Refusal::ShortBuffer));
@@ -219,7 +219,7 @@ impl State {
 // RFConfiguration switches the RF field by the lowest bit of its item's byte.
 fn field_on_after(on: u8, bytes: &[u8]) -> u8
     requires { on ≤ 1 }
-    ensures { result ≡ bit (fieldOnAfter (eqb on 1) bytes.now) }
+    ensures { result ≡ bit (field_on_after (eqb on 1) bytes.now) }
 {
     if byte_at(bytes, 0) == names::RF_FIELD_ITEM {
         return byte_at(bytes, 1) % 2;
@@ -239,8 +239,8 @@ fn behind_target(bytes: &[u8]) -> &[u8]
 
 // Writes the packet of a response at the buffer's start, and answers how long it is.
 fn put_packet(size: ResponseSize, code: u8, out: &[u8], buffer: &mut [u8]) -> usize
-    requires { (longestPacket ≤ length buffer.old) × (longestResponse ≤ length out.now) × Short size }
-    ensures { PutPacket (responsePacket code (responseIn size out.now)) buffer.old result buffer.new }
+    requires { (longest_packet ≤ length buffer.old) × (longest_response ≤ length out.now) × Short size }
+    ensures { PutPacket (response_packet code (response_in size out.now)) buffer.old result buffer.new }
 {
     match size {
         ResponseSize::Bytes(n) => built_length(build_response(code, &out[..n], buffer)),
@@ -259,15 +259,15 @@ fn put_packet_of(
     out: &[u8; RESPONSE_LIMIT],
     buffer: &mut [u8],
 ) -> usize
-    requires { (longestPacket ≤ length buffer.old) × Short size }
-    ensures { PutPacket (responsePacket code (responseIn size out.now)) buffer.old result buffer.new }
+    requires { (longest_packet ≤ length buffer.old) × Short size }
+    ensures { PutPacket (response_packet code (response_in size out.now)) buffer.old result buffer.new }
 {
     put_packet(size, code, out, buffer)
 }
 
 // The length of a frame that was built.
 fn built_length(built: Built) -> usize
-    ensures { result ≡ builtLength built }
+    ensures { result ≡ built_length built }
 {
     match built {
         Built::Frame(n) => n,
@@ -277,19 +277,19 @@ fn built_length(built: Built) -> usize
 
 // Memory of zeros.
 fn no_cards() -> [u8; CARDS_SIZE]
-    ensures { result ≡ zeros (mostCards * cardSize) }
+    ensures { result ≡ zeros (most_cards * card_size) }
 {
     [0; CARDS_SIZE]
 }
 
 fn no_sent() -> [u8; SENT_MEMORY_SIZE]
-    ensures { result ≡ zeros (places * sentSize) }
+    ensures { result ≡ zeros (places * sent_size) }
 {
     [0; SENT_MEMORY_SIZE]
 }
 
 fn no_replies() -> [u8; REPLY_MEMORY_SIZE]
-    ensures { result ≡ zeros (places * replySize) }
+    ensures { result ≡ zeros (places * reply_size) }
 {
     [0; REPLY_MEMORY_SIZE]
 }
@@ -297,7 +297,7 @@ fn no_replies() -> [u8; REPLY_MEMORY_SIZE]
 impl Chip {
     // An empty field, and the chip as at its start.
     pub fn fresh() -> Chip
-        ensures { result ≡ freshChipMemory }
+        ensures { result ≡ fresh_chip_memory }
     {
         Chip {
             cards: no_cards(),
@@ -309,7 +309,7 @@ impl Chip {
 
     // The bytes that the host wrote: nothing, or ACK and the packet at the buffer's start. A buffer under 1,024 bytes is refused.
     pub fn step(self, written: &[u8], buffer: &mut [u8]) -> ChipStep
-        ensures { leftBy result buffer.new ≡ step_of self written.now buffer.old }
+        ensures { left_by result buffer.new ≡ step_of self written.now buffer.old }
     {
         let cards = self.cards;
         let sent = self.sent;

@@ -1,4 +1,6 @@
 // Document 02, N10: the chip's end of the wire, with a field of cards.
+#![tactic(auto)]
+
 pub mod add;
 mod admit;
 pub mod chip;

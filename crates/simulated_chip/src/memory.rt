@@ -1,6 +1,6 @@
 // Texts in memory: the length in two bytes, low byte first, and the bytes.
 ghost use Rattle.std.specs.Prelude.{◌≡◌, ◌+◌, ◌≤◌, ◌<◌, length, get_or};
-ghost use Rattle.simulated_chip.specs.Memory.{textLength, textAt, putText};
+ghost use Rattle.simulated_chip.specs.Memory.{text_length, text_at_of, put_text};
 
 use super::names::TEXT_OFFSET;
 
@@ -23,15 +23,15 @@ pub(crate) fn byte_at(text: &[u8], at: usize) -> u8
 // The length that stands at a place.
 pub(crate) fn text_length(memory: &[u8], at: usize) -> usize
     requires { at + 2 ≤ length memory.now }
-    ensures { (result ≡ textLength at memory.now) × (result < 65536) }
+    ensures { (result ≡ text_length at memory.now) × (result < 65536) }
 {
     wide(memory[at]) + 256 * wide(memory[at + 1])
 }
 
 // The text at a place.
 pub(crate) fn text_at(memory: &[u8], at: usize) -> &[u8]
-    requires { at + 2 + textLength at memory.now ≤ length memory.now }
-    ensures { result.now ≡ textAt at memory.now }
+    requires { at + 2 + text_length at memory.now ≤ length memory.now }
+    ensures { result.now ≡ text_at_of at memory.now }
 {
     let start = at + TEXT_OFFSET;
     let end = start + text_length(memory, at);
@@ -41,7 +41,7 @@ pub(crate) fn text_at(memory: &[u8], at: usize) -> &[u8]
 // Puts a text to a place.
 pub(crate) fn put_text(text: &[u8], memory: &mut [u8], at: usize)
     requires { (length text.now < 65536) × (at + (length text.now + 2) ≤ length memory.old) }
-    ensures { memory.new ≡ putText at text.now memory.old }
+    ensures { memory.new ≡ put_text at text.now memory.old }
 {
     let n = text.len();
     memory[at] = (n % 256) as u8;

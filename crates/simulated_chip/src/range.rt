@@ -1,7 +1,7 @@
 // Whether a chip's memory is one that can be: what a step or an addition looks at before all else.
 ghost use Rattle.std.specs.Prelude.{◌≡◌, ◌+◌, ◌≤◌, length};
-ghost use Rattle.simulated_chip.specs.Memory.{cardSize};
-ghost use Rattle.simulated_chip.specs.Range.{cardInRange, cardsInRange, sentInRange, repliesInRange};
+ghost use Rattle.simulated_chip.specs.Memory.{card_size};
+ghost use Rattle.simulated_chip.specs.Range.{card_in_range, cards_in_range, sent_in_range, replies_in_range};
 
 use super::memory::text_length;
 use super::names::{
@@ -12,8 +12,8 @@ use super::names::{
 
 // The card that starts at a place.
 fn is_card_in_range(cards: &[u8], at: usize) -> bool
-    requires { at + cardSize ≤ length cards.now }
-    ensures { result ≡ cardInRange at cards.now }
+    requires { at + card_size ≤ length cards.now }
+    ensures { result ≡ card_in_range at cards.now }
 {
     if DEP_NUMBER < cards[at] {
         return false;
@@ -28,7 +28,7 @@ fn is_card_in_range(cards: &[u8], at: usize) -> bool
 }
 
 pub(crate) fn are_cards_in_range(cards: &[u8; CARDS_SIZE]) -> bool
-    ensures { result ≡ cardsInRange cards.now }
+    ensures { result ≡ cards_in_range cards.now }
 {
     let mut i = 0;
     while i < CARD_LIMIT {
@@ -42,7 +42,7 @@ pub(crate) fn are_cards_in_range(cards: &[u8; CARDS_SIZE]) -> bool
 }
 
 pub(crate) fn are_sent_in_range(sent: &[u8; SENT_MEMORY_SIZE]) -> bool
-    ensures { result ≡ sentInRange sent.now }
+    ensures { result ≡ sent_in_range sent.now }
 {
     let mut i = 0;
     while i < PLACES {
@@ -55,7 +55,7 @@ pub(crate) fn are_sent_in_range(sent: &[u8; SENT_MEMORY_SIZE]) -> bool
 }
 
 pub(crate) fn are_replies_in_range(replies: &[u8; REPLY_MEMORY_SIZE]) -> bool
-    ensures { result ≡ repliesInRange replies.now }
+    ensures { result ≡ replies_in_range replies.now }
 {
     let mut i = 0;
     while i < PLACES {

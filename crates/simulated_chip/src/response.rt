@@ -1,12 +1,12 @@
 // Responses, put at the start of a lent array.
 ghost use Rattle.std.specs.Prelude.{◌≡◌, List, ◌++◌, map, Bool, ℕ, ◌+◌, ◌*◌, ◌/◌, ◌≤◌, ◌<◌, eqb, length, take, get_or};
 ghost use Rattle.protocol.specs.Arguments.{words_in};
-ghost use Rattle.chip_protocol.specs.Names.{mostCards, longestResponse};
-ghost use Rattle.simulated_chip.specs.Memory.{cardsIn, place_in};
-ghost use Rattle.simulated_chip.specs.Range.{cardsInRange, sentInRange, repliesInRange};
+ghost use Rattle.chip_protocol.specs.Names.{most_cards, longest_response};
+ghost use Rattle.simulated_chip.specs.Memory.{cards_in, place_in};
+ghost use Rattle.simulated_chip.specs.Range.{cards_in_range, sent_in_range, replies_in_range};
 ghost use Rattle.chip_protocol.specs.Packets.{responds};
-ghost use Rattle.chip_protocol.specs.Chip.{cardAt, listed, jumped, listedPlace, partnerPlace, exchangedWith, registerValue, registersRead};
-ghost use Rattle.simulated_chip.specs.Responses.{Puts, listedOr};
+ghost use Rattle.chip_protocol.specs.Chip.{card_at, listed, jumped, listed_place, partner_place, exchanged_with, register_value_of, registers_read};
+ghost use Rattle.simulated_chip.specs.Responses.{Puts, listed_or};
 
 use super::memory::{text_at, wide};
 use super::names::{
@@ -37,7 +37,7 @@ fn put_two(head: &[u8], rest: &[u8], out: &mut [u8]) -> usize
 
 // A response of two parts.
 pub(crate) fn put_response(head: &[u8], rest: &[u8], out: &mut [u8; RESPONSE_LIMIT]) -> ResponseSize
-    requires { length head.now + length rest.now ≤ longestResponse }
+    requires { length head.now + length rest.now ≤ longest_response }
     ensures { Puts result out.new (responds (head.now ++ rest.now)) }
 {
     ResponseSize::Bytes(put_two(head, rest, out))
@@ -51,8 +51,8 @@ fn put_listed(
     present: u8,
     out: &mut [u8; RESPONSE_LIMIT],
 ) -> ResponseSize
-    requires { (place ≤ mostCards) × (cardsInRange cards.now ≡ Bool.true) }
-    ensures { (count : ℕ) (sent replies : List ℕ) → place ≤ count → count ≤ mostCards → Puts result out.new (responds (listedOr absent present (cardAt (cardsIn count cards.now sent replies) (place_in place)))) }
+    requires { (place ≤ most_cards) × (cards_in_range cards.now ≡ Bool.true) }
+    ensures { (count : ℕ) (sent replies : List ℕ) → place ≤ count → count ≤ most_cards → Puts result out.new (responds (listed_or absent present (card_at (cards_in count cards.now sent replies) (place_in place)))) }
 {
     if place == 0 {
         return put_response(&[absent], &[], out);
@@ -71,8 +71,8 @@ pub(crate) fn put_list(
     bytes: &[u8],
     out: &mut [u8; RESPONSE_LIMIT],
 ) -> ResponseSize
-    requires { (count ≤ mostCards) × (cardsInRange cards.now ≡ Bool.true) }
-    ensures { (sent replies : List ℕ) → Puts result out.new (responds (listed (cardAt (cardsIn count cards.now sent replies) (listedPlace (cardsIn count cards.now sent replies) bytes.now)))) }
+    requires { (count ≤ most_cards) × (cards_in_range cards.now ≡ Bool.true) }
+    ensures { (sent replies : List ℕ) → Puts result out.new (responds (listed (card_at (cards_in count cards.now sent replies) (listed_place (cards_in count cards.now sent replies) bytes.now)))) }
 {
     let place = listed_place(cards, count, bytes);
     put_listed(cards, place, NO_TARGET, ONE_TARGET, out)
@@ -85,8 +85,8 @@ pub(crate) fn put_partner(
     bytes: &[u8],
     out: &mut [u8; RESPONSE_LIMIT],
 ) -> ResponseSize
-    requires { (count ≤ mostCards) × (cardsInRange cards.now ≡ Bool.true) }
-    ensures { (sent replies : List ℕ) → Puts result out.new (responds (jumped (cardAt (cardsIn count cards.now sent replies) (partnerPlace (cardsIn count cards.now sent replies) bytes.now)))) }
+    requires { (count ≤ most_cards) × (cards_in_range cards.now ≡ Bool.true) }
+    ensures { (sent replies : List ℕ) → Puts result out.new (responds (jumped (card_at (cards_in count cards.now sent replies) (partner_place (cards_in count cards.now sent replies) bytes.now)))) }
 {
     let place = partner_place(cards, count, bytes);
     put_listed(cards, place, TIMEOUT_STATUS, SUCCESS_STATUS, out)
@@ -101,8 +101,8 @@ pub(crate) fn put_exchanged(
     bytes: &[u8],
     out: &mut [u8; RESPONSE_LIMIT],
 ) -> ResponseSize
-    requires { (found ≤ mostCards) × (cardsInRange cards.now ≡ Bool.true) × (sentInRange sent.now ≡ Bool.true) × (repliesInRange replies.now ≡ Bool.true) }
-    ensures { (count : ℕ) → found ≤ count → count ≤ mostCards → Puts result out.new (responds (exchangedWith (cardAt (cardsIn count cards.now sent.now replies.now) (place_in found)) bytes.now)) }
+    requires { (found ≤ most_cards) × (cards_in_range cards.now ≡ Bool.true) × (sent_in_range sent.now ≡ Bool.true) × (replies_in_range replies.now ≡ Bool.true) }
+    ensures { (count : ℕ) → found ≤ count → count ≤ most_cards → Puts result out.new (responds (exchanged_with (card_at (cards_in count cards.now sent.now replies.now) (place_in found)) bytes.now)) }
 {
     if found == 0 {
         return put_response(&[TIMEOUT_STATUS], &[], out);
@@ -122,7 +122,7 @@ pub(crate) fn put_exchanged(
 
 // What a register reads.
 fn register_value(on: u8, address: usize) -> u8
-    ensures { result ≡ registerValue (eqb on 1) address }
+    ensures { result ≡ register_value_of (eqb on 1) address }
 {
     if address == CIU_FIFO_DATA {
         return SENS_REQ;
@@ -147,7 +147,7 @@ fn word_at(bytes: &[u8], at: usize) -> usize
 // Puts a byte for each register whose address the bytes have.
 fn read_registers(on: u8, bytes: &[u8], out: &mut [u8])
     requires { length bytes.now / 2 ≤ length out.old }
-    ensures { take (length bytes.now / 2) out.new ≡ map (registerValue (eqb on 1)) (words_in bytes.now) }
+    ensures { take (length bytes.now / 2) out.new ≡ map (register_value_of (eqb on 1)) (words_in bytes.now) }
 {
     let count = bytes.len() / 2;
     let mut i = 0;
@@ -159,7 +159,7 @@ fn read_registers(on: u8, bytes: &[u8], out: &mut [u8])
 
 // ReadRegister; more values than fit a packet are an error.
 pub(crate) fn put_registers(on: u8, bytes: &[u8], out: &mut [u8; RESPONSE_LIMIT]) -> ResponseSize
-    ensures { Puts result out.new (registersRead (eqb on 1) bytes.now) }
+    ensures { Puts result out.new (registers_read (eqb on 1) bytes.now) }
 {
     let count = bytes.len() / 2;
     if RESPONSE_LIMIT < count {

@@ -1,10 +1,10 @@
 // The search for a card in the field, and for a card's reply. A place is told by the number behind it, and 0 is none.
 ghost use Rattle.std.specs.Prelude.{◌≡◌, List, Bool, ℕ, ◌+◌, ◌≤◌, length, drop};
-ghost use Rattle.chip_protocol.specs.Names.{mostCards, initiatorOffset};
-ghost use Rattle.simulated_chip.specs.Memory.{cardSize, kind_at, isStoredAt, cardsIn, place_in, places, statedFrom, replyIn};
-ghost use Rattle.simulated_chip.specs.Range.{lastKind, cardsInRange, sentInRange};
-ghost use Rattle.chip_protocol.specs.Field.{replyTo};
-ghost use Rattle.chip_protocol.specs.Chip.{firstPlace, listedPlace, partnerPlace};
+ghost use Rattle.chip_protocol.specs.Names.{most_cards, initiator_offset};
+ghost use Rattle.simulated_chip.specs.Memory.{card_size, kind_at, is_stored_at, cards_in, place_in, places, stated_from, reply_in};
+ghost use Rattle.simulated_chip.specs.Range.{last_kind, cards_in_range, sent_in_range};
+ghost use Rattle.chip_protocol.specs.Field.{reply_to};
+ghost use Rattle.chip_protocol.specs.Chip.{first_place_of, listed_place, partner_place};
 
 use super::memory::{byte_at, text_at};
 use super::names::{
@@ -15,8 +15,8 @@ use super::names::{
 
 // Whether the card that starts at a place is of the kind, at the bitrate that has this code.
 fn is_at(cards: &[u8], at: usize, kind: u8, code: u8) -> bool
-    requires { at + cardSize ≤ length cards.now }
-    ensures { result ≡ isStoredAt kind code at cards.now }
+    requires { at + card_size ≤ length cards.now }
+    ensures { result ≡ is_stored_at kind code at cards.now }
 {
     if cards[at] == kind {
         return cards[at + BR_TY_OFFSET] == code;
@@ -26,8 +26,8 @@ fn is_at(cards: &[u8], at: usize, kind: u8, code: u8) -> bool
 
 // The first card of the kind, at the bitrate that has this code.
 fn first_place(cards: &[u8; CARDS_SIZE], count: usize, kind: u8, code: u8) -> usize
-    requires { (count ≤ mostCards) × (kind ≤ lastKind) × (cardsInRange cards.now ≡ Bool.true) }
-    ensures { (result ≤ count) × ((sent replies : List ℕ) → place_in result ≡ firstPlace (kind_at kind) code (cardsIn count cards.now sent replies)) }
+    requires { (count ≤ most_cards) × (kind ≤ last_kind) × (cards_in_range cards.now ≡ Bool.true) }
+    ensures { (result ≤ count) × ((sent replies : List ℕ) → place_in result ≡ first_place_of (kind_at kind) code (cards_in count cards.now sent replies)) }
 {
     let mut i = 0;
     while i < count {
@@ -41,7 +41,7 @@ fn first_place(cards: &[u8; CARDS_SIZE], count: usize, kind: u8, code: u8) -> us
 
 // How long the initiator data is.
 fn initiator_length(bytes: &[u8]) -> usize
-    ensures { result ≡ length (drop initiatorOffset bytes.now) }
+    ensures { result ≡ length (drop initiator_offset bytes.now) }
 {
     if bytes.len() < INITIATOR_OFFSET {
         return 0;
@@ -51,8 +51,8 @@ fn initiator_length(bytes: &[u8]) -> usize
 
 // InListPassiveTarget.
 pub(crate) fn listed_place(cards: &[u8; CARDS_SIZE], count: usize, bytes: &[u8]) -> usize
-    requires { (count ≤ mostCards) × (cardsInRange cards.now ≡ Bool.true) }
-    ensures { (result ≤ count) × ((sent replies : List ℕ) → place_in result ≡ listedPlace (cardsIn count cards.now sent replies) bytes.now) }
+    requires { (count ≤ most_cards) × (cards_in_range cards.now ≡ Bool.true) }
+    ensures { (result ≤ count) × ((sent replies : List ℕ) → place_in result ≡ listed_place (cards_in count cards.now sent replies) bytes.now) }
 {
     let code = byte_at(bytes, SEARCH_BR_TY_OFFSET);
     let initiator = initiator_length(bytes);
@@ -70,8 +70,8 @@ pub(crate) fn listed_place(cards: &[u8; CARDS_SIZE], count: usize, bytes: &[u8])
 
 // InJumpForDEP.
 pub(crate) fn partner_place(cards: &[u8; CARDS_SIZE], count: usize, bytes: &[u8]) -> usize
-    requires { (count ≤ mostCards) × (cardsInRange cards.now ≡ Bool.true) }
-    ensures { (result ≤ count) × ((sent replies : List ℕ) → place_in result ≡ partnerPlace (cardsIn count cards.now sent replies) bytes.now) }
+    requires { (count ≤ most_cards) × (cards_in_range cards.now ≡ Bool.true) }
+    ensures { (result ≤ count) × ((sent replies : List ℕ) → place_in result ≡ partner_place (cards_in count cards.now sent replies) bytes.now) }
 {
     first_place(
         cards,
@@ -88,8 +88,8 @@ pub(crate) fn reply_place(
     count: usize,
     bytes: &[u8],
 ) -> usize
-    requires { (first + count ≤ places) × (sentInRange sent.now ≡ Bool.true) }
-    ensures { (result ≤ places) × ((replies : List ℕ) → replyIn result replies ≡ replyTo (statedFrom count first sent.now replies) bytes.now) }
+    requires { (first + count ≤ places) × (sent_in_range sent.now ≡ Bool.true) }
+    ensures { (result ≤ places) × ((replies : List ℕ) → reply_in result replies ≡ reply_to (stated_from count first sent.now replies) bytes.now) }
 {
     let mut i = first;
     let end = first + count;

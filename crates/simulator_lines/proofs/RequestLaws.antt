@@ -5,43 +5,43 @@ use borrow.Author.Tests.{lt-ltb, le-ltb}
 use Rattle.errors.specs.Choice.{pick, same}
 use Rattle.targets.specs.Bitrates.{ascii}
 use Rattle.calls.specs.declared.start.Numbers.{Numbers}
-use Rattle.bench_input.specs.Arguments.{lineLimit, word_at}
-use Rattle.bench_input.specs.Readings.{inputIn, Reads}
+use Rattle.bench_input.specs.Arguments.{line_limit, word_at}
+use Rattle.bench_input.specs.Readings.{input_in, Reads}
 use Rattle.bench_input.specs.Table.{Said, input_of}
 use Rattle.bench_input.specs.declared.Ends.{Ends}
 use Rattle.bench_input.specs.declared.Input.{Input}
 use Rattle.bench_input.specs.declared.Input.TheVariants.{Call as CallInput, Event as EventInput, Unreadable as NoInput}
-use Rattle.simulator_lines.specs.Requests.{Asked, changesField, traces, starts, nothing, isFieldName, onSaid, asked_of}
+use Rattle.simulator_lines.specs.Requests.{Asked, changes_field, traces, starts, nothing, is_field_name_of, on_said, asked_of}
 
 module _ (l : List ℕ) (x : Asked) where
-  pub asked-long : lineLimit < length l → x ≡ nothing → x ≡ asked_of l
+  pub asked_long : line_limit < length l → x ≡ nothing → x ≡ asked_of l
   unfolding asked_of pick
-  asked-long h e = rw (lt-ltb lineLimit (length l) h) e
+  asked_long h e = rw (lt-ltb line_limit (length l) h) e
 
-  module _ (short : length l ≤ lineLimit) (w : List ℕ) (word : w ≡ word_at l 0) (t : Bool) (named : t ≡ isFieldName w) where
-    pub asked-field : t ≡ true → x ≡ changesField → x ≡ asked_of l
+  module _ (short : length l ≤ line_limit) (w : List ℕ) (word : w ≡ word_at l 0) (t : Bool) (named : t ≡ is_field_name_of w) where
+    pub asked-field : t ≡ true → x ≡ changes_field → x ≡ asked_of l
     unfolding asked_of pick
-    asked-field h e = rw (le-ltb lineLimit (length l) short, ← word, ← named, h) e
+    asked-field h e = rw (le-ltb line_limit (length l) short, ← word, ← named, h) e
 
     module _ (not-field : t ≡ false) (u : Bool) (on : u ≡ same (ascii "trace on") l) where
       pub asked-on : u ≡ true → x ≡ traces true → x ≡ asked_of l
       unfolding asked_of pick
-      asked-on h e = rw (le-ltb lineLimit (length l) short, ← word, ← named, not-field, ← on, h) e
+      asked-on h e = rw (le-ltb line_limit (length l) short, ← word, ← named, not-field, ← on, h) e
 
       module _ (not_on : u ≡ false) (v : Bool) (off : v ≡ same (ascii "trace off") l) where
         pub asked-off : v ≡ true → x ≡ traces false → x ≡ asked_of l
         unfolding asked_of pick
-        asked-off h e = rw (le-ltb lineLimit (length l) short, ← word, ← named, not-field, ← on, not_on, ← off, h) e
+        asked-off h e = rw (le-ltb line_limit (length l) short, ← word, ← named, not-field, ← on, not_on, ← off, h) e
 
-        pub asked-input : v ≡ false → (k : ℕ) (b o : List ℕ) (i : Input) → Reads k b o i (input_of l) → x ≡ onSaid (inputIn o i) → x ≡ asked_of l
+        pub asked_input : v ≡ false → (k : ℕ) (b o : List ℕ) (i : Input) → Reads k b o i (input_of l) → x ≡ on_said (input_in o i) → x ≡ asked_of l
         unfolding asked_of pick
-        asked-input h k b o i r e = rw (le-ltb lineLimit (length l) short, ← word, ← named, not-field, ← on, not_on, ← off, h) (e ∙ ap onSaid r.says)
+        asked_input h k b o i r e = rw (le-ltb line_limit (length l) short, ← word, ← named, not-field, ← on, not_on, ← off, h) (e ∙ ap on_said r.says)
 
-pub said-call : (o : List ℕ) (i : Input) (number : ℕ) (n : Numbers) (e : Ends) → i ≡ CallInput number n e → starts (inputIn o (CallInput number n e)) ≡ onSaid (inputIn o i)
-said-call o i number n e h = rw h
+pub said_call : (o : List ℕ) (i : Input) (number : ℕ) (n : Numbers) (e : Ends) → i ≡ CallInput number n e → starts (input_in o (CallInput number n e)) ≡ on_said (input_in o i)
+said_call o i number n e h = rw h
 
-pub said-event : (o : List ℕ) (i : Input) (number n : ℕ) → i ≡ EventInput number n → nothing ≡ onSaid (inputIn o i)
-said-event o i number n h = rw h
+pub said_event : (o : List ℕ) (i : Input) (number n : ℕ) → i ≡ EventInput number n → nothing ≡ on_said (input_in o i)
+said_event o i number n h = rw h
 
-pub said-nothing : (o : List ℕ) (i : Input) → i ≡ NoInput → nothing ≡ onSaid (inputIn o i)
+pub said-nothing : (o : List ℕ) (i : Input) → i ≡ NoInput → nothing ≡ on_said (input_in o i)
 said-nothing o i h = rw h

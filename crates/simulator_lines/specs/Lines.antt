@@ -2,7 +2,7 @@
 use Rattle.core.specs.Prelude.{ℕ, List}
 use Rattle.protocol.specs.Session.{Session}
 use Rattle.chip_protocol.specs.Channel.{simulated, Channel}
-use Rattle.simulator_lines.specs.Plays.{Playing, endText}
+use Rattle.simulator_lines.specs.Plays.{Playing, end_text}
 
 -- the reader, and the chip with the packets unread
 pub record Simulator : Type 0 where
@@ -13,5 +13,5 @@ pub record SimulatorLine : Type 0 where
   pub simulator : Simulator
   pub text : List ℕ
 
-abbrev pub callEnded : Playing → SimulatorLine
-callEnded p = record { simulator = record { session = p.session; channel = p.channel }; text = endText p }
+abbrev pub call_ended : Playing → SimulatorLine
+call_ended p = record { simulator = record { session = p.session; channel = p.channel }; text = end_text p }

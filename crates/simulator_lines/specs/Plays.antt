@@ -2,28 +2,28 @@
 use Rattle.core.specs.Prelude.{ℕ, zero, suc, List, [], ◌∷◌}
 use Rattle.exchange.specs.Exchange.{Order, write, read, drain, pause}
 use Rattle.protocol.specs.Scripts.{Byte}
-use Rattle.protocol.specs.Session.{Session, Output, orders, answers, rejects, event, bufferNeed, StepResult, step}
-use Rattle.protocol.specs.Machine.{outputValues}
+use Rattle.protocol.specs.Session.{Session, Output, orders, answers, rejects, event, buffer_need, StepResult, step}
+use Rattle.protocol.specs.Machine.{output_values}
 use Rattle.bench_input.specs.Table.{Said}
-use Rattle.bench_session.specs.Sessions.{lineStep, givenText}
-use Rattle.chip_protocol.specs.Chip.{chipStep}
-use Rattle.chip_protocol.specs.Channel.{simulated, Channel, channel, behindNext, eventFor}
-use Rattle.simulator_lines.specs.Ring.{keptWith}
+use Rattle.bench_session.specs.Sessions.{line_step, given_text}
+use Rattle.chip_protocol.specs.Chip.{chip_step}
+use Rattle.chip_protocol.specs.Channel.{simulated, Channel, channel, behind_next, event_for}
+use Rattle.simulator_lines.specs.Ring.{kept_with}
 
--- the most events of a call; `placesLimit` is the most packets unread
-abbrev pub eventLimit : ℕ
-eventLimit = 4096
+-- the most events of a call; `places_limit` is the most packets unread
+abbrev pub event_limit : ℕ
+event_limit = 4096
 
-abbrev pub keptAll : List (List ℕ) → List (List ℕ) → List (List ℕ)
-keptAll q [] = q
-keptAll q (p ∷ ps) = keptAll (keptWith q p) ps
+abbrev pub kept_all : List (List ℕ) → List (List ℕ) → List (List ℕ)
+kept_all q [] = q
+kept_all q (p ∷ ps) = kept_all (kept_with q p) ps
 
 -- chip_protocol's channel, but for packets that are lost
-abbrev pub limitedAfter : Channel simulated → Order → Channel simulated
-limitedAfter l (write bytes) = channel simulated (chipStep l.chip bytes).state (keptAll l.unread (chipStep l.chip bytes).packets)
-limitedAfter l (read ms) = channel simulated l.chip (behindNext simulated l.unread)
-limitedAfter l drain = channel simulated l.chip (behindNext simulated l.unread)
-limitedAfter l (pause us) = l
+abbrev pub limited_after : Channel simulated → Order → Channel simulated
+limited_after l (write bytes) = channel simulated (chip_step l.chip bytes).state (kept_all l.unread (chip_step l.chip bytes).packets)
+limited_after l (read ms) = channel simulated l.chip (behind_next simulated l.unread)
+limited_after l drain = channel simulated l.chip (behind_next simulated l.unread)
+limited_after l (pause us) = l
 
 -- the session with its last output, and the channel
 pub record Playing : Type 0 where
@@ -36,21 +36,21 @@ playing s l out = record { session = s; channel = l; output = out }
 
 -- an order gets its event
 abbrev pub answered : Session → Channel simulated → Order → StepResult Session Byte
-answered s l x = step s (event (eventFor simulated l x) bufferNeed)
+answered s l x = step s (event (event_for simulated l x) buffer_need)
 
 -- while the session orders, and for so many events at most
 abbrev pub played : ℕ → Session → Channel simulated → Output Byte → Playing
 played zero s l out = playing s l out
-played (suc n) s l (orders x) = played n (answered s l x).state (limitedAfter l x) (answered s l x).output
+played (suc n) s l (orders x) = played n (answered s l x).state (limited_after l x) (answered s l x).output
 played (suc n) s l (answers a) = playing s l (answers a)
 played (suc n) s l (rejects r) = playing s l (rejects r)
 
-abbrev pub playedFrom : ℕ → Playing → Playing
-playedFrom n p = played n p.session p.channel p.output
+abbrev pub played_from : ℕ → Playing → Playing
+played_from n p = played n p.session p.channel p.output
 
 -- a call, and what is printed at its end
-abbrev pub callPlayed : Session → Channel simulated → Said → Playing
-callPlayed s l c = played eventLimit (lineStep s c).state l (lineStep s c).output
+abbrev pub call_played : Session → Channel simulated → Said → Playing
+call_played s l c = played event_limit (line_step s c).state l (line_step s c).output
 
-abbrev pub endText : Playing → List ℕ
-endText p = givenText (outputValues p.output)
+abbrev pub end_text : Playing → List ℕ
+end_text p = given_text (output_values p.output)

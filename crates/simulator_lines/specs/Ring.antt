@@ -2,22 +2,22 @@
 use Rattle.core.specs.Prelude.{ℕ, ◌+◌, ◌*◌, ◌%◌, List, [], ◌∷◌, ◌++◌, length, take, nat_lt, slice_index}
 use Rattle.std.proofs.Math.Seq.{slice}
 use Rattle.errors.specs.Choice.{pick}
-use Rattle.chip_protocol.specs.Names.{longestPacket}
+use Rattle.chip_protocol.specs.Names.{longest_packet}
 use Rattle.simulated_chip.specs.Counted.{list_from}
 use Rattle.simulator_lines.specs.declared.channel.Unread.{Unread}
 
 -- how many packets are kept
-abbrev pub placesLimit : ℕ
-placesLimit = 128
+abbrev pub places_limit : ℕ
+places_limit = 128
 
 -- a packet more behind the others; it is lost where all places are taken
-unfoldable pub keptWith : List (List ℕ) → List ℕ → List (List ℕ)
-keptWith q p = pick (nat_lt (length q) placesLimit) (q ++ (p ∷ [])) q
+unfoldable pub kept_with : List (List ℕ) → List ℕ → List (List ℕ)
+kept_with q p = pick (nat_lt (length q) places_limit) (q ++ (p ∷ [])) q
 
 -- the packet at a place
-unfoldable pub packetAt : List ℕ → List ℕ → ℕ → List ℕ
-packetAt packets lengths at = take (slice_index lengths at) (slice (at * longestPacket) (at * longestPacket + longestPacket) packets)
+unfoldable pub packet_at : List ℕ → List ℕ → ℕ → List ℕ
+packet_at packets lengths at = take (slice_index lengths at) (slice (at * longest_packet) (at * longest_packet + longest_packet) packets)
 
 -- so many from the first on
-abbrev pub unreadIn : Unread → List ℕ → List ℕ → List (List ℕ)
-unreadIn u packets lengths = list_from (λ (i : ℕ). packetAt packets lengths (i % placesLimit)) u.count u.first
+abbrev pub unread_in : Unread → List ℕ → List ℕ → List (List ℕ)
+unread_in u packets lengths = list_from (λ (i : ℕ). packet_at packets lengths (i % places_limit)) u.count u.first

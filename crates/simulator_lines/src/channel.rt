@@ -1,8 +1,8 @@
 // The packets that the chip sent and that are not yet read: a ring of places, each with room for a packet.
 ghost use Rattle.core.specs.Prelude.{◌≡◌, ℕ, ◌%◌, List, length, take};
-ghost use Rattle.chip_protocol.specs.Channel.{simulated, behindNext};
-ghost use Rattle.chip_protocol.specs.Names.{longestPacket};
-ghost use Rattle.simulator_lines.specs.Ring.{placesLimit, keptWith, packetAt, unreadIn};
+ghost use Rattle.chip_protocol.specs.Channel.{simulated, behind_next};
+ghost use Rattle.chip_protocol.specs.Names.{longest_packet};
+ghost use Rattle.simulator_lines.specs.Ring.{places_limit, kept_with, packet_at, unread_in};
 
 use bench::{prefix, text};
 use bench_input::slice;
@@ -21,7 +21,7 @@ pub struct Unread {
 }
 
 fn place(number: usize) -> usize
-    ensures { result ≡ number % placesLimit }
+    ensures { result ≡ number % places_limit }
 {
     number % PLACES
 }
@@ -38,7 +38,7 @@ impl Unread {
         packets: &mut [u8; CHANNEL_SIZE],
         lengths: &mut [usize; PLACES],
     ) -> Unread
-        ensures { length lengths.old ≡ placesLimit → (unreadIn result packets.new lengths.new ≡ keptWith (unreadIn self packets.old lengths.old) (take longestPacket packet.now)) × (length lengths.new ≡ placesLimit) }
+        ensures { length lengths.old ≡ places_limit → (unread_in result packets.new lengths.new ≡ kept_with (unread_in self packets.old lengths.old) (take longest_packet packet.now)) × (length lengths.new ≡ places_limit) }
     {
         if PLACES <= self.count {
             return self;
@@ -60,7 +60,7 @@ impl Unread {
         packets: &'a [u8; CHANNEL_SIZE],
         lengths: &[usize; PLACES],
     ) -> &'a [u8]
-        ensures { result.now ≡ packetAt packets.now lengths.now (self.first % placesLimit) }
+        ensures { result.now ≡ packet_at packets.now lengths.now (self.first % places_limit) }
     {
         let at = place(self.first);
         let start = at * PACKET_SIZE;
@@ -68,7 +68,7 @@ impl Unread {
     }
 
     pub(crate) fn behind_next(self) -> Unread
-        ensures { (packets lengths : List ℕ) → unreadIn result packets lengths ≡ behindNext simulated (unreadIn self packets lengths) }
+        ensures { (packets lengths : List ℕ) → unread_in result packets lengths ≡ behind_next simulated (unread_in self packets lengths) }
     {
         if self.count == 0 {
             return self;

@@ -1,12 +1,14 @@
 // The lines of the program `simulator`: a reader, and a chip with its field of cards at its other end.
+#![tactic(auto)]
+
 mod channel;
 mod play;
 mod request;
 
 ghost use Rattle.core.specs.Prelude.{◌≡◌};
-ghost use Rattle.bench_input.specs.Readings.{inputIn};
-ghost use Rattle.simulator_lines.specs.Plays.{callPlayed};
-ghost use Rattle.simulator_lines.specs.Lines.{Simulator, callEnded};
+ghost use Rattle.bench_input.specs.Readings.{input_in};
+ghost use Rattle.simulator_lines.specs.Plays.{call_played};
+ghost use Rattle.simulator_lines.specs.Lines.{Simulator, call_ended};
 ghost use Rattle.simulator_lines.specs.Represents.{SimulatorIn, Answers};
 
 use bench::lines::{Line, Unread};
@@ -43,7 +45,7 @@ fn called(
     buffer: &mut [u8; BUFFER_SIZE],
     out: &mut [u8; OUT_ROOM],
 ) -> Answered
-    ensures { (z : Simulator) → SimulatorIn sim.session sim.state sim.unread cards.now sent.now replies.now packets.old lengths.old z → Answers result cards.now sent.now replies.now packets.new lengths.new out.new (callEnded (callPlayed z.session z.channel (inputIn bytes.now input))) }
+    ensures { (z : Simulator) → SimulatorIn sim.session sim.state sim.unread cards.now sent.now replies.now packets.old lengths.old z → Answers result cards.now sent.now replies.now packets.new lengths.new out.new (call_ended (call_played z.session z.channel (input_in bytes.now input))) }
 {
     let session = sim.session;
     let state = sim.state;

@@ -2,8 +2,8 @@
 ghost use Rattle.core.specs.Prelude.{◌≡◌};
 ghost use Rattle.exchange.specs.Exchange as Ordered;
 ghost use Rattle.chip_protocol.specs.Channel.{simulated, Channel};
-ghost use Rattle.simulator_lines.specs.Plays.{Playing, limitedAfter, playedFrom, eventLimit};
-ghost use Rattle.simulator_lines.specs.Represents.{orderAsked, is_over, nextEvent, ChannelIn, PlayIn};
+ghost use Rattle.simulator_lines.specs.Plays.{Playing, limited_after, played_from, event_limit};
+ghost use Rattle.simulator_lines.specs.Represents.{order_asked, is_over, next_event_of, ChannelIn, PlayIn};
 
 use super::channel::{CHANNEL_SIZE, PLACES, Unread};
 use bench::{hex, lines, prefix, text};
@@ -25,7 +25,7 @@ pub enum Order {
 }
 
 fn order_of(output: Output) -> Order
-    ensures { result ≡ orderAsked output }
+    ensures { result ≡ order_asked output }
 {
     match output {
         Output::Ack => Order::Write(ACK_SIZE),
@@ -61,7 +61,7 @@ fn write(
     packets: &mut [u8; CHANNEL_SIZE],
     lengths: &mut [usize; PLACES],
 ) -> Reaction
-    ensures { (l : Channel simulated) → ChannelIn state cards.now sent.now replies.now unread packets.old lengths.old l → ChannelIn result.state cards.now sent.now replies.now result.unread packets.new lengths.new (limitedAfter l (Ordered.write written.now)) }
+    ensures { (l : Channel simulated) → ChannelIn state cards.now sent.now replies.now unread packets.old lengths.old l → ChannelIn result.state cards.now sent.now replies.now result.unread packets.new lengths.new (limited_after l (Ordered.write written.now)) }
 {
     let mut packet = [0u8; PACKET_SIZE];
     let step = state.step(cards, sent, replies, written, &mut packet);
@@ -87,7 +87,7 @@ fn write(
 }
 
 fn next_event(unread: Unread) -> Event
-    ensures { result ≡ nextEvent unread.count }
+    ensures { result ≡ next_event_of unread.count }
 {
     if unread.count == 0 {
         return Event::Time;
@@ -145,7 +145,7 @@ fn on_write(
     lengths: &mut [usize; PLACES],
     buffer: &mut [u8; BUFFER_SIZE],
 ) -> Play
-    ensures { orderAsked play.output ≡ Order.Write n → (p : Playing) → PlayIn play cards.now sent.now replies.now packets.old lengths.old buffer.old p → PlayIn result cards.now sent.now replies.now packets.new lengths.new buffer.new (playedFrom 1 p) }
+    ensures { order_asked play.output ≡ Order.Write n → (p : Playing) → PlayIn play cards.now sent.now replies.now packets.old lengths.old buffer.old p → PlayIn result cards.now sent.now replies.now packets.new lengths.new buffer.new (played_from 1 p) }
 {
     let state = play.state;
     let unread = play.unread;
@@ -189,7 +189,7 @@ fn turn(
     buffer: &mut [u8; BUFFER_SIZE],
     out: &mut [u8; OUT_ROOM],
 ) -> Play
-    ensures { (p : Playing) → PlayIn play cards.now sent.now replies.now packets.old lengths.old buffer.old p → PlayIn result cards.now sent.now replies.now packets.new lengths.new buffer.new (playedFrom 1 p) }
+    ensures { (p : Playing) → PlayIn play cards.now sent.now replies.now packets.old lengths.old buffer.old p → PlayIn result cards.now sent.now replies.now packets.new lengths.new buffer.new (played_from 1 p) }
 {
     let output = play.output;
     let state = play.state;
@@ -221,7 +221,7 @@ fn turn(
 }
 
 fn is_over(output: Output) -> bool
-    ensures { result ≡ is_over (orderAsked output) }
+    ensures { result ≡ is_over (order_asked output) }
 {
     let order = order_of(output);
     match order {
@@ -247,7 +247,7 @@ pub(crate) fn to_end(
     buffer: &mut [u8; BUFFER_SIZE],
     out: &mut [u8; OUT_ROOM],
 ) -> Play
-    ensures { (p : Playing) → PlayIn start cards.now sent.now replies.now packets.old lengths.old buffer.old p → PlayIn result cards.now sent.now replies.now packets.new lengths.new buffer.new (playedFrom eventLimit p) }
+    ensures { (p : Playing) → PlayIn start cards.now sent.now replies.now packets.old lengths.old buffer.old p → PlayIn result cards.now sent.now replies.now packets.new lengths.new buffer.new (played_from event_limit p) }
 {
     let mut now = start;
     let mut left = EVENT_LIMIT;

@@ -1,6 +1,6 @@
 // A line of the program, read.
 ghost use Rattle.core.specs.Prelude.{◌≡◌};
-ghost use Rattle.simulator_lines.specs.Requests.{isFieldName, asked_of, askedIn};
+ghost use Rattle.simulator_lines.specs.Requests.{is_field_name_of, asked_of, asked_in};
 
 use bench::words;
 use bench_input::{BYTES_ROOM, Ends, Input, LINE_LIMIT};
@@ -16,7 +16,7 @@ pub enum Request {
 }
 
 fn is_field_name(word: &[u8]) -> bool
-    ensures { result ≡ isFieldName word.now }
+    ensures { result ≡ is_field_name_of word.now }
 {
     if framing::is_exactly(word, b"fresh") {
         return true;
@@ -29,7 +29,7 @@ fn is_field_name(word: &[u8]) -> bool
 
 // What the line asks for; the byte strings of a call stand in the array. Where it is no call, all bytes of the array are free.
 pub(crate) fn read(line: &[u8], bytes: &mut [u8; BYTES_ROOM]) -> Request
-    ensures { askedIn bytes.new result ≡ asked_of line.now }
+    ensures { asked_in bytes.new result ≡ asked_of line.now }
 {
     if LINE_LIMIT < line.len() {
         return Request::Unreadable;

@@ -69,8 +69,8 @@ module _ (l : List ℕ) (at end : ℕ) (within : at ≤ length l) (found : end �
   last-field : end ≡ length l → OneField (drop at l)
   last-field h = let d : end ≡ at + index_of 124 (drop at l) = distance in one_field (drop at l) (rw (length-drop at l) (omega arith))
 
-  pub field-there : end ≤ length l → take (end - at) (drop at l) ≡ get_or (fields_of (drop at l)) 0 []
-  field-there h = go (ltb end (length l)) refl
+  pub field_there : end ≤ length l → take (end - at) (drop at l) ≡ get_or (fields_of (drop at l)) 0 []
+  field_there h = go (ltb end (length l)) refl
     where
       go : (t : Bool) → ltb end (length l) ≡ t → take (end - at) (drop at l) ≡ get_or (fields_of (drop at l)) 0 []
       go true e = sym (ap (λ x. get_or x 0 []) (next_field (ltb-true end (length l) e)))
@@ -84,13 +84,13 @@ module _ (l : List ℕ) (at end : ℕ) (within : at ≤ length l) (found : end �
     one_less : (k : ℕ) → 0 < k → suc (k - 1) ≡ k
     one_less k h = omega arith
 
-    pub field-passed : (m : ℕ) → (end ≡ length l → ⊥) → end ≤ length l → m ≡ left - 1 → get_or (fields_of (drop (end + 1) l)) m [] ≡ w
-    field-passed m n u e = let h : end < length l = omega arith in rw e (ap (λ x. get_or x (suc (left - 1)) []) (sym (next_field h)) ∙ ap (λ k. get_or (fields_of (drop at l)) k []) (one_less left more) ∙ is_field)
+    pub field_passed : (m : ℕ) → (end ≡ length l → ⊥) → end ≤ length l → m ≡ left - 1 → get_or (fields_of (drop (end + 1) l)) m [] ≡ w
+    field_passed m n u e = let h : end < length l = omega arith in rw e (ap (λ x. get_or x (suc (left - 1)) []) (sym (next_field h)) ∙ ap (λ k. get_or (fields_of (drop at l)) k []) (one_less left more) ∙ is_field)
 
     pub no_field : end ≡ length l → get_or (fields_of (drop end l)) 0 [] ≡ w
     unfolding fields_of
     no_field h =
         ap (λ x. get_or (fields_of x) 0 []) (drop_of_length-le l {i = end} (omega arith)) ∙ sym ((last-field h).1 (left - 1)) ∙ ap (λ k. get_or (fields_of (drop at l)) k []) (one_less left more) ∙ is_field
 
-pub field-here : (l : List ℕ) (at left : ℕ) (w : List ℕ) → get_or (fields_of (drop at l)) left [] ≡ w → left ≤ 0 → get_or (fields_of (drop at l)) 0 [] ≡ w
-field-here l at left w e h = let z : left ≡ 0 = omega arith in ap (λ k. get_or (fields_of (drop at l)) k []) (sym z) ∙ e
+pub field_here : (l : List ℕ) (at left : ℕ) (w : List ℕ) → get_or (fields_of (drop at l)) left [] ≡ w → left ≤ 0 → get_or (fields_of (drop at l)) 0 [] ≡ w
+field_here l at left w e h = let z : left ≡ 0 = omega arith in ap (λ k. get_or (fields_of (drop at l)) k []) (sym z) ∙ e

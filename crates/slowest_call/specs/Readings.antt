@@ -6,52 +6,52 @@ use Rattle.errors.specs.Choice.{pick, same, in_range}
 use Rattle.framing.specs.Frames.{ack}
 use Rattle.targets.specs.Bitrates.{ascii}
 use Rattle.exchange.specs.Exchange.{Event, ok, bad, pkt, time, fail, late, slept}
-use Rattle.protocol.specs.Calls.{isOpening}
-use Rattle.protocol.specs.Session.{Entry, call, event, bufferNeed, fresh, sessionAfter}
+use Rattle.protocol.specs.Calls.{is_opening}
+use Rattle.protocol.specs.Session.{Entry, call, event, buffer_need, fresh, session_after}
 use Rattle.protocol.specs.Record.{events}
-use Rattle.protocol.specs.Runs.{callEntries, lines_from}
+use Rattle.protocol.specs.Runs.{call_entries, lines_from}
 use Rattle.protocol.specs.Sample.{formats}
 use Rattle.calls.specs.Numbers.{call_of}
-use Rattle.engine.specs.Numbers.{eventBy}
-use Rattle.bench.specs.Hex.{value_of, allHexDigits, isHex, pairsOf, digitOf, digitsOf, hexOf}
-use Rattle.bench.specs.Texts.{decimalOf}
-use Rattle.bench.specs.WordLaws.{wordsBehind, words-behind}
-use Rattle.bench.specs.Words.{ahead, wordsOf}
-use Rattle.bench.specs.Numbers.{digitValue, allDecimal, numberFrom, is_number}
-use Rattle.bench_input.specs.Arguments.{hexArg, wholeArg, pairsArg, byteArg, flagArg, wordArg, msArg, textArg, is_none, hexOrNone, presentArg, nameArg, waitArg}
-use Rattle.bench_input.specs.Letters.{numberArg, stringArg, argument, argumentsOf}
-use Rattle.bench_input.specs.Table.{table, isFor, rowFor, said, Said, calls, happens, unreadable, input_of}
-use Rattle.slowest_call.specs.Question.{roomy, entriesOf, withAcks, eventsOf}
-use Rattle.slowest_call.specs.Kinds.{Kind, openingKind, versionKind, resetModeKind, setParametersKind, rfConfigurationKind, readRegisterKind, writeRegisterKind, readSingleRegisterKind, writeSingleRegisterKind, inListPassiveTargetKind, inDataExchangeKind, inCommunicateThruKind, inJumpForDepKind, tgInitTargetKind, tgSetGeneralBytesKind, tgGetInitiatorCommandKind, tgResponseToInitiatorKind, tgGetTargetStatusKind, rfFieldOffKind, detectTypeAKind, detectTypeBKind, detectTypeFKind, detectDepKind, transceiveKind, detectTypeASplitKind, readWithoutEncryptionKind, writeWithoutEncryptionKind}
-use Rattle.slowest_call.specs.Kinds.{most, slowest, start, leading, leadingEvents}
-use Rattle.slowest_call.specs.Texts.{eventLine, callLine, startLines, runLines, scriptLines, joinedBehind, joined, scriptText}
+use Rattle.engine.specs.Numbers.{event_by_of}
+use Rattle.bench.specs.Hex.{value_of, all_hex_digits, is_hex_of, pairs_of, digit_of, digits_of_lem, hex_of}
+use Rattle.bench.specs.Texts.{decimal_of}
+use Rattle.bench.specs.WordLaws.{words_behind, words_behind_lem}
+use Rattle.bench.specs.Words.{ahead, words_of_lem}
+use Rattle.bench.specs.Numbers.{digit_value_of, all_decimal, number_from, is_number}
+use Rattle.bench_input.specs.Arguments.{hex_arg, whole_arg, pairs_arg, byte_arg, flag_arg, word_arg, ms_arg, text_arg, is_none, hex_or_none, present_arg, name_arg, wait_arg}
+use Rattle.bench_input.specs.Letters.{number_arg, string_arg, argument, arguments_of}
+use Rattle.bench_input.specs.Table.{table, is_for_of, row_for, said, Said, calls, happens, unreadable, input_of}
+use Rattle.slowest_call.specs.Question.{roomy, entries_of, with_acks, events_of}
+use Rattle.slowest_call.specs.Kinds.{Kind, opening_kind, version_kind, reset_mode_kind, set_parameters_kind, rf_configuration_kind, read_register_kind, write_register_kind, read_single_register_kind, write_single_register_kind, in_list_passive_target_kind, in_data_exchange_kind, in_communicate_thru_kind, in_jump_for_dep_kind, tg_init_target_kind, tg_set_general_bytes_kind, tg_get_initiator_command_kind, tg_response_to_initiator_kind, tg_get_target_status_kind, rf_field_off_kind, detect_type_a_kind, detect_type_b_kind, detect_type_f_kind, detect_dep_kind, transceive_kind, detect_type_a_split_kind, read_without_encryption_kind, write_without_encryption_kind}
+use Rattle.slowest_call.specs.Kinds.{most, slowest, start, leading, leading_events}
+use Rattle.slowest_call.specs.Texts.{event_line, call_line, start_lines, run_lines, script_lines, joined_behind, joined, script_text}
 use Rattle.slowest_call.specs.Theorem.{slowest-run}
 
 -- ---- what a line is read as
 
-abbrev eventRead : Option Event → Option Entry
-eventRead none = none
-eventRead (some e) = some (event e bufferNeed)
+abbrev event_read : Option Event → Option Entry
+event_read none = none
+event_read (some e) = some (event e buffer_need)
 
-abbrev pub entryBy : Said → Option Entry
-entryBy (calls number n first second third fourth) = some (call n.caller (call_of number n first second third fourth) bufferNeed)
-entryBy (happens number packet) = eventRead (eventBy number packet)
-entryBy unreadable = none
+abbrev pub entry_by : Said → Option Entry
+entry_by (calls number n first second third fourth) = some (call n.caller (call_of number n first second third fourth) buffer_need)
+entry_by (happens number packet) = event_read (event_by_of number packet)
+entry_by unreadable = none
 
 abbrev pub entry_of : List ℕ → Option Entry
-entry_of l = entryBy (input_of l)
+entry_of l = entry_by (input_of l)
 
 unfoldable reading : Unit {0}
-unfolding formats pick same in_range value_of allHexDigits isHex pairsOf digitOf digitsOf hexOf ahead wordsOf digitValue allDecimal numberFrom is_number hexArg wholeArg pairsArg byteArg flagArg wordArg msArg textArg is_none hexOrNone presentArg nameArg waitArg numberArg stringArg argument argumentsOf table isFor rowFor said input_of eventBy call_of
+unfolding formats pick same in_range value_of all_hex_digits is_hex_of pairs_of digit_of digits_of_lem hex_of ahead words_of_lem digit_value_of all_decimal number_from is_number hex_arg whole_arg pairs_arg byte_arg flag_arg word_arg ms_arg text_arg is_none hex_or_none present_arg name_arg wait_arg number_arg string_arg argument arguments_of table is_for_of row_for said input_of event_by_of call_of
 reading = tt
 
 abbrev head_or : Option Entry → List (Option Entry) → Option Entry
 head_or x [] = x
 head_or x (y ∷ ys) = y
 
-ack-read : entry_of (eventLine (pkt ack)) ≡ some (event (pkt ack) bufferNeed)
+ack_read : entry_of (event_line (pkt ack)) ≡ some (event (pkt ack) buffer_need)
 unfolding reading
-ack-read = refl
+ack_read = refl
 
 -- what each kind's lines are read as
 record Readings : Type 0 where
@@ -60,118 +60,118 @@ record Readings : Type 0 where
   behind : List (Option Entry)
 
 abbrev readings : Kind → Readings
-readings k = record { call = entry_of (callLine k); before = map entry_of (map eventLine (slowest k).before); behind = map entry_of (map eventLine (slowest k).behind) }
+readings k = record { call = entry_of (call_line k); before = map entry_of (map event_line (slowest k).before); behind = map entry_of (map event_line (slowest k).behind) }
 
-kind-read : (k : Kind)
-    → readings k ≡ record { call = some (call 0 (slowest k).call bufferNeed); before = map some (entriesOf (slowest k).before); behind = map some (entriesOf (slowest k).behind) }
+kind_read : (k : Kind)
+    → readings k ≡ record { call = some (call 0 (slowest k).call buffer_need); before = map some (entries_of (slowest k).before); behind = map some (entries_of (slowest k).behind) }
 unfolding reading
-kind-read openingKind = refl
-kind-read versionKind = refl
-kind-read resetModeKind = refl
-kind-read setParametersKind = refl
-kind-read rfConfigurationKind = refl
-kind-read readRegisterKind = refl
-kind-read writeRegisterKind = refl
-kind-read readSingleRegisterKind = refl
-kind-read writeSingleRegisterKind = refl
-kind-read inListPassiveTargetKind = refl
-kind-read inDataExchangeKind = refl
-kind-read inCommunicateThruKind = refl
-kind-read inJumpForDepKind = refl
-kind-read tgInitTargetKind = refl
-kind-read tgSetGeneralBytesKind = refl
-kind-read tgGetInitiatorCommandKind = refl
-kind-read tgResponseToInitiatorKind = refl
-kind-read tgGetTargetStatusKind = refl
-kind-read rfFieldOffKind = refl
-kind-read detectTypeAKind = refl
-kind-read detectTypeBKind = refl
-kind-read detectTypeFKind = refl
-kind-read detectDepKind = refl
-kind-read transceiveKind = refl
-kind-read detectTypeASplitKind = refl
-kind-read readWithoutEncryptionKind = refl
-kind-read writeWithoutEncryptionKind = refl
+kind_read opening_kind = refl
+kind_read version_kind = refl
+kind_read reset_mode_kind = refl
+kind_read set_parameters_kind = refl
+kind_read rf_configuration_kind = refl
+kind_read read_register_kind = refl
+kind_read write_register_kind = refl
+kind_read read_single_register_kind = refl
+kind_read write_single_register_kind = refl
+kind_read in_list_passive_target_kind = refl
+kind_read in_data_exchange_kind = refl
+kind_read in_communicate_thru_kind = refl
+kind_read in_jump_for_dep_kind = refl
+kind_read tg_init_target_kind = refl
+kind_read tg_set_general_bytes_kind = refl
+kind_read tg_get_initiator_command_kind = refl
+kind_read tg_response_to_initiator_kind = refl
+kind_read tg_get_target_status_kind = refl
+kind_read rf_field_off_kind = refl
+kind_read detect_type_a_kind = refl
+kind_read detect_type_b_kind = refl
+kind_read detect_type_f_kind = refl
+kind_read detect_dep_kind = refl
+kind_read transceive_kind = refl
+kind_read detect_type_a_split_kind = refl
+kind_read read_without_encryption_kind = refl
+kind_read write_without_encryption_kind = refl
 
-lead-read : map entry_of (callLine openingKind ∷ map eventLine leadingEvents) ≡ map some leading
+lead_read : map entry_of (call_line opening_kind ∷ map event_line leading_events) ≡ map some leading
 unfolding reading
-lead-read = refl
+lead_read = refl
 
 -- ---- a whole script
 
-acks-read : (extra : ℕ) (es : List Event) → map entry_of (map eventLine es) ≡ map some (entriesOf es)
-    → map entry_of (map eventLine (withAcks extra es)) ≡ map some (entriesOf (withAcks extra es))
-acks-read zero es h = h
-acks-read (suc extra) es h = ap₂ (λ (x : Option Entry) (xs : List (Option Entry)). x ∷ xs) ack-read (acks-read extra es h)
+acks_read : (extra : ℕ) (es : List Event) → map entry_of (map event_line es) ≡ map some (entries_of es)
+    → map entry_of (map event_line (with_acks extra es)) ≡ map some (entries_of (with_acks extra es))
+acks_read zero es h = h
+acks_read (suc extra) es h = ap₂ (λ (x : Option Entry) (xs : List (Option Entry)). x ∷ xs) ack_read (acks_read extra es h)
 
-both_read : (es ds : List Event) → map entry_of (map eventLine es) ≡ map some (entriesOf es) → map entry_of (map eventLine ds) ≡ map some (entriesOf ds)
-    → map entry_of (map eventLine (es ++ ds)) ≡ map some (entriesOf (es ++ ds))
+both_read : (es ds : List Event) → map entry_of (map event_line es) ≡ map some (entries_of es) → map entry_of (map event_line ds) ≡ map some (entries_of ds)
+    → map entry_of (map event_line (es ++ ds)) ≡ map some (entries_of (es ++ ds))
 both_read [] ds h k = k
 both_read (e ∷ es) ds h k = ap₂ (λ (x : Option Entry) (xs : List (Option Entry)). x ∷ xs) (ap (head_or none) h) (both_read es ds (ap (drop 1) h) k)
 
 -- each line is read as the entry of the run
-pub run-read : (k : Kind) (extra : ℕ) → map entry_of (runLines k extra) ≡ map some (callEntries 0 (slowest k).call bufferNeed (roomy (eventsOf (slowest k) extra)))
-run-read k extra =
-    ap₂ (λ (x : Option Entry) (xs : List (Option Entry)). x ∷ xs) (ap (λ r. r.call) (kind-read k))
-    (both_read (slowest k).before (withAcks extra (slowest k).behind) (ap (λ r. r.before) (kind-read k)) (acks-read extra (slowest k).behind (ap (λ r. r.behind) (kind-read k))))
+pub run_read : (k : Kind) (extra : ℕ) → map entry_of (run_lines k extra) ≡ map some (call_entries 0 (slowest k).call buffer_need (roomy (events_of (slowest k) extra)))
+run_read k extra =
+    ap₂ (λ (x : Option Entry) (xs : List (Option Entry)). x ∷ xs) (ap (λ r. r.call) (kind_read k))
+    (both_read (slowest k).before (with_acks extra (slowest k).behind) (ap (λ r. r.before) (kind_read k)) (acks_read extra (slowest k).behind (ap (λ r. r.behind) (kind_read k))))
 
-pub start-read : (k : Kind) → map entry_of (startLines k) ≡ map some (start k)
-start-read k = go (isOpening (slowest k).call)
+pub start_read : (k : Kind) → map entry_of (start_lines k) ≡ map some (start k)
+start_read k = go (is_opening (slowest k).call)
   where
-    go : (t : Bool) → map entry_of (cond t [] (callLine openingKind ∷ map eventLine leadingEvents)) ≡ map some (cond t [] leading)
+    go : (t : Bool) → map entry_of (cond t [] (call_line opening_kind ∷ map event_line leading_events)) ≡ map some (cond t [] leading)
     go true = refl
-    go false = lead-read
+    go false = lead_read
 
 -- ---- what is printed
 
 -- the words of lines behind another: the word `;` (59) stands before those of each
-unfoldable pub wordsBehindLine : List (List ℕ) → List (List ℕ)
-wordsBehindLine [] = []
-wordsBehindLine (l ∷ ls) = (59 ∷ []) ∷ (wordsOf l ++ wordsBehindLine ls)
+unfoldable pub words_behind_line : List (List ℕ) → List (List ℕ)
+words_behind_line [] = []
+words_behind_line (l ∷ ls) = (59 ∷ []) ∷ (words_of_lem l ++ words_behind_line ls)
 
-unfoldable pub wordsOfLines : List (List ℕ) → List (List ℕ)
-wordsOfLines [] = wordsOf []
-wordsOfLines (l ∷ ls) = wordsOf l ++ wordsBehindLine ls
+unfoldable pub words_of_lines : List (List ℕ) → List (List ℕ)
+words_of_lines [] = words_of_lem []
+words_of_lines (l ∷ ls) = words_of_lem l ++ words_behind_line ls
 
-words_append : (a b : List ℕ) → wordsOf (a ++ (32 ∷ b)) ≡ wordsOf a ++ wordsOf b
-unfolding wordsOf pick ahead
+words_append : (a b : List ℕ) → words_of_lem (a ++ (32 ∷ b)) ≡ words_of_lem a ++ words_of_lem b
+unfolding words_of_lem pick ahead
 words_append [] b = refl
 words_append (c ∷ a) b = go (eqb c 32) (words_append a b)
   where
-    go : (t : Bool) → wordsOf (a ++ (32 ∷ b)) ≡ wordsOf a ++ wordsOf b
-        → pick t ([] ∷ wordsOf (a ++ (32 ∷ b))) (ahead c (wordsOf (a ++ (32 ∷ b)))) ≡ pick t ([] ∷ wordsOf a) (ahead c (wordsOf a)) ++ wordsOf b
+    go : (t : Bool) → words_of_lem (a ++ (32 ∷ b)) ≡ words_of_lem a ++ words_of_lem b
+        → pick t ([] ∷ words_of_lem (a ++ (32 ∷ b))) (ahead c (words_of_lem (a ++ (32 ∷ b)))) ≡ pick t ([] ∷ words_of_lem a) (ahead c (words_of_lem a)) ++ words_of_lem b
     go true e = ap (λ x. [] ∷ x) e
-    go false e = ap (ahead c) e ∙ rw (words-behind a)
+    go false e = ap (ahead c) e ∙ rw (words_behind_lem a)
 
-one-semicolon : wordsOf (59 ∷ []) ≡ (59 ∷ []) ∷ []
-unfolding wordsOf pick ahead
-one-semicolon = refl
+one_semicolon : words_of_lem (59 ∷ []) ≡ (59 ∷ []) ∷ []
+unfolding words_of_lem pick ahead
+one_semicolon = refl
 
-words-joined : (l : List ℕ) (ls : List (List ℕ)) → wordsOf (l ++ joinedBehind ls) ≡ wordsOf l ++ wordsBehindLine ls
-unfolding joinedBehind wordsBehindLine
-words-joined l [] = ap wordsOf (append-nil l) ∙ sym (append-nil (wordsOf l))
-words-joined l (m ∷ ls) =
-    words_append l (59 ∷ 32 ∷ (m ++ joinedBehind ls))
-    ∙ ap (λ x. wordsOf l ++ x) (words_append (59 ∷ []) (m ++ joinedBehind ls) ∙ ap₂ (λ (x y : List (List ℕ)). x ++ y) one-semicolon (words-joined m ls))
+words_joined : (l : List ℕ) (ls : List (List ℕ)) → words_of_lem (l ++ joined_behind ls) ≡ words_of_lem l ++ words_behind_line ls
+unfolding joined_behind words_behind_line
+words_joined l [] = ap words_of_lem (append-nil l) ∙ sym (append-nil (words_of_lem l))
+words_joined l (m ∷ ls) =
+    words_append l (59 ∷ 32 ∷ (m ++ joined_behind ls))
+    ∙ ap (λ x. words_of_lem l ++ x) (words_append (59 ∷ []) (m ++ joined_behind ls) ∙ ap₂ (λ (x y : List (List ℕ)). x ++ y) one_semicolon (words_joined m ls))
 
-lines-words : (ls : List (List ℕ)) → wordsOf (joined ls) ≡ wordsOfLines ls
-unfolding joined wordsOfLines
-lines-words [] = refl
-lines-words (l ∷ ls) = words-joined l ls
+lines_words : (ls : List (List ℕ)) → words_of_lem (joined ls) ≡ words_of_lines ls
+unfolding joined words_of_lines
+lines_words [] = refl
+lines_words (l ∷ ls) = words_joined l ls
 
 -- The text for a kind and a number of idle reads: its words are those of the number of accepted events of the run, then those of the lines with `;`
 -- between one and the next. The lines before the run are read as the entries that lead to its start, and those of the run as the run's.
 pub record PrintedRun (k : Kind) (idle : ℕ) : Type 0 where
-  pub words : wordsOf (scriptText k idle)
-      ≡ wordsOf (decimalOf (events (lines_from (sessionAfter fresh (start k)) 0 (slowest k).call bufferNeed (roomy (eventsOf (slowest k) idle))))) ++ wordsOfLines (startLines k ++ runLines k idle)
-  pub start : map entry_of (startLines k) ≡ map some (start k)
-  pub run : map entry_of (runLines k idle) ≡ map some (callEntries 0 (slowest k).call bufferNeed (roomy (eventsOf (slowest k) idle)))
+  pub words : words_of_lem (script_text k idle)
+      ≡ words_of_lem (decimal_of (events (lines_from (session_after fresh (start k)) 0 (slowest k).call buffer_need (roomy (events_of (slowest k) idle))))) ++ words_of_lines (start_lines k ++ run_lines k idle)
+  pub start : map entry_of (start_lines k) ≡ map some (start k)
+  pub run : map entry_of (run_lines k idle) ≡ map some (call_entries 0 (slowest k).call buffer_need (roomy (events_of (slowest k) idle)))
 
 pub printed-run : (k : Kind) (idle : ℕ) → PrintedRun k idle
-unfolding scriptText
+unfolding script_text
 printed-run k idle = record {
-  words = words_append (decimalOf (most k + idle)) (joined (scriptLines k idle))
-      ∙ ap₂ (λ (x y : List (List ℕ)). x ++ y) (ap (λ n. wordsOf (decimalOf n)) (sym (slowest-run k idle).run.length)) (lines-words (scriptLines k idle));
-  start = start-read k;
-  run = run-read k idle;
+  words = words_append (decimal_of (most k + idle)) (joined (script_lines k idle))
+      ∙ ap₂ (λ (x y : List (List ℕ)). x ++ y) (ap (λ n. words_of_lem (decimal_of n)) (sym (slowest-run k idle).run.length)) (lines_words (script_lines k idle));
+  start = start_read k;
+  run = run_read k idle;
 }

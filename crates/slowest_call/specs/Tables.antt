@@ -3,58 +3,58 @@ use Rattle.std.specs.Prelude.{Bool, true, cond, List, [], ◌∷◌, ◌++◌, m
 use Rattle.std.proofs.Math.Option.{Option, none, some}
 use Rattle.framing.specs.Frames.{ack}
 use Rattle.exchange.specs.Exchange.{pkt}
-use Rattle.protocol.specs.Calls.{isOpening}
+use Rattle.protocol.specs.Calls.{is_opening}
 use Rattle.errors.specs.Choice.{pick}
 use Rattle.protocol.specs.Sample.{formats}
-use Rattle.bench.specs.Hex.{digitOf, digitsOf, hexOf}
-use Rattle.bench.specs.Texts.{decimalUnder, decimalOf}
+use Rattle.bench.specs.Hex.{digit_of, digits_of_lem, hex_of}
+use Rattle.bench.specs.Texts.{decimal_under, decimal_of}
 use Rattle.bench.specs.Words.{ahead}
 use Rattle.slowest_call.specs.Fields.{fields_of}
-use Rattle.slowest_call.specs.Kinds.{Kind, openingKind, kinds, most, slowest, leadingEvents}
-use Rattle.slowest_call.specs.Texts.{eventLine, callLine, separator, joinedBehind, joined, name_of, kindCount, kind_at}
+use Rattle.slowest_call.specs.Kinds.{Kind, opening_kind, kinds, most, slowest, leading_events}
+use Rattle.slowest_call.specs.Texts.{event_line, call_line, separator, joined_behind, joined, name_of, kind_count, kind_at}
 use Rattle.slowest_call.specs.declared.table.KindFound.{KindFound}
 use Rattle.slowest_call.specs.declared.table.KindFound.TheVariants.{Number, Nothing}
 
 -- the lines up to the wait of the last command, and those behind it
-abbrev pub waitText : Kind → List ℕ
-waitText k = joined (callLine k ∷ map eventLine (slowest k).before)
+abbrev pub wait_text : Kind → List ℕ
+wait_text k = joined (call_line k ∷ map event_line (slowest k).before)
 
-abbrev pub behindText : Kind → List ℕ
-behindText k = joinedBehind (map eventLine (slowest k).behind)
+abbrev pub behind_text : Kind → List ℕ
+behind_text k = joined_behind (map event_line (slowest k).behind)
 
-abbrev pub leadingText : List ℕ
-leadingText = joined (callLine openingKind ∷ map eventLine leadingEvents)
+abbrev pub leading_text : List ℕ
+leading_text = joined (call_line opening_kind ∷ map event_line leading_events)
 
-unfoldable pub fieldsFor : List Kind → List (List ℕ)
-fieldsFor [] = leadingText ∷ []
-fieldsFor (k ∷ ks) = name_of k ∷ decimalOf (most k) ∷ waitText k ∷ behindText k ∷ fieldsFor ks
+unfoldable pub fields_for : List Kind → List (List ℕ)
+fields_for [] = leading_text ∷ []
+fields_for (k ∷ ks) = name_of k ∷ decimal_of (most k) ∷ wait_text k ∷ behind_text k ∷ fields_for ks
 
-abbrev pub runFields : List (List ℕ)
-runFields = fieldsFor kinds
+abbrev pub run_fields : List (List ℕ)
+run_fields = fields_for kinds
 
 -- ---- a script out of its parts
 
-unfoldable pub startText : Kind → List ℕ
-startText k = cond (isOpening (slowest k).call) [] (leadingText ++ separator)
+unfoldable pub start_text : Kind → List ℕ
+start_text k = cond (is_opening (slowest k).call) [] (leading_text ++ separator)
 
-unfoldable pub acksText : ℕ → List ℕ
-acksText zero = []
-acksText (suc n) = separator ++ eventLine (pkt ack) ++ acksText n
+unfoldable pub acks_text : ℕ → List ℕ
+acks_text zero = []
+acks_text (suc n) = separator ++ event_line (pkt ack) ++ acks_text n
 
-abbrev pub runText : Kind → ℕ → List ℕ
-runText k idle = waitText k ++ acksText idle ++ behindText k
+abbrev pub run_text : Kind → ℕ → List ℕ
+run_text k idle = wait_text k ++ acks_text idle ++ behind_text k
 
 -- ---- the kind that was found
 
-abbrev pub kindIn : KindFound → Option Kind
-kindIn (Number n) = some (kind_at n)
-kindIn Nothing = none
+abbrev pub kind_in : KindFound → Option Kind
+kind_in (Number n) = some (kind_at n)
+kind_in Nothing = none
 
 abbrev pub KindWithin : KindFound → Type 0
-KindWithin (Number n) = n < kindCount
+KindWithin (Number n) = n < kind_count
 KindWithin Nothing = Unit {0}
 
 -- to unfold this is to unfold the table's texts
 unfoldable pub written : Unit {0}
-unfolding fields_of ahead pick fieldsFor joined joinedBehind decimalOf decimalUnder hexOf digitsOf digitOf formats
+unfolding fields_of ahead pick fields_for joined joined_behind decimal_of decimal_under hex_of digits_of_lem digit_of formats
 written = tt

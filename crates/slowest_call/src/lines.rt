@@ -1,7 +1,7 @@
 // The lines of the program `slowest`: a call's word and a number of idle reads in, the script of its longest run out.
 ghost use Rattle.std.specs.Prelude.{◌≡◌, ◌≤◌, length};
 ghost use Rattle.bench.specs.Texts.{placed, placed_at};
-ghost use Rattle.slowest_call.specs.Texts.{scriptLimit, scriptRoom, refusedText, answerText, lineText};
+ghost use Rattle.slowest_call.specs.Texts.{script_limit, script_room, refused_text, answer_text, line_text};
 
 use super::script::{SCRIPT_ROOM, script};
 use super::table::{KindFound, RUN_TABLE, kind_named};
@@ -15,7 +15,7 @@ pub const LINE_LIMIT: usize = 8192;
 
 // A refusal's number.
 fn put_refused(refusal: Refusal, out: &mut [u8; SCRIPT_ROOM]) -> usize
-    ensures { (placed result out.new ≡ placed_at 0 (refusedText refusal) out.old) × (result ≤ scriptLimit) }
+    ensures { (placed result out.new ≡ placed_at 0 (refused_text refusal) out.old) × (result ≤ script_limit) }
 {
     let at = text::put(b"refused ", out, 0);
     text::put_decimal(refusal.numbered().number as u64, out, at)
@@ -23,7 +23,7 @@ fn put_refused(refusal: Refusal, out: &mut [u8; SCRIPT_ROOM]) -> usize
 
 // The text that is printed for a line, at the start of `out`.
 pub fn answer(line: &[u8], out: &mut [u8; SCRIPT_ROOM]) -> usize
-    ensures { (placed result out.new ≡ placed_at 0 (answerText line.now) out.old) × (result ≤ scriptLimit) }
+    ensures { (placed result out.new ≡ placed_at 0 (answer_text line.now) out.old) × (result ≤ script_limit) }
 {
     if words::count(line) != 2 {
         return put_refused(Refusal::BadArgument, out);
@@ -42,7 +42,7 @@ pub fn answer(line: &[u8], out: &mut [u8; SCRIPT_ROOM]) -> usize
 
 // The answer to a line that stands at the start of `line`, with its line feed; nothing at the end of the input.
 pub fn reply(next: Line, line: &[u8], out: &mut [u8; SCRIPT_ROOM]) -> usize
-    ensures { (placed result out.new ≡ placed_at 0 (lineText next line.now) out.old) × (length out.old ≡ scriptRoom → length out.new ≡ scriptRoom) }
+    ensures { (placed result out.new ≡ placed_at 0 (line_text next line.now) out.old) × (length out.old ≡ script_room → length out.new ≡ script_room) }
 {
     match next {
         Line::Text(n) => {

@@ -3,8 +3,8 @@
 ghost use Rattle.std.specs.Prelude.{◌≡◌, [], ◌≤◌, length, get_or, drop};
 ghost use Rattle.slowest_call.specs.Fields.{fields_of};
 ghost use Rattle.slowest_call.specs.Kinds.{kinds};
-ghost use Rattle.slowest_call.specs.Texts.{kindNamed};
-ghost use Rattle.slowest_call.specs.Tables.{runFields, KindWithin, kindIn};
+ghost use Rattle.slowest_call.specs.Texts.{kind_named_of};
+ghost use Rattle.slowest_call.specs.Tables.{run_fields, KindWithin, kind_in};
 
 use bytes::scan;
 use framing::is_exactly;
@@ -96,8 +96,8 @@ pub enum KindFound {
 
 // The kind of a name.
 pub(crate) fn kind_named(table: &[u8], name: &[u8]) -> KindFound
-    requires { fields_of table.now ≡ runFields }
-    ensures { (kindIn result ≡ kindNamed kinds name.now) × KindWithin result }
+    requires { fields_of table.now ≡ run_fields }
+    ensures { (kind_in result ≡ kind_named_of kinds name.now) × KindWithin result }
 {
     let mut n: u8 = 0;
     while n < KIND_COUNT {

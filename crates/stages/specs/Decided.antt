@@ -1,7 +1,7 @@
 -- What the code's commands and decisions say.
 use Rattle.std.specs.Prelude.{◌≡◌, List, [], ◌∷◌, ◌++◌, ℕ, ◌+◌, ◌≤◌, length, take, drop}
 use Rattle.errors.specs.Choice.{pick}
-use Rattle.protocol.specs.Scripts.{Answer, done, type1, uidAndAts, nothing, refused, refusedAfter}
+use Rattle.protocol.specs.Scripts.{Answer, done, type1, uid_and_ats, nothing, refused, refused_after}
 use Rattle.stages.specs.Stages.{cmd, send, keep, next, put, pause, ends}
 use Rattle.stages.specs.Stages as stages
 use Rattle.stages.specs.declared.Command.{Command}
@@ -11,60 +11,60 @@ use Rattle.stages.specs.declared.Head.{Head}
 use Rattle.stages.specs.declared.Layout.{Layout}
 use Rattle.stages.specs.declared.Tail.{Tail}
 
-abbrev pub headBytes : Head → List ℕ
-headBytes h = h.0 ∷ h.1 ∷ h.2 ∷ []
+abbrev pub head_bytes : Head → List ℕ
+head_bytes h = h.0 ∷ h.1 ∷ h.2 ∷ []
 
 abbrev pub tail_bytes : Tail → List ℕ
 tail_bytes t = t.0 ∷ t.1 ∷ t.2 ∷ t.3 ∷ t.4 ∷ t.5 ∷ t.6 ∷ t.7 ∷ t.8 ∷ t.9 ∷ t.10 ∷ t.11 ∷ []
 
 -- the bytes of a layout, where f are the found bytes and b is the response
-abbrev pub layoutBytes : List ℕ → List ℕ → Layout → List ℕ
-layoutBytes f b l =
-    take l.kept f ++ (take l.head_len (headBytes l.head) ++ (take l.len (drop l.start b) ++ take l.tail_len (tail_bytes l.tail)))
+abbrev pub layout_bytes : List ℕ → List ℕ → Layout → List ℕ
+layout_bytes f b l =
+    take l.kept f ++ (take l.head_len (head_bytes l.head) ++ (take l.len (drop l.start b) ++ take l.tail_len (tail_bytes l.tail)))
 
 -- so many found bytes are kept at most, and so many bytes has the response in a packet at most
-abbrev pub foundLimit : ℕ
-foundLimit = 1024
+abbrev pub found_limit : ℕ
+found_limit = 1024
 
-abbrev pub responseLimit : ℕ
-responseLimit = 1022
+abbrev pub response_limit : ℕ
+response_limit = 1022
 
 -- the head and the tail of a layout, and the data that a stage's command has by itself
-abbrev pub headLimit : ℕ
-headLimit = 3
+abbrev pub head_limit : ℕ
+head_limit = 3
 
-abbrev pub tailLimit : ℕ
-tailLimit = 12
+abbrev pub tail_limit : ℕ
+tail_limit = 12
 
-abbrev pub fixedLimit : ℕ
-fixedLimit = 12
+abbrev pub fixed_limit : ℕ
+fixed_limit = 12
 
 -- each part lies in its bytes, and the found bytes and a buffer have room for them all
 pub record Fitting (f b : List ℕ) (l : Layout) : Type 0 where
   pub kept : l.kept ≤ length f
-  pub head : l.head_len ≤ headLimit
+  pub head : l.head_len ≤ head_limit
   pub part : l.start + l.len ≤ length b
-  pub tail : l.tail_len ≤ tailLimit
-  pub room : length f ≤ foundLimit → length b ≤ responseLimit → l.kept + (l.head_len + (l.len + l.tail_len)) ≤ foundLimit
+  pub tail : l.tail_len ≤ tail_limit
+  pub room : length f ≤ found_limit → length b ≤ response_limit → l.kept + (l.head_len + (l.len + l.tail_len)) ≤ found_limit
 
 -- a layout of these bytes
 pub record Lays (f b : List ℕ) (r : Layout) (bytes : List ℕ) : Type 0 where
-  pub is : layoutBytes f b r ≡ bytes
+  pub is : layout_bytes f b r ≡ bytes
   pub fits : Fitting f b r
 
-abbrev pub decisionIn : List ℕ → List ℕ → Decision → stages.Decision
-decisionIn f b (Send n) = send n
-decisionIn f b (Keep n l) = keep n (layoutBytes f b l)
-decisionIn f b (Next n c l) = next n c (layoutBytes f b l)
-decisionIn f b (Put n h) = put n (headBytes h)
-decisionIn f b (Pause us n) = pause us n
-decisionIn f b (Done l) = ends (done (layoutBytes f b l))
-decisionIn f b (Part start n) = ends (done (take n (drop start b)))
-decisionIn f b (Type1 l) = ends (type1 (layoutBytes f b l))
-decisionIn f b (UidAndAts l uid ats) = ends (uidAndAts (layoutBytes f b l) uid ats)
-decisionIn f b Nothing = ends nothing
-decisionIn f b (Refused fault) = ends (refused fault)
-decisionIn f b (RefusedAfter fault n) = ends (refusedAfter fault n)
+abbrev pub decision_in : List ℕ → List ℕ → Decision → stages.Decision
+decision_in f b (Send n) = send n
+decision_in f b (Keep n l) = keep n (layout_bytes f b l)
+decision_in f b (Next n c l) = next n c (layout_bytes f b l)
+decision_in f b (Put n h) = put n (head_bytes h)
+decision_in f b (Pause us n) = pause us n
+decision_in f b (Done l) = ends (done (layout_bytes f b l))
+decision_in f b (Part start n) = ends (done (take n (drop start b)))
+decision_in f b (Type1 l) = ends (type1 (layout_bytes f b l))
+decision_in f b (UidAndAts l uid ats) = ends (uid_and_ats (layout_bytes f b l) uid ats)
+decision_in f b Nothing = ends nothing
+decision_in f b (Refused fault) = ends (refused fault)
+decision_in f b (RefusedAfter fault n) = ends (refused_after fault n)
 
 abbrev pub DecisionFits : List ℕ → List ℕ → Decision → Type 0
 DecisionFits f b (Send n) = Unit
@@ -82,7 +82,7 @@ DecisionFits f b (RefusedAfter fault n) = Unit
 
 -- both
 pub record DecisionRefines (f b : List ℕ) (r : Decision) (d : stages.Decision) : Type 0 where
-  pub is : decisionIn f b r ≡ d
+  pub is : decision_in f b r ≡ d
   pub fits : DecisionFits f b r
 
 -- whatever the found bytes are
@@ -94,15 +94,15 @@ abbrev pub Always : Decision → stages.Decision → Type 0
 Always r d = (f b : List ℕ) → DecisionRefines f b r d
 
 -- a command, where `pending` is the pending one
-abbrev pub commandIn : Command → List ℕ → stages.Command
-commandIn c pending = cmd c.code c.clock (pick c.is_pending pending (take c.len c.bytes))
+abbrev pub command_in : Command → List ℕ → stages.Command
+command_in c pending = cmd c.code c.clock (pick c.is_pending pending (take c.len c.bytes))
 
 -- the same, and the data is within the bytes
 pub record Sends (c : Command) (pending : List ℕ) (m : stages.Command) : Type 0 where
-  pub is : commandIn c pending ≡ m
-  pub fits : c.len ≤ fixedLimit
+  pub is : command_in c pending ≡ m
+  pub fits : c.len ≤ fixed_limit
 
 -- whatever the pending command is
 pub record Commands (c : Command) (f : List ℕ → stages.Command) : Type 0 where
-  pub is : (pending : List ℕ) → commandIn c pending ≡ f pending
-  pub fits : c.len ≤ fixedLimit
+  pub is : (pending : List ℕ) → command_in c pending ≡ f pending
+  pub fits : c.len ≤ fixed_limit

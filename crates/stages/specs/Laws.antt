@@ -6,10 +6,10 @@ use Rattle.std.proofs.Math.Seq.{take-length}
 use Rattle.errors.specs.Choice.{pick}
 use Rattle.errors.specs.declared.Fault.{Fault}
 use Rattle.errors.specs.declared.Fault.TheVariants.{Status}
-use Rattle.protocol.specs.Scripts.{Answer, done, type1, uidAndAts, nothing, refused, refusedAfter}
+use Rattle.protocol.specs.Scripts.{Answer, done, type1, uid_and_ats, nothing, refused, refused_after}
 use Rattle.stages.specs.Stages.{send, keep, next, put, pause, ends, refuse}
 use Rattle.stages.specs.Stages as stages
-use Rattle.stages.specs.Decided.{headBytes, tail_bytes, Lays, DecisionRefines, AnswerRefines, Sends, Commands, foundLimit, responseLimit, tailLimit}
+use Rattle.stages.specs.Decided.{head_bytes, tail_bytes, Lays, DecisionRefines, AnswerRefines, Sends, Commands, found_limit, response_limit, tail_limit}
 use Rattle.stages.specs.declared.Command.{Command}
 use Rattle.stages.specs.declared.Decision.{Decision}
 use Rattle.stages.specs.declared.Decision.TheVariants.{Send, Keep, Next, Put, Pause, Done, Part, Type1, UidAndAts, Nothing, Refused, RefusedAfter}
@@ -19,13 +19,13 @@ use Rattle.stages.specs.declared.Tail.{Tail}
 
 -- ---- a byte at a place
 
-pub any-default : (l : List ℕ) (i d e : ℕ) → i < length l → get_or l i d ≡ get_or l i e
-any-default [] i d e h = absurd (omega arith)
-any-default (x ∷ l) zero d e h = refl
-any-default (x ∷ l) (suc i) d e h = any-default l i d e (omega arith)
+pub any_default : (l : List ℕ) (i d e : ℕ) → i < length l → get_or l i d ≡ get_or l i e
+any_default [] i d e h = absurd (omega arith)
+any_default (x ∷ l) zero d e h = refl
+any_default (x ∷ l) (suc i) d e h = any_default l i d e (omega arith)
 
-pub default-behind : (l : List ℕ) (i d : ℕ) → length l ≤ i → d ≡ get_or l i d
-default-behind l i d h = sym (get_or-eq_default l d {n = i} h)
+pub default_behind : (l : List ℕ) (i d : ℕ) → length l ≤ i → d ≡ get_or l i d
+default_behind l i d h = sym (get_or-eq_default l d {n = i} h)
 
 -- ---- layouts
 
@@ -33,138 +33,138 @@ abbrev laid : ℕ → Head → ℕ → ℕ → ℕ → Tail → ℕ → Layout
 laid k h n s m t j = record { kept = k; head = h; head_len = n; start = s; len = m; tail = t; tail_len = j }
 
 module _ (f b : List ℕ) (h : Head) (t : Tail) where
-  pub lays-part : (s n : ℕ) → s + n ≤ length b → Lays f b (laid 0 h 0 s n t 0) (take n (drop s b))
-  lays-part s n p =
+  pub lays_part : (s n : ℕ) → s + n ≤ length b → Lays f b (laid 0 h 0 s n t 0) (take n (drop s b))
+  lays_part s n p =
       record {
         is = append-nil (take n (drop s b));
         fits = record { kept = omega arith; head = omega arith; part = p; tail = omega arith; room = λ u v. omega arith };
       }
 
-  pub lays-headed : (k s n : ℕ) → k ≤ 3 → k ≤ s + 2 → s ≤ length b → n ≡ length b - s → Lays f b (laid 0 h k s n t 0) (take k (headBytes h) ++ drop s b)
-  lays-headed k s n p q r e =
+  pub lays_headed : (k s n : ℕ) → k ≤ 3 → k ≤ s + 2 → s ≤ length b → n ≡ length b - s → Lays f b (laid 0 h k s n t 0) (take k (head_bytes h) ++ drop s b)
+  lays_headed k s n p q r e =
       let all : take n (drop s b) ≡ drop s b = take_all n (drop s b) (rw (length-drop s b) (omega arith)) in
       record {
-        is = ap (λ l. take k (headBytes h) ++ l) (append-nil (take n (drop s b)) ∙ all);
+        is = ap (λ l. take k (head_bytes h) ++ l) (append-nil (take n (drop s b)) ∙ all);
         fits = record { kept = omega arith; head = p; part = omega arith; tail = omega arith; room = λ u v. omega arith };
       }
 
-  pub lays-tailed : (s n j : ℕ) → s + n ≤ length b → j ≤ tailLimit → (length b ≤ responseLimit → n + j ≤ foundLimit) → Lays f b (laid 0 h 0 s n t j) (take n (drop s b) ++ take j (tail_bytes t))
-  lays-tailed s n j p q r =
+  pub lays_tailed : (s n j : ℕ) → s + n ≤ length b → j ≤ tail_limit → (length b ≤ response_limit → n + j ≤ found_limit) → Lays f b (laid 0 h 0 s n t j) (take n (drop s b) ++ take j (tail_bytes t))
+  lays_tailed s n j p q r =
       record { is = refl; fits = record { kept = omega arith; head = omega arith; part = p; tail = q; room = λ u v. omega (arith, r v) } }
 
-  pub lays-behind : (k s n : ℕ) → k ≤ length f → s + n ≤ length b → (length f ≤ foundLimit → length b ≤ responseLimit → k + n ≤ foundLimit)
+  pub lays_behind : (k s n : ℕ) → k ≤ length f → s + n ≤ length b → (length f ≤ found_limit → length b ≤ response_limit → k + n ≤ found_limit)
       → Lays f b (laid k h 0 s n t 0) (take k f ++ take n (drop s b))
-  lays-behind k s n p q r =
+  lays_behind k s n p q r =
       record {
         is = ap (λ l. take k f ++ l) (append-nil (take n (drop s b)));
         fits = record { kept = p; head = omega arith; part = q; tail = omega arith; room = λ u v. omega (arith, r u v) };
       }
 
-  pub lays-marked : (k s n : ℕ) → k ≤ length f → s + n ≤ length b → k + (n + 1) ≤ foundLimit → Lays f b (laid k h 1 s n t 0) (take k f ++ (h.0 ∷ take n (drop s b)))
-  lays-marked k s n p q r =
+  pub lays_marked : (k s n : ℕ) → k ≤ length f → s + n ≤ length b → k + (n + 1) ≤ found_limit → Lays f b (laid k h 1 s n t 0) (take k f ++ (h.0 ∷ take n (drop s b)))
+  lays_marked k s n p q r =
       record {
         is = ap (λ l. take k f ++ (h.0 ∷ l)) (append-nil (take n (drop s b)));
         fits = record { kept = p; head = omega arith; part = q; tail = omega arith; room = λ u v. omega arith };
       }
 
-pub lays-found : (f b : List ℕ) (r : Layout) → Lays f b r (take (length f) f ++ []) → Lays f b r f
-lays-found f b r e = rw (append-nil (take (length f) f), take-length f) at e
+pub lays_found : (f b : List ℕ) (r : Layout) → Lays f b r (take (length f) f ++ []) → Lays f b r f
+lays_found f b r e = rw (append-nil (take (length f) f), take-length f) at e
 
 -- ---- a decision follows the tests of its definition
 
 module _ (f b : List ℕ) (r : Decision) (x y : stages.Decision) (t : Bool) where
-  pub decision-true : t ≡ true → DecisionRefines f b r x → DecisionRefines f b r (pick t x y)
+  pub decision_true : t ≡ true → DecisionRefines f b r x → DecisionRefines f b r (pick t x y)
   unfolding pick
-  decision-true h e = rw h e
+  decision_true h e = rw h e
 
-  pub decision-false : t ≡ false → DecisionRefines f b r y → DecisionRefines f b r (pick t x y)
+  pub decision_false : t ≡ false → DecisionRefines f b r y → DecisionRefines f b r (pick t x y)
   unfolding pick
-  decision-false h e = rw h e
+  decision_false h e = rw h e
 
 module _ (f b : List ℕ) where
-  pub decision-send : (n : ℕ) → DecisionRefines f b (Send n) (send n)
-  decision-send n = record { is = refl; fits = tt }
+  pub decision_send : (n : ℕ) → DecisionRefines f b (Send n) (send n)
+  decision_send n = record { is = refl; fits = tt }
 
-  pub decision-keep : (n : ℕ) (l : Layout) (bytes : List ℕ) → Lays f b l bytes → DecisionRefines f b (Keep n l) (keep n bytes)
-  decision-keep n l bytes h = record { is = ap (keep n) h.is; fits = h.fits }
+  pub decision_keep : (n : ℕ) (l : Layout) (bytes : List ℕ) → Lays f b l bytes → DecisionRefines f b (Keep n l) (keep n bytes)
+  decision_keep n l bytes h = record { is = ap (keep n) h.is; fits = h.fits }
 
-  pub decision-next : (n c : ℕ) (l : Layout) (bytes : List ℕ) → Lays f b l bytes → DecisionRefines f b (Next n c l) (next n c bytes)
-  decision-next n c l bytes h = record { is = ap (next n c) h.is; fits = h.fits }
+  pub decision_next : (n c : ℕ) (l : Layout) (bytes : List ℕ) → Lays f b l bytes → DecisionRefines f b (Next n c l) (next n c bytes)
+  decision_next n c l bytes h = record { is = ap (next n c) h.is; fits = h.fits }
 
-  pub decision-put : (n : ℕ) (h : Head) → DecisionRefines f b (Put n h) (put n (headBytes h))
-  decision-put n h = record { is = refl; fits = tt }
+  pub decision_put : (n : ℕ) (h : Head) → DecisionRefines f b (Put n h) (put n (head_bytes h))
+  decision_put n h = record { is = refl; fits = tt }
 
-  pub decision-pause : (us n : ℕ) → DecisionRefines f b (Pause us n) (pause us n)
-  decision-pause us n = record { is = refl; fits = tt }
+  pub decision_pause : (us n : ℕ) → DecisionRefines f b (Pause us n) (pause us n)
+  decision_pause us n = record { is = refl; fits = tt }
 
-  pub decision-done : (l : Layout) (bytes : List ℕ) → Lays f b l bytes → DecisionRefines f b (Done l) (ends (done bytes))
-  decision-done l bytes h = record { is = ap (λ x. ends (done x)) h.is; fits = h.fits }
+  pub decision_done : (l : Layout) (bytes : List ℕ) → Lays f b l bytes → DecisionRefines f b (Done l) (ends (done bytes))
+  decision_done l bytes h = record { is = ap (λ x. ends (done x)) h.is; fits = h.fits }
 
-  pub decision-part : (s n : ℕ) → s + n ≤ length b → DecisionRefines f b (Part s n) (ends (done (take n (drop s b))))
-  decision-part s n h = record { is = refl; fits = h }
+  pub decision_part : (s n : ℕ) → s + n ≤ length b → DecisionRefines f b (Part s n) (ends (done (take n (drop s b))))
+  decision_part s n h = record { is = refl; fits = h }
 
   -- of the response from a place on, and of one that ends before it
-  pub decision-rest : (s n : ℕ) → s ≤ length b → n ≡ length b - s → DecisionRefines f b (Part s n) (ends (done (drop s b)))
-  decision-rest s n h e =
+  pub decision_rest : (s n : ℕ) → s ≤ length b → n ≡ length b - s → DecisionRefines f b (Part s n) (ends (done (drop s b)))
+  decision_rest s n h e =
       let all : take n (drop s b) ≡ drop s b = take_all n (drop s b) (rw (length-drop s b) (omega arith)) in
       record { is = ap (λ x. ends (done x)) all; fits = omega arith }
 
-  pub decision-none : (s : ℕ) → length b < s → DecisionRefines f b (Part 0 0) (ends (done (drop s b)))
-  decision-none s h =
+  pub decision_none : (s : ℕ) → length b < s → DecisionRefines f b (Part 0 0) (ends (done (drop s b)))
+  decision_none s h =
       let z : drop s b ≡ [] = drop_of_length-le b {i = s} (omega arith) in
       record { is = ap (λ x. ends (done x)) (sym z); fits = omega arith }
 
-  pub decision-type1 : (l : Layout) (bytes : List ℕ) → Lays f b l bytes → DecisionRefines f b (Type1 l) (ends (type1 bytes))
-  decision-type1 l bytes h = record { is = ap (λ x. ends (type1 x)) h.is; fits = h.fits }
+  pub decision_type1 : (l : Layout) (bytes : List ℕ) → Lays f b l bytes → DecisionRefines f b (Type1 l) (ends (type1 bytes))
+  decision_type1 l bytes h = record { is = ap (λ x. ends (type1 x)) h.is; fits = h.fits }
 
-  pub decision-uid-and-ats : (l : Layout) (bytes : List ℕ) (uid ats : ℕ) → Lays f b l bytes → DecisionRefines f b (UidAndAts l uid ats) (ends (uidAndAts bytes uid ats))
-  decision-uid-and-ats l bytes uid ats h = record { is = ap (λ x. ends (uidAndAts x uid ats)) h.is; fits = h.fits }
+  pub decision_uid_and_ats : (l : Layout) (bytes : List ℕ) (uid ats : ℕ) → Lays f b l bytes → DecisionRefines f b (UidAndAts l uid ats) (ends (uid_and_ats bytes uid ats))
+  decision_uid_and_ats l bytes uid ats h = record { is = ap (λ x. ends (uid_and_ats x uid ats)) h.is; fits = h.fits }
 
-  pub decision-nothing : DecisionRefines f b Nothing (ends nothing)
-  decision-nothing = record { is = refl; fits = tt }
+  pub decision_nothing : DecisionRefines f b Nothing (ends nothing)
+  decision_nothing = record { is = refl; fits = tt }
 
-  pub decision-refused : (x : Fault) → DecisionRefines f b (Refused x) (refuse x)
-  decision-refused x = record { is = refl; fits = tt }
+  pub decision_refused : (x : Fault) → DecisionRefines f b (Refused x) (refuse x)
+  decision_refused x = record { is = refl; fits = tt }
 
-  pub decision-after : (x : Fault) (n : ℕ) → DecisionRefines f b (RefusedAfter x n) (ends (refusedAfter x n))
-  decision-after x n = record { is = refl; fits = tt }
+  pub decision_after : (x : Fault) (n : ℕ) → DecisionRefines f b (RefusedAfter x n) (ends (refused_after x n))
+  decision_after x n = record { is = refl; fits = tt }
 
 -- a test on a number that a call answered
-pub is-eqb : (r x k : ℕ) → r ≡ x → r ≡ k → eqb x k ≡ true
-is-eqb r x k e f = eq-eqb x k (sym e ∙ f)
+pub is_eqb : (r x k : ℕ) → r ≡ x → r ≡ k → eqb x k ≡ true
+is_eqb r x k e f = eq-eqb x k (sym e ∙ f)
 
 pub not_eqb : (r x k : ℕ) → r ≡ x → (r ≡ k → ⊥) → eqb x k ≡ false
 not_eqb r x k e f = ne_eqb x k (λ g. f (e ∙ g))
 
-pub ruleset tests = (is-eqb, not_eqb, eq-eqb, ne_eqb, lt-ltb, le-ltb)
+pub ruleset tests = (is_eqb, not_eqb, eq-eqb, ne_eqb, lt-ltb, le-ltb)
 
-pub ruleset decided = (decision-true, decision-false, decision-send, decision-pause, decision-nothing, decision-refused, tests)
+pub ruleset decided = (decision_true, decision_false, decision_send, decision_pause, decision_nothing, decision_refused, tests)
 
 -- ---- the same of the answer to a call of one command
 
 module _ (b : List ℕ) (r : Decision) (x y : Answer ℕ) (t : Bool) where
-  pub answer-true : t ≡ true → AnswerRefines b r x → AnswerRefines b r (pick t x y)
+  pub answer_true : t ≡ true → AnswerRefines b r x → AnswerRefines b r (pick t x y)
   unfolding pick
-  answer-true h e = rw h e
+  answer_true h e = rw h e
 
-  pub answer-false : t ≡ false → AnswerRefines b r y → AnswerRefines b r (pick t x y)
+  pub answer_false : t ≡ false → AnswerRefines b r y → AnswerRefines b r (pick t x y)
   unfolding pick
-  answer-false h e = rw h e
+  answer_false h e = rw h e
 
 module _ (b : List ℕ) where
   pub answer-nothing : AnswerRefines b Nothing nothing
-  answer-nothing = record { decision = λ f. decision-nothing f b }
+  answer-nothing = record { decision = λ f. decision_nothing f b }
 
-  pub answer-refused : (x : Fault) → AnswerRefines b (Refused x) (refused x)
-  answer-refused x = record { decision = λ f. decision-refused f b x }
+  pub answer_refused : (x : Fault) → AnswerRefines b (Refused x) (refused x)
+  answer_refused x = record { decision = λ f. decision_refused f b x }
 
-  pub answer-status : (s x : ℕ) → s ≡ x → AnswerRefines b (Refused (Status s)) (refused (Status x))
-  answer-status s x e = record { decision = λ f. record { is = ap (λ y. refuse (Status y)) e; fits = tt } }
+  pub answer_status : (s x : ℕ) → s ≡ x → AnswerRefines b (Refused (Status s)) (refused (Status x))
+  answer_status s x e = record { decision = λ f. record { is = ap (λ y. refuse (Status y)) e; fits = tt } }
 
   pub answer-done : (l : Layout) (bytes : List ℕ) → ((f : List ℕ) → Lays f b l bytes) → AnswerRefines b (Done l) (done bytes)
-  answer-done l bytes h = record { decision = λ f. decision-done f b l bytes (h f) }
+  answer-done l bytes h = record { decision = λ f. decision_done f b l bytes (h f) }
 
-pub ruleset answers-by-tests = (answer-true, answer-false, answer-nothing, answer-refused, answer-status, tests)
+pub ruleset answers_by_tests = (answer_true, answer_false, answer-nothing, answer_refused, answer_status, tests)
 
 -- ---- commands
 

@@ -4,7 +4,7 @@ use Rattle.std.proofs.Common.{sym, ap, ap₂, ◌∙◌, subst, append_assoc, ar
 use borrow.Rule.Slice.PartMut.{put_mid}
 use Rattle.std.proofs.Math.Seq.{take-length, take-append_seam, drop-append-add}
 use Rattle.framing.specs.Copied.{copied}
-use Rattle.protocol.specs.Starts.{dataLimit}
+use Rattle.protocol.specs.Starts.{data_limit}
 
 -- bytes at the start of a list
 abbrev pub put : List ℕ → List ℕ → List ℕ
@@ -23,13 +23,13 @@ pub record AppendsPart (part t₀ t₁ : List ℕ) (len r : ℕ) : Type 0 where
 
 -- n is the sum m, or both are over the limit
 pub record Sum (n m : ℕ) : Type 0 where
-  pub within : n ≤ dataLimit → n ≡ m
-  pub over : dataLimit < n → dataLimit < m
+  pub within : n ≤ data_limit → n ≡ m
+  pub over : data_limit < n → data_limit < m
 
 -- the list l has been put at the start of c₀, which is c₁ now, and n is its length; one over the limit of 512 has not, and n is over it too
 pub record Joins (n : ℕ) (c₀ c₁ l : List ℕ) : Type 0 where
-  pub within : length l ≤ dataLimit → Puts c₁ n l c₀
-  pub over : dataLimit < length l → (dataLimit < n) × (c₁ ≡ c₀)
+  pub within : length l ≤ data_limit → Puts c₁ n l c₀
+  pub over : data_limit < length l → (data_limit < n) × (c₁ ≡ c₀)
 
 -- ---- laws
 
@@ -59,41 +59,41 @@ laid b c k h p q t n e u =
 pub puts_none : (b : List ℕ) → Puts b 0 [] b
 puts_none b = record { count = refl; is = refl }
 
-pub puts-kept : (b : List ℕ) (k : ℕ) → k ≤ length b → Puts b k (take k b) b
-puts-kept b k h =
+pub puts_kept : (b : List ℕ) (k : ℕ) → k ≤ length b → Puts b k (take k b) b
+puts_kept b k h =
     let n : length (take k b) ≡ k = length-take-le k b h in
     record { count = sym n; is = sym (ap (λ j. take k b ++ drop j b) n ∙ take-append-drop k b) }
 
 -- the same of bytes that are kept of a part in use
-pub puts-found : (b : List ℕ) (n k : ℕ) → k ≤ length (take n b) → Puts b k (take k (take n b)) b
-puts-found b n k h =
+pub puts_found : (b : List ℕ) (n k : ℕ) → k ≤ length (take n b) → Puts b k (take k (take n b)) b
+puts_found b n k h =
     let in_use : length (take n b) ≤ n = rw (length-take n b) (omega arith) in
-    rw (take-take k n b (omega arith)) (puts-kept b k (omega (arith, length-take n b)))
+    rw (take-take k n b (omega arith)) (puts_kept b k (omega (arith, length-take n b)))
 
 -- bytes that were copied to the start of a list
-pub copied-start : (bytes b b₁ : List ℕ) → b₁ ≡ take (length bytes) bytes ++ drop (length bytes) b → b₁ ≡ put bytes b
-copied-start bytes b b₁ e = e ∙ ap (λ l. l ++ drop (length bytes) b) (take-length bytes)
+pub copied_start : (bytes b b₁ : List ℕ) → b₁ ≡ take (length bytes) bytes ++ drop (length bytes) b → b₁ ≡ put bytes b
+copied_start bytes b b₁ e = e ∙ ap (λ l. l ++ drop (length bytes) b) (take-length bytes)
 
 -- bytes put at the start of a list are the first of it
 pub take_put : (bytes l : List ℕ) → take (length bytes) (put bytes l) ≡ bytes
 take_put bytes l = take-append_seam bytes (drop (length bytes) l)
 
 module _ (n : ℕ) (c₀ c₁ l : List ℕ) where
-  pub joins-within : length l ≤ dataLimit → Puts c₁ n l c₀ → Joins n c₀ c₁ l
-  joins-within h p = record { within = λ _. p; over = λ k. absurd (omega arith) }
+  pub joins_within : length l ≤ data_limit → Puts c₁ n l c₀ → Joins n c₀ c₁ l
+  joins_within h p = record { within = λ _. p; over = λ k. absurd (omega arith) }
 
-  pub joins-over : dataLimit < length l → dataLimit < n → c₁ ≡ c₀ → Joins n c₀ c₁ l
-  joins-over h k e = record { within = λ m. absurd (omega arith); over = λ _. (k, e) }
+  pub joins_over : data_limit < length l → data_limit < n → c₁ ≡ c₀ → Joins n c₀ c₁ l
+  joins_over h k e = record { within = λ m. absurd (omega arith); over = λ _. (k, e) }
 
-pub sum-none : Sum 0 0
-sum-none = record { within = λ _. refl; over = λ h. absurd (omega arith) }
+pub sum_none : Sum 0 0
+sum_none = record { within = λ _. refl; over = λ h. absurd (omega arith) }
 
 module _ (n m p : ℕ) (h : Sum n m) where
-  pub sum_over : dataLimit < n → Sum n (m + p)
+  pub sum_over : data_limit < n → Sum n (m + p)
   sum_over k = record { within = λ l. absurd (omega arith); over = λ l. omega (arith, h.over k) }
 
-  pub sum-passed : n ≤ dataLimit → dataLimit - n < p → Sum (dataLimit + 1) (m + p)
-  sum-passed k l = record { within = λ r. absurd (omega arith); over = λ r. omega (arith, h.within k) }
+  pub sum_passed : n ≤ data_limit → data_limit - n < p → Sum (data_limit + 1) (m + p)
+  sum_passed k l = record { within = λ r. absurd (omega arith); over = λ r. omega (arith, h.within k) }
 
-  pub sum_more : n ≤ dataLimit → p ≤ dataLimit - n → Sum (n + p) (m + p)
+  pub sum_more : n ≤ data_limit → p ≤ data_limit - n → Sum (n + p) (m + p)
   sum_more k l = record { within = λ r. omega (arith, h.within k); over = λ r. absurd (omega arith) }

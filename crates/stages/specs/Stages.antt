@@ -27,5 +27,5 @@ abbrev pub refuse : Fault → Decision
 refuse fault = ends (refused fault)
 
 -- at least n bytes, else 16
-unfoldable pub withLength : List ℕ → ℕ → Decision → Decision
-withLength bs n d = pick (ltb (length bs) n) (refuse ShortResponse) d
+unfoldable pub with_length : List ℕ → ℕ → Decision → Decision
+with_length bs n d = pick (ltb (length bs) n) (refuse ShortResponse) d

@@ -1,9 +1,11 @@
 // A call as stages: how it starts, the command of each stage, and what is decided on a reply. Every call is made of these.
+#![tactic(auto)]
+
 pub mod put;
 pub mod start;
 
 ghost use Rattle.std.specs.Prelude.{List, ◌∷◌, ◌++◌, ◌≡◌, ℕ, ◌+◌, ◌≤◌, length, take, drop, get_or};
-ghost use Rattle.stages.specs.Decided.{Lays, headBytes, tail_bytes, Commands, foundLimit, responseLimit, fixedLimit, tailLimit};
+ghost use Rattle.stages.specs.Decided.{Lays, head_bytes, tail_bytes, Commands, found_limit, response_limit, fixed_limit, tail_limit};
 ghost use Rattle.stages.specs.Stages.{cmd};
 
 use errors::Fault;
@@ -25,7 +27,7 @@ pub struct Command {
 impl Command {
     // With data of its own: the first `len` bytes.
     pub fn fixed(code: u8, clock: u32, bytes: [u8; FIXED_LIMIT], len: usize) -> Command
-        ensures { len ≤ fixedLimit → Commands result (λ pending. cmd code clock (take len bytes)) }
+        ensures { len ≤ fixed_limit → Commands result (λ pending. cmd code clock (take len bytes)) }
     {
         Command {
             code,
@@ -129,7 +131,7 @@ impl Layout {
 
     // Some bytes, and the response from a place on.
     pub fn headed(head: Head, head_len: usize, response: &[u8], start: usize) -> Layout
-        ensures { (f : List ℕ) → head_len ≤ 3 → head_len ≤ start + 2 → start ≤ length response.now → Lays f response.now result (take head_len (headBytes head) ++ drop start response.now) }
+        ensures { (f : List ℕ) → head_len ≤ 3 → head_len ≤ start + 2 → start ≤ length response.now → Lays f response.now result (take head_len (head_bytes head) ++ drop start response.now) }
     {
         let len = if start <= response.len() {
             response.len() - start
@@ -149,7 +151,7 @@ impl Layout {
 
     // A part of the response, and some bytes behind it.
     pub fn tailed(start: usize, len: usize, tail: Tail, tail_len: usize) -> Layout
-        ensures { (f b : List ℕ) → start + len ≤ length b → tail_len ≤ tailLimit → (length b ≤ responseLimit → len + tail_len ≤ foundLimit) → Lays f b result (take len (drop start b) ++ take tail_len (tail_bytes tail)) }
+        ensures { (f b : List ℕ) → start + len ≤ length b → tail_len ≤ tail_limit → (length b ≤ response_limit → len + tail_len ≤ found_limit) → Lays f b result (take len (drop start b) ++ take tail_len (tail_bytes tail)) }
     {
         Layout {
             kept: 0,
@@ -164,7 +166,7 @@ impl Layout {
 
     // Found bytes, and a part of the response behind them.
     pub fn behind(kept: usize, start: usize, len: usize) -> Layout
-        ensures { (f b : List ℕ) → kept ≤ length f → start + len ≤ length b → (length f ≤ foundLimit → length b ≤ responseLimit → kept + len ≤ foundLimit) → Lays f b result (take kept f ++ take len (drop start b)) }
+        ensures { (f b : List ℕ) → kept ≤ length f → start + len ≤ length b → (length f ≤ found_limit → length b ≤ response_limit → kept + len ≤ found_limit) → Lays f b result (take kept f ++ take len (drop start b)) }
     {
         Layout {
             kept,
@@ -179,7 +181,7 @@ impl Layout {
 
     // Found bytes, a mark, and a part of the response behind them.
     pub fn marked(kept: usize, mark: u8, start: usize, len: usize) -> Layout
-        ensures { (f b : List ℕ) → kept ≤ length f → start + len ≤ length b → kept + (len + 1) ≤ foundLimit → Lays f b result (take kept f ++ (mark ∷ take len (drop start b))) }
+        ensures { (f b : List ℕ) → kept ≤ length f → start + len ≤ length b → kept + (len + 1) ≤ found_limit → Lays f b result (take kept f ++ (mark ∷ take len (drop start b))) }
     {
         Layout {
             kept,

@@ -2,7 +2,7 @@
 ghost use Rattle.std.specs.Prelude.{List, ℕ};
 ghost use Rattle.stages.specs.Put.{Joins};
 ghost use Rattle.stages.specs.Stages.{cmd};
-ghost use Rattle.stages.specs.Starts.{Starts, limited, stagedLimited, refuses};
+ghost use Rattle.stages.specs.Starts.{Starts, limited, staged_limited, refuses};
 
 use super::put::DATA_LIMIT;
 use errors::Refusal;
@@ -43,7 +43,7 @@ pub fn first_command(kind: u8, code: u8, clock: u32, len: usize) -> Start
 
 // The command of stage 0, for which bytes have been put by, if that is within the limit.
 pub fn staged(kind: u8, len: usize) -> Start
-    ensures { (c₀ c₁ l : List ℕ) → Joins len c₀ c₁ l → Starts result c₀ c₁ (stagedLimited kind l) }
+    ensures { (c₀ c₁ l : List ℕ) → Joins len c₀ c₁ l → Starts result c₀ c₁ (staged_limited kind l) }
 {
     if DATA_LIMIT < len {
         Start::Refused(Refusal::OverLong)

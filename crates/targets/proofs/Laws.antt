@@ -17,9 +17,9 @@ use Rattle.targets.specs.declared.Bitrate.{Bitrate}
 use Rattle.targets.specs.declared.Bitrate.TheVariants.{B106A, B212F, B424F, B106B, B212B, B424B, B848B, Other}
 use Rattle.targets.specs.declared.Parsed.{Parsed}
 use Rattle.targets.specs.declared.Parsed.TheVariants.{Send, Refused}
-use Rattle.errors.specs.Choice.{same, same-is, same_not, in_range}
-use Rattle.targets.specs.Form.{allDigits, isDigit}
-use Rattle.targets.specs.Bitrates.{sendLength, isRate, isBitrate, sendPartOf, code_of, rateNumber, ascii, choice_of, choiceOn, chosen, noCode, parsed}
+use Rattle.errors.specs.Choice.{same, same_is, same_not, in_range}
+use Rattle.targets.specs.Form.{all_digits, is_digit}
+use Rattle.targets.specs.Bitrates.{send_length, is_rate, is_bitrate, send_part_of, code_of, rate_number, ascii, choice_of, choice_on, chosen, no_code_of, parsed}
 
 pub and_l : (a b : Bool) → (a && b) ≡ true → a ≡ true
 and_l true b e = refl
@@ -31,56 +31,56 @@ and_r false b e = absurd (true≢false (sym e))
 
 -- ---- three digits
 
-pub digit-least : (b : ℕ) (r : Bool) → r ≡ isDigit b → r ≡ true → 48 ≤ b
+pub digit_least : (b : ℕ) (r : Bool) → r ≡ is_digit b → r ≡ true → 48 ≤ b
 unfolding in_range
-digit-least b r e h = leb-true 48 b (and_l (leb 48 b) (leb b 57) (sym e ∙ h))
+digit_least b r e h = leb-true 48 b (and_l (leb 48 b) (leb b 57) (sym e ∙ h))
 
-digit-most : (b : ℕ) → isDigit b ≡ true → b ≤ 57
+digit_most : (b : ℕ) → is_digit b ≡ true → b ≤ 57
 unfolding in_range
-digit-most b h = leb-true b 57 (and_r (leb 48 b) (leb b 57) h)
+digit_most b h = leb-true b 57 (and_r (leb 48 b) (leb b 57) h)
 
-module _ (a b c : ℕ) (p : Bool) (first : p ≡ isDigit a) where
-  pub first-none : p ≡ false → 0 ≡ rateNumber a b c
-  unfolding rateNumber
-  first-none h = rw (sym first ∙ h)
+module _ (a b c : ℕ) (p : Bool) (first : p ≡ is_digit a) where
+  pub first_none : p ≡ false → 0 ≡ rate_number a b c
+  unfolding rate_number
+  first_none h = rw (sym first ∙ h)
 
-  module _ (is : p ≡ true) (q : Bool) (second : q ≡ isDigit b) where
-    pub second_none : q ≡ false → 0 ≡ rateNumber a b c
-    unfolding rateNumber
+  module _ (is : p ≡ true) (q : Bool) (second : q ≡ is_digit b) where
+    pub second_none : q ≡ false → 0 ≡ rate_number a b c
+    unfolding rate_number
     second_none h = rw (sym first ∙ is, sym second ∙ h)
 
-    module _ (too : q ≡ true) (r : Bool) (third : r ≡ isDigit c) where
-      pub third-none : r ≡ false → 0 ≡ rateNumber a b c
-      unfolding rateNumber
-      third-none h = rw (sym first ∙ is, sym second ∙ too, sym third ∙ h)
+    module _ (too : q ≡ true) (r : Bool) (third : r ≡ is_digit c) where
+      pub third_none : r ≡ false → 0 ≡ rate_number a b c
+      unfolding rate_number
+      third_none h = rw (sym first ∙ is, sym second ∙ too, sym third ∙ h)
 
-      pub three-digits : r ≡ true → 100 * (a - 48) + 10 * (b - 48) + (c - 48) ≡ rateNumber a b c
-      unfolding rateNumber
-      three-digits h = rw (sym first ∙ is, sym second ∙ too, sym third ∙ h)
+      pub three_digits : r ≡ true → 100 * (a - 48) + 10 * (b - 48) + (c - 48) ≡ rate_number a b c
+      unfolding rate_number
+      three_digits h = rw (sym first ∙ is, sym second ∙ too, sym third ∙ h)
 
 -- the digits that write a number
-digits_of : (a b c k : ℕ) → rateNumber a b c ≡ k → 1 ≤ k → (a ≡ 48 + k / 100) × (b ≡ 48 + k / 10 % 10) × (c ≡ 48 + k % 10)
-unfolding rateNumber
-digits_of a b c k h some = go (isDigit a) (isDigit b) (isDigit c) refl refl refl h
+digits_of : (a b c k : ℕ) → rate_number a b c ≡ k → 1 ≤ k → (a ≡ 48 + k / 100) × (b ≡ 48 + k / 10 % 10) × (c ≡ 48 + k % 10)
+unfolding rate_number
+digits_of a b c k h some = go (is_digit a) (is_digit b) (is_digit c) refl refl refl h
   where
-    go : (p q r : Bool) → isDigit a ≡ p → isDigit b ≡ q → isDigit c ≡ r → cond (p && (q && r)) (100 * (a - 48) + 10 * (b - 48) + (c - 48)) 0 ≡ k
+    go : (p q r : Bool) → is_digit a ≡ p → is_digit b ≡ q → is_digit c ≡ r → cond (p && (q && r)) (100 * (a - 48) + 10 * (b - 48) + (c - 48)) 0 ≡ k
         → (a ≡ 48 + k / 100) × (b ≡ 48 + k / 10 % 10) × (c ≡ 48 + k % 10)
     go true true true e f g n =
-        let la = digit-least a true (sym e) refl in
-        let lb = digit-least b true (sym f) refl in
-        let lc = digit-least c true (sym g) refl in
-        let ma = digit-most a e in
-        let mb = digit-most b f in
-        let mc = digit-most c g in
+        let la = digit_least a true (sym e) refl in
+        let lb = digit_least b true (sym f) refl in
+        let lc = digit_least c true (sym g) refl in
+        let ma = digit_most a e in
+        let mb = digit_most b f in
+        let mc = digit_most c g in
         (omega arith, omega arith, omega arith)
     go true true false e f g n = absurd (omega arith)
     go true false r e f g n = absurd (omega arith)
     go false q r e f g n = absurd (omega arith)
 
 -- A number and a suffix of one of the seven texts.
-pub rate-code : (a b c d n : ℕ) → n ≡ rateNumber a b c → (k e : ℕ) → n ≡ k → d ≡ e → 1 ≤ k
+pub rate_code : (a b c d n : ℕ) → n ≡ rate_number a b c → (k e : ℕ) → n ≡ k → d ≡ e → 1 ≤ k
     → (x : Bitrate) → x ≡ code_of ((48 + k / 100) ∷ (48 + k / 10 % 10) ∷ (48 + k % 10) ∷ e ∷ []) → x ≡ code_of (a ∷ b ∷ c ∷ d ∷ [])
-rate-code a b c d n known k e is suffix some x h =
+rate_code a b c d n known k e is suffix some x h =
     let w = digits_of a b c k (sym known ∙ is) some in
     rw (w.0, w.1, w.2, suffix) h
 
@@ -103,16 +103,16 @@ other f s h₁ h₂ h₃ h₄ h₅ h₆ h₇ = rw (
 )
 
 -- the number and the suffix of a text as one number
-rateOf : List ℕ → ℕ
-rateOf s = 256 * rateNumber (get_or s 0 0) (get_or s 1 0) (get_or s 2 0) + get_or s 3 0
+rate_of : List ℕ → ℕ
+rate_of s = 256 * rate_number (get_or s 0 0) (get_or s 1 0) (get_or s 2 0) + get_or s 3 0
 
 -- A number and a suffix of none of them.
-pub no_code : (a b c d n : ℕ) → n ≡ rateNumber a b c → d < 256
+pub no_code : (a b c d n : ℕ) → n ≡ rate_number a b c → d < 256
     → (n ≡ 106 → (d ≡ 65 → ⊥) × (d ≡ 66 → ⊥)) → (n ≡ 212 → (d ≡ 66 → ⊥) × (d ≡ 70 → ⊥)) → (n ≡ 424 → (d ≡ 66 → ⊥) × (d ≡ 70 → ⊥)) → (n ≡ 848 → d ≡ 66 → ⊥)
     → Other ≡ code_of (a ∷ b ∷ c ∷ d ∷ [])
-unfolding rateOf rateNumber in_range
+unfolding rate_of rate_number in_range
 no_code a b c d n known byte on-106 on-212 on-424 on-848 =
-    other rateOf (a ∷ b ∷ c ∷ d ∷ [])
+    other rate_of (a ∷ b ∷ c ∷ d ∷ [])
     (λ e. (on-106 (number 106 65 (omega arith) e)).0 (suffix 106 65 (omega arith) e))
     (λ e. (on-212 (number 212 70 (omega arith) e)).1 (suffix 212 70 (omega arith) e))
     (λ e. (on-424 (number 424 70 (omega arith) e)).1 (suffix 424 70 (omega arith) e))
@@ -121,98 +121,98 @@ no_code a b c d n known byte on-106 on-212 on-424 on-848 =
     (λ e. (on-424 (number 424 66 (omega arith) e)).0 (suffix 424 66 (omega arith) e))
     (λ e. on-848 (number 848 66 (omega arith) e) (suffix 848 66 (omega arith) e))
   where
-    number : (k u : ℕ) → u < 256 → 256 * rateNumber a b c + d ≡ 256 * k + u → n ≡ k
+    number : (k u : ℕ) → u < 256 → 256 * rate_number a b c + d ≡ 256 * k + u → n ≡ k
     number k u h e = omega arith
 
-    suffix : (k u : ℕ) → u < 256 → 256 * rateNumber a b c + d ≡ 256 * k + u → d ≡ u
+    suffix : (k u : ℕ) → u < 256 → 256 * rate_number a b c + d ≡ 256 * k + u → d ≡ u
     suffix k u h e = omega arith
 
--- One of the seven texts is a well-formed bitrate, whose send part it is.
+-- One of the seven texts is a well_formed bitrate, whose send part it is.
 module _ (t : List ℕ) where
   by-text : (b : Bool) (u : List ℕ) (x y : Bitrate) → (b ≡ true → t ≡ u) → chosen x ≡ choice_of u → ((y ≡ Other → ⊥) → chosen y ≡ choice_of t)
       → (cond b x y ≡ Other → ⊥) → chosen (cond b x y) ≡ choice_of t
   by-text true u x y is e f n = e ∙ ap choice_of (sym (is refl))
   by-text false u x y is e f n = f n
 
-  pub known-choice : (code_of t ≡ Other → ⊥) → chosen (code_of t) ≡ choice_of t
-  unfolding code_of choice_of sendPartOf isBitrate isRate sendLength allDigits in_range same
-  known-choice =
-      by-text (same t (ascii "106A")) (ascii "106A") B106A _ (same-is t (ascii "106A")) refl
-      (by-text (same t (ascii "212F")) (ascii "212F") B212F _ (same-is t (ascii "212F")) refl
-      (by-text (same t (ascii "424F")) (ascii "424F") B424F _ (same-is t (ascii "424F")) refl
-      (by-text (same t (ascii "106B")) (ascii "106B") B106B _ (same-is t (ascii "106B")) refl
-      (by-text (same t (ascii "212B")) (ascii "212B") B212B _ (same-is t (ascii "212B")) refl
-      (by-text (same t (ascii "424B")) (ascii "424B") B424B _ (same-is t (ascii "424B")) refl
-      (by-text (same t (ascii "848B")) (ascii "848B") B848B Other (same-is t (ascii "848B")) refl (λ n. absurd (n refl))))))))
+  pub known_choice : (code_of t ≡ Other → ⊥) → chosen (code_of t) ≡ choice_of t
+  unfolding code_of choice_of send_part_of is_bitrate is_rate send_length all_digits in_range same
+  known_choice =
+      by-text (same t (ascii "106A")) (ascii "106A") B106A _ (same_is t (ascii "106A")) refl
+      (by-text (same t (ascii "212F")) (ascii "212F") B212F _ (same_is t (ascii "212F")) refl
+      (by-text (same t (ascii "424F")) (ascii "424F") B424F _ (same_is t (ascii "424F")) refl
+      (by-text (same t (ascii "106B")) (ascii "106B") B106B _ (same_is t (ascii "106B")) refl
+      (by-text (same t (ascii "212B")) (ascii "212B") B212B _ (same_is t (ascii "212B")) refl
+      (by-text (same t (ascii "424B")) (ascii "424B") B424B _ (same_is t (ascii "424B")) refl
+      (by-text (same t (ascii "848B")) (ascii "848B") B848B Other (same_is t (ascii "848B")) refl (λ n. absurd (n refl))))))))
 
-pub send-le : (t : List ℕ) → sendLength t ≤ length t
-unfolding sendLength
-send-le [] = omega arith
-send-le (b ∷ bs) = here (eqb b 47) (send-le bs)
+pub send_le : (t : List ℕ) → send_length t ≤ length t
+unfolding send_length
+send_le [] = omega arith
+send_le (b ∷ bs) = here (eqb b 47) (send_le bs)
   where
-    here : (e : Bool) → sendLength bs ≤ length bs → cond e 0 (sendLength bs + 1) ≤ suc (length bs)
+    here : (e : Bool) → send_length bs ≤ length bs → cond e 0 (send_length bs + 1) ≤ suc (length bs)
     here true h = omega arith
     here false h = omega arith
 
-front-four : (t : List ℕ) → 4 ≤ length t → take 4 t ≡ get_or t 0 0 ∷ get_or t 1 0 ∷ get_or t 2 0 ∷ get_or t 3 0 ∷ []
-front-four [] h = absurd (omega arith)
-front-four (a ∷ []) h = absurd (omega arith)
-front-four (a ∷ b ∷ []) h = absurd (omega arith)
-front-four (a ∷ b ∷ c ∷ []) h = absurd (omega arith)
-front-four (a ∷ b ∷ c ∷ d ∷ t) h = refl
+front_four : (t : List ℕ) → 4 ≤ length t → take 4 t ≡ get_or t 0 0 ∷ get_or t 1 0 ∷ get_or t 2 0 ∷ get_or t 3 0 ∷ []
+front_four [] h = absurd (omega arith)
+front_four (a ∷ []) h = absurd (omega arith)
+front_four (a ∷ b ∷ []) h = absurd (omega arith)
+front_four (a ∷ b ∷ c ∷ []) h = absurd (omega arith)
+front_four (a ∷ b ∷ c ∷ d ∷ t) h = refl
 
-pub refused-too : (t : List ℕ) (r : Parsed) (e : Refusal) → r ≡ Refused e → parsed r ≡ sendPartOf t → noCode (plain 5) ≡ choice_of t
-unfolding sendPartOf choice_of
-refused-too t r e is known = go (isBitrate t) (ap parsed (sym is) ∙ known)
+pub refused_too : (t : List ℕ) (r : Parsed) (e : Refusal) → r ≡ Refused e → parsed r ≡ send_part_of t → no_code_of (plain 5) ≡ choice_of t
+unfolding send_part_of choice_of
+refused_too t r e is known = go (is_bitrate t) (ap parsed (sym is) ∙ known)
   where
-    go : (b : Bool) → refused (numbered e) ≡ cond b (answered (sendLength t)) (refused (plain 5))
-        → noCode (plain 5) ≡ choiceOn t (cond b (answered (sendLength t)) (refused (plain 5)))
+    go : (b : Bool) → refused (numbered e) ≡ cond b (answered (send_length t)) (refused (plain 5))
+        → no_code_of (plain 5) ≡ choice_on t (cond b (answered (send_length t)) (refused (plain 5)))
     go true h = cc
     go false h = refl
 
 -- what an answer of the send part's length says
-pub sent : (t : List ℕ) (n : ℕ) → answered n ≡ sendPartOf t → (isBitrate t ≡ true) × (n ≡ sendLength t)
-unfolding sendPartOf
-sent t n e = go (isBitrate t) e
+pub sent : (t : List ℕ) (n : ℕ) → answered n ≡ send_part_of t → (is_bitrate t ≡ true) × (n ≡ send_length t)
+unfolding send_part_of
+sent t n e = go (is_bitrate t) e
   where
-    go : (b : Bool) → answered n ≡ cond b (answered (sendLength t)) (refused (plain 5)) → (b ≡ true) × (n ≡ sendLength t)
+    go : (b : Bool) → answered n ≡ cond b (answered (send_length t)) (refused (plain 5)) → (b ≡ true) × (n ≡ send_length t)
     go true h = (refl, cc)
     go false h = (cc, cc)
 
 -- A text that is parsed, with a send part of n bytes.
-module _ (t : List ℕ) (r : Parsed) (n : ℕ) (is : r ≡ Send n) (known : parsed r ≡ sendPartOf t) where
-  same_known : answered n ≡ sendPartOf t
+module _ (t : List ℕ) (r : Parsed) (n : ℕ) (is : r ≡ Send n) (known : parsed r ≡ send_part_of t) where
+  same_known : answered n ≡ send_part_of t
   same_known = ap parsed (sym is) ∙ known
 
-  pub sent-le : n ≤ length t
-  sent-le = omega (arith, (sent t n same_known).1, send-le t)
+  pub sent_le : n ≤ length t
+  sent_le = omega (arith, (sent t n same_known).1, send_le t)
 
-  pub sent-code : (x : Bitrate) → x ≡ code_of (take n t) → chosen x ≡ choice_of t
+  pub sent_code : (x : Bitrate) → x ≡ code_of (take n t) → chosen x ≡ choice_of t
   unfolding choice_of
-  sent-code x e = rw (e, ← same_known)
+  sent_code x e = rw (e, ← same_known)
 
   pub other_length : (n ≡ 4 → ⊥) → chosen Other ≡ choice_of t
   other_length h =
-      let k : length (take n t) ≡ 4 → ⊥ = rw (length-take-le n t sent-le) h in
-      sent-code Other (other length (take n t) k k k k k k k)
+      let k : length (take n t) ≡ 4 → ⊥ = rw (length-take-le n t sent_le) h in
+      sent_code Other (other length (take n t) k k k k k k k)
 
   module _ (four : n ≡ 4) where
     four-long : 4 ≤ length t
-    four-long = omega (arith, sent-le)
+    four-long = omega (arith, sent_le)
 
     pub four-place : (k : ℕ) → k < 4 → k < length t
     four-place k h = omega (arith, four-long)
 
-    pub four-code : (x : Bitrate) → x ≡ code_of (get_or t 0 0 ∷ get_or t 1 0 ∷ get_or t 2 0 ∷ get_or t 3 0 ∷ []) → chosen x ≡ choice_of t
-    four-code x e = sent-code x (rw (four, front-four t four-long) e)
+    pub four_code : (x : Bitrate) → x ≡ code_of (get_or t 0 0 ∷ get_or t 1 0 ∷ get_or t 2 0 ∷ get_or t 3 0 ∷ []) → chosen x ≡ choice_of t
+    four_code x e = sent_code x (rw (four, front_four t four-long) e)
 
 -- A text of four bytes whose code is none of Other.
-pub known-code : (t : List ℕ) (x : Bitrate) → length t ≡ 4 → x ≡ code_of (get_or t 0 0 ∷ get_or t 1 0 ∷ get_or t 2 0 ∷ get_or t 3 0 ∷ [])
+pub known_code : (t : List ℕ) (x : Bitrate) → length t ≡ 4 → x ≡ code_of (get_or t 0 0 ∷ get_or t 1 0 ∷ get_or t 2 0 ∷ get_or t 3 0 ∷ [])
     → OneOf (0 ∷ 1 ∷ 2 ∷ 3 ∷ 4 ∷ 5 ∷ 6 ∷ []) (tag_of the_type x) → chosen x ≡ choice_of t
-known-code t x four e h =
+known_code t x four e h =
     let whole : take 4 t ≡ t = take_all 4 t (omega (arith, four)) in
-    let is : x ≡ code_of t = e ∙ ap code_of (sym (front-four t (omega (arith, four))) ∙ whole) in
-    rw is (known-choice t (λ n. not-other (rw (is ∙ n) at h)))
+    let is : x ≡ code_of t = e ∙ ap code_of (sym (front_four t (omega (arith, four))) ∙ whole) in
+    rw is (known_choice t (λ n. not-other (rw (is ∙ n) at h)))
   where
     not-other : OneOf (0 ∷ 1 ∷ 2 ∷ 3 ∷ 4 ∷ 5 ∷ 6 ∷ []) (tag_of the_type Other) → ⊥
     not-other h = miss (0 ∷ 1 ∷ 2 ∷ 3 ∷ 4 ∷ 5 ∷ 6 ∷ []) 7 tt h

@@ -1,4 +1,4 @@
--- What the functions answer. That `isRate` and `sendPartOf` take exactly the texts of `Form` is proved in `proofs/Exact`.
+-- What the functions answer. That `is_rate` and `send_part_of` take exactly the texts of `Form` is proved in `proofs/Exact`.
 use Rattle.std.specs.Prelude.{Bool, cond, ◌&&◌, ◌||◌, List, [], ◌∷◌, ◌++◌, ◌≡◌, ℕ, ◌+◌, ◌-◌, ◌*◌, ◌≤◌, leb, eqb, length, take, drop, get_or}
 use Rattle.std.proofs.Math.Option.{Option, none, some}
 use Prim.Native.Char.{code}
@@ -13,28 +13,28 @@ use Rattle.targets.specs.declared.Coded.{Coded}
 use Rattle.targets.specs.declared.Coded.TheVariants.{Code, Refused as Uncoded}
 use Rattle.targets.specs.declared.Parsed.{Parsed}
 use Rattle.targets.specs.declared.Parsed.TheVariants.{Send, Refused}
-use Rattle.targets.specs.Form.{Rate, allDigits, isCapital, isDigit}
+use Rattle.targets.specs.Form.{Rate, all_digits, is_capital, is_digit}
 
 -- One rate, as a test: at least two bytes, all digits but the last, and that a capital letter.
-unfoldable pub isRate : List ℕ → Bool
-isRate t = leb 2 (length t) && allDigits (take (length t - 1) t) && isCapital (get_or t (length t - 1) 0)
+unfoldable pub is_rate : List ℕ → Bool
+is_rate t = leb 2 (length t) && all_digits (take (length t - 1) t) && is_capital (get_or t (length t - 1) 0)
 
 -- The length of the send part: the bytes before the first `/` (47), or all where there is none.
-unfoldable pub sendLength : List ℕ → ℕ
-sendLength [] = 0
-sendLength (b ∷ bs) = cond (eqb b 47) 0 (sendLength bs + 1)
+unfoldable pub send_length : List ℕ → ℕ
+send_length [] = 0
+send_length (b ∷ bs) = cond (eqb b 47) 0 (send_length bs + 1)
 
 -- A bitrate: the send part is a rate, and it is the whole text or what stands behind the `/` is a rate.
-unfoldable pub isBitrate : List ℕ → Bool
-isBitrate t = isRate (take (sendLength t) t) && (eqb (sendLength t) (length t) || isRate (drop (sendLength t + 1) t))
+unfoldable pub is_bitrate : List ℕ → Bool
+is_bitrate t = is_rate (take (send_length t) t) && (eqb (send_length t) (length t) || is_rate (drop (send_length t + 1) t))
 
 -- `Parsed`: the length of the send part, or refusal 5.
 abbrev pub parsed : Parsed → Returned
 parsed (Send n) = answered n
 parsed (Refused e) = refused (numbered e)
 
-unfoldable pub sendPartOf : List ℕ → Returned
-sendPartOf t = cond (isBitrate t) (answered (sendLength t)) (refused (numbered BadBitrate))
+unfoldable pub send_part_of : List ℕ → Returned
+send_part_of t = cond (is_bitrate t) (answered (send_length t)) (refused (numbered BadBitrate))
 
 -- The bytes of a text in quotes.
 abbrev pub ascii : String → List ℕ
@@ -42,8 +42,8 @@ ascii empty = []
 ascii (c then s) = code c ∷ ascii s
 
 -- The number that three digits write; 0 where one is no digit.
-unfoldable pub rateNumber : ℕ → ℕ → ℕ → ℕ
-rateNumber a b c = cond (isDigit a && (isDigit b && isDigit c)) (100 * (a - 48) + 10 * (b - 48) + (c - 48)) 0
+unfoldable pub rate_number : ℕ → ℕ → ℕ → ℕ
+rate_number a b c = cond (is_digit a && (is_digit b && is_digit c)) (100 * (a - 48) + 10 * (b - 48) + (c - 48)) 0
 
 -- The code of a send part, by its text.
 unfoldable pub code_of : List ℕ → Bitrate
@@ -60,31 +60,31 @@ code_of s =
 -- `Coded`: the code of the send part, or refusal 5.
 pub data Choice : Type 0 where
   chosen : Bitrate → Choice
-  noCode : Numbered → Choice
+  no_code_of : Numbered → Choice
 
 abbrev pub coded : Coded → Choice
 coded (Code b) = chosen b
-coded (Uncoded e) = noCode (numbered e)
+coded (Uncoded e) = no_code_of (numbered e)
 
-abbrev pub choiceOn : List ℕ → Returned → Choice
-choiceOn t (answered n) = chosen (code_of (take n t))
-choiceOn t (refused k) = noCode k
+abbrev pub choice_on : List ℕ → Returned → Choice
+choice_on t (answered n) = chosen (code_of (take n t))
+choice_on t (refused k) = no_code_of k
 
 unfoldable pub choice_of : List ℕ → Choice
-choice_of t = choiceOn t (sendPartOf t)
+choice_of t = choice_on t (send_part_of t)
 
 -- What follows a bitrate, and the chip's code of one: `r` where there is none.
-abbrev pub byBitrate : {S : Type 0} → S → Choice → (Bitrate → S) → S
-byBitrate r (chosen b) f = f b
-byBitrate r (noCode e) f = r
+abbrev pub by_bitrate : {S : Type 0} → S → Choice → (Bitrate → S) → S
+by_bitrate r (chosen b) f = f b
+by_bitrate r (no_code_of e) f = r
 
-abbrev pub byCode : {S : Type 0} → S → Option ℕ → (ℕ → S) → S
-byCode r none f = r
-byCode r (some code) f = f code
+abbrev pub by_code_of : {S : Type 0} → S → Option ℕ → (ℕ → S) → S
+by_code_of r none f = r
+by_code_of r (some code) f = f code
 
 -- the code by which a call names a text's bitrate to the chip: `takes` has those of the bitrates that it takes
-abbrev pub codeOr : {S : Type 0} → S → (Bitrate → Option ℕ) → List ℕ → (ℕ → S) → S
-codeOr r takes text f = byBitrate r (choice_of text) (λ b. byCode r (takes b) f)
+abbrev pub code_or : {S : Type 0} → S → (Bitrate → Option ℕ) → List ℕ → (ℕ → S) → S
+code_or r takes text f = by_bitrate r (choice_of text) (λ b. by_code_of r (takes b) f)
 
 -- `rate_length`: the rate that a text starts with has n bytes; where n is under 2 there is none.
 pub record StartsWithRate (t : List ℕ) (n : ℕ) : Type 0 where

@@ -3,20 +3,20 @@ use Rattle.std.specs.Prelude.{Bool, true, ◌&&◌, List, [], ◌∷◌, ◌++�
 use Rattle.errors.specs.Choice.{in_range}
 
 -- `0` to `9`
-abbrev pub isDigit : ℕ → Bool
-isDigit b = in_range 48 57 b
+abbrev pub is_digit : ℕ → Bool
+is_digit b = in_range 48 57 b
 
 -- `A` to `Z`
-abbrev pub isCapital : ℕ → Bool
-isCapital b = in_range 65 90 b
+abbrev pub is_capital : ℕ → Bool
+is_capital b = in_range 65 90 b
 
-unfoldable pub allDigits : List ℕ → Bool
-allDigits [] = true
-allDigits (b ∷ bs) = isDigit b && allDigits bs
+unfoldable pub all_digits : List ℕ → Bool
+all_digits [] = true
+all_digits (b ∷ bs) = is_digit b && all_digits bs
 
 -- One rate: one or more digits, then one capital letter.
 pub data Rate : List ℕ → Type 0 where
-  rate : (digits : List ℕ) (letter : ℕ) → 1 ≤ length digits → allDigits digits ≡ true → isCapital letter ≡ true
+  rate : (digits : List ℕ) (letter : ℕ) → 1 ≤ length digits → all_digits digits ≡ true → is_capital letter ≡ true
       → Rate (digits ++ letter ∷ [])
 
 -- A bitrate, with the length of its send part: one rate, or two with `/` (47) between.

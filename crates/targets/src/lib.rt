@@ -1,8 +1,10 @@
 // The bitrate texts of document 01: their form, their send part, and its code. The target data of a list are in type_a.rt.
+#![tactic(auto)]
+
 pub mod type_a;
 
 ghost use Rattle.std.specs.Prelude.{[], ◌∷◌, ◌≡◌};
-ghost use Rattle.targets.specs.Bitrates.{choice_of, coded, code_of, isRate, parsed, rateNumber, sendPartOf, StartsWithRate};
+ghost use Rattle.targets.specs.Bitrates.{choice_of, coded, code_of, is_rate, parsed, rate_number, send_part_of, StartsWithRate};
 ghost use Rattle.errors.specs.Choice.{in_range};
 
 use errors::Refusal;
@@ -14,7 +16,7 @@ pub enum Parsed {
     Refused(Refusal),
 }
 
-// The send parts that the calls tell apart; any other well-formed one is Other.
+// The send parts that the calls tell apart; any other well_formed one is Other.
 #[derive(Drop)]
 pub enum Bitrate {
     B106A,
@@ -59,7 +61,7 @@ fn rate_length(text: &[u8]) -> usize
 
 // One rate: one or more digits, then one capital letter.
 pub fn is_valid_bitrate(text: &[u8]) -> bool
-    ensures { result ≡ isRate text.now }
+    ensures { result ≡ is_rate text.now }
 {
     let n = rate_length(text);
     if n < 2 { false } else { n == text.len() }
@@ -67,7 +69,7 @@ pub fn is_valid_bitrate(text: &[u8]) -> bool
 
 // One rate, or two with `/` between; the send part is the first.
 pub fn parse(text: &[u8]) -> Parsed
-    ensures { parsed result ≡ sendPartOf text.now }
+    ensures { parsed result ≡ send_part_of text.now }
 {
     let n = rate_length(text);
     if n < 2 {
@@ -88,7 +90,7 @@ pub fn parse(text: &[u8]) -> Parsed
 
 // The number that three digits write; 0, which no bitrate has, where one is no digit.
 fn bitrate_number(a: u8, b: u8, c: u8) -> u16
-    ensures { result ≡ rateNumber a b c }
+    ensures { result ≡ rate_number a b c }
 {
     if !in_range(a, b'0', b'9') {
         return 0;
@@ -131,7 +133,7 @@ fn bitrate_code(a: u8, b: u8, c: u8, suffix: u8) -> Bitrate
     }
 }
 
-// The code of the send part. The calls compare texts, so `0106A` is not `106A`. One of the seven texts is well-formed and needs no parse.
+// The code of the send part. The calls compare texts, so `0106A` is not `106A`. One of the seven texts is well_formed and needs no parse.
 pub fn code(text: &[u8]) -> Coded
     ensures { coded result ≡ choice_of text.now }
 {

@@ -1,6 +1,6 @@
 // Type A's target data in a list, by the PN532 user manual: SENS_RES, SEL_RES, NFCID1Length, the UID and the ATS.
 ghost use Rattle.std.specs.Prelude.{◌≡◌, ◌≤◌};
-ghost use Rattle.targets.specs.TypeA.{isType2, isUidLength, isAts, isTargetData};
+ghost use Rattle.targets.specs.TypeA.{is_type2, is_uid_length, is_ats, is_target_data};
 
 // Where NFCID1Length stands, and where the UID begins.
 const NFCID1_LENGTH_OFFSET: usize = 3;
@@ -16,14 +16,14 @@ fn wide(byte: u8) -> usize
 
 // SEL_RES of a Type 2 tag: its bits 5 and 6 are 0.
 pub fn is_type2(sel_res: u8) -> bool
-    ensures { result ≡ isType2 sel_res }
+    ensures { result ≡ is_type2 sel_res }
 {
     sel_res / 32 % 4 == 0
 }
 
 // A UID of single, double or triple size.
 fn is_uid_length(length: usize) -> bool
-    ensures { result ≡ isUidLength length }
+    ensures { result ≡ is_uid_length length }
 {
     match length {
         4 | 7 | 10 => true,
@@ -33,7 +33,7 @@ fn is_uid_length(length: usize) -> bool
 
 // No bytes, or an ATS: its first byte is its own length.
 fn is_ats(bytes: &[u8]) -> bool
-    ensures { result ≡ isAts bytes.now }
+    ensures { result ≡ is_ats bytes.now }
 {
     if bytes.len() == 0 {
         return true;
@@ -43,7 +43,7 @@ fn is_ats(bytes: &[u8]) -> bool
 
 // Target data: a UID of a length that there is, and behind it an ATS or nothing.
 pub fn is_target_data(bytes: &[u8]) -> bool
-    ensures { result ≡ isTargetData bytes.now }
+    ensures { result ≡ is_target_data bytes.now }
 {
     if bytes.len() < NFCID1_OFFSET {
         return false;

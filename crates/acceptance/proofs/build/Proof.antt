@@ -1,11 +1,11 @@
 -- `build` meets its contract.
-use Rattle.acceptance.specs.Order.{payloadBytes}
+use Rattle.acceptance.specs.Order.{payload_bytes}
 use borrow.Author.Rules.{rules}
 use Rattle.acceptance.proofs.build.Statement.{statement}
 use Rattle.acceptance.proofs.build.Tie as tie
 
 pub build-spec : {M : Type 1} → statement M
-unfolding payloadBytes
+unfolding payload_bytes
 build-spec =
     tie.close
     (tie.spec

@@ -1,5 +1,5 @@
 -- `answer` meets its contract.
-use Rattle.bench_codec.proofs.AnswerLaws.{answer-done, answer-long, answer-words}
+use Rattle.bench_codec.proofs.AnswerLaws.{answer-done, answer_long, answer_words}
 use borrow.Author.Rules.{rules}
 use Rattle.bench_codec.proofs.answer.Statement.{statement}
 use Rattle.bench_codec.proofs.answer.Tie as tie
@@ -9,6 +9,6 @@ answer-spec =
     tie.close
     (tie.spec
     (λ c κs. search rules)
-    (λ c. (answer-done _ _ _ _ (search rules) (search (answer-long, rules)), search rules))
+    (λ c. (answer-done _ _ _ _ (search rules) (search (answer_long, rules)), search rules))
     (λ c κs. search rules)
-    (λ c. (answer-done _ _ _ _ (search rules) (search (answer-words, rules)), search rules)))
+    (λ c. (answer-done _ _ _ _ (search rules) (search (answer_words, rules)), search rules)))

@@ -1,5 +1,5 @@
 -- `by_words` meets its contract.
-use Rattle.bench_codec.proofs.CodecLaws.{two-are, three-are, four_are, five-are, others-are}
+use Rattle.bench_codec.proofs.CodecLaws.{two_are, three_are, four_are, five_are, others_are}
 use Rattle.bench.specs.WordLaws.{word_fits}
 use borrow.Author.Rules.{rules}
 use Rattle.bench_codec.proofs.by_words.Statement.{statement}
@@ -16,17 +16,17 @@ by-words-spec =
     (λ c κs. search rules)
     (λ c κs. search (word_fits, rules))
     (λ c. search rules)
-    (λ c. search (two-are, rules))
+    (λ c. search (two_are, rules))
     (λ c κs. (search (word_fits, rules), search (word_fits, rules)))
     (λ c. search rules)
-    (λ c. search (three-are, rules))
+    (λ c. search (three_are, rules))
     (λ c κs. (search (word_fits, rules), search (word_fits, rules)))
     (λ c. search rules)
     (λ c. search (four_are, rules))
     (λ c κs. search rules)
     (λ c κs. (search (word_fits, rules), search (word_fits, rules), search (word_fits, rules)))
     (λ c. search rules)
-    (λ c. search (five-are, rules))
+    (λ c. search (five_are, rules))
     (λ c κs. search rules)
     (λ c. search rules)
-    (λ c. search (others-are, rules)))
+    (λ c. search (others_are, rules)))

@@ -3,7 +3,7 @@ use Prim.Native.Nat.{ℕ}
 use mathlib.Core.Path.{◌≡◌, sym}
 use lib.ListN.{length, length-replicate}
 use borrow.Author.Rules.{rules}
-use Rattle.bench_codec.proofs.AnswerLaws.{reply-room}
+use Rattle.bench_codec.proofs.AnswerLaws.{reply_room}
 use Rattle.bench_codec.proofs.run.Statement.{statement}
 use Rattle.bench_codec.proofs.run.Tie as tie
 
@@ -27,10 +27,10 @@ run_spec =
     (λ c κs. search rules)
     (λ c. search rules)
     (λ c κs. search rules)
-    (λ c. let at-loop = c.before.before.before.before.before.before.before.before.before.before.before in sym (reply-room _ _ _ _ _ c.before.reply.ensures at-loop.loop.invariant.2))
+    (λ c. let at-loop = c.before.before.before.before.before.before.before.before.before.before.before in sym (reply_room _ _ _ _ _ c.before.reply.ensures at-loop.loop.invariant.2))
     (λ c κs. search rules)
     (λ c. search rules)
     (λ c. search rules)
     (λ c. search rules)
-    (λ c. let at-loop = c.before.before.before.before.before.before.before.before.before.before.before.before.before in (search rules, search rules, reply-room _ _ _ _ _ c.before.before.before.reply.ensures at-loop.loop.invariant.2))
+    (λ c. let at-loop = c.before.before.before.before.before.before.before.before.before.before.before.before.before in (search rules, search rules, reply_room _ _ _ _ _ c.before.before.before.reply.ensures at-loop.loop.invariant.2))
     (λ c. search rules))

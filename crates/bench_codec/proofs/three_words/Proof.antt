@@ -1,7 +1,7 @@
 -- `three_words` meets its contract.
 use Rattle.errors.specs.Rules.{same-value}
 use Rattle.bench.specs.TextLaws.{when_true, when_false}
-use Rattle.bench_codec.proofs.CodecLaws.{no-setting, some-setting, read-refused, read-format, read_fits, read-part}
+use Rattle.bench_codec.proofs.CodecLaws.{no_setting, some_setting, read_refused, read_format, read_fits, read_part}
 use borrow.Author.Rules.{rules}
 use Rattle.bench_codec.proofs.three_words.Statement.{statement}
 use Rattle.bench_codec.proofs.three_words.Tie as tie
@@ -22,7 +22,7 @@ three-words-spec =
     (λ c. search rules)
     (λ c κs. search rules)
     (λ c. search rules)
-    (λ c. search (when_false, same-value, no-setting, rules) depth 8)
+    (λ c. search (when_false, same-value, no_setting, rules) depth 8)
     (λ c κs. search rules)
     (λ c. search rules)
     (λ c κs. search rules)
@@ -30,9 +30,9 @@ three-words-spec =
     (λ c. search rules)
     (λ c κs. search rules)
     (λ c. search rules)
-    (λ c. search (when_false, same-value, some-setting, read-refused, rules) depth 10)
+    (λ c. search (when_false, same-value, some_setting, read_refused, rules) depth 10)
     (λ c. search (read_fits, rules))
-    (λ c. search (read-part, rules))
+    (λ c. search (read_part, rules))
     (λ c κs. search rules)
     (λ c. search rules)
-    (λ c. search (when_false, same-value, some-setting, read-format, rules) depth 10))
+    (λ c. search (when_false, same-value, some_setting, read_format, rules) depth 10))

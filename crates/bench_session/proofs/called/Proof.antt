@@ -1,11 +1,11 @@
 -- `called` meets its contract.
 use borrow.Author.Rules.{rules}
-use Rattle.bench_session.specs.Answers.{saidStep}
+use Rattle.bench_session.specs.Answers.{said_step}
 use Rattle.bench_session.proofs.called.Statement.{statement}
 use Rattle.bench_session.proofs.called.Tie as tie
 
 returns : tie.Need-returns
-unfolding saidStep
+unfolding said_step
 returns c =
     let at = c.before.before in
     let at-part4 = at.before.before in

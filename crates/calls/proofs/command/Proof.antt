@@ -1,17 +1,17 @@
 use Rattle.errors.specs.Choice.{pick}
 use borrow.Author.Tests.{ne_eqb}
 use Rattle.stages.specs.Laws.{sends-any}
-use Rattle.calls.specs.Tables.{commandOf}
+use Rattle.calls.specs.Tables.{command_of}
 use borrow.Author.Rules.{rules}
 use Rattle.calls.proofs.command.Statement.{statement}
 use Rattle.calls.proofs.command.Tie as tie
 
 returns-8 : tie.Need-returns-8
-unfolding commandOf pick
+unfolding command_of pick
 returns-8 c = let r = c.before.match.rest in rw (ne_eqb _ 1 r.0.0.0.0.0.0.1, ne_eqb _ 3 r.0.0.0.0.0.1, ne_eqb _ 17 r.0.0.0.0.1, ne_eqb _ 18 r.0.0.0.1, ne_eqb _ 19 r.0.0.1, ne_eqb _ 21 r.0.1, ne_eqb _ 22 r.1) (sends-any _ _ _ c.command7.ensures)
 
 pub command-spec : {M : Type 1} → statement M
-unfolding commandOf pick
+unfolding command_of pick
 command-spec =
     tie.close
     (tie.spec

@@ -7,9 +7,9 @@ use Rattle.protocol.specs.Scripts.{done}
 use Rattle.stages.specs.Stages.{ends}
 use Rattle.stages.specs.Decided.{DecisionRefines, AnswerRefines}
 use Rattle.stages.specs.declared.Decision.{Decision}
-use Rattle.stages.specs.Laws.{decision-false}
+use Rattle.stages.specs.Laws.{decision_false}
 use borrow.Author.Tests.{ne_eqb}
-use Rattle.calls.specs.Tables.{decidedOf}
+use Rattle.calls.specs.Tables.{decided_of}
 use borrow.Author.Rules.{rules}
 use Rattle.calls.proofs.decided.Statement.{statement}
 use Rattle.calls.proofs.decided.Tie as tie
@@ -19,11 +19,11 @@ no_bytes : (f b : List ℕ) (r : Decision) → ((bs : List ℕ) → 0 ≤ length
 no_bytes f b r h = (h b (omega arith)).decision f
 
 returns-23 : tie.Need-returns-23
-unfolding decidedOf
-returns-23 c = search (decision-false, ne_eqb, no_bytes, rules) depth 30
+unfolding decided_of
+returns-23 c = search (decision_false, ne_eqb, no_bytes, rules) depth 30
 
 pub decided-spec : {M : Type 1} → statement M
-unfolding decidedOf pick
+unfolding decided_of pick
 decided-spec =
     tie.close
     (tie.spec

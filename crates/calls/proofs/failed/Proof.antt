@@ -1,17 +1,17 @@
 use Rattle.errors.specs.Choice.{pick}
 use borrow.Author.Tests.{ne_eqb}
-use Rattle.calls.specs.Tables.{failedOf}
-use Rattle.stages.specs.Laws.{decision-false, decision-refused}
+use Rattle.calls.specs.Tables.{failed_of}
+use Rattle.stages.specs.Laws.{decision_false, decision_refused}
 use borrow.Author.Rules.{rules}
 use Rattle.calls.proofs.failed.Statement.{statement}
 use Rattle.calls.proofs.failed.Tie as tie
 
 returns-6 : tie.Need-returns-6
-unfolding failedOf
-returns-6 c = λ b. search (decision-false, ne_eqb, decision-refused, rules) depth 12
+unfolding failed_of
+returns-6 c = λ b. search (decision_false, ne_eqb, decision_refused, rules) depth 12
 
 pub failed-spec : {M : Type 1} → statement M
-unfolding failedOf pick
+unfolding failed_of pick
 failed-spec =
     tie.close
     (tie.spec

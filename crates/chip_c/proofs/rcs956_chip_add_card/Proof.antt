@@ -45,9 +45,9 @@ use denote.Triple.Walked.{says, Stays, stay_ref, stay_none, stay_none_slice, gav
 use denote.Triple.Clauses.{ensured, lasts}
 use denote.Exit.{yes}
 use Rattle.simulated_chip.specs.Memory.{kind_at}
-use Rattle.simulated_chip.specs.Additions.{afterAddition, addCardIn}
-use Rattle.chip_c.specs.Numbers.{bitrateBy}
-use Rattle.chip_c.specs.Outcomes.{additionOutcome as outcomeOf, card-reported}
+use Rattle.simulated_chip.specs.Additions.{after_addition, add_card_in}
+use Rattle.chip_c.specs.Numbers.{bitrate_by_of}
+use Rattle.chip_c.specs.Outcomes.{addition_outcome as outcome_of, card-reported}
 use Rattle.simulated_chip.specs.declared.chip.Chip.{Chip}
 use Rattle.simulated_chip.specs.declared.add.AddEffect.{AddEffect}
 use Rattle.simulated_chip.specs.declared.add.Addition.{Addition}
@@ -61,7 +61,7 @@ use Rattle.simulated_chip.specs.contracts.add.Addition as I
 use Rattle.simulated_chip.proofs.add.Addition.TheLaws as I'
 use Rattle.chip_c.specs.contracts.outcome.Outcome as O
 use Rattle.chip_c.proofs.outcome.Outcome.TheLaws as O'
-use Rattle.chip_c.proofs.Apart.{mN, Fits, Array₀, Array₁, Array₂, Cell, Back, apart, together}
+use Rattle.chip_c.proofs.Apart.{m_n, Fits, Array₀, Array₁, Array₂, Cell, Back, apart, together}
 use Rattle.chip_c.specs.contracts.by_number.add_card as step
 use Rattle.chip_c.proofs.by_number.add_card.Symbol as step-def
 use Rattle.chip_c.proofs.by_number.add_card.Symbol.{name as #chip-c·by-number·add-card}
@@ -151,10 +151,10 @@ module _ {M : Type 1} {𝓤 : Ura M} (𝓛 : Logic 𝓤) (at_mem : Memory → SP
   -- what the callee's triple binds outside, and that the caller has what it asks
   module _ (α₀ α₁ α₂ : ℕ) (δ₀ δ₁ δ₂ : GName) where
     abbrev to_step : (Step₀ 𝓛 at_mem run).Ghost
-    to_step = ((((α₀ ∷ []), ((α₁ ∷ []), ((α₂ ∷ []), (κ₁, (κ₂, tt))))), (full_share, (full_share, (full_share, (q₁, (q₂, tt))))), tt, (h.state, ((ref₀ δ₀), ((ref₁ δ₁), ((ref₂ δ₂), (n₁, (n₂, (p₁, (p₂, tt)))))))), (mN h.state ∷ [], (vptr b (o + 0) ∷ [], (vptr b (o + 4060) ∷ [], (vptr b (o + 22564) ∷ [], (vint w8 n₁ ∷ [], (vint w8 n₂ ∷ [], (vp₁ ∷ [], (vp₂ ∷ [], tt))))))))), tt)
+    to_step = ((((α₀ ∷ []), ((α₁ ∷ []), ((α₂ ∷ []), (κ₁, (κ₂, tt))))), (full_share, (full_share, (full_share, (q₁, (q₂, tt))))), tt, (h.state, ((ref₀ δ₀), ((ref₁ δ₁), ((ref₂ δ₂), (n₁, (n₂, (p₁, (p₂, tt)))))))), (m_n h.state ∷ [], (vptr b (o + 0) ∷ [], (vptr b (o + 4060) ∷ [], (vptr b (o + 22564) ∷ [], (vint w8 n₁ ∷ [], (vint w8 n₂ ∷ [], (vp₁ ∷ [], (vp₂ ∷ [], tt))))))))), tt)
 
     abbrev Passed : Fml
-    Passed = owns (N.the_row ∷ MutRef (named 0) (α₀ ∷ []) (Array u8 4060) ∷ MutRef (named 1) (α₁ ∷ []) (Array u8 18504) ∷ MutRef (named 2) (α₂ ∷ []) (Array u8 36468) ∷ u8 ∷ u8 ∷ ShrSlice (named 3) κ₁ u8 ∷ ShrSlice (named 4) κ₂ u8 ∷ []) (h.state, ((ref₀ δ₀), ((ref₁ δ₁), ((ref₂ δ₂), (n₁, (n₂, (p₁, (p₂, tt)))))))) (mN h.state ∷ [], (vptr b (o + 0) ∷ [], (vptr b (o + 4060) ∷ [], (vptr b (o + 22564) ∷ [], (vint w8 n₁ ∷ [], (vint w8 n₂ ∷ [], (vp₁ ∷ [], (vp₂ ∷ [], tt))))))))
+    Passed = owns (N.the_row ∷ MutRef (named 0) (α₀ ∷ []) (Array u8 4060) ∷ MutRef (named 1) (α₁ ∷ []) (Array u8 18504) ∷ MutRef (named 2) (α₂ ∷ []) (Array u8 36468) ∷ u8 ∷ u8 ∷ ShrSlice (named 3) κ₁ u8 ∷ ShrSlice (named 4) κ₂ u8 ∷ []) (h.state, ((ref₀ δ₀), ((ref₁ δ₁), ((ref₂ δ₂), (n₁, (n₂, (p₁, (p₂, tt)))))))) (m_n h.state ∷ [], (vptr b (o + 0) ∷ [], (vptr b (o + 4060) ∷ [], (vptr b (o + 22564) ∷ [], (vint w8 n₁ ∷ [], (vint w8 n₂ ∷ [], (vp₁ ∷ [], (vp₂ ∷ [], tt))))))))
 
     goes_step : ent 𝓤 (sep 𝓤 (sep 𝓤 (A.lft (α₀ ∷ []) full_share) (sep 𝓤 (A.lft (α₁ ∷ []) full_share) (sep 𝓤 (A.lft (α₂ ∷ []) full_share) (sep 𝓤 (A.lft κ₁ q₁) (sep 𝓤 (A.lft κ₂ q₂) (sem 𝓛 ftrue)))))) (sem 𝓛 Passed)) ((Step₀ 𝓛 at_mem run).pre to_step)
     goes_step = qed 𝓛 ((‵ (flft (α₀ ∷ []) full_share) ⊛ ‵ (flft (α₁ ∷ []) full_share) ⊛ ‵ (flft (α₂ ∷ []) full_share) ⊛ ‵ (flft κ₁ q₁) ⊛ ‵ (flft κ₂ q₂) ⊛ ‵ ftrue) ∷ ‵ Passed ∷ []) ∵ join ! $ frame ! $ done !
@@ -170,7 +170,7 @@ module _ {M : Type 1} {𝓤 : Ura M} (𝓛 : Logic 𝓤) (at_mem : Memory → SP
     goes_of : ent 𝓤 (sep 𝓤 (sem 𝓛 ftrue) (sem 𝓛 Given-out)) ((Of₀ 𝓛 at_mem run).pre to-of)
     goes_of = qed 𝓛 (‵ ftrue ∷ ‵ Given-out ∷ []) ∵ join ! $ frame ! $ done !
 
-  exits : (r : AddEffect) (t : Outcome) (x₀ : List ℕ) (x₁ : List ℕ) (x₂ : List ℕ) → afterAddition r.state x₀ x₁ x₂ r.addition ≡ addCardIn h.state h.cards h.sent h.replies (kind_at n₁) (bitrateBy n₁ n₂) p₁.now p₂.now → t ≡ outcomeOf r.addition
+  exits : (r : AddEffect) (t : Outcome) (x₀ : List ℕ) (x₁ : List ℕ) (x₂ : List ℕ) → after_addition r.state x₀ x₁ x₂ r.addition ≡ add_card_in h.state h.cards h.sent h.replies (kind_at n₁) (bitrate_by_of n₁ n₂) p₁.now p₂.now → t ≡ outcome_of r.addition
       → ent 𝓤 (⋆ 𝓛 (‵ (fobs γ ((T.the_row).coded.code (record { cards = x₀; sent = x₁; replies = x₂; state = r.state }))) ∷ ‵ (fbor κ₀ (Body (mem T.the_row) b o γ)) ∷ ‵ (flft κ₀ q₀) ∷ (‵ (flft κ₁ q₁) ⊛ ‵ (flft κ₂ q₂) ⊛ ‵ ftrue) ∷ ‵ Ownp₁ ∷ ‵ Ownp₂ ∷ ‵ ((O.the_row).own_val t (mO t ∷ [])) ∷ [])) (Post (mO t))
   exits r t x₀ x₁ x₂ e s =
       qed 𝓛 (‵ (fobs γ ((T.the_row).coded.code (record { cards = x₀; sent = x₁; replies = x₂; state = r.state }))) ∷ ‵ (fbor κ₀ (Body (mem T.the_row) b o γ)) ∷ ‵ (flft κ₀ q₀) ∷ (‵ (flft κ₁ q₁) ⊛ ‵ (flft κ₂ q₂) ⊛ ‵ ftrue) ∷ ‵ Ownp₁ ∷ ‵ Ownp₂ ∷ ‵ ((O.the_row).own_val t (mO t ∷ [])) ∷ []) ∵
@@ -210,13 +210,13 @@ module _ {M : Type 1} {𝓤 : Ura M} (𝓛 : Logic 𝓤) (at_mem : Memory → SP
         -- the slices' borrows are copied, and what the callee takes is put together
         move ! (17 ∷ []) $ use1 𝓛 (‵ Ownp₁ ⊛ ‵ Ownp₁) ((shr_slice_copy 𝓛 (named 1) κ₁ u8).twice p₁ (vp₁ ∷ [])) $ split ! $
         move ! (17 ∷ []) $ use1 𝓛 (‵ Ownp₂ ⊛ ‵ Ownp₂) ((shr_slice_copy 𝓛 (named 2) κ₂ u8).twice p₂ (vp₂ ∷ [])) $ split ! $
-        move ! (19 ∷ []) $ move ! (2 ∷ 0 ∷ []) $ fjoin ! $ move ! (3 ∷ 0 ∷ []) $ fjoin ! $ owned ! u8 (Is u8) (uint_Makes 𝓛 w8) n₂ _ (refl, n₂-fits) $ fjoin ! $ owned ! u8 (Is u8) (uint_Makes 𝓛 w8) n₁ _ (refl, n₁-fits) $ fjoin ! $ move ! (3 ∷ 0 ∷ []) $ fjoin ! $ move ! (5 ∷ 0 ∷ []) $ fjoin ! $ move ! (7 ∷ 0 ∷ []) $ fjoin ! $ owned ! N.the_row (Is N.the_row) (LL.makes N.the_type N'.the_plain 𝓛) h.state (mN h.state ∷ []) was $ fjoin ! $
+        move ! (19 ∷ []) $ move ! (2 ∷ 0 ∷ []) $ fjoin ! $ move ! (3 ∷ 0 ∷ []) $ fjoin ! $ owned ! u8 (Is u8) (uint_Makes 𝓛 w8) n₂ _ (refl, n₂-fits) $ fjoin ! $ owned ! u8 (Is u8) (uint_Makes 𝓛 w8) n₁ _ (refl, n₁-fits) $ fjoin ! $ move ! (3 ∷ 0 ∷ []) $ fjoin ! $ move ! (5 ∷ 0 ∷ []) $ fjoin ! $ move ! (7 ∷ 0 ∷ []) $ fjoin ! $ owned ! N.the_row (Is N.the_row) (LL.makes N.the_type N'.the_plain 𝓛) h.state (m_n h.state ∷ []) was $ fjoin ! $
         move ! (4 ∷ 14 ∷ []) $ join ! $ move ! (6 ∷ 0 ∷ []) $ join ! $ move ! (7 ∷ 0 ∷ []) $ join ! $ use2 𝓛 (raw ((Step₀ 𝓛 at_mem run).pre (to_step α₀ α₁ α₂ δ₀ δ₁ δ₂))) (goes_step α₀ α₁ α₂ δ₀ δ₁ δ₂) $
         -- the call
         calls_at ! fm (Step₀ 𝓛 at_mem run) known (to_step α₀ α₁ α₂ δ₀ δ₁ δ₂) (and_then ! (load ! (from ! (stop !)) (look ! 21 refl)) (and_then ! (load ! (from ! (stop !)) (look ! 15 refl)) (and_then ! (load ! (from ! (stop !)) (look ! 13 refl)) (and_then ! (load ! (from ! (stop !)) (look ! 11 refl)) (and_then ! (load ! (from ! (stop !)) (look ! 29 refl)) (and_then ! (load ! (from ! (stop !)) (look ! 27 refl)) (and_then ! (load ! (from ! (stop !)) (look ! 25 refl)) (and_then ! (load ! (from ! (stop !)) (look ! 23 refl)) (no_more !))))))))) (λ v.
         use1 𝓛 (later (some (λ (r : AddEffect). ((‵ (flft (α₀ ∷ []) full_share) ⊛ ‵ (flft (α₁ ∷ []) full_share) ⊛ ‵ (flft (α₂ ∷ []) full_share) ⊛ ‵ (flft κ₁ q₁) ⊛ ‵ (flft κ₂ q₂) ⊛ ‵ ftrue) ⊛ ‵ ((R.the_row).own_val r (v ∷ []))) ⊛ raw (ensured 𝓛 step.ended (step.clauses 𝓛 at_mem run) ((α₀ ∷ []), ((α₁ ∷ []), ((α₂ ∷ []), (κ₁, (κ₂, tt))))) (h.state, ((ref₀ δ₀), ((ref₁ δ₁), ((ref₂ δ₂), (n₁, (n₂, (p₁, (p₂, tt)))))))) tt r)))) (id⊢ 𝓤 _) $ await ! tt $ pick ! (λ r. split ! $
-        move ! (1 ∷ []) $ use1 𝓛 (some (λ (zs : Unit {0} × (List ℕ × (List ℕ × (List ℕ × (Unit {0} × (Unit {0} × (Unit {0} × (Unit {0} × Unit {0})))))))). ‵ (lasts step.ended ((α₀ ∷ []), ((α₁ ∷ []), ((α₂ ∷ []), (κ₁, (κ₂, tt))))) (h.state, ((ref₀ δ₀), ((ref₁ δ₁), ((ref₂ δ₂), (n₁, (n₂, (p₁, (p₂, tt)))))))) zs) ⊛ raw (fact 𝓤 (afterAddition r.state zs.1.0 zs.1.1.0 zs.1.1.1.0 r.addition ≡ addCardIn h.state h.cards h.sent h.replies (kind_at n₁) (bitrateBy n₁ n₂) p₁.now p₂.now)))) (id⊢ 𝓤 _) $ pick ! (λ zs. split ! $
-        move ! (1 ∷ []) $ heard ! (afterAddition r.state zs.1.0 zs.1.1.0 zs.1.1.1.0 r.addition ≡ addCardIn h.state h.cards h.sent h.replies (kind_at n₁) (bitrateBy n₁ n₂) p₁.now p₂.now) (λ e.
+        move ! (1 ∷ []) $ use1 𝓛 (some (λ (zs : Unit {0} × (List ℕ × (List ℕ × (List ℕ × (Unit {0} × (Unit {0} × (Unit {0} × (Unit {0} × Unit {0})))))))). ‵ (lasts step.ended ((α₀ ∷ []), ((α₁ ∷ []), ((α₂ ∷ []), (κ₁, (κ₂, tt))))) (h.state, ((ref₀ δ₀), ((ref₁ δ₁), ((ref₂ δ₂), (n₁, (n₂, (p₁, (p₂, tt)))))))) zs) ⊛ raw (fact 𝓤 (after_addition r.state zs.1.0 zs.1.1.0 zs.1.1.1.0 r.addition ≡ add_card_in h.state h.cards h.sent h.replies (kind_at n₁) (bitrate_by_of n₁ n₂) p₁.now p₂.now)))) (id⊢ 𝓤 _) $ pick ! (λ zs. split ! $
+        move ! (1 ∷ []) $ heard ! (after_addition r.state zs.1.0 zs.1.1.0 zs.1.1.1.0 r.addition ≡ add_card_in h.state h.cards h.sent h.replies (kind_at n₁) (bitrate_by_of n₁ n₂) p₁.now p₂.now) (λ e.
         fsplit ! $ drop ! $ fsplit ! $ move ! (1 ∷ []) $ fsplit ! $ move ! (1 ∷ []) $ fsplit ! $ move ! (1 ∷ []) $ fsplit ! $ drop ! $ fsplit ! $ drop ! $ fsplit ! $ drop ! $ fsplit ! $ drop ! $ move ! (4 ∷ []) $ split ! $ move ! (1 ∷ []) $ peeks ! R.the_row (Is R.the_row) (shows 𝓛 R.the_row) r (v ∷ []) (λ is. drop ! $
         -- the lifetimes are ended, and the arrays are back
         split ! $ move ! (1 ∷ []) $ split ! $ move ! (1 ∷ []) $ split ! $
@@ -231,7 +231,7 @@ module _ {M : Type 1} {𝓤 : Ura M} (𝓛 : Logic 𝓤) (at_mem : Memory → SP
         nothing ! $ owned ! I.the_row (Is I.the_row) (EL.makes I.the_type I'.the_plain 𝓛) r.addition (mI r.addition ∷ []) (part₁ r v is) $ fjoin ! $ nothing ! $ use2 𝓛 (raw ((Of₀ 𝓛 at_mem run).pre (to-of r.addition))) (goes_of r.addition) $
         calls_at ! fm (Of₀ 𝓛 at_mem run) Known-of (to-of r.addition) (and_then ! (load ! (from ! (fld ! refl (stop !))) (look_in ! 21 (sub ! 1 refl (whole !)))) (no_more !)) (λ u.
         use1 𝓛 (later (some (λ (t : Outcome). (‵ ftrue ⊛ ‵ ((O.the_row).own_val t (u ∷ []))) ⊛ raw (ensured 𝓛 of.ended (of.clauses 𝓛 at_mem run) tt (r.addition, tt) tt t)))) (id⊢ 𝓤 _) $ await ! tt $ pick ! (λ t. split ! $
-        move ! (1 ∷ []) $ use1 𝓛 (some (λ (us : Unit {0} × Unit {0}). ‵ (lasts of.ended tt (r.addition, tt) us) ⊛ raw (fact 𝓤 (t ≡ outcomeOf r.addition)))) (id⊢ 𝓤 _) $ pick ! (λ us. split ! $ move ! (1 ∷ []) $ heard ! (t ≡ outcomeOf r.addition) (λ s. drop ! $
+        move ! (1 ∷ []) $ use1 𝓛 (some (λ (us : Unit {0} × Unit {0}). ‵ (lasts of.ended tt (r.addition, tt) us) ⊛ raw (fact 𝓤 (t ≡ outcome_of r.addition)))) (id⊢ 𝓤 _) $ pick ! (λ us. split ! $ move ! (1 ∷ []) $ heard ! (t ≡ outcome_of r.addition) (λ s. drop ! $
         split ! $ drop ! $ peeks ! O.the_row (Is O.the_row) (shows 𝓛 O.the_row) t (u ∷ []) (λ are. drop ! $
         land ! (from ! (stop !)) (init ! 34 refl ((LL.lawful O.the_type O'.the_laws 𝓛).typed t _ are).0) $ rewrite ! 34 (λ (u' : Val). ‵ (fat full_share O'.mir l₀ 0 u')) (ap only (LL.tells O.the_type O'.the_laws t _ are)) refl $
         -- the chip is put together, and its borrow is closed at the new record

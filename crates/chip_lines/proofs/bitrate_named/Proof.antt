@@ -1,6 +1,6 @@
 -- `bitrate_named` meets its contract.
 use Rattle.framing.specs.Rules.{steps}
-use Rattle.chip_lines.specs.ChipLines.{bitrateNamed}
+use Rattle.chip_lines.specs.ChipLines.{bitrate_named_of}
 use borrow.Author.Rules.{rules}
 use Rattle.chip_lines.proofs.bitrate_named.Statement.{statement}
 use Rattle.chip_lines.proofs.bitrate_named.Tie as tie
@@ -12,7 +12,7 @@ is-exactly-requires : tie.Need-is-exactly-requires
 is-exactly-requires c κs = search rules
 
 returns : tie.Need-returns
-unfolding bitrateNamed
+unfolding bitrate_named_of
 returns c = search (steps, rules) depth 14
 
 slice-aggregate-is-exactly-2 : tie.Need-slice-aggregate-is-exactly-2
@@ -22,7 +22,7 @@ is-exactly-requires-2 : tie.Need-is-exactly-requires-2
 is-exactly-requires-2 c κs = search rules
 
 returns-2 : tie.Need-returns-2
-unfolding bitrateNamed
+unfolding bitrate_named_of
 returns-2 c = search (steps, rules) depth 14
 
 slice-aggregate-is-exactly-3 : tie.Need-slice-aggregate-is-exactly-3
@@ -32,7 +32,7 @@ is-exactly-requires-3 : tie.Need-is-exactly-requires-3
 is-exactly-requires-3 c κs = search rules
 
 returns-3 : tie.Need-returns-3
-unfolding bitrateNamed
+unfolding bitrate_named_of
 returns-3 c = search (steps, rules) depth 14
 
 slice-aggregate-is-exactly-4 : tie.Need-slice-aggregate-is-exactly-4
@@ -42,11 +42,11 @@ is-exactly-requires-4 : tie.Need-is-exactly-requires-4
 is-exactly-requires-4 c κs = search rules
 
 returns-4 : tie.Need-returns-4
-unfolding bitrateNamed
+unfolding bitrate_named_of
 returns-4 c = search (steps, rules) depth 14
 
 returns-5 : tie.Need-returns-5
-unfolding bitrateNamed
+unfolding bitrate_named_of
 returns-5 c = search (steps, rules) depth 14
 
 pub bitrate-named-spec : {M : Type 1} → statement M

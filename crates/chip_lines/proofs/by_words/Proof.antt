@@ -1,5 +1,5 @@
 -- `by_words` meets its contract.
-use Rattle.chip_lines.proofs.AnswerLaws.{one-is, two-are, three-are, four_are, five-are, others-are, unread-answers}
+use Rattle.chip_lines.proofs.AnswerLaws.{one_is, two_are, three_are, four_are, five_are, others_are, unread_answers}
 use Rattle.bench.specs.WordLaws.{word_fits}
 use borrow.Author.Rules.{rules}
 use Rattle.chip_lines.proofs.by_words.Statement.{statement}
@@ -27,7 +27,7 @@ same_length : tie.Need-same-length
 same_length c = search rules
 
 returns : tie.Need-returns
-returns c = search (one-is, c.before.before.one.ensures, rules)
+returns c = search (one_is, c.before.before.one.ensures, rules)
 
 two-requires : tie.Need-two-requires
 two-requires c κs = search (word_fits, rules)
@@ -36,7 +36,7 @@ same-length-2 : tie.Need-same-length-2
 same-length-2 c = search rules
 
 returns-2 : tie.Need-returns-2
-returns-2 c = search (two-are, rules)
+returns-2 c = search (two_are, rules)
 
 three-requires : tie.Need-three-requires
 three-requires c κs = (search (word_fits, rules), search (word_fits, rules))
@@ -45,7 +45,7 @@ same-length-3 : tie.Need-same-length-3
 same-length-3 c = search rules
 
 returns-3 : tie.Need-returns-3
-returns-3 c = search (three-are, rules)
+returns-3 c = search (three_are, rules)
 
 four-requires : tie.Need-four-requires
 four-requires c κs = search (word_fits, rules)
@@ -66,7 +66,7 @@ same-length-5 : tie.Need-same-length-5
 same-length-5 c = search rules
 
 returns-5 : tie.Need-returns-5
-returns-5 c = search (five-are, rules)
+returns-5 c = search (five_are, rules)
 
 unreadable-requires : tie.Need-unreadable-requires
 unreadable-requires c κs = search rules
@@ -75,7 +75,7 @@ same-length-6 : tie.Need-same-length-6
 same-length-6 c = search rules
 
 returns-6 : tie.Need-returns-6
-returns-6 c = search (others-are, unread-answers, rules)
+returns-6 c = search (others_are, unread_answers, rules)
 
 pub by-words-spec : {M : Type 1} → statement M
 by-words-spec =

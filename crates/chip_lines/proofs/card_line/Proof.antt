@@ -1,6 +1,6 @@
 -- `card_line` meets its contract.
-use Rattle.chip_lines.proofs.AnswerLaws.{answer-true, answer-false, not-hex, is-hex, hex-bytes, unread-answers, card-answers}
-use Rattle.chip_lines.specs.ChipLines.{cardLine}
+use Rattle.chip_lines.proofs.AnswerLaws.{answer_true, answer_false, not_hex, is_hex, hex_bytes, unread_answers, card_answers}
+use Rattle.chip_lines.specs.ChipLines.{card_line_of}
 use borrow.Author.Rules.{rules}
 use Rattle.chip_lines.proofs.card_line.Statement.{statement}
 use Rattle.chip_lines.proofs.card_line.Tie as tie
@@ -27,8 +27,8 @@ same_length : tie.Need-same-length
 same_length c = search rules
 
 returns : tie.Need-returns
-unfolding cardLine
-returns c = search (answer-false, not-hex, unread-answers, rules) depth 10
+unfolding card_line_of
+returns c = search (answer_false, not_hex, unread_answers, rules) depth 10
 
 room-requires-2 : tie.Need-room-requires-2
 room-requires-2 c κs = search rules
@@ -52,8 +52,8 @@ same-length-2 : tie.Need-same-length-2
 same-length-2 c = search rules
 
 returns-2 : tie.Need-returns-2
-unfolding cardLine
-returns-2 c = search (answer-true, answer-false, is-hex, not-hex, unread-answers, rules) depth 12
+unfolding card_line_of
+returns-2 c = search (answer_true, answer_false, is_hex, not_hex, unread_answers, rules) depth 12
 
 bitrate-named-requires : tie.Need-bitrate-named-requires
 bitrate-named-requires c κs = search rules
@@ -80,7 +80,7 @@ same-length-3 : tie.Need-same-length-3
 same-length-3 c = search rules
 
 returns-3 : tie.Need-returns-3
-unfolding cardLine
+unfolding card_line_of
 returns-3 c =
     let at-put = c.before.before in
     let at-add = at-put.before.before.before in
@@ -94,11 +94,11 @@ returns-3 c =
     let at_read = at_n.before.before.before in
     let at_room = at_read.before.before in
     let start = at_room.before.before.before.before.before in
-    answer-true _ _ _ _ _ _ _ _ (is-hex _ _ _ _ at_read.read.ensures at_room.room.ensures start.requires.0 _ at_n.n.given.1)
-    (answer-true _ _ _ _ _ _ _ _ (is-hex _ _ _ _ at-read2.read2.ensures at-room2.room2.ensures start.requires.1 _ at-m.m.given.1)
-    (card-answers _ _ _ _ _ _ _ _ _ _ _ _ _ _ _ _ _ _ _ at-add.add-card.ensures at-put.put-addition.ensures at-rate.bitrate-named.ensures
-    (hex-bytes _ _ _ _ at_read.read.ensures at_room.room.ensures start.requires.0 _ at_n.n.given.1 _ at_first.prefix.ensures)
-    (hex-bytes _ _ _ _ at-read2.read2.ensures at-room2.room2.ensures start.requires.1 _ at-m.m.given.1 _ at_second.prefix2.ensures)))
+    answer_true _ _ _ _ _ _ _ _ (is_hex _ _ _ _ at_read.read.ensures at_room.room.ensures start.requires.0 _ at_n.n.given.1)
+    (answer_true _ _ _ _ _ _ _ _ (is_hex _ _ _ _ at-read2.read2.ensures at-room2.room2.ensures start.requires.1 _ at-m.m.given.1)
+    (card_answers _ _ _ _ _ _ _ _ _ _ _ _ _ _ _ _ _ _ _ at-add.add-card.ensures at-put.put-addition.ensures at-rate.bitrate-named.ensures
+    (hex_bytes _ _ _ _ at_read.read.ensures at_room.room.ensures start.requires.0 _ at_n.n.given.1 _ at_first.prefix.ensures)
+    (hex_bytes _ _ _ _ at-read2.read2.ensures at-room2.room2.ensures start.requires.1 _ at-m.m.given.1 _ at_second.prefix2.ensures)))
 
 pub card-line-spec : {M : Type 1} → statement M
 card-line-spec =

@@ -1,5 +1,5 @@
 -- `frame_line` meets its contract.
-use Rattle.chip_lines.proofs.AnswerLaws.{answer-true, answer-false, not-hex, is-hex, hex-bytes, unread-answers, step-answers}
+use Rattle.chip_lines.proofs.AnswerLaws.{answer_true, answer_false, not_hex, is_hex, hex_bytes, unread_answers, step_answers}
 use borrow.Author.Rules.{rules}
 use Rattle.chip_lines.proofs.frame_line.Statement.{statement}
 use Rattle.chip_lines.proofs.frame_line.Tie as tie
@@ -26,7 +26,7 @@ same_length : tie.Need-same-length
 same_length c = search rules
 
 returns : tie.Need-returns
-returns c = search (answer-false, not-hex, unread-answers, rules) depth 10
+returns c = search (answer_false, not_hex, unread_answers, rules) depth 10
 
 packet-room-requires : tie.Need-packet-room-requires
 packet-room-requires c κs = search rules
@@ -50,7 +50,7 @@ same-length-2 : tie.Need-same-length-2
 same-length-2 c = search rules
 
 returns-2 : tie.Need-returns-2
-returns-2 c = search (answer-true, is-hex, hex-bytes, step-answers, rules) depth 14
+returns-2 c = search (answer_true, is_hex, hex_bytes, step_answers, rules) depth 14
 
 pub frame-line-spec : {M : Type 1} → statement M
 frame-line-spec =

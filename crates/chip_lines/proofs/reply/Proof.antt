@@ -1,5 +1,5 @@
 -- `reply` meets its contract.
-use Rattle.chip_lines.proofs.AnswerLaws.{reply-text, reply-long, reply-end, printed-room, refused-room}
+use Rattle.chip_lines.proofs.AnswerLaws.{reply_text, reply_long, reply-end, printed_room, refused_room}
 use mathlib.Core.List.{[]}
 use borrow.Author.Rules.{rules}
 use Rattle.chip_lines.proofs.reply.Statement.{statement}
@@ -34,16 +34,16 @@ returns c =
     let at-answer = c.before.before in
     let at_part = at-answer.before.before in
     let at_next = at_part.before.before.before.before.before in (
-      reply-text _ _ _ _ _ _ _ _ _ _ _ _ _ _ _ _ (search rules) c.fed.ensures _ _ at_next.next.given.1 at_part.prefix.ensures at-answer.answer.ensures,
-      printed-room _ _ _ _ _ _ _ at-answer.answer.ensures c.fed.ensures.1,
+      reply_text _ _ _ _ _ _ _ _ _ _ _ _ _ _ _ _ (search rules) c.fed.ensures _ _ at_next.next.given.1 at_part.prefix.ensures at-answer.answer.ensures,
+      printed_room _ _ _ _ _ _ _ at-answer.answer.ensures c.fed.ensures.1,
     )
 
 returns-2 : tie.Need-returns-2
 returns-2 c =
     let at-refused = c.before.before in
     let at_told = at-refused.before.before in (
-      reply-long _ _ _ _ _ _ [] [] [] _ _ _ _ _ _ _ (search rules) c.fed2.ensures at_told.enum_told.given.1 at-refused.unreadable.ensures.0 at-refused.unreadable.ensures.1,
-      refused-room _ _ _ _ _ at-refused.unreadable.ensures.1 c.fed2.ensures.1,
+      reply_long _ _ _ _ _ _ [] [] [] _ _ _ _ _ _ _ (search rules) c.fed2.ensures at_told.enum_told.given.1 at-refused.unreadable.ensures.0 at-refused.unreadable.ensures.1,
+      refused_room _ _ _ _ _ at-refused.unreadable.ensures.1 c.fed2.ensures.1,
     )
 
 returns-3 : tie.Need-returns-3

@@ -1,4 +1,4 @@
--- `codec_c::encode` meets its contract: each arm's answer is its case of `foundOf`.
+-- `codec_c::encode` meets its contract: each arm's answer is its case of `found_of`.
 use borrow.Author.Rules.{rules}
 use Rattle.codec_c.proofs.encode.Statement.{statement}
 use Rattle.codec_c.proofs.encode.Tie as tie

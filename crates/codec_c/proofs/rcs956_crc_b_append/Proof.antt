@@ -1,6 +1,6 @@
 -- `codec_c::rcs956_crc_b_append` meets its contract.
 use borrow.Author.Rules.{rules}
-use Rattle.codec_c.proofs.Laws.{appended, not-appended}
+use Rattle.codec_c.proofs.Laws.{appended, not_appended}
 use Rattle.codec_c.proofs.rcs956_crc_b_append.Statement.{statement}
 use Rattle.codec_c.proofs.rcs956_crc_b_append.Tie as tie
 
@@ -15,4 +15,4 @@ rcs956-crc-b-append-spec =
     (λ c. search rules)
     (λ c. search (appended, rules))
     (λ c. search rules)
-    (λ c. search (not-appended, rules)))
+    (λ c. search (not_appended, rules)))

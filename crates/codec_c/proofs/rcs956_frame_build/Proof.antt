@@ -1,6 +1,6 @@
 -- `codec_c::rcs956_frame_build` meets its contract.
 use borrow.Author.Rules.{rules}
-use Rattle.codec_c.proofs.Laws.{no-setting, was-built, not-built}
+use Rattle.codec_c.proofs.Laws.{no_setting, was_built, not_built}
 use Rattle.codec_c.proofs.rcs956_frame_build.Statement.{statement}
 use Rattle.codec_c.proofs.rcs956_frame_build.Tie as tie
 
@@ -12,12 +12,12 @@ rcs956-frame-build-spec =
     (λ c. search rules)
     (λ c. search rules)
     (λ c κs. search rules)
-    (λ c. search (no-setting, rules))
+    (λ c. search (no_setting, rules))
     (λ c κs. search rules)
     (λ c. search rules)
     (λ c. search rules)
     (λ c κs. search rules)
     (λ c. search rules)
-    (λ c. search (was-built, rules))
+    (λ c. search (was_built, rules))
     (λ c. search rules)
-    (λ c. search (not-built, rules)))
+    (λ c. search (not_built, rules)))

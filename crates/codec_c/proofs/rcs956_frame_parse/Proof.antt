@@ -1,6 +1,6 @@
 -- `codec_c::rcs956_frame_parse` meets its contract.
 use borrow.Author.Rules.{rules}
-use Rattle.codec_c.proofs.Laws.{not-parsed, was-parsed}
+use Rattle.codec_c.proofs.Laws.{not_parsed, was_parsed}
 use Rattle.codec_c.proofs.rcs956_frame_parse.Statement.{statement}
 use Rattle.codec_c.proofs.rcs956_frame_parse.Tie as tie
 
@@ -12,7 +12,7 @@ rcs956-frame-parse-spec =
     (λ c. search rules)
     (λ c. search rules)
     (λ c κs. search rules)
-    (λ c. search (not-parsed, rules))
+    (λ c. search (not_parsed, rules))
     (λ c κs. search rules)
     (λ c κs. search rules)
-    (λ c. search (was-parsed, rules)))
+    (λ c. search (was_parsed, rules)))

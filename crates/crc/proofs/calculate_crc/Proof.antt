@@ -5,19 +5,19 @@ use Prim.Native.Nat.{◌-◌, ◌≤◌, ◌<◌, zero-le, ℕ}
 use native.Mathlib.Omega.{arith}
 use borrow.Author.Rules.{rules}
 use lib.ListN.{length, drop, drop_of_length-le}
-use Rattle.crc.specs.Crc.{polynomial, bitIn, bitsIn, bits, registerAfter, result, crcOf}
+use Rattle.crc.specs.Crc.{polynomial, bit_in, bits_in, bits, register_after, result, crc_of}
 use Rattle.crc.proofs.Entries.{tabled, Tabled, turn}
 use Rattle.crc.proofs.calculate_crc.Statement.{statement}
 use Rattle.crc.proofs.calculate_crc.Tie as tie
 
 abbrev invariant-loop : tie.invariant-loop
-invariant-loop «data» initial inverted table register₀ i₀ register i = (i ≤ length «data») × (registerAfter register (drop i «data») ≡ registerAfter initial «data») × Tabled table
+invariant-loop «data» initial inverted table register₀ i₀ register i = (i ≤ length «data») × (register_after register (drop i «data») ≡ register_after initial «data») × Tabled table
 
 abbrev decreases-loop : tie.decreases-loop
 decreases-loop «data» initial inverted table register₀ i₀ register i = length «data» - i
 
 loop-holds : tie.Need-loop-init invariant-loop decreases-loop
-unfolding tabled bitsIn bits bitIn polynomial
+unfolding tabled bits_in bits bit_in polynomial
 loop-holds c = (zero-le, refl, record { whole = refl; rule = refl })
 
 loop-again : tie.Need-loop-preserved invariant-loop decreases-loop
@@ -31,14 +31,14 @@ loop-again c =
     )
 
 -- after the loop nothing is left to go in
-end : (c : tie.After-loop invariant-loop decreases-loop) → c.before.loop.register ≡ registerAfter c.before.before.args.initial c.before.before.args.«data».now
-unfolding registerAfter
+end : (c : tie.After-loop invariant-loop decreases-loop) → c.before.loop.register ≡ register_after c.before.before.args.initial c.before.before.args.«data».now
+unfolding register_after
 end c =
     let h : length c.before.before.args.«data».now ≤ c.before.loop.i = omega arith in
     rw (drop_of_length-le _ h) at c.before.loop.invariant.1
 
 pub calculate-crc-spec : {M : Type 1} → statement M
-unfolding crcOf result
+unfolding crc_of result
 calculate-crc-spec =
     tie.close
     (tie.spec

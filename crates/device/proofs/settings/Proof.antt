@@ -2,19 +2,19 @@ use native.Mathlib.Omega.{arith}
 use borrow.Author.Tests.{ne_eqb}
 use borrow.Author.Rules.{rules}
 use Rattle.errors.specs.Choice.{pick}
-use Rattle.device.specs.Opening.{settingsCommand}
+use Rattle.device.specs.Opening.{settings_command}
 use Rattle.device.proofs.settings.Statement.{statement}
 use Rattle.device.proofs.settings.Tie as tie
 
 returns-5 : tie.Need-returns-5
-unfolding settingsCommand pick
+unfolding settings_command pick
 returns-5 c =
     let r = c.before.match.rest in
     let e = c.write-single-register-command.ensures in
     record { is = λ pending. rw (ne_eqb _ 5 r.0.0.0.1, ne_eqb _ 6 r.0.0.1, ne_eqb _ 7 r.0.1, ne_eqb _ 8 r.1) (e.is pending); fits = e.fits }
 
 pub settings-spec : {M : Type 1} → statement M
-unfolding pick settingsCommand
+unfolding pick settings_command
 settings-spec =
     tie.close
     (tie.spec

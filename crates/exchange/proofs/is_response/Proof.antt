@@ -1,5 +1,5 @@
 -- `exchange::is_response` meets its contract.
-use Rattle.exchange.proofs.Found.{short, other-identifier, by_code}
+use Rattle.exchange.proofs.Found.{short, other_identifier, by_code}
 use Rattle.std.proofs.Common.{rules}
 use Rattle.exchange.proofs.is_response.Statement.{statement}
 use Rattle.exchange.proofs.is_response.Tie as tie
@@ -8,7 +8,7 @@ returns : tie.Need-returns
 returns c = search (short, rules)
 
 returns-2 : tie.Need-returns-2
-returns-2 c = search (other-identifier, rules)
+returns-2 c = search (other_identifier, rules)
 
 returns-3 : tie.Need-returns-3
 returns-3 c = search (by_code, rules)

@@ -1,7 +1,7 @@
 -- `exchange::response_payload` meets its contract.
-use Rattle.exchange.proofs.Found.{other-kind, other_length, other-payload, its-payload}
+use Rattle.exchange.proofs.Found.{other-kind, other_length, other_payload, its_payload}
 use Rattle.framing.specs.Lists.{Bytes}
-use Rattle.exchange.specs.Responses.{data-within}
+use Rattle.exchange.specs.Responses.{data_within}
 use Rattle.std.proofs.Common.{sym, ◌∙◌, arith, rules}
 use Rattle.exchange.proofs.response_payload.Statement.{statement}
 use Rattle.exchange.proofs.response_payload.Tie as tie
@@ -16,21 +16,21 @@ add-end : tie.Need-overflow-add-end
 add-end c =
     let p = c.before.before.before.before.before.before.before.before.args.packet.now in
     let bytes : Bytes p = λ k. (c.before.before.before.before.before.before.before.shared-slice-known.given k).fits in
-    let inside = data-within _ p bytes _ _ _ (sym c.before.before.before.before.parse.ensures ∙ c.before.before.start.given.1) in
+    let inside = data_within _ p bytes _ _ _ (sym c.before.before.before.before.parse.ensures ∙ c.before.before.start.given.1) in
     omega arith
 
 part-payload-end : tie.Need-slice-bounds-payload-end
 part-payload-end c =
     let p = c.before.before.before.before.before.before.before.before.args.packet.now in
     let bytes : Bytes p = λ k. (c.before.before.before.before.before.before.before.shared-slice-known.given k).fits in
-    let inside = data-within _ p bytes _ _ _ (sym c.before.before.before.before.parse.ensures ∙ c.before.before.start.given.1) in
+    let inside = data_within _ p bytes _ _ _ (sym c.before.before.before.before.parse.ensures ∙ c.before.before.start.given.1) in
     omega arith
 
 returns-3 : tie.Need-returns-3
-returns-3 c = search (its-payload, rules)
+returns-3 c = search (its_payload, rules)
 
 returns-4 : tie.Need-returns-4
-returns-4 c = search (other-payload, rules)
+returns-4 c = search (other_payload, rules)
 
 pub response-payload-spec : {M : Type 1} → statement M
 response-payload-spec =

@@ -1,5 +1,5 @@
 -- `felica::idm` meets its contract.
-use Rattle.felica.specs.Lists.{idm-none, idm-short}
+use Rattle.felica.specs.Lists.{idm_none, idm_short}
 use borrow.Author.Rules.{rules}
 use Rattle.felica.proofs.idm.Statement.{statement}
 use Rattle.felica.proofs.idm.Tie as tie
@@ -11,11 +11,11 @@ idm-spec =
     (λ c. search rules)
     (λ c. search rules)
     (λ c. search rules)
-    (λ c. search (idm-none, rules))
+    (λ c. search (idm_none, rules))
     (λ c. search rules)
     (λ c. search rules)
     (λ c. search rules)
-    (λ c. search (idm-short, rules))
+    (λ c. search (idm_short, rules))
     (λ c. search rules)
     (λ c. search rules)
     (λ c. search rules)

@@ -1,8 +1,8 @@
 -- `framing::build` meets its contract.
-use Rattle.framing.specs.Enclose.{build-copied}
+use Rattle.framing.specs.Enclose.{build_copied}
 use Rattle.framing.specs.Build.{returned}
 use Rattle.std.proofs.Common.{sym, ◌∙◌, arith, rules}
-use Rattle.framing.specs.Enclose.{place-fits, build-refused}
+use Rattle.framing.specs.Enclose.{place-fits, build_refused}
 use Rattle.framing.proofs.build.Statement.{statement}
 use Rattle.framing.proofs.build.Tie as tie
 
@@ -46,13 +46,13 @@ returns : tie.Need-returns
 unfolding returned
 returns c =
     let x = sym c.before.before.before.before.before.before.before.before.before.start.given.1 ∙ c.before.before.before.before.before.before.before.before.before.before.before.room_for.ensures in
-    build-copied _ _ _ _ _ _ x c.before.before.before.before.before.before.copy.ensures.1 c.before.before.enclose.ensures
+    build_copied _ _ _ _ _ _ x c.before.before.before.before.before.before.copy.ensures.1 c.before.before.enclose.ensures
 
 returns-2 : tie.Need-returns-2
 unfolding returned
 returns-2 c =
     let x = sym c.before.refusal.given.1 ∙ c.before.before.before.room_for.ensures in
-    build-refused _ _ _ _ x
+    build_refused _ _ _ _ x
 
 pub build-spec : {M : Type 1} → statement M
 build-spec =

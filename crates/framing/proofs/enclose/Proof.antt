@@ -1,6 +1,6 @@
 -- `framing::enclose` meets its contract.
 use Rattle.std.proofs.Common.{arith, length-set, rules}
-use Rattle.framing.specs.Enclose.{enclose-done}
+use Rattle.framing.specs.Enclose.{enclose_done}
 use Rattle.framing.proofs.enclose.Statement.{statement}
 use Rattle.framing.proofs.enclose.Tie as tie
 
@@ -19,4 +19,4 @@ enclose-spec =
     (λ c. search rules)
     (λ c. simp length-set (omega arith))
     (λ c. search rules)
-    (λ c. search (enclose-done, rules) depth 6))
+    (λ c. search (enclose_done, rules) depth 6))

@@ -1,11 +1,11 @@
 -- `framing::pair_length` meets its contract.
 use Rattle.std.proofs.Common.{arith, rules}
-use Rattle.framing.specs.Checks.{pairLength}
+use Rattle.framing.specs.Checks.{pair_length_of}
 use Rattle.framing.proofs.pair_length.Statement.{statement}
 use Rattle.framing.proofs.pair_length.Tie as tie
 
 pub pair-length-spec : {M : Type 1} → statement M
-unfolding pairLength
+unfolding pair_length_of
 pair-length-spec =
     tie.close
     (tie.spec

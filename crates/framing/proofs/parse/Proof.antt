@@ -1,5 +1,5 @@
 -- `framing::parse` meets its contract.
-use Rattle.framing.specs.Parse.{parseOf}
+use Rattle.framing.specs.Parse.{parse_of}
 use Rattle.errors.specs.Rules.{same-value}
 use Rattle.framing.specs.Rules.{steps}
 use Rattle.std.proofs.Common.{rules}
@@ -7,7 +7,7 @@ use Rattle.framing.proofs.parse.Statement.{statement}
 use Rattle.framing.proofs.parse.Tie as tie
 
 pub parse-spec : {M : Type 1} → statement M
-unfolding parseOf
+unfolding parse_of
 parse-spec =
     tie.close
     (tie.spec

@@ -1,6 +1,6 @@
 -- `framing::room_for` meets its contract.
 use Rattle.std.proofs.Common.{arith, rules}
-use Rattle.framing.specs.Enclose.{place-long, place_short, place_at, start-most, longest-most}
+use Rattle.framing.specs.Enclose.{place_long, place_short, place_at, start-most, longest-most}
 use Rattle.framing.proofs.room_for.Statement.{statement}
 use Rattle.framing.proofs.room_for.Tie as tie
 
@@ -16,7 +16,7 @@ room-for-spec =
     (tie.spec
     (λ c κs. search rules)
     (λ c κs. search rules)
-    (λ c. search (place-long, rules) depth 6)
+    (λ c. search (place_long, rules) depth 6)
     (λ c κs. search rules)
     add-if2
     add-if2-2

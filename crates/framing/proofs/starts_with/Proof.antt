@@ -1,7 +1,7 @@
 -- `framing::starts_with` meets its contract. The invariant: the answer is that of the bytes still to be compared.
 use Rattle.std.proofs.Common.{◌≡◌, ◌-◌, ◌≤◌, length, drop, rules}
 use Rattle.framing.specs.Lists.{starts}
-use Rattle.framing.specs.Starts.{starts-short, starts-differ, starts-agree, starts-done}
+use Rattle.framing.specs.Starts.{starts_short, starts_differ, starts_agree, starts-done}
 use Rattle.framing.proofs.starts_with.Statement.{statement}
 use Rattle.framing.proofs.starts_with.Tie as tie
 
@@ -18,11 +18,11 @@ starts-with-spec =
     invariant-loop
     decreases-loop
     (λ c. search rules)
-    (λ c. search (starts-short, rules))
+    (λ c. search (starts_short, rules))
     (λ c. search rules)
     (λ c. search rules)
-    (λ c. search (starts-differ, rules))
+    (λ c. search (starts_differ, rules))
     (λ c. search rules)
     (λ c. search rules)
-    (λ c. (search rules, search (starts-agree, rules)))
+    (λ c. (search rules, search (starts_agree, rules)))
     (λ c. search (starts-done, rules)))

@@ -44,8 +44,8 @@ use denote.Triple.Table.{entered, cited}
 use denote.Triple.Walked.{says, Stays, stay_ref, stay_none, stay_none_slice, gave_slice, walk_of, AllGo, Goes-ref, Goes-none, Goes-none_slice, Goes-gave_slice, Walks, ends_at, walked, walk_Meets}
 use denote.Triple.Clauses.{ensured, lasts}
 use denote.Exit.{yes}
-use Rattle.presence_list.specs.Steps.{afterRound, roundStep}
-use Rattle.presence_c.specs.Outcomes.{outcomeOf, round-reported}
+use Rattle.presence_list.specs.Steps.{after_round, round_step}
+use Rattle.presence_c.specs.Outcomes.{outcome_of, round_reported}
 use Rattle.presence_list.specs.declared.list.Presence.{Presence}
 use Rattle.presence_list.specs.declared.list.RoundEffect.{RoundEffect}
 use Rattle.presence_list.specs.declared.list.Answer.{Answer}
@@ -59,7 +59,7 @@ use Rattle.presence_list.specs.contracts.list.Answer as I
 use Rattle.presence_list.proofs.list.Answer.TheLaws as I'
 use Rattle.presence_c.specs.contracts.outcome.Outcome as O
 use Rattle.presence_c.proofs.outcome.Outcome.TheLaws as O'
-use Rattle.presence_c.proofs.Apart.{mN, Fits, Array₀, Array₁, Array₂, Cell, Back, apart, together}
+use Rattle.presence_c.proofs.Apart.{m_n, Fits, Array₀, Array₁, Array₂, Cell, Back, apart, together}
 use Rattle.presence_list.specs.contracts.list.State.round as step
 use Rattle.presence_list.proofs.list.State.round.Symbol as step-def
 use Rattle.presence_list.proofs.list.State.round.Symbol.{name as #presence-list·list·State·round}
@@ -143,10 +143,10 @@ module _ {M : Type 1} {𝓤 : Ura M} (𝓛 : Logic 𝓤) (at_mem : Memory → SP
   -- what the callee's triple binds outside, and that the caller has what it asks
   module _ (α₀ α₁ α₂ : ℕ) (δ₀ δ₁ δ₂ : GName) where
     abbrev to_step : (Step₀ 𝓛 at_mem run).Ghost
-    to_step = ((((α₀ ∷ []), ((α₁ ∷ []), ((α₂ ∷ []), (κ₁, tt)))), (full_share, (full_share, (full_share, (q₁, tt)))), tt, (h.state, ((ref₀ δ₀), ((ref₁ δ₁), ((ref₂ δ₂), (n₁, (p₁, tt)))))), (mN h.state ∷ [], (vptr b (o + 0) ∷ [], (vptr b (o + 1280) ∷ [], (vptr b (o + 2560) ∷ [], (vint w32 n₁ ∷ [], (vp₁ ∷ [], tt))))))), tt)
+    to_step = ((((α₀ ∷ []), ((α₁ ∷ []), ((α₂ ∷ []), (κ₁, tt)))), (full_share, (full_share, (full_share, (q₁, tt)))), tt, (h.state, ((ref₀ δ₀), ((ref₁ δ₁), ((ref₂ δ₂), (n₁, (p₁, tt)))))), (m_n h.state ∷ [], (vptr b (o + 0) ∷ [], (vptr b (o + 1280) ∷ [], (vptr b (o + 2560) ∷ [], (vint w32 n₁ ∷ [], (vp₁ ∷ [], tt))))))), tt)
 
     abbrev Passed : Fml
-    Passed = owns (N.the_row ∷ MutRef (named 0) (α₀ ∷ []) (Array u8 1280) ∷ MutRef (named 1) (α₁ ∷ []) (Array u8 1280) ∷ MutRef (named 2) (α₂ ∷ []) (Array u8 1280) ∷ u32 ∷ ShrSlice (named 3) κ₁ u8 ∷ []) (h.state, ((ref₀ δ₀), ((ref₁ δ₁), ((ref₂ δ₂), (n₁, (p₁, tt)))))) (mN h.state ∷ [], (vptr b (o + 0) ∷ [], (vptr b (o + 1280) ∷ [], (vptr b (o + 2560) ∷ [], (vint w32 n₁ ∷ [], (vp₁ ∷ [], tt))))))
+    Passed = owns (N.the_row ∷ MutRef (named 0) (α₀ ∷ []) (Array u8 1280) ∷ MutRef (named 1) (α₁ ∷ []) (Array u8 1280) ∷ MutRef (named 2) (α₂ ∷ []) (Array u8 1280) ∷ u32 ∷ ShrSlice (named 3) κ₁ u8 ∷ []) (h.state, ((ref₀ δ₀), ((ref₁ δ₁), ((ref₂ δ₂), (n₁, (p₁, tt)))))) (m_n h.state ∷ [], (vptr b (o + 0) ∷ [], (vptr b (o + 1280) ∷ [], (vptr b (o + 2560) ∷ [], (vint w32 n₁ ∷ [], (vp₁ ∷ [], tt))))))
 
     goes_step : ent 𝓤 (sep 𝓤 (sep 𝓤 (A.lft (α₀ ∷ []) full_share) (sep 𝓤 (A.lft (α₁ ∷ []) full_share) (sep 𝓤 (A.lft (α₂ ∷ []) full_share) (sep 𝓤 (A.lft κ₁ q₁) (sem 𝓛 ftrue))))) (sem 𝓛 Passed)) ((Step₀ 𝓛 at_mem run).pre to_step)
     goes_step = qed 𝓛 ((‵ (flft (α₀ ∷ []) full_share) ⊛ ‵ (flft (α₁ ∷ []) full_share) ⊛ ‵ (flft (α₂ ∷ []) full_share) ⊛ ‵ (flft κ₁ q₁) ⊛ ‵ ftrue) ∷ ‵ Passed ∷ []) ∵ join ! $ frame ! $ done !
@@ -162,11 +162,11 @@ module _ {M : Type 1} {𝓤 : Ura M} (𝓛 : Logic 𝓤) (at_mem : Memory → SP
     goes_of : ent 𝓤 (sep 𝓤 (sem 𝓛 ftrue) (sem 𝓛 Given-out)) ((Of₀ 𝓛 at_mem run).pre to-of)
     goes_of = qed 𝓛 (‵ ftrue ∷ ‵ Given-out ∷ []) ∵ join ! $ frame ! $ done !
 
-  exits : (r : RoundEffect) (t : Outcome) (x₀ : List ℕ) (x₁ : List ℕ) (x₂ : List ℕ) → afterRound r.state x₀ x₁ x₂ r.answer ≡ roundStep h.state h.cards h.arrived h.departed n₁ p₁.now → t ≡ outcomeOf r.answer
+  exits : (r : RoundEffect) (t : Outcome) (x₀ : List ℕ) (x₁ : List ℕ) (x₂ : List ℕ) → after_round r.state x₀ x₁ x₂ r.answer ≡ round_step h.state h.cards h.arrived h.departed n₁ p₁.now → t ≡ outcome_of r.answer
       → ent 𝓤 (⋆ 𝓛 (‵ (fobs γ ((T.the_row).coded.code (record { cards = x₀; arrived = x₁; departed = x₂; state = r.state }))) ∷ ‵ (fbor κ₀ (Body (mem T.the_row) b o γ)) ∷ ‵ (flft κ₀ q₀) ∷ (‵ (flft κ₁ q₁) ⊛ ‵ ftrue) ∷ ‵ Ownp₁ ∷ ‵ ((O.the_row).own_val t (mO t ∷ [])) ∷ [])) (Post (mO t))
   exits r t x₀ x₁ x₂ e s =
       qed 𝓛 (‵ (fobs γ ((T.the_row).coded.code (record { cards = x₀; arrived = x₁; departed = x₂; state = r.state }))) ∷ ‵ (fbor κ₀ (Body (mem T.the_row) b o γ)) ∷ ‵ (flft κ₀ q₀) ∷ (‵ (flft κ₁ q₁) ⊛ ‵ ftrue) ∷ ‵ Ownp₁ ∷ ‵ ((O.the_row).own_val t (mO t ∷ [])) ∷ []) ∵
-      suffices ! _ (ends_at 𝓛 f.ended stayed (f.clauses 𝓛 at_mem run) (((κ₀, (κ₁, tt)), (q₀, (q₁, tt)), tt, a, vals), tt) (mO t) t ((record { cards = x₀; arrived = x₁; departed = x₂; state = r.state }), (tt, (tt, tt))) (tt, (tt, (tt, tt)))) $ says ! (round-reported t r h n₁ p₁.now x₀ x₁ x₂ s e) $
+      suffices ! _ (ends_at 𝓛 f.ended stayed (f.clauses 𝓛 at_mem run) (((κ₀, (κ₁, tt)), (q₀, (q₁, tt)), tt, a, vals), tt) (mO t) t ((record { cards = x₀; arrived = x₁; departed = x₂; state = r.state }), (tt, (tt, tt))) (tt, (tt, (tt, tt)))) $ says ! (round_reported t r h n₁ p₁.now x₀ x₁ x₂ s e) $
       move ! (2 ∷ 3 ∷ []) $ join ! $ frame ! $ feq_i ! (List Val) (vptr b o ∷ []) (vptr b o ∷ []) refl $ fjoin3 ! $ nothing ! $ move ! (2 ∷ 0 ∷ []) $ fjoin ! $ owned ! u32 (Is u32) (uint_Makes 𝓛 w32) n₁ _ (refl, n₁-fits) $ fjoin ! $ move ! (1 ∷ 0 ∷ []) $ fjoin ! $ done !
 
   -- what is known of the parts of the result, and of the outcome
@@ -201,13 +201,13 @@ module _ {M : Type 1} {𝓤 : Ura M} (𝓛 : Logic 𝓤) (at_mem : Memory → SP
         lft_new ! tt (λ α₂. move ! (9 ∷ []) $ use1 𝓛 (later (some (λ (δ : GName). ‵ (Ref₂ α₂ δ) ⊛ ‵ (Lent₂ α₂ δ)))) (lends_ref 𝓛 (Array u8 1280) (named 2) (α₂ ∷ []) h.departed b (o + 2560)) $ await ! tt $ pick ! (λ δ₂. split ! $
         -- the slices' borrows are copied, and what the callee takes is put together
         move ! (15 ∷ []) $ use1 𝓛 (‵ Ownp₁ ⊛ ‵ Ownp₁) ((shr_slice_copy 𝓛 (named 1) κ₁ u8).twice p₁ (vp₁ ∷ [])) $ split ! $
-        move ! (17 ∷ []) $ move ! (2 ∷ 0 ∷ []) $ fjoin ! $ owned ! u32 (Is u32) (uint_Makes 𝓛 w32) n₁ _ (refl, n₁-fits) $ fjoin ! $ move ! (2 ∷ 0 ∷ []) $ fjoin ! $ move ! (4 ∷ 0 ∷ []) $ fjoin ! $ move ! (6 ∷ 0 ∷ []) $ fjoin ! $ owned ! N.the_row (Is N.the_row) (LL.makes N.the_type N'.the_plain 𝓛) h.state (mN h.state ∷ []) was $ fjoin ! $
+        move ! (17 ∷ []) $ move ! (2 ∷ 0 ∷ []) $ fjoin ! $ owned ! u32 (Is u32) (uint_Makes 𝓛 w32) n₁ _ (refl, n₁-fits) $ fjoin ! $ move ! (2 ∷ 0 ∷ []) $ fjoin ! $ move ! (4 ∷ 0 ∷ []) $ fjoin ! $ move ! (6 ∷ 0 ∷ []) $ fjoin ! $ owned ! N.the_row (Is N.the_row) (LL.makes N.the_type N'.the_plain 𝓛) h.state (m_n h.state ∷ []) was $ fjoin ! $
         move ! (3 ∷ 13 ∷ []) $ join ! $ move ! (5 ∷ 0 ∷ []) $ join ! $ move ! (6 ∷ 0 ∷ []) $ join ! $ use2 𝓛 (raw ((Step₀ 𝓛 at_mem run).pre (to_step α₀ α₁ α₂ δ₀ δ₁ δ₂))) (goes_step α₀ α₁ α₂ δ₀ δ₁ δ₂) $
         -- the call
         calls_at ! fm (Step₀ 𝓛 at_mem run) known (to_step α₀ α₁ α₂ δ₀ δ₁ δ₂) (and_then ! (load ! (from ! (stop !)) (look ! 20 refl)) (and_then ! (load ! (from ! (stop !)) (look ! 14 refl)) (and_then ! (load ! (from ! (stop !)) (look ! 12 refl)) (and_then ! (load ! (from ! (stop !)) (look ! 10 refl)) (and_then ! (load ! (from ! (stop !)) (look ! 24 refl)) (and_then ! (load ! (from ! (stop !)) (look ! 22 refl)) (no_more !))))))) (λ v.
         use1 𝓛 (later (some (λ (r : RoundEffect). ((‵ (flft (α₀ ∷ []) full_share) ⊛ ‵ (flft (α₁ ∷ []) full_share) ⊛ ‵ (flft (α₂ ∷ []) full_share) ⊛ ‵ (flft κ₁ q₁) ⊛ ‵ ftrue) ⊛ ‵ ((R.the_row).own_val r (v ∷ []))) ⊛ raw (ensured 𝓛 step.ended (step.clauses 𝓛 at_mem run) ((α₀ ∷ []), ((α₁ ∷ []), ((α₂ ∷ []), (κ₁, tt)))) (h.state, ((ref₀ δ₀), ((ref₁ δ₁), ((ref₂ δ₂), (n₁, (p₁, tt)))))) tt r)))) (id⊢ 𝓤 _) $ await ! tt $ pick ! (λ r. split ! $
-        move ! (1 ∷ []) $ use1 𝓛 (some (λ (zs : Unit {0} × (List ℕ × (List ℕ × (List ℕ × (Unit {0} × (Unit {0} × Unit {0})))))). ‵ (lasts step.ended ((α₀ ∷ []), ((α₁ ∷ []), ((α₂ ∷ []), (κ₁, tt)))) (h.state, ((ref₀ δ₀), ((ref₁ δ₁), ((ref₂ δ₂), (n₁, (p₁, tt)))))) zs) ⊛ raw (fact 𝓤 (afterRound r.state zs.1.0 zs.1.1.0 zs.1.1.1.0 r.answer ≡ roundStep h.state h.cards h.arrived h.departed n₁ p₁.now)))) (id⊢ 𝓤 _) $ pick ! (λ zs. split ! $
-        move ! (1 ∷ []) $ heard ! (afterRound r.state zs.1.0 zs.1.1.0 zs.1.1.1.0 r.answer ≡ roundStep h.state h.cards h.arrived h.departed n₁ p₁.now) (λ e.
+        move ! (1 ∷ []) $ use1 𝓛 (some (λ (zs : Unit {0} × (List ℕ × (List ℕ × (List ℕ × (Unit {0} × (Unit {0} × Unit {0})))))). ‵ (lasts step.ended ((α₀ ∷ []), ((α₁ ∷ []), ((α₂ ∷ []), (κ₁, tt)))) (h.state, ((ref₀ δ₀), ((ref₁ δ₁), ((ref₂ δ₂), (n₁, (p₁, tt)))))) zs) ⊛ raw (fact 𝓤 (after_round r.state zs.1.0 zs.1.1.0 zs.1.1.1.0 r.answer ≡ round_step h.state h.cards h.arrived h.departed n₁ p₁.now)))) (id⊢ 𝓤 _) $ pick ! (λ zs. split ! $
+        move ! (1 ∷ []) $ heard ! (after_round r.state zs.1.0 zs.1.1.0 zs.1.1.1.0 r.answer ≡ round_step h.state h.cards h.arrived h.departed n₁ p₁.now) (λ e.
         fsplit ! $ drop ! $ fsplit ! $ move ! (1 ∷ []) $ fsplit ! $ move ! (1 ∷ []) $ fsplit ! $ move ! (1 ∷ []) $ fsplit ! $ drop ! $ fsplit ! $ drop ! $ move ! (4 ∷ []) $ split ! $ move ! (1 ∷ []) $ peeks ! R.the_row (Is R.the_row) (shows 𝓛 R.the_row) r (v ∷ []) (λ is. drop ! $
         -- the lifetimes are ended, and the arrays are back
         split ! $ move ! (1 ∷ []) $ split ! $ move ! (1 ∷ []) $ split ! $
@@ -222,7 +222,7 @@ module _ {M : Type 1} {𝓤 : Ura M} (𝓛 : Logic 𝓤) (at_mem : Memory → SP
         nothing ! $ owned ! I.the_row (Is I.the_row) (EL.makes I.the_type I'.the_plain 𝓛) r.answer (mI r.answer ∷ []) (part₁ r v is) $ fjoin ! $ nothing ! $ use2 𝓛 (raw ((Of₀ 𝓛 at_mem run).pre (to-of r.answer))) (goes_of r.answer) $
         calls_at ! fm (Of₀ 𝓛 at_mem run) Known-of (to-of r.answer) (and_then ! (load ! (from ! (fld ! refl (stop !))) (look_in ! 20 (sub ! 1 refl (whole !)))) (no_more !)) (λ u.
         use1 𝓛 (later (some (λ (t : Outcome). (‵ ftrue ⊛ ‵ ((O.the_row).own_val t (u ∷ []))) ⊛ raw (ensured 𝓛 of.ended (of.clauses 𝓛 at_mem run) tt (r.answer, tt) tt t)))) (id⊢ 𝓤 _) $ await ! tt $ pick ! (λ t. split ! $
-        move ! (1 ∷ []) $ use1 𝓛 (some (λ (us : Unit {0} × Unit {0}). ‵ (lasts of.ended tt (r.answer, tt) us) ⊛ raw (fact 𝓤 (t ≡ outcomeOf r.answer)))) (id⊢ 𝓤 _) $ pick ! (λ us. split ! $ move ! (1 ∷ []) $ heard ! (t ≡ outcomeOf r.answer) (λ s. drop ! $
+        move ! (1 ∷ []) $ use1 𝓛 (some (λ (us : Unit {0} × Unit {0}). ‵ (lasts of.ended tt (r.answer, tt) us) ⊛ raw (fact 𝓤 (t ≡ outcome_of r.answer)))) (id⊢ 𝓤 _) $ pick ! (λ us. split ! $ move ! (1 ∷ []) $ heard ! (t ≡ outcome_of r.answer) (λ s. drop ! $
         split ! $ drop ! $ peeks ! O.the_row (Is O.the_row) (shows 𝓛 O.the_row) t (u ∷ []) (λ are. drop ! $
         land ! (from ! (stop !)) (init ! 29 refl ((LL.lawful O.the_type O'.the_laws 𝓛).typed t _ are).0) $ rewrite ! 29 (λ (u' : Val). ‵ (fat full_share O'.mir l₀ 0 u')) (ap only (LL.tells O.the_type O'.the_laws t _ are)) refl $
         -- the list is put together, and its borrow is closed at the new record

@@ -2,7 +2,7 @@
 use mathlib.Core.Path.{◌≡◌, sym}
 use Prim.Native.Nat.{ℕ}
 use lib.ListN.{length, length-replicate}
-use Rattle.presence_lines.proofs.AnswerLaws.{reply-room}
+use Rattle.presence_lines.proofs.AnswerLaws.{reply_room}
 use borrow.Author.Rules.{rules}
 use Rattle.presence_lines.proofs.run.Statement.{statement}
 use Rattle.presence_lines.proofs.run.Tie as tie
@@ -28,10 +28,10 @@ run_spec =
     (λ c κs. search rules)
     (λ c. search rules)
     (λ c κs. search rules)
-    (λ c. sym (reply-room _ _ _ _ _ _ _ c.before.before.reply.ensures c.before.before.before.before.before.before.before.before.before.before.before.before.loop.invariant.2))
+    (λ c. sym (reply_room _ _ _ _ _ _ _ c.before.before.reply.ensures c.before.before.before.before.before.before.before.before.before.before.before.before.loop.invariant.2))
     (λ c κs. search rules)
     (λ c. search rules)
     (λ c. search rules)
     (λ c. search rules)
-    (λ c. (search rules, search rules, reply-room _ _ _ _ _ _ _ c.before.before.before.before.reply.ensures c.before.before.before.before.before.before.before.before.before.before.before.before.before.before.loop.invariant.2))
+    (λ c. (search rules, search rules, reply_room _ _ _ _ _ _ _ c.before.before.before.before.reply.ensures c.before.before.before.before.before.before.before.before.before.before.before.before.before.before.loop.invariant.2))
     (λ c. search rules))

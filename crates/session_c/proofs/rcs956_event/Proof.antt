@@ -43,10 +43,10 @@ use denote.Triple.Walked.{says, Stays, stay_ref, stay_none, stay_none_slice, gav
 use denote.Triple.Clauses.{ensured, lasts}
 use denote.Exit.{yes}
 use Rattle.engine.specs.Core.{arrays}
-use Rattle.engine.specs.SessionSteps.{effected, stateIn, arraysIn}
-use Rattle.engine.specs.Numbers.{eventBy, afterEventNumber}
-use Rattle.session_c.specs.Outcomes.{outcomeOf}
-use Rattle.session_c.specs.Steps.{event-reported}
+use Rattle.engine.specs.SessionSteps.{effected, state_in, arrays_in}
+use Rattle.engine.specs.Numbers.{event_by_of, after_event_number}
+use Rattle.session_c.specs.Outcomes.{outcome_of}
+use Rattle.session_c.specs.Steps.{event_reported}
 use Rattle.engine.specs.declared.session.Session.{Session}
 use Rattle.engine.specs.declared.core.Progress.{Progress}
 use Rattle.engine.specs.declared.core.Output.{Output}
@@ -60,7 +60,7 @@ use Rattle.engine.specs.contracts.core.Output as I
 use Rattle.engine.proofs.core.Output.TheLaws as I'
 use Rattle.session_c.specs.contracts.outcome.Outcome as O
 use Rattle.session_c.proofs.outcome.Outcome.TheLaws as O'
-use Rattle.session_c.proofs.Apart.{mN, Fits, Array₀, Array₁, Array₂, Array₃, Cell, Back, apart, together}
+use Rattle.session_c.proofs.Apart.{m_n, Fits, Array₀, Array₁, Array₂, Array₃, Cell, Back, apart, together}
 use Rattle.engine.specs.contracts.by_number.event as step
 use Rattle.engine.proofs.by_number.event.Symbol as step-def
 use Rattle.engine.proofs.by_number.event.Symbol.{name as #engine·by-number·event}
@@ -159,10 +159,10 @@ module _ {M : Type 1} {𝓤 : Ura M} (𝓛 : Logic 𝓤) (at_mem : Memory → SP
   -- what the callee's triple binds outside, and that the caller has what it asks
   module _ (α₀ α₁ α₂ α₃ : ℕ) (δ₀ δ₁ δ₂ δ₃ : GName) where
     abbrev to_step : (Step₀ 𝓛 at_mem run).Ghost
-    to_step = ((((α₀ ∷ []), ((α₁ ∷ []), ((α₂ ∷ []), ((α₃ ∷ []), (κ₁, (κ₂, tt)))))), (full_share, (full_share, (full_share, (full_share, (q₁, (q₂, tt)))))), tt, (h.core, ((ref₀ δ₀), ((ref₁ δ₁), ((ref₂ δ₂), ((ref₃ δ₃), (n₁, (p₁, (w, tt)))))))), (mN h.core ∷ [], (vptr b (o + 0) ∷ [], (vptr b (o + 512) ∷ [], (vptr b (o + 1536) ∷ [], (vptr b (o + 1568) ∷ [], (vint w8 n₁ ∷ [], (vp₁ ∷ [], (vw ∷ [], tt))))))))), tt)
+    to_step = ((((α₀ ∷ []), ((α₁ ∷ []), ((α₂ ∷ []), ((α₃ ∷ []), (κ₁, (κ₂, tt)))))), (full_share, (full_share, (full_share, (full_share, (q₁, (q₂, tt)))))), tt, (h.core, ((ref₀ δ₀), ((ref₁ δ₁), ((ref₂ δ₂), ((ref₃ δ₃), (n₁, (p₁, (w, tt)))))))), (m_n h.core ∷ [], (vptr b (o + 0) ∷ [], (vptr b (o + 512) ∷ [], (vptr b (o + 1536) ∷ [], (vptr b (o + 1568) ∷ [], (vint w8 n₁ ∷ [], (vp₁ ∷ [], (vw ∷ [], tt))))))))), tt)
 
     abbrev Passed : Fml
-    Passed = owns (N.the_row ∷ MutRef (named 0) (α₀ ∷ []) (Array u8 512) ∷ MutRef (named 1) (α₁ ∷ []) (Array u8 1024) ∷ MutRef (named 2) (α₂ ∷ []) (Array u32 8) ∷ MutRef (named 3) (α₃ ∷ []) (Array u8 3) ∷ u8 ∷ ShrSlice (named 4) κ₁ u8 ∷ MutSlice (named 5) κ₂ u8 ∷ []) (h.core, ((ref₀ δ₀), ((ref₁ δ₁), ((ref₂ δ₂), ((ref₃ δ₃), (n₁, (p₁, (w, tt)))))))) (mN h.core ∷ [], (vptr b (o + 0) ∷ [], (vptr b (o + 512) ∷ [], (vptr b (o + 1536) ∷ [], (vptr b (o + 1568) ∷ [], (vint w8 n₁ ∷ [], (vp₁ ∷ [], (vw ∷ [], tt))))))))
+    Passed = owns (N.the_row ∷ MutRef (named 0) (α₀ ∷ []) (Array u8 512) ∷ MutRef (named 1) (α₁ ∷ []) (Array u8 1024) ∷ MutRef (named 2) (α₂ ∷ []) (Array u32 8) ∷ MutRef (named 3) (α₃ ∷ []) (Array u8 3) ∷ u8 ∷ ShrSlice (named 4) κ₁ u8 ∷ MutSlice (named 5) κ₂ u8 ∷ []) (h.core, ((ref₀ δ₀), ((ref₁ δ₁), ((ref₂ δ₂), ((ref₃ δ₃), (n₁, (p₁, (w, tt)))))))) (m_n h.core ∷ [], (vptr b (o + 0) ∷ [], (vptr b (o + 512) ∷ [], (vptr b (o + 1536) ∷ [], (vptr b (o + 1568) ∷ [], (vint w8 n₁ ∷ [], (vp₁ ∷ [], (vw ∷ [], tt))))))))
 
     goes_step : ent 𝓤 (sep 𝓤 (sep 𝓤 (A.lft (α₀ ∷ []) full_share) (sep 𝓤 (A.lft (α₁ ∷ []) full_share) (sep 𝓤 (A.lft (α₂ ∷ []) full_share) (sep 𝓤 (A.lft (α₃ ∷ []) full_share) (sep 𝓤 (A.lft κ₁ q₁) (sep 𝓤 (A.lft κ₂ q₂) (sem 𝓛 ftrue))))))) (sem 𝓛 Passed)) ((Step₀ 𝓛 at_mem run).pre to_step)
     goes_step = qed 𝓛 ((‵ (flft (α₀ ∷ []) full_share) ⊛ ‵ (flft (α₁ ∷ []) full_share) ⊛ ‵ (flft (α₂ ∷ []) full_share) ⊛ ‵ (flft (α₃ ∷ []) full_share) ⊛ ‵ (flft κ₁ q₁) ⊛ ‵ (flft κ₂ q₂) ⊛ ‵ ftrue) ∷ ‵ Passed ∷ []) ∵ join ! $ frame ! $ done !
@@ -178,11 +178,11 @@ module _ {M : Type 1} {𝓤 : Ura M} (𝓛 : Logic 𝓤) (at_mem : Memory → SP
     goes_of : ent 𝓤 (sep 𝓤 (sem 𝓛 ftrue) (sem 𝓛 Given-out)) ((Of₀ 𝓛 at_mem run).pre to-of)
     goes_of = qed 𝓛 (‵ ftrue ∷ ‵ Given-out ∷ []) ∵ join ! $ frame ! $ done !
 
-  exits : (r : Progress) (t : Outcome) (x₀ : List ℕ) (x₁ : List ℕ) (x₂ : List ℕ) (x₃ : List ℕ) (zs : List ℕ) → effected r x₃ x₂ (arrays x₀ x₁) zs ≡ afterEventNumber (stateIn h) (arraysIn h) (eventBy n₁ p₁.now) ys → t ≡ outcomeOf r.output → length zs ≡ length ys
+  exits : (r : Progress) (t : Outcome) (x₀ : List ℕ) (x₁ : List ℕ) (x₂ : List ℕ) (x₃ : List ℕ) (zs : List ℕ) → effected r x₃ x₂ (arrays x₀ x₁) zs ≡ after_event_number (state_in h) (arrays_in h) (event_by_of n₁ p₁.now) ys → t ≡ outcome_of r.output → length zs ≡ length ys
       → ent 𝓤 (⋆ 𝓛 (‵ (fobs γ ((T.the_row).coded.code (record { command = x₀; found = x₁; frames = x₂; books = x₃; core = r.core }))) ∷ ‵ (fbor κ₀ (Body (mem T.the_row) b o γ)) ∷ ‵ (flft κ₀ q₀) ∷ (‵ (flft κ₁ q₁) ⊛ ‵ (flft κ₂ q₂) ⊛ ‵ ftrue) ∷ ‵ Ownp₁ ∷ ‵ (finally u8 γ' zs) ∷ ‵ ((O.the_row).own_val t (mO t ∷ [])) ∷ [])) (Post (mO t))
   exits r t x₀ x₁ x₂ x₃ zs e s l =
       qed 𝓛 (‵ (fobs γ ((T.the_row).coded.code (record { command = x₀; found = x₁; frames = x₂; books = x₃; core = r.core }))) ∷ ‵ (fbor κ₀ (Body (mem T.the_row) b o γ)) ∷ ‵ (flft κ₀ q₀) ∷ (‵ (flft κ₁ q₁) ⊛ ‵ (flft κ₂ q₂) ⊛ ‵ ftrue) ∷ ‵ Ownp₁ ∷ ‵ (finally u8 γ' zs) ∷ ‵ ((O.the_row).own_val t (mO t ∷ [])) ∷ []) ∵
-      suffices ! _ (ends_at 𝓛 f.ended stayed (f.clauses 𝓛 at_mem run) (((κ₀, (κ₁, (κ₂, tt))), (q₀, (q₁, (q₂, tt))), tt, a, vals), tt) (mO t) t ((record { command = x₀; found = x₁; frames = x₂; books = x₃; core = r.core }), (tt, (tt, (zs, tt)))) (tt, (tt, (tt, (l, tt))))) $ says ! (event-reported t r h (eventBy n₁ p₁.now) x₀ x₁ x₂ x₃ ys zs s e) $
+      suffices ! _ (ends_at 𝓛 f.ended stayed (f.clauses 𝓛 at_mem run) (((κ₀, (κ₁, (κ₂, tt))), (q₀, (q₁, (q₂, tt))), tt, a, vals), tt) (mO t) t ((record { command = x₀; found = x₁; frames = x₂; books = x₃; core = r.core }), (tt, (tt, (zs, tt)))) (tt, (tt, (tt, (l, tt))))) $ says ! (event_reported t r h (event_by_of n₁ p₁.now) x₀ x₁ x₂ x₃ ys zs s e) $
       move ! (2 ∷ 3 ∷ []) $ join ! $ frame ! $ feq_i ! (List Val) (vptr b o ∷ []) (vptr b o ∷ []) refl $ fjoin3 ! $ nothing ! $ move ! (3 ∷ 0 ∷ []) $ fjoin ! $ move ! (2 ∷ 0 ∷ []) $ fjoin ! $ owned ! u8 (Is u8) (uint_Makes 𝓛 w8) n₁ _ (refl, n₁-fits) $ fjoin ! $ move ! (1 ∷ 0 ∷ []) $ fjoin ! $ done !
 
   -- what is known of the parts of the result, and of the outcome
@@ -221,13 +221,13 @@ module _ {M : Type 1} {𝓤 : Ura M} (𝓛 : Logic 𝓤) (at_mem : Memory → SP
         lft_new ! tt (λ α₃. move ! (12 ∷ []) $ use1 𝓛 (later (some (λ (δ : GName). ‵ (Ref₃ α₃ δ) ⊛ ‵ (Lent₃ α₃ δ)))) (lends_ref 𝓛 (Array u8 3) (named 3) (α₃ ∷ []) h.books b (o + 1568)) $ await ! tt $ pick ! (λ δ₃. split ! $
         -- the slices' borrows are copied, and what the callee takes is put together
         move ! (20 ∷ []) $ use1 𝓛 (‵ Ownp₁ ⊛ ‵ Ownp₁) ((shr_slice_copy 𝓛 (named 1) κ₁ u8).twice p₁ (vp₁ ∷ [])) $ split ! $
-        move ! (20 ∷ 21 ∷ []) $ fjoin ! $ move ! (2 ∷ 0 ∷ []) $ fjoin ! $ owned ! u8 (Is u8) (uint_Makes 𝓛 w8) n₁ _ (refl, n₁-fits) $ fjoin ! $ move ! (2 ∷ 0 ∷ []) $ fjoin ! $ move ! (4 ∷ 0 ∷ []) $ fjoin ! $ move ! (6 ∷ 0 ∷ []) $ fjoin ! $ move ! (8 ∷ 0 ∷ []) $ fjoin ! $ owned ! N.the_row (Is N.the_row) (LL.makes N.the_type N'.the_plain 𝓛) h.core (mN h.core ∷ []) was $ fjoin ! $
+        move ! (20 ∷ 21 ∷ []) $ fjoin ! $ move ! (2 ∷ 0 ∷ []) $ fjoin ! $ owned ! u8 (Is u8) (uint_Makes 𝓛 w8) n₁ _ (refl, n₁-fits) $ fjoin ! $ move ! (2 ∷ 0 ∷ []) $ fjoin ! $ move ! (4 ∷ 0 ∷ []) $ fjoin ! $ move ! (6 ∷ 0 ∷ []) $ fjoin ! $ move ! (8 ∷ 0 ∷ []) $ fjoin ! $ owned ! N.the_row (Is N.the_row) (LL.makes N.the_type N'.the_plain 𝓛) h.core (m_n h.core ∷ []) was $ fjoin ! $
         move ! (3 ∷ 15 ∷ []) $ join ! $ move ! (5 ∷ 0 ∷ []) $ join ! $ move ! (6 ∷ 0 ∷ []) $ join ! $ move ! (7 ∷ 0 ∷ []) $ join ! $ use2 𝓛 (raw ((Step₀ 𝓛 at_mem run).pre (to_step α₀ α₁ α₂ α₃ δ₀ δ₁ δ₂ δ₃))) (goes_step α₀ α₁ α₂ α₃ δ₀ δ₁ δ₂ δ₃) $
         -- the call
         calls_at ! fm (Step₀ 𝓛 at_mem run) known (to_step α₀ α₁ α₂ α₃ δ₀ δ₁ δ₂ δ₃) (and_then ! (load ! (from ! (stop !)) (look ! 27 refl)) (and_then ! (load ! (from ! (stop !)) (look ! 21 refl)) (and_then ! (load ! (from ! (stop !)) (look ! 19 refl)) (and_then ! (load ! (from ! (stop !)) (look ! 17 refl)) (and_then ! (load ! (from ! (stop !)) (look ! 15 refl)) (and_then ! (load ! (from ! (stop !)) (look ! 33 refl)) (and_then ! (load ! (from ! (stop !)) (look ! 31 refl)) (and_then ! (load ! (from ! (stop !)) (look ! 11 refl)) (no_more !))))))))) (λ v.
         use1 𝓛 (later (some (λ (r : Progress). ((‵ (flft (α₀ ∷ []) full_share) ⊛ ‵ (flft (α₁ ∷ []) full_share) ⊛ ‵ (flft (α₂ ∷ []) full_share) ⊛ ‵ (flft (α₃ ∷ []) full_share) ⊛ ‵ (flft κ₁ q₁) ⊛ ‵ (flft κ₂ q₂) ⊛ ‵ ftrue) ⊛ ‵ ((R.the_row).own_val r (v ∷ []))) ⊛ raw (ensured 𝓛 step.ended (step.clauses 𝓛 at_mem run) ((α₀ ∷ []), ((α₁ ∷ []), ((α₂ ∷ []), ((α₃ ∷ []), (κ₁, (κ₂, tt)))))) (h.core, ((ref₀ δ₀), ((ref₁ δ₁), ((ref₂ δ₂), ((ref₃ δ₃), (n₁, (p₁, (w, tt)))))))) tt r)))) (id⊢ 𝓤 _) $ await ! tt $ pick ! (λ r. split ! $
-        move ! (1 ∷ []) $ use1 𝓛 (some (λ (zs : Unit {0} × (List ℕ × (List ℕ × (List ℕ × (List ℕ × (Unit {0} × (Unit {0} × (List ℕ × Unit {0})))))))). ‵ (lasts step.ended ((α₀ ∷ []), ((α₁ ∷ []), ((α₂ ∷ []), ((α₃ ∷ []), (κ₁, (κ₂, tt)))))) (h.core, ((ref₀ δ₀), ((ref₁ δ₁), ((ref₂ δ₂), ((ref₃ δ₃), (n₁, (p₁, (w, tt)))))))) zs) ⊛ raw (fact 𝓤 (effected r zs.1.1.1.1.0 zs.1.1.1.0 (arrays zs.1.0 zs.1.1.0) zs.1.1.1.1.1.1.1.0 ≡ afterEventNumber (stateIn h) (arraysIn h) (eventBy n₁ p₁.now) ys)))) (id⊢ 𝓤 _) $ pick ! (λ zs. split ! $
-        move ! (1 ∷ []) $ heard ! (effected r zs.1.1.1.1.0 zs.1.1.1.0 (arrays zs.1.0 zs.1.1.0) zs.1.1.1.1.1.1.1.0 ≡ afterEventNumber (stateIn h) (arraysIn h) (eventBy n₁ p₁.now) ys) (λ e.
+        move ! (1 ∷ []) $ use1 𝓛 (some (λ (zs : Unit {0} × (List ℕ × (List ℕ × (List ℕ × (List ℕ × (Unit {0} × (Unit {0} × (List ℕ × Unit {0})))))))). ‵ (lasts step.ended ((α₀ ∷ []), ((α₁ ∷ []), ((α₂ ∷ []), ((α₃ ∷ []), (κ₁, (κ₂, tt)))))) (h.core, ((ref₀ δ₀), ((ref₁ δ₁), ((ref₂ δ₂), ((ref₃ δ₃), (n₁, (p₁, (w, tt)))))))) zs) ⊛ raw (fact 𝓤 (effected r zs.1.1.1.1.0 zs.1.1.1.0 (arrays zs.1.0 zs.1.1.0) zs.1.1.1.1.1.1.1.0 ≡ after_event_number (state_in h) (arrays_in h) (event_by_of n₁ p₁.now) ys)))) (id⊢ 𝓤 _) $ pick ! (λ zs. split ! $
+        move ! (1 ∷ []) $ heard ! (effected r zs.1.1.1.1.0 zs.1.1.1.0 (arrays zs.1.0 zs.1.1.0) zs.1.1.1.1.1.1.1.0 ≡ after_event_number (state_in h) (arrays_in h) (event_by_of n₁ p₁.now) ys) (λ e.
         fsplit ! $ drop ! $ fsplit ! $ move ! (1 ∷ []) $ fsplit ! $ move ! (1 ∷ []) $ fsplit ! $ move ! (1 ∷ []) $ fsplit ! $ move ! (1 ∷ []) $ fsplit ! $ drop ! $ fsplit ! $ drop ! $ fsplit ! $ fsplit ! $ move ! (1 ∷ []) $ feq_l ! (λ l. move ! (6 ∷ []) $ split ! $ move ! (1 ∷ []) $ peeks ! R.the_row (Is R.the_row) (shows 𝓛 R.the_row) r (v ∷ []) (λ is. drop ! $
         -- the lifetimes are ended, and the arrays are back
         split ! $ move ! (1 ∷ []) $ split ! $ move ! (1 ∷ []) $ split ! $ move ! (1 ∷ []) $ split ! $
@@ -243,7 +243,7 @@ module _ {M : Type 1} {𝓤 : Ura M} (𝓛 : Logic 𝓤) (at_mem : Memory → SP
         nothing ! $ owned ! I.the_row (Is I.the_row) (EL.makes I.the_type I'.the_plain 𝓛) r.output (mI r.output ∷ []) (part₁ r v is) $ fjoin ! $ nothing ! $ use2 𝓛 (raw ((Of₀ 𝓛 at_mem run).pre (to-of r.output))) (goes_of r.output) $
         calls_at ! fm (Of₀ 𝓛 at_mem run) Known-of (to-of r.output) (and_then ! (load ! (from ! (fld ! refl (stop !))) (look_in ! 28 (sub ! 1 refl (whole !)))) (no_more !)) (λ u.
         use1 𝓛 (later (some (λ (t : Outcome). (‵ ftrue ⊛ ‵ ((O.the_row).own_val t (u ∷ []))) ⊛ raw (ensured 𝓛 of.ended (of.clauses 𝓛 at_mem run) tt (r.output, tt) tt t)))) (id⊢ 𝓤 _) $ await ! tt $ pick ! (λ t. split ! $
-        move ! (1 ∷ []) $ use1 𝓛 (some (λ (us : Unit {0} × Unit {0}). ‵ (lasts of.ended tt (r.output, tt) us) ⊛ raw (fact 𝓤 (t ≡ outcomeOf r.output)))) (id⊢ 𝓤 _) $ pick ! (λ us. split ! $ move ! (1 ∷ []) $ heard ! (t ≡ outcomeOf r.output) (λ s. drop ! $
+        move ! (1 ∷ []) $ use1 𝓛 (some (λ (us : Unit {0} × Unit {0}). ‵ (lasts of.ended tt (r.output, tt) us) ⊛ raw (fact 𝓤 (t ≡ outcome_of r.output)))) (id⊢ 𝓤 _) $ pick ! (λ us. split ! $ move ! (1 ∷ []) $ heard ! (t ≡ outcome_of r.output) (λ s. drop ! $
         split ! $ drop ! $ peeks ! O.the_row (Is O.the_row) (shows 𝓛 O.the_row) t (u ∷ []) (λ are. drop ! $
         land ! (from ! (stop !)) (init ! 39 refl ((LL.lawful O.the_type O'.the_laws 𝓛).typed t _ are).0) $ rewrite ! 39 (λ (u' : Val). ‵ (fat full_share O'.mir l₀ 0 u')) (ap only (LL.tells O.the_type O'.the_laws t _ are)) refl $
         -- the session is put together, and its borrow is closed at the new record

@@ -6,12 +6,12 @@ use native.Mathlib.Omega.{arith}
 use lib.ListN.{length, length-replicate}
 use Rattle.bench.specs.TextLaws.{length_over}
 use Rattle.bench.specs.Texts.{placed, placed_at}
-use Rattle.slowest_call.specs.Texts.{scriptLimit, scriptRoom}
+use Rattle.slowest_call.specs.Texts.{script_limit, script_room}
 use borrow.Author.Rules.{rules}
 use Rattle.session_slowest.proofs.report_of.Statement.{statement}
 use Rattle.session_slowest.proofs.report_of.Tie as tie
 
-same-room : (t b o : List ℕ) (r : ℕ) → (placed r o ≡ placed_at 0 t b) × (r ≤ scriptLimit) → length b ≡ scriptRoom → length o ≡ scriptRoom
+same-room : (t b o : List ℕ) (r : ℕ) → (placed r o ≡ placed_at 0 t b) × (r ≤ script_limit) → length b ≡ script_room → length o ≡ script_room
 same-room t b o r h size = let n = ap (λ p. p.next) h.0 in ap (λ p. length p.buffer) h.0 ∙ length_over b t 0 (omega (arith, h.1)) ∙ size
 
 pub report-of-spec : {M : Type 1} → statement M

@@ -1,9 +1,9 @@
 -- `called` meets its contract.
 use Rattle.core.specs.Prelude.{◌≡◌, length}
-use Rattle.protocol.specs.Session.{bufferNeed}
-use Rattle.bench_input.specs.Readings.{inputIn}
-use Rattle.bench_session.specs.Sessions.{lineStep}
-use Rattle.simulator_lines.specs.Plays.{eventLimit, playing, playedFrom}
+use Rattle.protocol.specs.Session.{buffer_need}
+use Rattle.bench_input.specs.Readings.{input_in}
+use Rattle.bench_session.specs.Sessions.{line_step}
+use Rattle.simulator_lines.specs.Plays.{event_limit, playing, played_from}
 use Rattle.simulator_lines.proofs.PlayLaws.{begins, prints}
 use borrow.Author.Rules.{rules}
 use Rattle.simulator_lines.proofs.called.Statement.{statement}
@@ -21,13 +21,13 @@ print-requires c κs = search rules
 returns : tie.Need-returns
 returns c = λ z h.
     let start = c.before.before.before.before.before.before.before.before.before.before.before.before.before.before.before.before.before.before in
-    let room : length start.args.buffer.now ≡ bufferNeed = search (c.before.before.before.before.before.before.before.before.before.before.before.before.before.step-arg2.given, c.before.before.before.before.before.before.before.before.before.before.before.before.before.before.step-arg.given, rules) in
-    let l = lineStep z.session (inputIn _ start.args.input) in
+    let room : length start.args.buffer.now ≡ buffer_need = search (c.before.before.before.before.before.before.before.before.before.before.before.before.before.step-arg2.given, c.before.before.before.before.before.before.before.before.before.before.before.before.before.before.step-arg.given, rules) in
+    let l = line_step z.session (input_in _ start.args.input) in
     let e = c.before.before.before.before.before.before.to-end.ensures (playing l.state z.channel l.output) (record { reader = begins _ _ _ _ _ _ _ h.session room c.before.before.before.before.before.before.before.before.before.before.before.before.step.ensures; chip = h.chip }) in
     let p = c.before.before.before.print.ensures in
     record {
-      simulator = record { session = e.reader.session; chip = e.chip; cardsSize = h.cardsSize; sentBytes = h.sentBytes; replyBytes = h.replyBytes };
-      text = prints _ _ _ _ _ (playedFrom eventLimit (playing l.state z.channel l.output)) p.0 e.reader.output;
+      simulator = record { session = e.reader.session; chip = e.chip; cards_size = h.cards_size; sent_bytes = h.sent_bytes; reply_bytes = h.reply_bytes };
+      text = prints _ _ _ _ _ (played_from event_limit (playing l.state z.channel l.output)) p.0 e.reader.output;
       short = p.1;
     }
 

@@ -1,8 +1,8 @@
 -- `stages::byte_or` meets its contract.
-use Rattle.stages.specs.Laws.{any-default, default-behind}
+use Rattle.stages.specs.Laws.{any_default, default_behind}
 use borrow.Author.Rules.{rules}
 use Rattle.stages.proofs.byte_or.Statement.{statement}
 use Rattle.stages.proofs.byte_or.Tie as tie
 
 pub byte-or-spec : {M : Type 1} → statement M
-byte-or-spec = tie.close (tie.spec (λ c. search rules) (λ c. search (any-default, rules)) (λ c. search (default-behind, rules)))
+byte-or-spec = tie.close (tie.spec (λ c. search rules) (λ c. search (any_default, rules)) (λ c. search (default_behind, rules)))

@@ -3,7 +3,7 @@ use mathlib.Core.Path.{refl}
 use native.Mathlib.Omega.{arith}
 use Rattle.errors.specs.Choice.{same}
 use Rattle.targets.specs.Bitrates.{code_of}
-use Rattle.targets.proofs.Laws.{rate-code, no_code}
+use Rattle.targets.proofs.Laws.{rate_code, no_code}
 use borrow.Author.Rules.{rules}
 use Rattle.targets.proofs.bitrate_code.Statement.{statement}
 use Rattle.targets.proofs.bitrate_code.Tie as tie
@@ -38,15 +38,15 @@ bitrate-code-spec =
     tie.close
     (tie.spec
     (λ c κs. search rules)
-    (λ c. rate-code _ _ _ _ _ c.before.before.bitrate-number.ensures 106 65 c.before.match.keys1 c.match2.keys1 (omega arith) _ (unfold code_of same in refl))
-    (λ c. rate-code _ _ _ _ _ c.before.before.bitrate-number.ensures 106 66 c.before.match.keys1 c.match2.keys2 (omega arith) _ (unfold code_of same in refl))
+    (λ c. rate_code _ _ _ _ _ c.before.before.bitrate-number.ensures 106 65 c.before.match.keys1 c.match2.keys1 (omega arith) _ (unfold code_of same in refl))
+    (λ c. rate_code _ _ _ _ _ c.before.before.bitrate-number.ensures 106 66 c.before.match.keys1 c.match2.keys2 (omega arith) _ (unfold code_of same in refl))
     returns-3
-    (λ c. rate-code _ _ _ _ _ c.before.before.bitrate-number.ensures 212 66 c.before.match.keys2 c.match3.keys1 (omega arith) _ (unfold code_of same in refl))
-    (λ c. rate-code _ _ _ _ _ c.before.before.bitrate-number.ensures 212 70 c.before.match.keys2 c.match3.keys2 (omega arith) _ (unfold code_of same in refl))
+    (λ c. rate_code _ _ _ _ _ c.before.before.bitrate-number.ensures 212 66 c.before.match.keys2 c.match3.keys1 (omega arith) _ (unfold code_of same in refl))
+    (λ c. rate_code _ _ _ _ _ c.before.before.bitrate-number.ensures 212 70 c.before.match.keys2 c.match3.keys2 (omega arith) _ (unfold code_of same in refl))
     returns-6
-    (λ c. rate-code _ _ _ _ _ c.before.before.bitrate-number.ensures 424 66 c.before.match.keys3 c.match4.keys1 (omega arith) _ (unfold code_of same in refl))
-    (λ c. rate-code _ _ _ _ _ c.before.before.bitrate-number.ensures 424 70 c.before.match.keys3 c.match4.keys2 (omega arith) _ (unfold code_of same in refl))
+    (λ c. rate_code _ _ _ _ _ c.before.before.bitrate-number.ensures 424 66 c.before.match.keys3 c.match4.keys1 (omega arith) _ (unfold code_of same in refl))
+    (λ c. rate_code _ _ _ _ _ c.before.before.bitrate-number.ensures 424 70 c.before.match.keys3 c.match4.keys2 (omega arith) _ (unfold code_of same in refl))
     returns-9
-    (λ c. rate-code _ _ _ _ _ c.before.before.bitrate-number.ensures 848 66 c.before.match.keys4 c.match5.keys1 (omega arith) _ (unfold code_of same in refl))
+    (λ c. rate_code _ _ _ _ _ c.before.before.bitrate-number.ensures 848 66 c.before.match.keys4 c.match5.keys1 (omega arith) _ (unfold code_of same in refl))
     returns-11
     returns-12)

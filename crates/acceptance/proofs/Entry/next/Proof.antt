@@ -1,7 +1,7 @@
 -- `Entry::next` meets its contract.
 use mathlib.Core.Path.{sym, ◌∙◌}
 use native.Mathlib.Omega.{arith}
-use Rattle.acceptance.specs.OrderLaws.{step-refused, step-within, step-over, step_end}
+use Rattle.acceptance.specs.OrderLaws.{step_refused, step_within, step-over, step_end}
 use borrow.Author.Rules.{rules}
 use Rattle.acceptance.proofs.Entry.next.Statement.{statement}
 use Rattle.acceptance.proofs.Entry.next.Tie as tie
@@ -14,7 +14,7 @@ returns-2 c =
 returns-3 : tie.Need-returns-3
 returns-3 c =
     let behind = c.before.before.before.payload-behind.ensures in
-    step-within _ _ (omega arith) (sym c.before.payload.given.1 ∙ behind.0)
+    step_within _ _ (omega arith) (sym c.before.payload.given.1 ∙ behind.0)
 
 returns-4 : tie.Need-returns-4
 returns-4 c =
@@ -25,7 +25,7 @@ pub next-spec : {M : Type 1} → statement M
 next-spec =
     tie.close
     (tie.spec
-    (λ c. step-refused _ c.if1.true)
+    (λ c. step_refused _ c.if1.true)
     (λ c κs. search rules)
     (λ c. search rules)
     (λ c. search rules)

@@ -4,16 +4,16 @@ use mathlib.Core.Path.{◌≡◌}
 use native.Mathlib.Omega.{arith}
 use lib.ListN.{length, length-set}
 use lib.Seq.{paste}
-use Rattle.bench.specs.Hex.{digitsOf}
+use Rattle.bench.specs.Hex.{digits_of_lem}
 use Rattle.bench.specs.TextLaws.{paste_none}
-use Rattle.bench.specs.HexLaws.{digits-turn, digits-done}
-use Rattle.acceptance.specs.LineLaws.{table-digit}
+use Rattle.bench.specs.HexLaws.{digits_turn, digits_done}
+use Rattle.acceptance.specs.LineLaws.{table_digit}
 use borrow.Author.Rules.{rules}
 use Rattle.acceptance.proofs.lines.put_digits.Statement.{statement}
 use Rattle.acceptance.proofs.lines.put_digits.Tie as tie
 
 abbrev invariant-loop : tie.invariant-loop
-invariant-loop bytes out₀ at digits i₀ out i = (i ≤ length bytes) × (length out ≡ length out₀) × (out ≡ paste out₀ at (digitsOf bytes) (2 * i))
+invariant-loop bytes out₀ at digits i₀ out i = (i ≤ length bytes) × (length out ≡ length out₀) × (out ≡ paste out₀ at (digits_of_lem bytes) (2 * i))
 
 abbrev decreases-loop : tie.decreases-loop
 decreases-loop bytes out₀ at digits i₀ out i = length bytes - i
@@ -22,7 +22,7 @@ loop-again : tie.Need-loop-preserved invariant-loop decreases-loop
 loop-again c =
     let h = c.before.high.ensures in
     let l = c.low.ensures in
-    (search rules, search rules, digits-turn _ _ _ _ _ _ _ c.before.before.before.before.loop.invariant.2 (search rules) (search rules) (table-digit _ _ h.0 h.1) (table-digit _ _ l.0 l.1))
+    (search rules, search rules, digits_turn _ _ _ _ _ _ _ c.before.before.before.before.loop.invariant.2 (search rules) (search rules) (table_digit _ _ h.0 h.1) (table_digit _ _ l.0 l.1))
 
 pub put-digits-spec : {M : Type 1} → statement M
 put-digits-spec =
@@ -47,4 +47,4 @@ put-digits-spec =
     (λ c. search rules)
     loop-again
     (λ c. search rules)
-    (λ c. search (digits-done, rules)))
+    (λ c. search (digits_done, rules)))

@@ -5,8 +5,8 @@ use Prim.Native.Nat.{◌+◌, ◌-◌, ◌*◌, ◌≤◌}
 use native.Mathlib.Omega.{arith}
 use lib.ListN.{length}
 use Rattle.acceptance.specs.Steps.{on_entry}
-use Rattle.acceptance.specs.PutLinesLaws.{Filling, filling-start, filling-more, filling-end, len_more, entries-less, entry-or-line, line-short, on-entry-most}
-use Rattle.acceptance.proofs.Tags.{no-entry}
+use Rattle.acceptance.specs.PutLinesLaws.{Filling, filling-start, filling-more, filling-end, len_more, entries_less, entry_or_line, line_short, on_entry_most}
+use Rattle.acceptance.proofs.Tags.{no_entry_lem}
 use borrow.Author.Rules.{rules}
 use Rattle.acceptance.proofs.lines.put_lines.Statement.{statement}
 use Rattle.acceptance.proofs.lines.put_lines.Tie as tie
@@ -19,7 +19,7 @@ decreases-loop out₀ len₀ count₀ step₀ out len count step = 2 * (length o
 
 returns : tie.Need-returns invariant-loop decreases-loop
 returns c =
-    let none = no-entry c.before.before.loop.step c.match.keys2 in
+    let none = no_entry_lem c.before.before.loop.step c.match.keys2 in
     filling-end _ _ _ _ c.before.before.loop.invariant.1 (λ h. omega arith)
 
 add-count : tie.Need-overflow-add-count invariant-loop decreases-loop
@@ -35,9 +35,9 @@ loop-less c =
     let on = c.before.before.before.before.before.before.step.given.1 in
     let put = c.before.before.before.put-line.ensures in
     let more = len_more _ _ _ _ _ _ f _ on room _ _ put _ c.next.ensures in
-    let less = entries-less _ _ _ _ _ _ f _ on room _ _ put _ c.next.ensures in
-    let line = entry-or-line _ _ _ _ _ _ f _ on room _ _ put _ c.next.ensures in
-    omega (arith, line-short c.before.before.before.before.before.before.step.given.0.0, on-entry-most c.next.result)
+    let less = entries_less _ _ _ _ _ _ f _ on room _ _ put _ c.next.ensures in
+    let line = entry_or_line _ _ _ _ _ _ f _ on room _ _ put _ c.next.ensures in
+    omega (arith, line_short c.before.before.before.before.before.before.step.given.0.0, on_entry_most c.next.result)
 
 loop-again : tie.Need-loop-preserved invariant-loop decreases-loop
 loop-again c =

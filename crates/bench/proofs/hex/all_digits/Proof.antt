@@ -2,14 +2,14 @@
 use Prim.Native.Nat.{◌-◌, ◌≤◌}
 use mathlib.Core.Path.{◌≡◌}
 use lib.ListN.{length, drop}
-use Rattle.bench.specs.Hex.{allHexDigits}
-use Rattle.bench.specs.HexLaws.{digits_more, digits-stop, digits-end}
+use Rattle.bench.specs.Hex.{all_hex_digits}
+use Rattle.bench.specs.HexLaws.{digits_more, digits_stop, digits_end}
 use borrow.Author.Rules.{rules}
 use Rattle.bench.proofs.hex.all_digits.Statement.{statement}
 use Rattle.bench.proofs.hex.all_digits.Tie as tie
 
 abbrev invariant-loop : tie.invariant-loop
-invariant-loop word i₀ i = (i ≤ length word) × (allHexDigits word ≡ allHexDigits (drop i word))
+invariant-loop word i₀ i = (i ≤ length word) × (all_hex_digits word ≡ all_hex_digits (drop i word))
 
 abbrev decreases-loop : tie.decreases-loop
 decreases-loop word i₀ i = length word - i
@@ -23,8 +23,8 @@ all-digits-spec =
     (λ c. search rules)
     (λ c. search rules)
     (λ c κs. search rules)
-    (λ c. search (digits-stop, rules))
+    (λ c. search (digits_stop, rules))
     (λ c. search rules)
     (λ c. search rules)
     (λ c. search (digits_more, rules))
-    (λ c. search (digits-end, rules)))
+    (λ c. search (digits_end, rules)))

@@ -4,15 +4,15 @@ use mathlib.Core.Path.{◌≡◌}
 use native.Mathlib.Omega.{arith}
 use lib.ListN.{length}
 use lib.Seq.{paste}
-use Rattle.bench.specs.Hex.{pairsOf}
+use Rattle.bench.specs.Hex.{pairs_of}
 use Rattle.bench.specs.TextLaws.{paste_none}
-use Rattle.bench.specs.HexLaws.{pairs-turn, pairs-done, high_value, low_value}
+use Rattle.bench.specs.HexLaws.{pairs_turn, pairs_done, high_value, low_value}
 use borrow.Author.Rules.{rules}
 use Rattle.bench.proofs.hex.decode.Statement.{statement}
 use Rattle.bench.proofs.hex.decode.Tie as tie
 
 abbrev invariant-loop : tie.invariant-loop
-invariant-loop word out₀ n i₀ out i = (n ≡ length word / 2) × (i ≤ n) × (length out ≡ length out₀) × (out ≡ paste out₀ 0 (pairsOf word) i)
+invariant-loop word out₀ n i₀ out i = (n ≡ length word / 2) × (i ≤ n) × (length out ≡ length out₀) × (out ≡ paste out₀ 0 (pairs_of word) i)
 
 abbrev decreases-loop : tie.decreases-loop
 decreases-loop word out₀ n i₀ out i = n - i
@@ -44,6 +44,6 @@ decode-spec =
     (λ c. search rules)
     (λ c. search rules)
     (λ c. search rules)
-    (λ c. (search rules, search rules, search rules, search (pairs-turn, rules)))
+    (λ c. (search rules, search rules, search rules, search (pairs_turn, rules)))
     (λ c. search rules)
-    (λ c. search (pairs-done, rules)))
+    (λ c. search (pairs_done, rules)))

@@ -4,15 +4,15 @@ use mathlib.Core.Path.{◌≡◌}
 use native.Mathlib.Omega.{arith}
 use lib.ListN.{length, length-set}
 use lib.Seq.{paste}
-use Rattle.bench.specs.Hex.{digitsOf}
+use Rattle.bench.specs.Hex.{digits_of_lem}
 use Rattle.bench.specs.TextLaws.{paste_none}
-use Rattle.bench.specs.HexLaws.{digits-turn, digits-done}
+use Rattle.bench.specs.HexLaws.{digits_turn, digits_done}
 use borrow.Author.Rules.{rules}
 use Rattle.bench.proofs.hex.put_digits.Statement.{statement}
 use Rattle.bench.proofs.hex.put_digits.Tie as tie
 
 abbrev invariant-loop : tie.invariant-loop
-invariant-loop bytes out₀ at i₀ out i = (i ≤ length bytes) × (length out ≡ length out₀) × (out ≡ paste out₀ at (digitsOf bytes) (2 * i))
+invariant-loop bytes out₀ at i₀ out i = (i ≤ length bytes) × (length out ≡ length out₀) × (out ≡ paste out₀ at (digits_of_lem bytes) (2 * i))
 
 abbrev decreases-loop : tie.decreases-loop
 decreases-loop bytes out₀ at i₀ out i = length bytes - i
@@ -36,6 +36,6 @@ put-digits-spec =
     (λ c. simp length-set (omega arith))
     (λ c. search rules)
     (λ c. search rules)
-    (λ c. (search rules, search rules, search (digits-turn, rules)))
+    (λ c. (search rules, search rules, search (digits_turn, rules)))
     (λ c. search rules)
-    (λ c. search (digits-done, rules)))
+    (λ c. search (digits_done, rules)))

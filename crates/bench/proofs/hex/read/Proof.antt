@@ -1,6 +1,6 @@
 -- `hex::read` meets its contract.
 use Rattle.bench.specs.Texts.{returned}
-use Rattle.bench.specs.HexLaws.{read-bad, read_short, read_done, may_read}
+use Rattle.bench.specs.HexLaws.{read_bad, read_short, read_done, may_read}
 use borrow.Author.Rules.{rules}
 use Rattle.bench.proofs.hex.read.Statement.{statement}
 use Rattle.bench.proofs.hex.read.Tie as tie
@@ -15,4 +15,4 @@ read_spec =
     (λ c κs. search (may_read, rules))
     (λ c. search rules)
     (λ c. search (read_done, rules))
-    (λ c. search (read-bad, rules)))
+    (λ c. search (read_bad, rules)))

@@ -1,7 +1,7 @@
 -- `hex::value` meets its contract.
 use Rattle.framing.specs.Rules.{cases}
 use Rattle.bench.specs.Hex.{value_of}
-use Rattle.bench.specs.HexLaws.{value-below, value-between}
+use Rattle.bench.specs.HexLaws.{value_below, value-between}
 use borrow.Author.Rules.{rules}
 use Rattle.bench.proofs.hex.value.Statement.{statement}
 use Rattle.bench.proofs.hex.value.Tie as tie
@@ -17,7 +17,7 @@ value_spec =
     (λ c. (search (cases, rules) depth 12, search rules))
     (λ c. (search (cases, rules) depth 12, search rules))
     (λ c. (search (cases, rules) depth 12, search rules))
-    (λ c. (search (value-below, rules), search rules))
+    (λ c. (search (value_below, rules), search rules))
     (λ c. (search (value-between, rules), search rules))
     (λ c. (search (cases, rules) depth 12, search rules))
     (λ c. (search (cases, rules) depth 12, search rules)))

@@ -1,5 +1,5 @@
 -- `lines::add` meets its contract.
-use Rattle.bench.specs.LineLaws.{room-counts, add_none, add-cut, add-whole}
+use Rattle.bench.specs.LineLaws.{room_counts, add_none, add_cut, add_whole}
 use native.Mathlib.Omega.{arith}
 use borrow.Author.Rules.{rules}
 use Rattle.bench.proofs.lines.add.Statement.{statement}
@@ -11,11 +11,11 @@ add_spec =
     (tie.spec
     (λ c. λ t l b. search (add_none, rules))
     (λ c. search rules)
-    (λ c. room-counts _ _ (omega arith))
+    (λ c. room_counts _ _ (omega arith))
     (λ c κs. search rules)
     (λ c. search rules)
     (λ c. search rules)
-    (λ c. λ t l b. search (add-cut, rules))
+    (λ c. λ t l b. search (add_cut, rules))
     (λ c κs. search rules)
     (λ c. search rules)
-    (λ c. λ t l b. search (add-whole, rules)))
+    (λ c. λ t l b. search (add_whole, rules)))

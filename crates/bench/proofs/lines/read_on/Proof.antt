@@ -4,7 +4,7 @@ use mathlib.Core.List.{List}
 use Prim.Native.Nat.{ℕ}
 use lib.ListN.{length}
 use Rattle.bench.specs.Lines.{NoFeed, Begun}
-use Rattle.bench.proofs.NextLaws.{Sofar, sofar-none, sofar-more, sofar-fed, sofar-last}
+use Rattle.bench.proofs.NextLaws.{Sofar, sofar_none, sofar_more, sofar_fed, sofar_last}
 use borrow.Author.Rules.{rules}
 use Rattle.bench.proofs.lines.read_on.Statement.{statement}
 use Rattle.bench.proofs.lines.read_on.Tie as tie
@@ -21,14 +21,14 @@ returns-2 c =
     let added = c.before.before.before.before.before in
     let counted = c.before.before.before.before.before.before.before.before in
     let filled = c.before.before.before.before.before.before.before.before.before.before.before.before.before in
-    λ t l none b. sofar-fed t l _ _ (c.before.before.before.before.before.before.before.before.before.before.before.before.before.before.before.before.loop.invariant.2 t l none b) _ _ _ _ _ filled.fill.ensures.0 counted.before-feed.ensures.0 added.add.ensures (search rules) _ c.Line-of.ensures
+    λ t l none b. sofar_fed t l _ _ (c.before.before.before.before.before.before.before.before.before.before.before.before.before.before.before.before.loop.invariant.2 t l none b) _ _ _ _ _ filled.fill.ensures.0 counted.before-feed.ensures.0 added.add.ensures (search rules) _ c.Line-of.ensures
 
 loop-again : tie.Need-loop-preserved invariant-loop decreases-loop
 loop-again c =
     let added = c.before.before.before in
     let counted = c.before.before.before.before.before.before in
     let filled = c.before.before.before.before.before.before.before.before.before.before.before in
-    (search rules, search rules, λ t l none b. sofar-more t l _ _ (c.before.before.before.before.before.before.before.before.before.before.before.before.before.before.loop.invariant.2 t l none b) _ _ _ _ _ filled.fill.ensures.0 counted.before-feed.ensures.0 added.add.ensures (search rules))
+    (search rules, search rules, λ t l none b. sofar_more t l _ _ (c.before.before.before.before.before.before.before.before.before.before.before.before.before.before.loop.invariant.2 t l none b) _ _ _ _ _ filled.fill.ensures.0 counted.before-feed.ensures.0 added.add.ensures (search rules))
 
 pub read-on-spec : {M : Type 1} → statement M
 read-on-spec =
@@ -36,12 +36,12 @@ read-on-spec =
     (tie.spec
     invariant-loop
     decreases-loop
-    (λ c. (search rules, search rules, λ t l none b. search (sofar-none, rules)))
+    (λ c. (search rules, search rules, λ t l none b. search (sofar_none, rules)))
     (λ c κs. search rules)
     (λ c κs. search rules)
     (λ c. search rules)
     (λ c. search rules)
-    (λ c. λ t l none b. sofar-last t l _ _ (c.before.before.before.before.before.before.before.before.loop.invariant.2 t l none b) _ _ c.last.ensures)
+    (λ c. λ t l none b. sofar_last t l _ _ (c.before.before.before.before.before.before.before.before.loop.invariant.2 t l none b) _ _ c.last.ensures)
     (λ c. search rules)
     (λ c. search rules)
     (λ c κs. search rules)
@@ -58,4 +58,4 @@ read-on-spec =
     (λ c κs. search rules)
     (λ c. search rules)
     (λ c. search rules)
-    (λ c. λ t l none b. sofar-last t l _ _ (c.before.before.before.loop.invariant.2 t l none b) _ _ c.last2.ensures))
+    (λ c. λ t l none b. sofar_last t l _ _ (c.before.before.before.loop.invariant.2 t l none b) _ _ c.last2.ensures))

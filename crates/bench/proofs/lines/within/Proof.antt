@@ -1,12 +1,12 @@
 -- `lines::within` meets its contract.
 use Rattle.framing.specs.Rules.{cases}
-use Rattle.bench.specs.Lines.{unreadOf}
+use Rattle.bench.specs.Lines.{unread_of}
 use borrow.Author.Rules.{rules}
 use Rattle.bench.proofs.lines.within.Statement.{statement}
 use Rattle.bench.proofs.lines.within.Tie as tie
 
 pub within-spec : {M : Type 1} → statement M
-unfolding unreadOf
+unfolding unread_of
 within-spec =
     tie.close
     (tie.spec

@@ -1,6 +1,6 @@
 -- `lines::write` meets its contract.
 use mathlib.Core.Bool.{false≢true}
-use Rattle.bench.specs.LineLaws.{room-counts}
+use Rattle.bench.specs.LineLaws.{room_counts}
 use native.Mathlib.Omega.{arith}
 use borrow.Author.Rules.{rules}
 use Rattle.bench.proofs.lines.write.Statement.{statement}
@@ -12,6 +12,6 @@ write_spec =
     (tie.spec
     (λ c. λ h. absurd (false≢true h))
     (λ c. λ h. absurd (false≢true h))
-    (λ c. room-counts _ _ (omega arith))
+    (λ c. room_counts _ _ (omega arith))
     (λ c κs. search rules)
     (λ c. search rules))

@@ -3,14 +3,14 @@ use Prim.Native.Nat.{◌+◌, ◌-◌, ◌≤◌}
 use mathlib.Core.Path.{◌≡◌}
 use mathlib.Core.Logic.{⊎_elim}
 use lib.ListN.{length, drop}
-use Rattle.bench.specs.Words.{wordsOf}
-use Rattle.bench.specs.WordLaws.{count-space, count-other, count-end}
+use Rattle.bench.specs.Words.{words_of_lem}
+use Rattle.bench.specs.WordLaws.{count_space, count-other, count-end}
 use borrow.Author.Rules.{rules}
 use Rattle.bench.proofs.words.count.Statement.{statement}
 use Rattle.bench.proofs.words.count.Tie as tie
 
 abbrev invariant-loop : tie.invariant-loop
-invariant-loop line n₀ i₀ n i = (i ≤ length line) × (n ≤ i + 1) × (n + length (wordsOf (drop i line)) ≡ length (wordsOf line) + 1)
+invariant-loop line n₀ i₀ n i = (i ≤ length line) × (n ≤ i + 1) × (n + length (words_of_lem (drop i line)) ≡ length (words_of_lem line) + 1)
 
 abbrev decreases-loop : tie.decreases-loop
 decreases-loop line n₀ i₀ n i = length line - i
@@ -26,5 +26,5 @@ count_spec =
     (λ c. search rules)
     (λ c. search rules)
     (λ c. search rules)
-    (λ c. ⊎_elim (λ w. search (count-space, rules)) (λ w. search (count-other, rules)) c.if1.branch)
+    (λ c. ⊎_elim (λ w. search (count_space, rules)) (λ w. search (count-other, rules)) c.if1.branch)
     (λ c. search (count-end, rules)))

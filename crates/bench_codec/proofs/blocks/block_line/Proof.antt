@@ -1,5 +1,5 @@
 -- `blocks::block_line` meets its contract.
-use Rattle.bench_codec.proofs.CodecLaws.{read-refused, read_fits, read-part, then-service}
+use Rattle.bench_codec.proofs.CodecLaws.{read_refused, read_fits, read_part, then_service}
 use borrow.Author.Rules.{rules}
 use Rattle.bench_codec.proofs.blocks.block_line.Statement.{statement}
 use Rattle.bench_codec.proofs.blocks.block_line.Tie as tie
@@ -15,9 +15,9 @@ block-line-spec =
     (λ c. search rules)
     (λ c κs. search rules)
     (λ c. search rules)
-    (λ c. search (read-refused, rules))
+    (λ c. search (read_refused, rules))
     (λ c. search (read_fits, rules))
-    (λ c. search (read-part, rules))
+    (λ c. search (read_part, rules))
     (λ c κs. search rules)
     (λ c. search rules)
-    (λ c. search (then-service, rules)))
+    (λ c. search (then_service, rules)))

@@ -1,5 +1,5 @@
 -- `blocks::build` meets its contract.
-use Rattle.bench_codec.proofs.BlockLaws.{built-0, built-1, built-2, built-3}
+use Rattle.bench_codec.proofs.BlockLaws.{built_0, built_1, built_2, built_3}
 use borrow.Author.Rules.{rules}
 use Rattle.bench_codec.proofs.blocks.build.Statement.{statement}
 use Rattle.bench_codec.proofs.blocks.build.Tie as tie
@@ -14,10 +14,10 @@ build-spec =
     (λ c κs. search rules)
     (λ c κs. search rules)
     (λ c. search rules)
-    (λ c. search (built-0, rules))
+    (λ c. search (built_0, rules))
     (λ c. search rules)
-    (λ c. search (built-1, rules))
+    (λ c. search (built_1, rules))
     (λ c. search rules)
-    (λ c. search (built-2, rules))
+    (λ c. search (built_2, rules))
     (λ c. search rules)
-    (λ c. search (built-3, rules)))
+    (λ c. search (built_3, rules)))

@@ -1,5 +1,5 @@
 -- `blocks::print` meets its contract.
-use Rattle.bench_codec.proofs.BlockLaws.{print-refused, print-fits, print-part, print-done}
+use Rattle.bench_codec.proofs.BlockLaws.{print_refused, print_fits, print_part, print_done}
 use borrow.Author.Rules.{rules}
 use Rattle.bench_codec.proofs.blocks.print.Statement.{statement}
 use Rattle.bench_codec.proofs.blocks.print.Tie as tie
@@ -14,9 +14,9 @@ print-spec =
     (λ c. search rules)
     (λ c κs. search rules)
     (λ c. search rules)
-    (λ c. search (print-refused, rules))
-    (λ c. search (print-fits, rules))
-    (λ c. search (print-part, rules))
+    (λ c. search (print_refused, rules))
+    (λ c. search (print_fits, rules))
+    (λ c. search (print_part, rules))
     (λ c κs. search rules)
     (λ c. search rules)
-    (λ c. search (print-done, rules)))
+    (λ c. search (print_done, rules)))

@@ -1,5 +1,5 @@
 -- `blocks::put_numbers` meets its contract.
-use Rattle.bench_codec.proofs.BlockLaws.{few-taken, all-four}
+use Rattle.bench_codec.proofs.BlockLaws.{few_taken, all-four}
 use borrow.Author.Rules.{rules}
 use Rattle.bench_codec.proofs.blocks.put_numbers.Statement.{statement}
 use Rattle.bench_codec.proofs.blocks.put_numbers.Tie as tie
@@ -10,7 +10,7 @@ put-numbers-spec =
     (tie.spec
     (λ c. search rules)
     (λ c. search rules)
-    (λ c. search (few-taken, rules))
+    (λ c. search (few_taken, rules))
     (λ c κs. search rules)
     (λ c. search rules)
     (λ c. search rules)

@@ -1,5 +1,5 @@
 -- `blocks::request` meets its contract.
-use Rattle.bench_codec.proofs.BlockLaws.{text-read, text-write, text-none}
+use Rattle.bench_codec.proofs.BlockLaws.{text_read, text_write, text_none}
 use borrow.Author.Rules.{rules}
 use Rattle.bench_codec.proofs.blocks.request.Statement.{statement}
 use Rattle.bench_codec.proofs.blocks.request.Tie as tie
@@ -23,8 +23,8 @@ request-spec =
     (λ c. search rules)
     (λ c κs. search rules)
     (λ c. search rules)
-    (λ c. search (text-read, rules))
+    (λ c. search (text_read, rules))
     (λ c. search rules)
-    (λ c. search (text-write, rules))
+    (λ c. search (text_write, rules))
     (λ c. search rules)
-    (λ c. search (text-none, rules)))
+    (λ c. search (text_none, rules)))

@@ -1,5 +1,5 @@
 -- `blocks::with_bytes` meets its contract.
-use Rattle.bench_codec.proofs.CodecLaws.{read-refused, read_fits, read-part, then-print}
+use Rattle.bench_codec.proofs.CodecLaws.{read_refused, read_fits, read_part, then_print}
 use borrow.Author.Rules.{rules}
 use Rattle.bench_codec.proofs.blocks.with_bytes.Statement.{statement}
 use Rattle.bench_codec.proofs.blocks.with_bytes.Tie as tie
@@ -15,9 +15,9 @@ with-bytes-spec =
     (λ c. search rules)
     (λ c κs. search rules)
     (λ c. search rules)
-    (λ c. search (read-refused, rules))
+    (λ c. search (read_refused, rules))
     (λ c. search (read_fits, rules))
-    (λ c. search (read-part, rules))
+    (λ c. search (read_part, rules))
     (λ c κs. search rules)
     (λ c. search rules)
-    (λ c. search (then-print, rules)))
+    (λ c. search (then_print, rules)))

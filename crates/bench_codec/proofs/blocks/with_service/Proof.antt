@@ -1,5 +1,5 @@
 -- `blocks::with_service` meets its contract.
-use Rattle.bench_codec.proofs.BlockLaws.{not-four, no-pair, pair_read}
+use Rattle.bench_codec.proofs.BlockLaws.{not_four, no_pair, pair_read}
 use borrow.Author.Rules.{rules}
 use Rattle.bench_codec.proofs.blocks.with_service.Statement.{statement}
 use Rattle.bench_codec.proofs.blocks.with_service.Tie as tie
@@ -10,14 +10,14 @@ with-service-spec =
     (tie.spec
     (λ c κs. search rules)
     (λ c. search rules)
-    (λ c. search (not-four, rules))
+    (λ c. search (not_four, rules))
     (λ c. search rules)
     (λ c κs. search rules)
     (λ c. search rules)
     (λ c. search rules)
     (λ c κs. search rules)
     (λ c. search rules)
-    (λ c. search (no-pair, rules))
+    (λ c. search (no_pair, rules))
     (λ c. search rules)
     (λ c. search rules)
     (λ c κs. search rules)

@@ -1,5 +1,5 @@
 -- `frames::build` meets its contract.
-use Rattle.bench_codec.proofs.FrameLaws.{built-refused, built-fits, built-part, built-done}
+use Rattle.bench_codec.proofs.FrameLaws.{built_refused, built-fits, built-part, built-done}
 use borrow.Author.Rules.{rules}
 use Rattle.bench_codec.proofs.frames.build.Statement.{statement}
 use Rattle.bench_codec.proofs.frames.build.Tie as tie
@@ -16,7 +16,7 @@ build-spec =
     (λ c. search rules)
     (λ c κs. search rules)
     (λ c. search rules)
-    (λ c. search (built-refused, rules))
+    (λ c. search (built_refused, rules))
     (λ c. search (built-fits, rules))
     (λ c. search (built-part, rules))
     (λ c κs. search rules)

@@ -1,5 +1,5 @@
 -- `frames::checksum` meets its contract.
-use Rattle.bench_codec.proofs.FrameLaws.{checksum-done}
+use Rattle.bench_codec.proofs.FrameLaws.{checksum_done}
 use borrow.Author.Rules.{rules}
 use Rattle.bench_codec.proofs.frames.checksum.Statement.{statement}
 use Rattle.bench_codec.proofs.frames.checksum.Tie as tie
@@ -12,4 +12,4 @@ checksum-spec =
     (λ c. search rules)
     (λ c κs. search rules)
     (λ c. search rules)
-    (λ c. search (checksum-done, rules)))
+    (λ c. search (checksum_done, rules)))

@@ -1,6 +1,6 @@
 -- `frames::parse_padded` meets its contract.
 use Rattle.errors.specs.Rules.{same-value}
-use Rattle.bench_codec.proofs.FrameLaws.{padded-none, zeros-done}
+use Rattle.bench_codec.proofs.FrameLaws.{padded_none, zeros-done}
 use borrow.Author.Rules.{rules}
 use Rattle.bench_codec.proofs.frames.parse_padded.Statement.{statement}
 use Rattle.bench_codec.proofs.frames.parse_padded.Tie as tie
@@ -18,4 +18,4 @@ parse-padded-spec =
     (λ c. search rules)
     (λ c. search (zeros-done, same-value, rules) depth 8)
     (λ c. search rules)
-    (λ c. search (padded-none, same-value, rules) depth 8))
+    (λ c. search (padded_none, same-value, rules) depth 8))

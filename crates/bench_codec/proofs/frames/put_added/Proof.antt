@@ -2,7 +2,7 @@
 use mathlib.Core.Path.{sym}
 use native.Mathlib.Omega.{arith}
 use lib.Seq.{length-take-le}
-use Rattle.bench_codec.proofs.FrameLaws.{append-refused, append-short, append-done}
+use Rattle.bench_codec.proofs.FrameLaws.{append_refused, append_short, append-done}
 use borrow.Author.Rules.{rules}
 use Rattle.bench_codec.proofs.frames.put_added.Statement.{statement}
 use Rattle.bench_codec.proofs.frames.put_added.Tie as tie
@@ -15,10 +15,10 @@ put-added-spec =
     (λ c. search rules)
     (λ c κs. search rules)
     (λ c. search rules)
-    (λ c. λ k s b known short room. search (append-refused, rules))
+    (λ c. λ k s b known short room. search (append_refused, rules))
     (λ c κs. search rules)
     (λ c. search rules)
-    (λ c. λ k s b known short room. search (append-short, rules))
+    (λ c. λ k s b known short room. search (append_short, rules))
     (λ c. sym (length-take-le _ _ (omega arith)))
     (λ c κs. search rules)
     (λ c. search rules)

@@ -1,5 +1,5 @@
 -- `frames::put_data` meets its contract.
-use Rattle.bench_codec.proofs.FrameLaws.{data-done}
+use Rattle.bench_codec.proofs.FrameLaws.{data_done}
 use borrow.Author.Rules.{rules}
 use Rattle.bench_codec.proofs.frames.put_data.Statement.{statement}
 use Rattle.bench_codec.proofs.frames.put_data.Tie as tie
@@ -14,4 +14,4 @@ put-data-spec =
     (λ c κs. search rules)
     (λ c κs. search rules)
     (λ c. search rules)
-    (λ c. search (data-done, rules)))
+    (λ c. search (data_done, rules)))

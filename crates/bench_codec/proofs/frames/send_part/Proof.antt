@@ -1,5 +1,5 @@
 -- `frames::send_part` meets its contract.
-use Rattle.bench_codec.proofs.FrameLaws.{not-sent, sent-part, sent-done}
+use Rattle.bench_codec.proofs.FrameLaws.{not_sent, sent_part, sent_done}
 use borrow.Author.Rules.{rules}
 use Rattle.bench_codec.proofs.frames.send_part.Statement.{statement}
 use Rattle.bench_codec.proofs.frames.send_part.Tie as tie
@@ -14,10 +14,10 @@ send-part-spec =
     (λ c. search rules)
     (λ c κs. search rules)
     (λ c. search rules)
-    (λ c. search (not-sent, rules))
+    (λ c. search (not_sent, rules))
     (λ c. search rules)
     (λ c κs. search rules)
-    (λ c. search (sent-part, rules))
+    (λ c. search (sent_part, rules))
     (λ c κs. search rules)
     (λ c. search rules)
-    (λ c. search (sent-done, rules)))
+    (λ c. search (sent_done, rules)))

@@ -1,5 +1,5 @@
 -- `frames::yes_or_no` meets its contract.
-use Rattle.bench_codec.proofs.FrameLaws.{known-yes, known-no}
+use Rattle.bench_codec.proofs.FrameLaws.{known_yes, known_no}
 use borrow.Author.Rules.{rules}
 use Rattle.bench_codec.proofs.frames.yes_or_no.Statement.{statement}
 use Rattle.bench_codec.proofs.frames.yes_or_no.Tie as tie
@@ -13,6 +13,6 @@ yes-or-no-spec =
     (λ c. search rules)
     (λ c κs. search rules)
     (λ c. search rules)
-    (λ c. search (known-yes, rules))
+    (λ c. search (known_yes, rules))
     (λ c. search rules)
-    (λ c. search (known-no, rules)))
+    (λ c. search (known_no, rules)))

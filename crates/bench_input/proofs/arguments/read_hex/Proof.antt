@@ -1,6 +1,6 @@
 -- `arguments::read_hex` meets its contract.
 use borrow.Author.Rules.{rules}
-use Rattle.bench_input.proofs.ReadLaws.{hex-read, hex-unread, hex-behind, hex-within}
+use Rattle.bench_input.proofs.ReadLaws.{hex_read, hex_unread, hex-behind, hex_within}
 use Rattle.bench_input.proofs.arguments.read_hex.Statement.{statement}
 use Rattle.bench_input.proofs.arguments.read_hex.Tie as tie
 
@@ -9,7 +9,7 @@ returns c =
     let at_read = c.before.before.before.before in
     let at-word = at_read.before.before in
     let start = at-word.before.before.before in (
-      hex-unread _ _ start.args.bytes.now _ start.args.at _ at-word.word.ensures start.requires at_read.read.ensures _ c.enum_told.given.1,
+      hex_unread _ _ start.args.bytes.now _ start.args.at _ at-word.word.ensures start.requires at_read.read.ensures _ c.enum_told.given.1,
       tt,
     )
 
@@ -18,14 +18,14 @@ add-t9 c =
     let at_read = c.before.before.before.before.before in
     let at-word = at_read.before.before in
     let start = at-word.before.before.before in
-    let w = hex-within _ _ start.args.bytes.now _ start.args.at _ at-word.word.ensures start.requires at_read.read.ensures _ c.before.n.given.1 in search rules
+    let w = hex_within _ _ start.args.bytes.now _ start.args.at _ at-word.word.ensures start.requires at_read.read.ensures _ c.before.n.given.1 in search rules
 
 returns-2 : tie.Need-returns-2
 returns-2 c =
     let at_read = c.before.before.before.before.before in
     let at-word = at_read.before.before in
     let start = at-word.before.before.before in (
-      hex-read _ _ start.args.bytes.now _ start.args.at _ at-word.word.ensures start.requires at_read.read.ensures _ c.before.n.given.1,
+      hex_read _ _ start.args.bytes.now _ start.args.at _ at-word.word.ensures start.requires at_read.read.ensures _ c.before.n.given.1,
       hex-behind _ _ start.args.bytes.now _ start.args.at _ at-word.word.ensures start.requires at_read.read.ensures _ c.before.n.given.1,
     )
 

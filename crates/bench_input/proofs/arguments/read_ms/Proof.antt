@@ -1,6 +1,6 @@
 -- `arguments::read_ms` meets its contract.
 use borrow.Author.Rules.{rules}
-use Rattle.bench_input.proofs.ReadLaws.{ms-read}
+use Rattle.bench_input.proofs.ReadLaws.{ms_read}
 use Rattle.bench_input.proofs.arguments.read_ms.Statement.{statement}
 use Rattle.bench_input.proofs.arguments.read_ms.Tie as tie
 
@@ -10,4 +10,4 @@ read-ms-spec =
     (tie.spec
     (λ c κs. search rules)
     (λ c κs. search rules)
-    (λ c. search (ms-read, rules)))
+    (λ c. search (ms_read, rules)))

@@ -5,19 +5,19 @@ use Prim.Native.Nat.{◌%◌}
 use native.Mathlib.Omega.{arith}
 use borrow.Author.Tests.{eq-eqb, ne_eqb}
 use lib.Seq.{length-slice}
-use Rattle.errors.specs.Rules.{at_true, at-false}
-use Rattle.bench_input.specs.Arguments.{wholeArg}
-use Rattle.bench_input.proofs.ReadLaws.{not-whole}
-use Rattle.bench_input.proofs.ArgumentLaws.{hex-value, hex-none, behind-at}
+use Rattle.errors.specs.Rules.{at_true, at_false}
+use Rattle.bench_input.specs.Arguments.{whole_arg}
+use Rattle.bench_input.proofs.ReadLaws.{not_whole}
+use Rattle.bench_input.proofs.ArgumentLaws.{hex-value, hex_none, behind-at}
 use Rattle.bench_input.proofs.arguments.read_whole.Statement.{statement}
 use Rattle.bench_input.proofs.arguments.read_whole.Tie as tie
 
 returns : tie.Need-returns
-unfolding wholeArg
-returns c = (λ f. hex-none _ _ _ _ c.before.before.before.before.read-hex.ensures.0 _ _ c.enum_told.given.1, tt)
+unfolding whole_arg
+returns c = (λ f. hex_none _ _ _ _ c.before.before.before.before.read-hex.ensures.0 _ _ c.enum_told.given.1, tt)
 
 returns-2 : tie.Need-returns-2
-unfolding wholeArg
+unfolding whole_arg
 returns-2 c =
     let at-end = c.before.before in
     let at-read-hex = at-end.before.before.before.before in
@@ -26,12 +26,12 @@ returns-2 c =
     (λ f. hex-value _ _ _ _ at-read-hex.read-hex.ensures.0 _ _ _ at-end.end.given.1 (at_true _ _ _ _ (eq-eqb _ _ (ap (λ n. n % start.args.size) (length-slice _ _ _ (omega arith)) ∙ c.if1.true)) refl), b)
 
 returns-3 : tie.Need-returns-3
-unfolding wholeArg
+unfolding whole_arg
 returns-3 c =
     let at-end = c.before.before in
     let at-read-hex = at-end.before.before.before.before in
     let b = behind-at _ _ _ _ _ _ at-read-hex.read-hex.ensures.1 at-end.end.given.1 in
-    (λ f. hex-value _ _ _ _ at-read-hex.read-hex.ensures.0 _ _ _ at-end.end.given.1 (at-false _ _ _ _ (ne_eqb _ _ (not-whole _ _ _ _ (omega arith) c.if1.false)) refl), tt)
+    (λ f. hex-value _ _ _ _ at-read-hex.read-hex.ensures.0 _ _ _ at-end.end.given.1 (at_false _ _ _ _ (ne_eqb _ _ (not_whole _ _ _ _ (omega arith) c.if1.false)) refl), tt)
 
 pub read-whole-spec : {M : Type 1} → statement M
 read-whole-spec =

@@ -3,7 +3,7 @@ use borrow.Author.Rules.{rules}
 use Prim.Native.Nat.{◌-◌}
 use native.Mathlib.Omega.{arith}
 use lib.ListN.{length}
-use Rattle.bench_input.proofs.WordsLaws.{LettersBegun, begin, all_read, next_fits, next-none, next-begun}
+use Rattle.bench_input.proofs.WordsLaws.{LettersBegun, begin, all_read, next_fits, next_none, next_begun}
 use Rattle.bench_input.proofs.letters.read.Statement.{statement}
 use Rattle.bench_input.proofs.letters.read.Tie as tie
 
@@ -27,7 +27,7 @@ returns c =
     let at-argument = c.before.before.before.before in
     let at-loop = at-argument.before.before.before.before in
     let start = at-loop.before.before.before.before in
-    (next-none _ _ _ _ _ _ at-loop.loop.invariant start.requires.2 at-argument.before.before.before.loop-test.true _ _ at-argument.argument.ensures c.enum_told.given.1, tt)
+    (next_none _ _ _ _ _ _ at-loop.loop.invariant start.requires.2 at-argument.before.before.before.loop-test.true _ _ at-argument.argument.ensures c.enum_told.given.1, tt)
 
 loop-again : tie.Need-loop-preserved invariant-loop decreases-loop
 loop-again c =
@@ -35,7 +35,7 @@ loop-again c =
     let at-argument = at_next.before.before.before.before in
     let at-loop = at-argument.before.before.before.before in
     let start = at-loop.before.before.before.before in
-    next-begun _ _ _ _ _ _ at-loop.loop.invariant start.requires.2 at-argument.before.before.before.loop-test.true _ _ at-argument.argument.ensures (search rules) _ at_next.next.given.1
+    next_begun _ _ _ _ _ _ at-loop.loop.invariant start.requires.2 at-argument.before.before.before.loop-test.true _ _ at-argument.argument.ensures (search rules) _ at_next.next.given.1
 
 returns-2 : tie.Need-returns-2 invariant-loop decreases-loop
 returns-2 c =

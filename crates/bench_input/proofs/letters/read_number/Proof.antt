@@ -2,20 +2,20 @@
 use borrow.Author.Rules.{rules}
 use mathlib.Core.Path.{refl, ◌∙◌}
 use borrow.Author.Tests.{ne_eqb}
-use Rattle.errors.specs.Rules.{at-false}
+use Rattle.errors.specs.Rules.{at_false}
 use Rattle.errors.specs.Choice.{pick}
-use Rattle.bench_input.specs.Letters.{numberArg}
+use Rattle.bench_input.specs.Letters.{number_arg}
 use Rattle.bench_input.proofs.letters.read_number.Statement.{statement}
 use Rattle.bench_input.proofs.letters.read_number.Tie as tie
 
 returns-11 : tie.Need-returns-11
-unfolding numberArg
+unfolding number_arg
 returns-11 c =
     λ f. let r = c.match.rest in
-    at-false _ _ _ _ (ne_eqb _ _ r.0.0.0.0.0.0.0.0.0.1) (at-false _ _ _ _ (ne_eqb _ _ r.0.0.0.0.0.0.0.0.1) (at-false _ _ _ _ (ne_eqb _ _ r.0.0.0.0.0.0.0.1) (at-false _ _ _ _ (ne_eqb _ _ r.0.0.0.0.0.0.1) (at-false _ _ _ _ (ne_eqb _ _ r.0.0.0.0.0.1) (at-false _ _ _ _ (ne_eqb _ _ r.0.0.0.0.1) (at-false _ _ _ _ (ne_eqb _ _ r.0.0.0.1) (at-false _ _ _ _ (ne_eqb _ _ r.0.0.1) (at-false _ _ _ _ (ne_eqb _ _ r.0.1) (at-false _ _ _ _ (ne_eqb _ _ r.1) refl)))))))))
+    at_false _ _ _ _ (ne_eqb _ _ r.0.0.0.0.0.0.0.0.0.1) (at_false _ _ _ _ (ne_eqb _ _ r.0.0.0.0.0.0.0.0.1) (at_false _ _ _ _ (ne_eqb _ _ r.0.0.0.0.0.0.0.1) (at_false _ _ _ _ (ne_eqb _ _ r.0.0.0.0.0.0.1) (at_false _ _ _ _ (ne_eqb _ _ r.0.0.0.0.0.1) (at_false _ _ _ _ (ne_eqb _ _ r.0.0.0.0.1) (at_false _ _ _ _ (ne_eqb _ _ r.0.0.0.1) (at_false _ _ _ _ (ne_eqb _ _ r.0.0.1) (at_false _ _ _ _ (ne_eqb _ _ r.0.1) (at_false _ _ _ _ (ne_eqb _ _ r.1) refl)))))))))
 
 pub read-number-spec : {M : Type 1} → statement M
-unfolding numberArg pick
+unfolding number_arg pick
 read-number-spec =
     tie.close
     (tie.spec

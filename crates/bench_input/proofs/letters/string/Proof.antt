@@ -2,18 +2,18 @@
 use borrow.Author.Rules.{rules}
 use mathlib.Core.Path.{refl}
 use borrow.Author.Tests.{ne_eqb}
-use Rattle.errors.specs.Rules.{at-false}
+use Rattle.errors.specs.Rules.{at_false}
 use Rattle.errors.specs.Choice.{pick}
-use Rattle.bench_input.specs.Letters.{stringArg}
+use Rattle.bench_input.specs.Letters.{string_arg}
 use Rattle.bench_input.proofs.letters.string.Statement.{statement}
 use Rattle.bench_input.proofs.letters.string.Tie as tie
 
 returns-6 : tie.Need-returns-6
-unfolding stringArg
-returns-6 c = (λ f. let r = c.match.rest in at-false _ _ _ _ (ne_eqb _ _ r.0.0.0.0.1) (at-false _ _ _ _ (ne_eqb _ _ r.0.0.0.1) (at-false _ _ _ _ (ne_eqb _ _ r.0.0.1) (at-false _ _ _ _ (ne_eqb _ _ r.0.1) (at-false _ _ _ _ (ne_eqb _ _ r.1) refl)))), tt)
+unfolding string_arg
+returns-6 c = (λ f. let r = c.match.rest in at_false _ _ _ _ (ne_eqb _ _ r.0.0.0.0.1) (at_false _ _ _ _ (ne_eqb _ _ r.0.0.0.1) (at_false _ _ _ _ (ne_eqb _ _ r.0.0.1) (at_false _ _ _ _ (ne_eqb _ _ r.0.1) (at_false _ _ _ _ (ne_eqb _ _ r.1) refl)))), tt)
 
 pub string-spec : {M : Type 1} → statement M
-unfolding stringArg pick
+unfolding string_arg pick
 string-spec =
     tie.close
     (tie.spec

@@ -1,5 +1,5 @@
 -- `output::put_lengths` meets its contract.
-use Rattle.bench_session.proofs.OutputLaws.{lengths-done}
+use Rattle.bench_session.proofs.OutputLaws.{lengths_done}
 use borrow.Author.Rules.{rules}
 use Rattle.bench_session.proofs.output.put_lengths.Statement.{statement}
 use Rattle.bench_session.proofs.output.put_lengths.Tie as tie
@@ -15,4 +15,4 @@ put-lengths-spec =
     (λ c. search rules)
     (λ c κs. search rules)
     (λ c. search rules)
-    (λ c. search (lengths-done, rules) depth 8))
+    (λ c. search (lengths_done, rules) depth 8))

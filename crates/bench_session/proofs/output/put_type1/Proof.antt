@@ -1,5 +1,5 @@
 -- `output::put_type1` meets its contract.
-use Rattle.bench_session.proofs.OutputLaws.{type1-done}
+use Rattle.bench_session.proofs.OutputLaws.{type1_done}
 use borrow.Author.Rules.{rules}
 use Rattle.bench_session.proofs.output.put_type1.Statement.{statement}
 use Rattle.bench_session.proofs.output.put_type1.Tie as tie
@@ -13,4 +13,4 @@ put-type1-spec =
     (λ c. search rules)
     (λ c κs. search rules)
     (λ c. search rules)
-    (λ c. search (type1-done, rules) depth 8))
+    (λ c. search (type1_done, rules) depth 8))

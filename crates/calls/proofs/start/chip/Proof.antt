@@ -1,15 +1,15 @@
-use Rattle.calls.specs.Numbers.{call_of, not-among}
-use Rattle.calls.specs.Firsts.{startFor}
+use Rattle.calls.specs.Numbers.{call_of, not_among}
+use Rattle.calls.specs.Firsts.{start_for}
 use borrow.Author.Rules.{rules}
 use Rattle.calls.proofs.start.chip.Statement.{statement}
 use Rattle.calls.proofs.start.chip.Tie as tie
 
 returns-9 : tie.Need-returns-9
-unfolding call_of startFor
-returns-9 c = λ second third fourth. let r = c.before.match.rest in let e = not-among c.before.before.before.args.number c.before.before.before.requires r.0.0.0.0.0.0.0.1 r.0.0.0.0.0.0.1 r.0.0.0.0.0.1 r.0.0.0.0.1 r.0.0.0.1 r.0.0.1 r.0.1 r.1 in rw e (c.refused.ensures _)
+unfolding call_of start_for
+returns-9 c = λ second third fourth. let r = c.before.match.rest in let e = not_among c.before.before.before.args.number c.before.before.before.requires r.0.0.0.0.0.0.0.1 r.0.0.0.0.0.0.1 r.0.0.0.0.0.1 r.0.0.0.0.1 r.0.0.0.1 r.0.0.1 r.0.1 r.1 in rw e (c.refused.ensures _)
 
 pub chip-spec : {M : Type 1} → statement M
-unfolding call_of startFor
+unfolding call_of start_for
 chip-spec =
     tie.close
     (tie.spec

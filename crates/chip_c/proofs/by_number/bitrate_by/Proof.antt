@@ -1,16 +1,16 @@
 -- `by_number::bitrate_by` meets its contract.
 use Rattle.errors.specs.Rules.{picked}
-use Rattle.chip_c.specs.Numbers.{bitrateBy}
+use Rattle.chip_c.specs.Numbers.{bitrate_by_of}
 use borrow.Author.Rules.{rules}
 use Rattle.chip_c.proofs.by_number.bitrate_by.Statement.{statement}
 use Rattle.chip_c.proofs.by_number.bitrate_by.Tie as tie
 
 returns : tie.Need-returns
-unfolding bitrateBy
+unfolding bitrate_by_of
 returns c = search (picked, rules) depth 8
 
 returns-2 : tie.Need-returns-2
-unfolding bitrateBy
+unfolding bitrate_by_of
 returns-2 c = search (picked, rules) depth 8
 
 pub bitrate-by-spec : {M : Type 1} → statement M

@@ -1,24 +1,24 @@
 -- `by_number::rate_by` meets its contract.
 use Rattle.errors.specs.Choice.{pick}
-use Rattle.chip_c.specs.Numbers.{rateBy}
+use Rattle.chip_c.specs.Numbers.{rate_by_of}
 use Rattle.chip_c.specs.NumberLaws.{other-rate}
 use Rattle.chip_c.proofs.by_number.rate_by.Statement.{statement}
 use Rattle.chip_c.proofs.by_number.rate_by.Tie as tie
 
 returns : tie.Need-returns
-unfolding rateBy pick
+unfolding rate_by_of pick
 returns c = rw c.match.keys1
 
 returns-2 : tie.Need-returns-2
-unfolding rateBy pick
+unfolding rate_by_of pick
 returns-2 c = rw c.match.keys2
 
 returns-3 : tie.Need-returns-3
-unfolding rateBy pick
+unfolding rate_by_of pick
 returns-3 c = rw c.match.keys3
 
 returns-4 : tie.Need-returns-4
-unfolding rateBy pick
+unfolding rate_by_of pick
 returns-4 c = rw c.match.keys4
 
 returns-5 : tie.Need-returns-5

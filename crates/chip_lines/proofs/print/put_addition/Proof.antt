@@ -1,5 +1,5 @@
 -- `print::put_addition` meets its contract.
-use Rattle.chip_lines.proofs.PrintLaws.{added-prints, not-added-prints}
+use Rattle.chip_lines.proofs.PrintLaws.{added-prints, not_added-prints}
 use borrow.Author.Rules.{rules}
 use Rattle.chip_lines.proofs.print.put_addition.Statement.{statement}
 use Rattle.chip_lines.proofs.print.put_addition.Tie as tie
@@ -29,7 +29,7 @@ same-length-2 : tie.Need-same-length-2
 same-length-2 c = search rules
 
 returns-2 : tie.Need-returns-2
-returns-2 c = search (not-added-prints, rules)
+returns-2 c = search (not_added-prints, rules)
 
 pub put-addition-spec : {M : Type 1} → statement M
 put-addition-spec =

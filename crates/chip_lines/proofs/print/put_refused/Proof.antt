@@ -1,5 +1,5 @@
 -- `print::put_refused` meets its contract.
-use Rattle.chip_lines.proofs.PrintLaws.{refused-prints}
+use Rattle.chip_lines.proofs.PrintLaws.{refused_prints}
 use borrow.Author.Rules.{rules}
 use Rattle.chip_lines.proofs.print.put_refused.Statement.{statement}
 use Rattle.chip_lines.proofs.print.put_refused.Tie as tie
@@ -23,7 +23,7 @@ same_length : tie.Need-same-length
 same_length c = search rules
 
 returns : tie.Need-returns
-returns c = search (refused-prints, rules)
+returns c = search (refused_prints, rules)
 
 pub put-refused-spec : {M : Type 1} → statement M
 put-refused-spec =

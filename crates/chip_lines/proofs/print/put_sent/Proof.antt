@@ -1,5 +1,5 @@
 -- `print::put_sent` meets its contract.
-use Rattle.chip_lines.proofs.PrintLaws.{none-prints, packets-print, refusal-prints}
+use Rattle.chip_lines.proofs.PrintLaws.{none_prints, packets_print, refusal_prints}
 use borrow.Author.Rules.{rules}
 use Rattle.chip_lines.proofs.print.put_sent.Statement.{statement}
 use Rattle.chip_lines.proofs.print.put_sent.Tie as tie
@@ -44,19 +44,19 @@ same_length : tie.Need-same-length
 same_length c = search rules
 
 returns : tie.Need-returns
-returns c = search (none-prints, rules)
+returns c = search (none_prints, rules)
 
 same-length-2 : tie.Need-same-length-2
 same-length-2 c = search rules
 
 returns-2 : tie.Need-returns-2
-returns-2 c = search (packets-print, rules)
+returns-2 c = search (packets_print, rules)
 
 same-length-3 : tie.Need-same-length-3
 same-length-3 c = search rules
 
 returns-3 : tie.Need-returns-3
-returns-3 c = search (refusal-prints, rules)
+returns-3 c = search (refusal_prints, rules)
 
 pub put-sent-spec : {M : Type 1} → statement M
 put-sent-spec =

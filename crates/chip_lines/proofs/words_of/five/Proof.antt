@@ -1,7 +1,7 @@
 -- `words_of::five` meets its contract.
 use Rattle.errors.specs.Rules.{same-value}
-use Rattle.chip_lines.proofs.AnswerLaws.{answer-true, answer-false, unread-answers}
-use Rattle.chip_lines.specs.ChipLines.{fiveWords}
+use Rattle.chip_lines.proofs.AnswerLaws.{answer_true, answer_false, unread_answers}
+use Rattle.chip_lines.specs.ChipLines.{five_words}
 use borrow.Author.Rules.{rules}
 use Rattle.chip_lines.proofs.words_of.five.Statement.{statement}
 use Rattle.chip_lines.proofs.words_of.five.Tie as tie
@@ -25,8 +25,8 @@ same_length : tie.Need-same-length
 same_length c = search rules
 
 returns : tie.Need-returns
-unfolding fiveWords
-returns c = search (answer-true, answer-false, same-value, rules) depth 14
+unfolding five_words
+returns c = search (answer_true, answer_false, same-value, rules) depth 14
 
 unreadable-requires : tie.Need-unreadable-requires
 unreadable-requires c κs = search rules
@@ -35,8 +35,8 @@ same-length-2 : tie.Need-same-length-2
 same-length-2 c = search rules
 
 returns-2 : tie.Need-returns-2
-unfolding fiveWords
-returns-2 c = search (answer-true, answer-false, same-value, unread-answers, rules) depth 14
+unfolding five_words
+returns-2 c = search (answer_true, answer_false, same-value, unread_answers, rules) depth 14
 
 unreadable-requires-2 : tie.Need-unreadable-requires-2
 unreadable-requires-2 c κs = search rules
@@ -45,8 +45,8 @@ same-length-3 : tie.Need-same-length-3
 same-length-3 c = search rules
 
 returns-3 : tie.Need-returns-3
-unfolding fiveWords
-returns-3 c = search (answer-true, answer-false, same-value, unread-answers, rules) depth 14
+unfolding five_words
+returns-3 c = search (answer_true, answer_false, same-value, unread_answers, rules) depth 14
 
 pub five-spec : {M : Type 1} → statement M
 five-spec =

@@ -1,7 +1,7 @@
 -- `words_of::four` meets its contract.
 use Rattle.errors.specs.Rules.{same-value}
-use Rattle.chip_lines.proofs.AnswerLaws.{answer-true, answer-false, unread-answers}
-use Rattle.chip_lines.specs.ChipLines.{fourWords}
+use Rattle.chip_lines.proofs.AnswerLaws.{answer_true, answer_false, unread_answers}
+use Rattle.chip_lines.specs.ChipLines.{four_words}
 use borrow.Author.Rules.{rules}
 use Rattle.chip_lines.proofs.words_of.four.Statement.{statement}
 use Rattle.chip_lines.proofs.words_of.four.Tie as tie
@@ -28,8 +28,8 @@ same_length : tie.Need-same-length
 same_length c = search rules
 
 returns : tie.Need-returns
-unfolding fourWords
-returns c = search (answer-true, answer-false, same-value, rules) depth 14
+unfolding four_words
+returns c = search (answer_true, answer_false, same-value, rules) depth 14
 
 slice-aggregate-is-exactly-3 : tie.Need-slice-aggregate-is-exactly-3
 slice-aggregate-is-exactly-3 c = search rules
@@ -47,8 +47,8 @@ same-length-2 : tie.Need-same-length-2
 same-length-2 c = search rules
 
 returns-2 : tie.Need-returns-2
-unfolding fourWords
-returns-2 c = search (answer-true, answer-false, same-value, rules) depth 14
+unfolding four_words
+returns-2 c = search (answer_true, answer_false, same-value, rules) depth 14
 
 slice-aggregate-is-exactly-4 : tie.Need-slice-aggregate-is-exactly-4
 slice-aggregate-is-exactly-4 c = search rules
@@ -66,8 +66,8 @@ same-length-3 : tie.Need-same-length-3
 same-length-3 c = search rules
 
 returns-3 : tie.Need-returns-3
-unfolding fourWords
-returns-3 c = search (answer-true, answer-false, same-value, rules) depth 14
+unfolding four_words
+returns-3 c = search (answer_true, answer_false, same-value, rules) depth 14
 
 unreadable-requires : tie.Need-unreadable-requires
 unreadable-requires c κs = search rules
@@ -76,8 +76,8 @@ same-length-4 : tie.Need-same-length-4
 same-length-4 c = search rules
 
 returns-4 : tie.Need-returns-4
-unfolding fourWords
-returns-4 c = search (answer-true, answer-false, same-value, unread-answers, rules) depth 14
+unfolding four_words
+returns-4 c = search (answer_true, answer_false, same-value, unread_answers, rules) depth 14
 
 unreadable-requires-2 : tie.Need-unreadable-requires-2
 unreadable-requires-2 c κs = search rules
@@ -86,8 +86,8 @@ same-length-5 : tie.Need-same-length-5
 same-length-5 c = search rules
 
 returns-5 : tie.Need-returns-5
-unfolding fourWords
-returns-5 c = search (answer-true, answer-false, same-value, unread-answers, rules) depth 14
+unfolding four_words
+returns-5 c = search (answer_true, answer_false, same-value, unread_answers, rules) depth 14
 
 pub four-spec : {M : Type 1} → statement M
 four-spec =

@@ -1,8 +1,8 @@
 -- `words_of::one` meets its contract.
 use Rattle.errors.specs.Rules.{same-value}
-use Rattle.chip_lines.proofs.AnswerLaws.{answer-true, answer-false, unread-answers, fresh-answers}
+use Rattle.chip_lines.proofs.AnswerLaws.{answer_true, answer_false, unread_answers, fresh_answers}
 use Rattle.chip_lines.specs.ChipLines.{one_word}
-use Rattle.chip_lines.proofs.PrintLaws.{ok-prints}
+use Rattle.chip_lines.proofs.PrintLaws.{ok_prints}
 use borrow.Author.Rules.{rules}
 use Rattle.chip_lines.proofs.words_of.one.Statement.{statement}
 use Rattle.chip_lines.proofs.words_of.one.Tie as tie
@@ -27,7 +27,7 @@ same_length c = search rules
 
 returns : tie.Need-returns
 unfolding one_word
-returns c = λ cards sent replies. search (answer-true, same-value, fresh-answers, ok-prints, rules) depth 10
+returns c = λ cards sent replies. search (answer_true, same-value, fresh_answers, ok_prints, rules) depth 10
 
 unreadable-requires : tie.Need-unreadable-requires
 unreadable-requires c κs = search rules
@@ -37,7 +37,7 @@ same-length-2 c = search rules
 
 returns-2 : tie.Need-returns-2
 unfolding one_word
-returns-2 c = λ cards sent replies. search (answer-false, same-value, unread-answers, rules) depth 10
+returns-2 c = λ cards sent replies. search (answer_false, same-value, unread_answers, rules) depth 10
 
 pub one_spec : {M : Type 1} → statement M
 one_spec =

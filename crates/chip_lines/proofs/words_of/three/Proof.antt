@@ -1,7 +1,7 @@
 -- `words_of::three` meets its contract.
 use Rattle.errors.specs.Rules.{same-value}
-use Rattle.chip_lines.proofs.AnswerLaws.{answer-true, answer-false, unread-answers}
-use Rattle.chip_lines.specs.ChipLines.{threeWords}
+use Rattle.chip_lines.proofs.AnswerLaws.{answer_true, answer_false, unread_answers}
+use Rattle.chip_lines.specs.ChipLines.{three_words}
 use borrow.Author.Rules.{rules}
 use Rattle.chip_lines.proofs.words_of.three.Statement.{statement}
 use Rattle.chip_lines.proofs.words_of.three.Tie as tie
@@ -19,8 +19,8 @@ same_length : tie.Need-same-length
 same_length c = search rules
 
 returns : tie.Need-returns
-unfolding threeWords
-returns c = search (answer-true, same-value, rules) depth 10
+unfolding three_words
+returns c = search (answer_true, same-value, rules) depth 10
 
 unreadable-requires : tie.Need-unreadable-requires
 unreadable-requires c κs = search rules
@@ -29,8 +29,8 @@ same-length-2 : tie.Need-same-length-2
 same-length-2 c = search rules
 
 returns-2 : tie.Need-returns-2
-unfolding threeWords
-returns-2 c = search (answer-false, same-value, unread-answers, rules) depth 10
+unfolding three_words
+returns-2 c = search (answer_false, same-value, unread_answers, rules) depth 10
 
 pub three-spec : {M : Type 1} → statement M
 three-spec =

@@ -1,6 +1,6 @@
 -- `words_of::two` meets its contract.
 use Rattle.errors.specs.Rules.{same-value}
-use Rattle.chip_lines.proofs.AnswerLaws.{answer-true, answer-false, unread-answers}
+use Rattle.chip_lines.proofs.AnswerLaws.{answer_true, answer_false, unread_answers}
 use Rattle.chip_lines.specs.ChipLines.{two_words}
 use borrow.Author.Rules.{rules}
 use Rattle.chip_lines.proofs.words_of.two.Statement.{statement}
@@ -20,7 +20,7 @@ same_length c = search rules
 
 returns : tie.Need-returns
 unfolding two_words
-returns c = search (answer-true, same-value, rules) depth 10
+returns c = search (answer_true, same-value, rules) depth 10
 
 unreadable-requires : tie.Need-unreadable-requires
 unreadable-requires c κs = search rules
@@ -30,7 +30,7 @@ same-length-2 c = search rules
 
 returns-2 : tie.Need-returns-2
 unfolding two_words
-returns-2 c = search (answer-false, same-value, unread-answers, rules) depth 10
+returns-2 c = search (answer_false, same-value, unread_answers, rules) depth 10
 
 pub two-spec : {M : Type 1} → statement M
 two-spec =

@@ -2,14 +2,14 @@
 use Prim.Native.Nat.{◌-◌, ◌≤◌}
 use mathlib.Core.Path.{◌≡◌}
 use lib.ListN.{length, drop}
-use Rattle.protocol.specs.Rules.{anyNonzero}
-use Rattle.chipset.specs.Laws.{nonzero-here, nonzero-next, nonzero-end}
+use Rattle.protocol.specs.Rules.{any_nonzero_of}
+use Rattle.chipset.specs.Laws.{nonzero_here, nonzero_next, nonzero_end}
 use borrow.Author.Rules.{rules}
 use Rattle.chipset.proofs.registers.any_nonzero.Statement.{statement}
 use Rattle.chipset.proofs.registers.any_nonzero.Tie as tie
 
 abbrev invariant-loop : tie.invariant-loop
-invariant-loop bytes i₀ i = (i ≤ length bytes) × (anyNonzero bytes ≡ anyNonzero (drop i bytes))
+invariant-loop bytes i₀ i = (i ≤ length bytes) × (any_nonzero_of bytes ≡ any_nonzero_of (drop i bytes))
 
 abbrev decreases-loop : tie.decreases-loop
 decreases-loop bytes i₀ i = length bytes - i
@@ -21,7 +21,7 @@ shared-slice-read-if1 : tie.Need-shared-slice-read-if1 invariant-loop decreases-
 shared-slice-read-if1 c = search rules
 
 returns : tie.Need-returns invariant-loop decreases-loop
-returns c = search (nonzero-here, rules)
+returns c = search (nonzero_here, rules)
 
 add-i : tie.Need-overflow-add-i invariant-loop decreases-loop
 add-i c = search rules
@@ -30,10 +30,10 @@ loop-less : tie.Need-loop-smaller invariant-loop decreases-loop
 loop-less c = search rules
 
 loop-again : tie.Need-loop-preserved invariant-loop decreases-loop
-loop-again c = (search rules, search (nonzero-next, rules))
+loop-again c = (search rules, search (nonzero_next, rules))
 
 returns-2 : tie.Need-returns-2 invariant-loop decreases-loop
-returns-2 c = search (nonzero-end, rules)
+returns-2 c = search (nonzero_end, rules)
 
 pub any-nonzero-spec : {M : Type 1} → statement M
 any-nonzero-spec =

@@ -1,6 +1,6 @@
 use Rattle.chipset.specs.Commands.{first_of}
 use Rattle.errors.specs.Rules.{same-value}
-use Rattle.stages.specs.Starts.{asserted, starts-true, starts-false}
+use Rattle.stages.specs.Starts.{asserted, starts_true, starts_false}
 use borrow.Author.Rules.{rules}
 use Rattle.chipset.proofs.target.tg_init_target.Statement.{statement}
 use Rattle.chipset.proofs.target.tg_init_target.Tie as tie
@@ -15,5 +15,5 @@ tg-init-target-spec =
     (λ c κs. search rules)
     (λ c κs. search rules)
     (λ c κs. search rules)
-    (λ c. starts-true _ _ _ _ _ _ (search (same-value, rules)) (c.first-command.ensures _ _ _ c.before.put_all_lem.ensures))
-    (λ c. starts-false _ _ _ _ _ _ (search (same-value, rules)) (c.refused.ensures _)))
+    (λ c. starts_true _ _ _ _ _ _ (search (same-value, rules)) (c.first-command.ensures _ _ _ c.before.put_all_lem.ensures))
+    (λ c. starts_false _ _ _ _ _ _ (search (same-value, rules)) (c.refused.ensures _)))

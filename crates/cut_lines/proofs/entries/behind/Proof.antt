@@ -1,16 +1,16 @@
 -- `entries::behind` meets its contract.
 use borrow.Author.Rules.{rules}
 use Rattle.errors.specs.Rules.{picked}
-use Rattle.cut_lines.specs.Readings.{behindFeed}
+use Rattle.cut_lines.specs.Readings.{behind_feed}
 use Rattle.cut_lines.proofs.entries.behind.Statement.{statement}
 use Rattle.cut_lines.proofs.entries.behind.Tie as tie
 
 returns : tie.Need-returns
-unfolding behindFeed
+unfolding behind_feed
 returns c = search (picked, rules)
 
 returns-2 : tie.Need-returns-2
-unfolding behindFeed
+unfolding behind_feed
 returns-2 c = search (picked, rules)
 
 pub behind-spec : {M : Type 1} → statement M

@@ -2,7 +2,7 @@
 use Rattle.core.specs.Prelude.{◌-◌, length}
 use native.Mathlib.Omega.{arith}
 use borrow.Author.Rules.{rules}
-use Rattle.cut_lines.proofs.ReadLaws.{ReadSoFar, read-begins, found-line, line-part, line-fits, read-further, read_next, read-ends, read-too-many}
+use Rattle.cut_lines.proofs.ReadLaws.{ReadSoFar, read_begins, found-line, line-part, line-fits, read_further, read_next, read_ends, read_too_many}
 use Rattle.cut_lines.proofs.entries.read.Statement.{statement}
 use Rattle.cut_lines.proofs.entries.read.Tie as tie
 
@@ -13,12 +13,12 @@ abbrev decreases-loop : tie.decreases-loop
 decreases-loop script bytes₀ entries₀ n₀ at₀ bytes entries n at = length script - at
 
 loop-holds : tie.Need-loop-init invariant-loop decreases-loop
-loop-holds c = read-begins _ _ _ c.no-entries.ensures
+loop-holds c = read_begins _ _ _ c.no-entries.ensures
 
 returns : tie.Need-returns invariant-loop decreases-loop
 returns c =
     let i = c.before.before.loop.invariant in
-    (read-too-many _ _ _ _ _ _ i c.before.loop-test.true c.if1.true, i.fits)
+    (read_too_many _ _ _ _ _ _ i c.before.loop-test.true c.if1.true, i.fits)
 
 read-line-requires : tie.Need-read-line-requires invariant-loop decreases-loop
 read-line-requires c κs =
@@ -30,7 +30,7 @@ loop-less : tie.Need-loop-smaller invariant-loop decreases-loop
 loop-less c =
     let at-find = c.before.before.before.before.before.before in
     let at-loop = at-find.before.before.before in
-    read-further at-loop.before.before.before.before.args.script.now at-loop.loop.at at-find.find.result c.behind.result at-find.before.before.loop-test.true (found-line _ _ _ at-find.find.ensures.0) c.behind.ensures
+    read_further at-loop.before.before.before.before.args.script.now at-loop.loop.at at-find.find.result c.behind.result at-find.before.before.loop-test.true (found-line _ _ _ at-find.find.ensures.0) c.behind.ensures
 
 loop-again : tie.Need-loop-preserved invariant-loop decreases-loop
 loop-again c =
@@ -43,7 +43,7 @@ loop-again c =
 returns-2 : tie.Need-returns-2 invariant-loop decreases-loop
 returns-2 c =
     let i = c.before.loop.invariant in
-    (read-ends _ _ _ _ _ _ i c.loop-test.false, i.fits)
+    (read_ends _ _ _ _ _ _ i c.loop-test.false, i.fits)
 
 pub read_spec : {M : Type 1} → statement M
 read_spec =

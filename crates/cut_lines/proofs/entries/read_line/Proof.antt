@@ -1,6 +1,6 @@
 -- `entries::read_line` meets its contract.
 use borrow.Author.Rules.{rules}
-use Rattle.cut_lines.proofs.ReadLaws.{read-before, read-size, read-says}
+use Rattle.cut_lines.proofs.ReadLaws.{read_before, read_size, read_says}
 use Rattle.cut_lines.proofs.entries.read_line.Statement.{statement}
 use Rattle.cut_lines.proofs.entries.read_line.Tie as tie
 
@@ -11,10 +11,10 @@ returns c =
     let at_read = at-used.before in
     let fits = at_read.before.before.before.before.requires in (
       (
-        read-before _ _ _ _ _ _ _ _ _ fits at_read.read.ensures at-used.used.ensures at-put.put.ensures.1 at-put.put.ensures.0,
-        read-size _ _ _ _ _ _ _ _ _ fits at_read.read.ensures at-used.used.ensures at-put.put.ensures.1 at-put.put.ensures.0,
+        read_before _ _ _ _ _ _ _ _ _ fits at_read.read.ensures at-used.used.ensures at-put.put.ensures.1 at-put.put.ensures.0,
+        read_size _ _ _ _ _ _ _ _ _ fits at_read.read.ensures at-used.used.ensures at-put.put.ensures.1 at-put.put.ensures.0,
       ),
-      read-says _ _ _ _ _ _ _ _ _ fits at_read.read.ensures at-used.used.ensures at-put.put.ensures.1 at-put.put.ensures.0,
+      read_says _ _ _ _ _ _ _ _ _ fits at_read.read.ensures at-used.used.ensures at-put.put.ensures.1 at-put.put.ensures.0,
     )
 
 pub read-line-spec : {M : Type 1} → statement M

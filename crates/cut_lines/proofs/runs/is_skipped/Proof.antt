@@ -1,7 +1,7 @@
 -- `is_skipped` meets its contract.
 use borrow.Author.Rules.{rules}
 use Rattle.cut_script.specs.First.{never}
-use Rattle.cut_lines.proofs.RunLaws.{busy-skips}
+use Rattle.cut_lines.proofs.RunLaws.{busy_skips}
 use Rattle.cut_lines.proofs.runs.is_skipped.Statement.{statement}
 use Rattle.cut_lines.proofs.runs.is_skipped.Tie as tie
 
@@ -12,6 +12,6 @@ is-skipped-spec =
     (λ c. search rules)
     (λ c. search rules)
     (λ c. search rules)
-    (λ c h. busy-skips _ _ _ _ _ c.before.enum_told.given.1 h)
+    (λ c h. busy_skips _ _ _ _ _ c.before.enum_told.given.1 h)
     (λ c h. never h)
     (λ c h. never h))

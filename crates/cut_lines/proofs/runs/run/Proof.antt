@@ -9,7 +9,7 @@ use Rattle.cut_script.specs.Bench.{bench}
 use Rattle.cut_script.specs.Run.{reached}
 use Rattle.cut_lines.specs.Readings.{entry_at}
 use Rattle.cut_lines.specs.Runs.{Holds}
-use Rattle.cut_lines.proofs.RunLaws.{run-begins, run-skips, run-acts, run-overtaken, run-shows}
+use Rattle.cut_lines.proofs.RunLaws.{run-begins, run_skips, run_acts, run_overtaken, run-shows}
 use Rattle.cut_lines.proofs.runs.run.Statement.{statement}
 use Rattle.cut_lines.proofs.runs.run.Tie as tie
 
@@ -29,7 +29,7 @@ loop-again c =
     let start = at-loop.before.before.before in
     let i = at-loop.loop.invariant in
     let test = c.before.before.before.before.loop-test.true in
-    (omega arith, omega arith, λ xs h. run-skips start.args.t1 _ xs h start.args.from at-loop.loop.m i.0 at-loop.loop.session (i.2 xs h) (omega arith) (entry_at start.args.t1.at at-loop.loop.m) refl _ refl (c.before.is-skipped.ensures c.if1.true))
+    (omega arith, omega arith, λ xs h. run_skips start.args.t1 _ xs h start.args.from at-loop.loop.m i.0 at-loop.loop.session (i.2 xs h) (omega arith) (entry_at start.args.t1.at at-loop.loop.m) refl _ refl (c.before.is-skipped.ensures c.if1.true))
 
 returns : tie.Need-returns invariant-loop decreases-loop
 returns c xs h =
@@ -37,7 +37,7 @@ returns c xs h =
     let start = at-loop.before.before.before in
     let i = at-loop.loop.invariant in
     let test = c.before.before.before.before.before.before.before.loop-test.true in
-    run-overtaken start.args.t1 _ xs h start.args.from at-loop.loop.m i.0 at-loop.loop.session (i.2 xs h) (omega arith) (entry_at start.args.t1.at at-loop.loop.m) refl _ c.before.before.act.ensures start.args.stop (c.before.is-overtaken.ensures c.if2.true)
+    run_overtaken start.args.t1 _ xs h start.args.from at-loop.loop.m i.0 at-loop.loop.session (i.2 xs h) (omega arith) (entry_at start.args.t1.at at-loop.loop.m) refl _ c.before.before.act.ensures start.args.stop (c.before.is-overtaken.ensures c.if2.true)
 
 loop-again-2 : tie.Need-loop-preserved-2 invariant-loop decreases-loop
 loop-again-2 c =
@@ -45,7 +45,7 @@ loop-again-2 c =
     let start = at-loop.before.before.before in
     let i = at-loop.loop.invariant in
     let test = c.before.before.before.before.before.before.before.before.loop-test.true in
-    (omega arith, omega arith, λ xs h. run-acts start.args.t1 _ xs h start.args.from at-loop.loop.m i.0 at-loop.loop.session (i.2 xs h) (omega arith) (entry_at start.args.t1.at at-loop.loop.m) refl _ c.before.before.before.act.ensures)
+    (omega arith, omega arith, λ xs h. run_acts start.args.t1 _ xs h start.args.from at-loop.loop.m i.0 at-loop.loop.session (i.2 xs h) (omega arith) (entry_at start.args.t1.at at-loop.loop.m) refl _ c.before.before.before.act.ensures)
 
 returns-2 : tie.Need-returns-2 invariant-loop decreases-loop
 returns-2 c xs h =

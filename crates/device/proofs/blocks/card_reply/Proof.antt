@@ -1,5 +1,5 @@
 -- `device::blocks::card_reply` meets its contract.
-use Rattle.felica.specs.Lists.{nothing_left, rest-cut}
+use Rattle.felica.specs.Lists.{nothing_left, rest_cut}
 use borrow.Author.Rules.{rules}
 use Rattle.device.proofs.blocks.card_reply.Statement.{statement}
 use Rattle.device.proofs.blocks.card_reply.Tie as tie
@@ -15,4 +15,4 @@ card-reply-spec =
     (λ c. search rules)
     (λ c. search rules)
     (λ c. search rules)
-    (λ c. search (rest-cut, rules)))
+    (λ c. search (rest_cut, rules)))

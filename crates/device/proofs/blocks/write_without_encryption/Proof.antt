@@ -1,18 +1,18 @@
 -- `device::blocks::write_without_encryption` meets its contract.
-use Rattle.device.specs.Blocks.{writeFirst, thru-clock, write-few}
+use Rattle.device.specs.Blocks.{write_first, thru_clock, write_few}
 use mathlib.Core.Path.{◌≡◌}
 use lib.ListN.{length}
 use borrow.Author.Rules.{rules}
-use Rattle.protocol.specs.Starts.{dataLimit}
+use Rattle.protocol.specs.Starts.{data_limit}
 use Rattle.device.proofs.blocks.write_without_encryption.Statement.{statement}
 use Rattle.device.proofs.blocks.write_without_encryption.Tie as tie
 
 returns : tie.Need-returns
-unfolding writeFirst
+unfolding write_first
 returns c =
     let l = c.before.before.before.before.before.before.before.args.command.now in
-    let n : length l ≡ dataLimit = search rules in
-    thru-clock _ _ _ _ _ _ _ _ c.before.before.before.clock.ensures (c.start-built.ensures _ _ _ _ (write-few _ _ _ l _ n) c.before.build-write-request.ensures)
+    let n : length l ≡ data_limit = search rules in
+    thru_clock _ _ _ _ _ _ _ _ c.before.before.before.clock.ensures (c.start-built.ensures _ _ _ _ (write_few _ _ _ l _ n) c.before.build-write-request.ensures)
 
 pub write-without-encryption-spec : {M : Type 1} → statement M
 write-without-encryption-spec =

@@ -1,16 +1,16 @@
 use mathlib.Core.Path.{sym, ◌∙◌}
-use Rattle.device.specs.Transceive.{thruFirst, kind-type2, kind-thru}
+use Rattle.device.specs.Transceive.{thru_first, kind_type2, kind_thru}
 use borrow.Author.Rules.{rules}
 use Rattle.device.proofs.transceive.thru.Statement.{statement}
 use Rattle.device.proofs.transceive.thru.Tie as tie
 
 returns : tie.Need-returns
-unfolding thruFirst
-returns c = kind-type2 _ _ _ _ _ (sym c.before.before.is-type2-106a.ensures ∙ c.before.if1.true) (c.first-command.ensures _ _ _ c.before.before.before.put_two.ensures)
+unfolding thru_first
+returns c = kind_type2 _ _ _ _ _ (sym c.before.before.is-type2-106a.ensures ∙ c.before.if1.true) (c.first-command.ensures _ _ _ c.before.before.before.put_two.ensures)
 
 returns-2 : tie.Need-returns-2
-unfolding thruFirst
-returns-2 c = kind-thru _ _ _ _ _ (sym c.before.before.is-type2-106a.ensures ∙ c.before.if1.false) (c.first-command2.ensures _ _ _ c.before.before.before.put_two.ensures)
+unfolding thru_first
+returns-2 c = kind_thru _ _ _ _ _ (sym c.before.before.is-type2-106a.ensures ∙ c.before.if1.false) (c.first-command2.ensures _ _ _ c.before.before.before.put_two.ensures)
 
 pub thru-spec : {M : Type 1} → statement M
 thru-spec =

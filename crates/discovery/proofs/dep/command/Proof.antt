@@ -1,17 +1,17 @@
 use native.Mathlib.Omega.{arith}
 use borrow.Author.Tests.{ne_eqb}
 use Rattle.errors.specs.Choice.{pick}
-use Rattle.discovery.specs.Decisions.{depCommand}
+use Rattle.discovery.specs.Decisions.{dep_command}
 use borrow.Author.Rules.{rules}
 use Rattle.discovery.proofs.dep.command.Statement.{statement}
 use Rattle.discovery.proofs.dep.command.Tie as tie
 
 returns-3 : tie.Need-returns-3
-unfolding depCommand pick
+unfolding dep_command pick
 returns-3 c = let r = c.before.match.rest in let e = c.write-single-register-command.ensures in record { is = λ pending. rw (ne_eqb _ 0 r.0.1, ne_eqb _ 1 r.1) (e.is pending); fits = e.fits }
 
 pub command-spec : {M : Type 1} → statement M
-unfolding depCommand pick
+unfolding dep_command pick
 command-spec =
     tie.close
     (tie.spec

@@ -1,5 +1,5 @@
 -- `discovery::rates::bitrate_of` meets its contract.
-use Rattle.discovery.specs.FirstLaws.{malformed, well-formed}
+use Rattle.discovery.specs.FirstLaws.{malformed, well_formed}
 use borrow.Author.Rules.{rules}
 use Rattle.discovery.proofs.rates.bitrate_of.Statement.{statement}
 use Rattle.discovery.proofs.rates.bitrate_of.Tie as tie
@@ -12,4 +12,4 @@ bitrate-of-spec =
     (λ c. search rules)
     (λ c. search rules)
     (λ c. λ takes f none. malformed _ takes f _ _ c.before.before.code.ensures c.enum_told.given.1 none)
-    (λ c. λ takes f none. well-formed _ takes f _ _ c.before.before.before.code.ensures c.before.bitrate.given.1))
+    (λ c. λ takes f none. well_formed _ takes f _ _ c.before.before.before.code.ensures c.before.bitrate.given.1))

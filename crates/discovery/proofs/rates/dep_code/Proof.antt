@@ -1,6 +1,6 @@
 -- `discovery::rates::dep_code` meets its contract.
 use mathlib.Core.Path.{refl}
-use Rattle.discovery.proofs.Tags.{no-dep}
+use Rattle.discovery.proofs.Tags.{no_dep}
 use borrow.Author.Rules.{rules}
 use Rattle.discovery.proofs.rates.dep_code.Statement.{statement}
 use Rattle.discovery.proofs.rates.dep_code.Tie as tie
@@ -15,4 +15,4 @@ dep-code-spec =
     (λ c. rw c.enum_told.given.1 refl)
     (λ c. rw c.enum-told2.given.1 refl)
     (λ c. rw c.enum-told3.given.1 refl)
-    (λ c. no-dep c.before.args.bitrate c.match.keys4))
+    (λ c. no_dep c.before.args.bitrate c.match.keys4))

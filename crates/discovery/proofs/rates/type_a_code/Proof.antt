@@ -1,6 +1,6 @@
 -- `discovery::rates::type_a_code` meets its contract.
 use mathlib.Core.Path.{refl}
-use Rattle.discovery.proofs.Tags.{no-type-a}
+use Rattle.discovery.proofs.Tags.{no_type_a}
 use borrow.Author.Rules.{rules}
 use Rattle.discovery.proofs.rates.type_a_code.Statement.{statement}
 use Rattle.discovery.proofs.rates.type_a_code.Tie as tie
@@ -17,4 +17,4 @@ type-a-code-spec =
     (λ c. rw c.enum-told2.given.1 refl)
     (λ c. rw c.enum-told3.given.1 refl)
     (λ c. rw c.enum-told4.given.1 refl)
-    (λ c. no-type-a c.before.args.bitrate c.match.keys5))
+    (λ c. no_type_a c.before.args.bitrate c.match.keys5))

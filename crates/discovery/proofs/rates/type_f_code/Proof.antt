@@ -1,6 +1,6 @@
 -- `discovery::rates::type_f_code` meets its contract.
 use mathlib.Core.Path.{refl}
-use Rattle.discovery.proofs.Tags.{no-type-f}
+use Rattle.discovery.proofs.Tags.{no_type_f}
 use borrow.Author.Rules.{rules}
 use Rattle.discovery.proofs.rates.type_f_code.Statement.{statement}
 use Rattle.discovery.proofs.rates.type_f_code.Tie as tie
@@ -13,4 +13,4 @@ type-f-code-spec =
     (λ c. search rules)
     (λ c. rw c.enum_told.given.1 refl)
     (λ c. rw c.enum-told2.given.1 refl)
-    (λ c. no-type-f c.before.args.bitrate c.match.keys3))
+    (λ c. no_type_f c.before.args.bitrate c.match.keys3))

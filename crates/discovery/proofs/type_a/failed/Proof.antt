@@ -1,18 +1,18 @@
 -- `discovery::type_a::failed` meets its contract.
 use Rattle.errors.specs.Choice.{pick}
-use Rattle.discovery.specs.Decisions.{typeAFailure}
-use Rattle.stages.specs.Laws.{decision-send, decision-refused}
+use Rattle.discovery.specs.Decisions.{type_a_failure}
+use Rattle.stages.specs.Laws.{decision_send, decision_refused}
 use borrow.Author.Tests.{ne_eqb}
 use borrow.Author.Rules.{rules}
 use Rattle.discovery.proofs.type_a.failed.Statement.{statement}
 use Rattle.discovery.proofs.type_a.failed.Tie as tie
 
 returns-3 : tie.Need-returns-3
-unfolding typeAFailure pick
+unfolding type_a_failure pick
 returns-3 c = λ f b.
     let r = c.match.rest in
-    rw (ne_eqb _ 1 r.0.1, ne_eqb _ 3 r.1) (decision-refused _ _ _)
+    rw (ne_eqb _ 1 r.0.1, ne_eqb _ 3 r.1) (decision_refused _ _ _)
 
 pub failed-spec : {M : Type 1} → statement M
-unfolding pick typeAFailure
-failed-spec = tie.close (tie.spec (λ c κs. search rules) (λ c. λ f b. rw c.match.keys1 (decision-send _ _ _)) (λ c. λ f b. rw c.before.match.keys2 (c.rid-failed.ensures _ _)) returns-3)
+unfolding pick type_a_failure
+failed-spec = tie.close (tie.spec (λ c κs. search rules) (λ c. λ f b. rw c.match.keys1 (decision_send _ _ _)) (λ c. λ f b. rw c.before.match.keys2 (c.rid-failed.ensures _ _)) returns-3)

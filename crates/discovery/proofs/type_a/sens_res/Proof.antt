@@ -1,5 +1,5 @@
 use native.Mathlib.Omega.{arith}
-use Rattle.discovery.specs.Laws.{lays-sens-res, lays-no-sens-res}
+use Rattle.discovery.specs.Laws.{lays_sens_res, lays_no_sens_res}
 use borrow.Author.Rules.{rules}
 use Rattle.discovery.proofs.type_a.sens_res.Statement.{statement}
 use Rattle.discovery.proofs.type_a.sens_res.Tie as tie
@@ -12,5 +12,5 @@ sens-res-spec =
     (λ c. search rules)
     (λ c. search rules)
     (λ c κs. search rules)
-    (λ c. λ f. lays-no-sens-res f _ _ (omega arith) (c.part.ensures f _ (omega arith)))
-    (λ c. λ f. lays-sens-res f _ _ (omega arith) (c.headed.ensures f (omega arith) (omega arith) (omega arith))))
+    (λ c. λ f. lays_no_sens_res f _ _ (omega arith) (c.part.ensures f _ (omega arith)))
+    (λ c. λ f. lays_sens_res f _ _ (omega arith) (c.headed.ensures f (omega arith) (omega arith) (omega arith))))

@@ -2,9 +2,9 @@
 use native.Mathlib.Omega.{arith}
 use borrow.Author.Rules.{rules}
 use Rattle.errors.specs.Rules.{same-value}
-use Rattle.stages.specs.Laws.{decided, decision-true, decision-false, decision-next}
-use Rattle.discovery.specs.Decisions.{splitFound}
-use Rattle.discovery.specs.SplitLaws.{data-known, decision-lengths}
+use Rattle.stages.specs.Laws.{decided, decision_true, decision_false, decision_next}
+use Rattle.discovery.specs.Decisions.{split_found}
+use Rattle.discovery.specs.SplitLaws.{data_known, decision_lengths}
 use Rattle.discovery.proofs.type_a_split.target_found.Statement.{statement}
 use Rattle.discovery.proofs.type_a_split.target_found.Tie as tie
 
@@ -15,16 +15,16 @@ add-byte-or : tie.Need-overflow-add-byte-or
 add-byte-or c = omega (arith, c.before.before.before.shared-slice-known2.given 5)
 
 returns : tie.Need-returns
-unfolding splitFound
-returns c = λ f. decision-true _ _ _ _ _ _ (search (data-known, rules)) (decision-true _ _ _ _ _ _ (search (same-value, rules)) (decision-next _ _ _ _ _ _ (c.card.ensures f)))
+unfolding split_found
+returns c = λ f. decision_true _ _ _ _ _ _ (search (data_known, rules)) (decision_true _ _ _ _ _ _ (search (same-value, rules)) (decision_next _ _ _ _ _ _ (c.card.ensures f)))
 
 returns-2 : tie.Need-returns-2
-unfolding splitFound
-returns-2 c = λ f. decision-true _ _ _ _ _ _ (search (data-known, rules)) (decision-false _ _ _ _ _ _ (search (same-value, rules)) (decision-lengths _ _ _ _ _ _ _ (c.card2.ensures f) (search rules)))
+unfolding split_found
+returns-2 c = λ f. decision_true _ _ _ _ _ _ (search (data_known, rules)) (decision_false _ _ _ _ _ _ (search (same-value, rules)) (decision_lengths _ _ _ _ _ _ _ (c.card2.ensures f) (search rules)))
 
 returns-3 : tie.Need-returns-3
-unfolding splitFound
-returns-3 c = λ f. decision-false _ _ _ _ _ _ (search (data-known, rules)) (search (decided, rules))
+unfolding split_found
+returns-3 c = λ f. decision_false _ _ _ _ _ _ (search (data_known, rules)) (search (decided, rules))
 
 pub target-found-spec : {M : Type 1} → statement M
 target-found-spec =

@@ -1,17 +1,17 @@
-use Rattle.discovery.specs.Laws.{same-afi}
-use Rattle.stages.specs.Stages.{withLength}
-use Rattle.stages.specs.Laws.{decided, decision-false}
-use Rattle.discovery.specs.Decisions.{listedB}
+use Rattle.discovery.specs.Laws.{same_afi}
+use Rattle.stages.specs.Stages.{with_length}
+use Rattle.stages.specs.Laws.{decided, decision_false}
+use Rattle.discovery.specs.Decisions.{listed_b_of}
 use borrow.Author.Rules.{rules}
 use Rattle.discovery.proofs.type_b.listed_b.Statement.{statement}
 use Rattle.discovery.proofs.type_b.listed_b.Tie as tie
 
 returns-4 : tie.Need-returns-4
-unfolding listedB withLength
-returns-4 c = λ f. decision-false _ _ _ _ _ _ (search (decided, rules)) (decision-false _ _ _ _ _ _ (search (decided, rules)) (decision-false _ _ _ _ _ _ (search (decided, rules)) (same-afi _ _ _ _ _ _ c.before.byte-or2.ensures (c.iso-dep.ensures f _))))
+unfolding listed_b_of with_length
+returns-4 c = λ f. decision_false _ _ _ _ _ _ (search (decided, rules)) (decision_false _ _ _ _ _ _ (search (decided, rules)) (decision_false _ _ _ _ _ _ (search (decided, rules)) (same_afi _ _ _ _ _ _ c.before.byte-or2.ensures (c.iso-dep.ensures f _))))
 
 pub listed-b-spec : {M : Type 1} → statement M
-unfolding listedB withLength
+unfolding listed_b_of with_length
 listed-b-spec =
     tie.close
     (tie.spec

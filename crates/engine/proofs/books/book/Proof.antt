@@ -1,6 +1,6 @@
 use borrow.Author.Rules.{rules}
 use mathlib.Core.Path.{ap}
-use Rattle.engine.specs.Books.{booksOf}
+use Rattle.engine.specs.Books.{books_of}
 use Rattle.engine.proofs.books.book.Statement.{statement}
 use Rattle.engine.proofs.books.book.Tie as tie
 
@@ -32,7 +32,7 @@ book-spec =
     (λ c. search rules)
     (λ c. search rules)
     (λ c. search rules)
-    (λ c. rw c.before.before.enum_told.given.1 (ap (booksOf _) c.count-frame.ensures))
+    (λ c. rw c.before.before.enum_told.given.1 (ap (books_of _) c.count-frame.ensures))
     (λ c. rw c.before.before.enum-told2.given.1 (c.end-call.ensures _))
     (λ c. rw c.before.before.enum-told3.given.1 (c.end-call2.ensures _))
     (λ c. rw c.before.before.enum-told4.given.1 (c.end-call3.ensures _))

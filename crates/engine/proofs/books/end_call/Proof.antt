@@ -1,6 +1,6 @@
 use borrow.Author.Rules.{rules}
 use mathlib.Core.Path.{refl}
-use Rattle.errors.specs.Rules.{at_true, at-false}
+use Rattle.errors.specs.Rules.{at_true, at_false}
 use Rattle.engine.specs.Books.{ended}
 use Rattle.engine.proofs.books.end_call.Statement.{statement}
 use Rattle.engine.proofs.books.end_call.Tie as tie
@@ -13,4 +13,4 @@ end-call-spec =
     (λ c. search rules)
     (λ c. search rules)
     (λ c. λ n. at_true _ _ _ _ c.if1.true refl)
-    (λ c. λ n. at-false _ _ _ _ c.if1.false refl))
+    (λ c. λ n. at_false _ _ _ _ c.if1.false refl))

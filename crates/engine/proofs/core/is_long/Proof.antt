@@ -1,11 +1,11 @@
 -- `engine::core::is_long` meets its contract.
-use Rattle.engine.specs.Core.{isLong}
+use Rattle.engine.specs.Core.{is_long_of}
 use borrow.Author.Rules.{rules}
 use Rattle.engine.proofs.core.is_long.Statement.{statement}
 use Rattle.engine.proofs.core.is_long.Tie as tie
 
 pub is-long-spec : {M : Type 1} → statement M
-unfolding isLong
+unfolding is_long_of
 is-long-spec =
     tie.close
     (tie.spec

@@ -1,22 +1,22 @@
 -- `exchange::Exchange::on_packet` meets its contract.
 use Rattle.std.proofs.Common.{rules}
-use Rattle.exchange.specs.Packets.{ackLed}
-use Rattle.exchange.specs.Rules.{step-rules}
-use Rattle.exchange.specs.Steps.{phaseIn}
+use Rattle.exchange.specs.Packets.{ack_led}
+use Rattle.exchange.specs.Rules.{step_rules}
+use Rattle.exchange.specs.Steps.{phase_in}
 use Rattle.exchange.proofs.Exchange.on_packet.Statement.{statement}
 use Rattle.exchange.proofs.Exchange.on_packet.Tie as tie
 
 returns : tie.Need-returns
-unfolding phaseIn ackLed
-returns c = search (step-rules, rules) depth 8
+unfolding phase_in ack_led
+returns c = search (step_rules, rules) depth 8
 
 returns-2 : tie.Need-returns-2
-unfolding phaseIn ackLed
-returns-2 c = search (step-rules, rules) depth 8
+unfolding phase_in ack_led
+returns-2 c = search (step_rules, rules) depth 8
 
 returns-3 : tie.Need-returns-3
-unfolding ackLed
-returns-3 c = search (step-rules, rules) depth 8
+unfolding ack_led
+returns-3 c = search (step_rules, rules) depth 8
 
 pub on-packet-spec : {M : Type 1} → statement M
 on-packet-spec =

@@ -1,5 +1,5 @@
 -- `felica::check::check_read` meets its contract.
-use Rattle.felica.specs.Taken.{read-checked}
+use Rattle.felica.specs.Taken.{read_checked}
 use borrow.Author.Rules.{rules}
 use Rattle.felica.proofs.check.check_read.Statement.{statement}
 use Rattle.felica.proofs.check.check_read.Tie as tie
@@ -12,4 +12,4 @@ check-read-spec =
     (λ c κs. search rules)
     (λ c κs. search rules)
     (λ c κs. search rules)
-    (λ c. search (read-checked, rules)))
+    (λ c. search (read_checked, rules)))

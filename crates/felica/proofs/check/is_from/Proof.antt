@@ -1,5 +1,5 @@
 -- `felica::check::is_from` meets its contract.
-use Rattle.felica.specs.Checks.{isFrom}
+use Rattle.felica.specs.Checks.{is_from_of}
 use Rattle.felica.specs.Rules.{tests}
 use Rattle.felica.specs.Taken.{known_from}
 use borrow.Author.Rules.{rules}
@@ -7,7 +7,7 @@ use Rattle.felica.proofs.check.is_from.Statement.{statement}
 use Rattle.felica.proofs.check.is_from.Tie as tie
 
 returns-2 : tie.Need-returns-2
-unfolding isFrom
+unfolding is_from_of
 returns-2 c = search (tests, rules) depth 10
 
 pub is-from-spec : {M : Type 1} → statement M

@@ -1,12 +1,12 @@
 -- `felica::reply::are_blocks` meets its contract.
-use Rattle.felica.specs.Packets.{areBlocks}
+use Rattle.felica.specs.Packets.{are_blocks_of}
 use Rattle.felica.specs.Rules.{tests}
 use borrow.Author.Rules.{rules}
 use Rattle.felica.proofs.reply.are_blocks.Statement.{statement}
 use Rattle.felica.proofs.reply.are_blocks.Tie as tie
 
 pub are-blocks-spec : {M : Type 1} → statement M
-unfolding areBlocks
+unfolding are_blocks_of
 are-blocks-spec =
     tie.close
     (tie.spec

@@ -1,5 +1,5 @@
 -- `felica::reply::blocks_read` meets its contract.
-use Rattle.felica.specs.Lists.{nothing_left, rest-cut}
+use Rattle.felica.specs.Lists.{nothing_left, rest_cut}
 use borrow.Author.Rules.{rules}
 use Rattle.felica.proofs.reply.blocks_read.Statement.{statement}
 use Rattle.felica.proofs.reply.blocks_read.Tie as tie
@@ -15,4 +15,4 @@ blocks-read-spec =
     (λ c. search rules)
     (λ c. search rules)
     (λ c. search rules)
-    (λ c. search (rest-cut, rules)))
+    (λ c. search (rest_cut, rules)))

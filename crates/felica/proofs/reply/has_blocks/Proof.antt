@@ -1,12 +1,12 @@
 -- `felica::reply::has_blocks` meets its contract.
-use Rattle.felica.specs.Fields.{hasBlocks}
+use Rattle.felica.specs.Fields.{has_blocks_of}
 use Rattle.felica.specs.Rules.{tests}
 use borrow.Author.Rules.{rules}
 use Rattle.felica.proofs.reply.has_blocks.Statement.{statement}
 use Rattle.felica.proofs.reply.has_blocks.Tie as tie
 
 pub has-blocks-spec : {M : Type 1} → statement M
-unfolding hasBlocks
+unfolding has_blocks_of
 has-blocks-spec =
     tie.close
     (tie.spec

@@ -1,12 +1,12 @@
 -- `felica::reply::is_read_reply` meets its contract.
-use Rattle.felica.specs.Fields.{isReadReply}
+use Rattle.felica.specs.Fields.{is_read_reply_of}
 use Rattle.felica.specs.Rules.{tests}
 use borrow.Author.Rules.{rules}
 use Rattle.felica.proofs.reply.is_read_reply.Statement.{statement}
 use Rattle.felica.proofs.reply.is_read_reply.Tie as tie
 
 pub is-read-reply-spec : {M : Type 1} → statement M
-unfolding isReadReply
+unfolding is_read_reply_of
 is-read-reply-spec =
     tie.close
     (tie.spec

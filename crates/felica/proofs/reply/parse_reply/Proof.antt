@@ -1,5 +1,5 @@
 -- `felica::reply::parse_reply` meets its contract.
-use Rattle.felica.specs.Taken.{as-read-reply, as-write-reply, as-no-reply}
+use Rattle.felica.specs.Taken.{as_read_reply, as_write_reply, as_no_reply}
 use borrow.Author.Rules.{rules}
 use Rattle.felica.proofs.reply.parse_reply.Statement.{statement}
 use Rattle.felica.proofs.reply.parse_reply.Tie as tie
@@ -11,7 +11,7 @@ parse-reply-spec =
     (λ c κs. search rules)
     (λ c κs. search rules)
     (λ c κs. search rules)
-    (λ c. search (as-read-reply, rules))
+    (λ c. search (as_read_reply, rules))
     (λ c κs. search rules)
-    (λ c. search (as-write-reply, rules))
-    (λ c. search (as-no-reply, rules)))
+    (λ c. search (as_write_reply, rules))
+    (λ c. search (as_no_reply, rules)))

@@ -1,6 +1,6 @@
 -- `felica::reply::put_blocks` meets its contract.
 use Rattle.framing.specs.Build.{returned}
-use Rattle.felica.specs.Laid.{blocks-no-room, blocks-put}
+use Rattle.felica.specs.Laid.{blocks_no_room, blocks_put}
 use borrow.Author.Rules.{rules}
 use Rattle.felica.proofs.reply.put_blocks.Statement.{statement}
 use Rattle.felica.proofs.reply.put_blocks.Tie as tie
@@ -11,7 +11,7 @@ put-blocks-spec =
     tie.close
     (tie.spec
     (λ c. search rules)
-    (λ c. search (blocks-no-room, rules))
+    (λ c. search (blocks_no_room, rules))
     (λ c. search rules)
     (λ c κs. search rules)
     (λ c. search rules)
@@ -21,4 +21,4 @@ put-blocks-spec =
     (λ c κs. search rules)
     (λ c κs. search rules)
     (λ c. search rules)
-    (λ c. search (blocks-put, rules)))
+    (λ c. search (blocks_put, rules)))

@@ -1,5 +1,5 @@
 -- `felica::request::asks_blocks` meets its contract.
-use Rattle.felica.specs.Taken.{product-fits, sum_fits, asks_none, asks-many, asks-other, asks-list}
+use Rattle.felica.specs.Taken.{product_fits, sum_fits, asks_none, asks_many, asks_other, asks_list}
 use borrow.Author.Rules.{rules}
 use Rattle.felica.proofs.request.asks_blocks.Statement.{statement}
 use Rattle.felica.proofs.request.asks_blocks.Tie as tie
@@ -10,15 +10,15 @@ asks-blocks-spec =
     (tie.spec
     (λ c κs. search rules)
     (λ c. search (asks_none, rules))
-    (λ c. search (asks-many, rules))
+    (λ c. search (asks_many, rules))
     (λ c. search rules)
-    (λ c. search (product-fits, rules))
+    (λ c. search (product_fits, rules))
     (λ c. search (sum_fits, rules))
-    (λ c. search (asks-other, rules))
+    (λ c. search (asks_other, rules))
     (λ c. search rules)
     (λ c. search rules)
     (λ c. search rules)
     (λ c. search rules)
     (λ c. search rules)
     (λ c κs. search rules)
-    (λ c. search (asks-list, rules)))
+    (λ c. search (asks_list, rules)))

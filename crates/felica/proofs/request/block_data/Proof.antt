@@ -1,5 +1,5 @@
 -- `felica::request::block_data` meets its contract.
-use Rattle.felica.specs.Lists.{nothing_left, rest-cut}
+use Rattle.felica.specs.Lists.{nothing_left, rest_cut}
 use borrow.Author.Rules.{rules}
 use Rattle.felica.proofs.request.block_data.Statement.{statement}
 use Rattle.felica.proofs.request.block_data.Tie as tie
@@ -17,4 +17,4 @@ block-data-spec =
     (λ c. search rules)
     (λ c. search rules)
     (λ c. search rules)
-    (λ c. search (rest-cut, rules)))
+    (λ c. search (rest_cut, rules)))

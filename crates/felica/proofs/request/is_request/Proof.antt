@@ -1,12 +1,12 @@
 -- `felica::request::is_request` meets its contract.
-use Rattle.felica.specs.Fields.{isRequest}
+use Rattle.felica.specs.Fields.{is_request_of}
 use Rattle.felica.specs.Rules.{tests}
 use borrow.Author.Rules.{rules}
 use Rattle.felica.proofs.request.is_request.Statement.{statement}
 use Rattle.felica.proofs.request.is_request.Tie as tie
 
 pub is-request-spec : {M : Type 1} → statement M
-unfolding isRequest
+unfolding is_request_of
 is-request-spec =
     tie.close
     (tie.spec

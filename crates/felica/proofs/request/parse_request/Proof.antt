@@ -1,5 +1,5 @@
 -- `felica::request::parse_request` meets its contract.
-use Rattle.felica.specs.Taken.{request-room, as_read, as-write, as_none}
+use Rattle.felica.specs.Taken.{request_room, as_read, as_write, as_none}
 use borrow.Author.Rules.{rules}
 use Rattle.felica.proofs.request.parse_request.Statement.{statement}
 use Rattle.felica.proofs.request.parse_request.Tie as tie
@@ -9,9 +9,9 @@ parse-request-spec =
     tie.close
     (tie.spec
     (λ c κs. search rules)
-    (λ c κs. search (request-room, rules))
+    (λ c κs. search (request_room, rules))
     (λ c. search (as_read, rules))
     (λ c κs. search rules)
-    (λ c κs. search (request-room, rules))
-    (λ c. search (as-write, rules))
+    (λ c κs. search (request_room, rules))
+    (λ c. search (as_write, rules))
     (λ c. search (as_none, rules)))

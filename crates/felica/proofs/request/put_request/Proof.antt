@@ -1,6 +1,6 @@
 -- `felica::request::put_request` meets its contract.
 use Rattle.framing.specs.Build.{returned}
-use Rattle.felica.specs.Laid.{request-no-room, request-put}
+use Rattle.felica.specs.Laid.{request_no_room, request-put}
 use borrow.Author.Rules.{rules}
 use Rattle.felica.proofs.request.put_request.Statement.{statement}
 use Rattle.felica.proofs.request.put_request.Tie as tie
@@ -13,7 +13,7 @@ put-request-spec =
     (λ c. search rules)
     (λ c. search rules)
     (λ c. search rules)
-    (λ c. search (request-no-room, rules))
+    (λ c. search (request_no_room, rules))
     (λ c. search rules)
     (λ c. search rules)
     (λ c. search rules)

@@ -1,5 +1,5 @@
 -- `framing::frame::behind_direction` meets its contract.
-use Rattle.framing.specs.Commands.{behindDirection, behind-none, behind-other, behind-host}
+use Rattle.framing.specs.Commands.{behind_direction_of, behind_none, behind-other, behind-host}
 use Rattle.std.proofs.Common.{rules}
 use Rattle.framing.proofs.frame.behind_direction.Statement.{statement}
 use Rattle.framing.proofs.frame.behind_direction.Tie as tie
@@ -11,7 +11,7 @@ behind-direction-spec =
     (λ c. search rules)
     (λ c. search rules)
     (λ c. search rules)
-    (λ c. search (behind-none, rules))
+    (λ c. search (behind_none, rules))
     (λ c. search rules)
     (λ c. search rules)
     (λ c. search rules)

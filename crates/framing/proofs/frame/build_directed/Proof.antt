@@ -2,7 +2,7 @@
 use native.Mathlib.Numerals.{add-two}
 use Rattle.std.proofs.Common.{◌≡◌, ◌+◌, length, sym, ◌∙◌, arith, length-drop, length-set, length-take, rules}
 use Rattle.framing.specs.Build.{returned, place_of}
-use Rattle.framing.specs.Enclose.{Fits, place-fits, build-refused, command-placed}
+use Rattle.framing.specs.Enclose.{Fits, place-fits, build_refused, command_placed}
 use Rattle.framing.specs.Settings.{rcs956}
 use Rattle.framing.specs.declared.Place.TheVariants.{At}
 use Rattle.framing.proofs.frame.build_directed.Statement.{statement}
@@ -67,12 +67,12 @@ add-t15 c =
 
 returns : tie.Need-returns
 unfolding returned
-returns c = command-placed _ _ _ _ _ _ _ _ (placed c.before.before.before.before.before.before.before.before.before) c.before.before.before.before.before.before.copy.ensures.1 c.before.before.enclose.ensures
+returns c = command_placed _ _ _ _ _ _ _ _ (placed c.before.before.before.before.before.before.before.before.before) c.before.before.before.before.before.before.copy.ensures.1 c.before.before.enclose.ensures
 
 returns-2 : tie.Need-returns-2
 unfolding returned
 returns-2 c =
-    build-refused _ _ _ _
+    build_refused _ _ _ _
     (rw (c.before.before.before.before.format.ensures, add-two) at (sym c.before.refusal.given.1 ∙ c.before.before.before.room_for.ensures))
 
 pub build-directed-spec : {M : Type 1} → statement M

@@ -1,6 +1,6 @@
 -- `framing::padded::extra_zeros` meets its contract. The invariant: the first n bytes are 0.
 use Rattle.std.proofs.Common.{◌≡◌, ℕ, ◌-◌, ◌<◌, ◌≤◌, get_or, refl, arith, rules}
-use Rattle.framing.specs.Unpadded.{another, extra-found, all-zeros}
+use Rattle.framing.specs.Unpadded.{another, extra_found, all-zeros}
 use Rattle.framing.proofs.padded.extra_zeros.Statement.{statement}
 use Rattle.framing.proofs.padded.extra_zeros.Tie as tie
 
@@ -22,7 +22,7 @@ extra-zeros-spec =
     (λ c. search rules)
     (λ c. search rules)
     (λ c κs. search rules)
-    (λ c. extra-found _ _ c.before.before.before.before.before.loop.invariant.1 _ _ c.extra-at.ensures refl c.before.before.if1.true)
+    (λ c. extra_found _ _ c.before.before.before.before.before.loop.invariant.1 _ _ c.extra-at.ensures refl c.before.before.if1.true)
     (λ c. search rules)
     (λ c. search rules)
     (λ c. (search rules, search (another, rules)))

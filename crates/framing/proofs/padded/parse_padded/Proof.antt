@@ -1,6 +1,6 @@
 -- `framing::padded::parse_padded` meets its contract.
 use Rattle.std.proofs.Common.{arith, rules}
-use Rattle.framing.specs.PaddedAnswers.{start-low, zeros-most, zeros-fit, padded-known}
+use Rattle.framing.specs.PaddedAnswers.{start_low, zeros-most, zeros-fit, padded-known}
 use Rattle.framing.proofs.padded.parse_padded.Statement.{statement}
 use Rattle.framing.proofs.padded.parse_padded.Tie as tie
 
@@ -17,7 +17,7 @@ part-parse-start c =
 shifted-by-requires : tie.Need-shifted-by-requires
 shifted-by-requires c κs =
     let a = c.before.before.before.before.args in
-    (omega (arith, c.before.before.zeros-in.ensures, zeros-most a.padded a.packet.now), rw c.parse.ensures (start-low a.format _))
+    (omega (arith, c.before.before.zeros-in.ensures, zeros-most a.padded a.packet.now), rw c.parse.ensures (start_low a.format _))
 
 returns : tie.Need-returns
 returns c =

@@ -1,11 +1,11 @@
 -- `print::put_bitrate` meets its contract.
 use Prim.Native.Nat.{◌+◌, ◌*◌}
 use native.Mathlib.Omega.{arith}
-use Rattle.presence_lines.proofs.PrintLaws.{bitrate-shown, bitrate-not}
+use Rattle.presence_lines.proofs.PrintLaws.{bitrate_shown, bitrate_not}
 use borrow.Author.Rules.{rules}
 use Rattle.presence_lines.proofs.print.put_bitrate.Statement.{statement}
 use Rattle.presence_lines.proofs.print.put_bitrate.Tie as tie
-use Rattle.presence_list.specs.Names.{recordSize, bitrateOffset}
+use Rattle.presence_list.specs.Names.{record_size, bitrate_offset}
 
 returns : tie.Need-returns
 returns c =
@@ -14,7 +14,7 @@ returns c =
     let at-put = at-word.before.before.before.before in
     let at-if1 = at-put.before.before.before.before in
     let start = at-if1.before.before.before in
-    bitrate-shown start.args.cards.now start.args.i _ _ _ _ _ _ _ _ at-if1.if1.true at-put.put.ensures at-put2.put2.ensures at-word.word.ensures
+    bitrate_shown start.args.cards.now start.args.i _ _ _ _ _ _ _ _ at-if1.if1.true at-put.put.ensures at-put2.put2.ensures at-word.word.ensures
 
 pub put-bitrate-spec : {M : Type 1} → statement M
 put-bitrate-spec =
@@ -23,7 +23,7 @@ put-bitrate-spec =
     (λ c. search rules)
     (λ c. search rules)
     (λ c. search rules)
-    (λ c. omega (arith, c.shared-slice-known2.given (recordSize * c.before.before.before.before.args.i + bitrateOffset)))
+    (λ c. omega (arith, c.shared-slice-known2.given (record_size * c.before.before.before.before.args.i + bitrate_offset)))
     (λ c. search rules)
     (λ c κs. search rules)
     (λ c. search rules)
@@ -31,4 +31,4 @@ put-bitrate-spec =
     (λ c κs. search rules)
     (λ c. search rules)
     returns
-    (λ c. search (bitrate-not, rules)))
+    (λ c. search (bitrate_not, rules)))

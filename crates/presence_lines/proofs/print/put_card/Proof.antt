@@ -6,7 +6,7 @@ use Rattle.presence_lines.proofs.PrintLaws.{card-done}
 use borrow.Author.Rules.{rules}
 use Rattle.presence_lines.proofs.print.put_card.Statement.{statement}
 use Rattle.presence_lines.proofs.print.put_card.Tie as tie
-use Rattle.presence_list.specs.Names.{recordSize, lengthOffset}
+use Rattle.presence_list.specs.Names.{record_size, length_offset}
 
 returns : tie.Need-returns
 returns c =
@@ -29,9 +29,9 @@ put-card-spec =
     (λ c. search rules)
     (λ c. search rules)
     (λ c. search rules)
-    (λ c. omega (arith, c.shared-slice-known2.given (recordSize * c.before.before.before.args.i + lengthOffset)))
+    (λ c. omega (arith, c.shared-slice-known2.given (record_size * c.before.before.before.args.i + length_offset)))
     (λ c. search rules)
-    (λ c. omega (arith, c.shared-slice-known3.given (recordSize * c.before.before.before.before.args.i)))
+    (λ c. omega (arith, c.shared-slice-known3.given (record_size * c.before.before.before.before.args.i)))
     (λ c. search rules)
     (λ c κs. search rules)
     (λ c. search rules)

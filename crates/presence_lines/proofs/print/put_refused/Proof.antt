@@ -1,5 +1,5 @@
 -- `print::put_refused` meets its contract.
-use Rattle.presence_lines.proofs.PrintLaws.{refused-done}
+use Rattle.presence_lines.proofs.PrintLaws.{refused_done}
 use borrow.Author.Rules.{rules}
 use Rattle.presence_lines.proofs.print.put_refused.Statement.{statement}
 use Rattle.presence_lines.proofs.print.put_refused.Tie as tie
@@ -14,4 +14,4 @@ put-refused-spec =
     (λ c. search rules)
     (λ c κs. search rules)
     (λ c. search rules)
-    (λ c. search (refused-done, rules)))
+    (λ c. search (refused_done, rules)))

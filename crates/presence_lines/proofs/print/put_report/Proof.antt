@@ -1,5 +1,5 @@
 -- `print::put_report` meets its contract.
-use Rattle.presence_lines.proofs.PrintLaws.{lists-done}
+use Rattle.presence_lines.proofs.PrintLaws.{lists_done}
 use borrow.Author.Rules.{rules}
 use Rattle.presence_lines.proofs.print.put_report.Statement.{statement}
 use Rattle.presence_lines.proofs.print.put_report.Tie as tie
@@ -18,4 +18,4 @@ put-report-spec =
     (λ c κs. search rules)
     (λ c κs. search rules)
     (λ c. search rules)
-    (λ c. search (lists-done, rules)))
+    (λ c. search (lists_done, rules)))

@@ -1,5 +1,5 @@
 -- `read::behind_colon` meets its contract.
-use Rattle.presence_lines.proofs.ReadLaws.{behind-is, behind-none}
+use Rattle.presence_lines.proofs.ReadLaws.{behind_is, behind_none}
 use borrow.Author.Rules.{rules}
 use Rattle.presence_lines.proofs.read.behind_colon.Statement.{statement}
 use Rattle.presence_lines.proofs.read.behind_colon.Tie as tie
@@ -16,5 +16,5 @@ behind-colon-spec =
     (λ c. search rules)
     (λ c. search rules)
     (λ c. search rules)
-    (λ c. search (behind-is, rules))
-    (λ c. search (behind-none, rules)))
+    (λ c. search (behind_is, rules))
+    (λ c. search (behind_none, rules)))

@@ -2,8 +2,8 @@
 use mathlib.Core.Path.{◌≡◌}
 use Prim.Native.Nat.{◌≤◌, ◌-◌, ◌+◌}
 use lib.ListN.{length, drop}
-use Rattle.bench.specs.Words.{wordsOf}
-use Rattle.presence_lines.specs.Lines.{placeAmong}
+use Rattle.bench.specs.Words.{words_of_lem}
+use Rattle.presence_lines.specs.Lines.{place_among}
 use native.Mathlib.Omega.{arith}
 use Rattle.presence_lines.proofs.ReadLaws.{place-begin, place_found, place-next, place_end}
 use borrow.Author.Rules.{rules}
@@ -11,7 +11,7 @@ use Rattle.presence_lines.proofs.read.index_among.Statement.{statement}
 use Rattle.presence_lines.proofs.read.index_among.Tie as tie
 
 abbrev invariant-loop : tie.invariant-loop
-invariant-loop word text n i₀ i = (n ≡ length (wordsOf text)) × (i ≤ n) × (placeAmong word (wordsOf text) ≡ i + placeAmong word (drop i (wordsOf text)))
+invariant-loop word text n i₀ i = (n ≡ length (words_of_lem text)) × (i ≤ n) × (place_among word (words_of_lem text) ≡ i + place_among word (drop i (words_of_lem text)))
 
 abbrev decreases-loop : tie.decreases-loop
 decreases-loop word text n i₀ i = n - i

@@ -3,7 +3,7 @@ use mathlib.Core.Path.{refl, ap}
 use mathlib.Core.List.{[]}
 use native.Mathlib.Omega.{arith}
 use lib.ListN.{length, length-take}
-use Rattle.presence_lines.proofs.ReadLaws.{identified-long, identified-read, identified-short, identified-not}
+use Rattle.presence_lines.proofs.ReadLaws.{identified_long, identified_read, identified_short, identified_not}
 use borrow.Author.Rules.{rules}
 use Rattle.presence_lines.proofs.read.put_identified.Statement.{statement}
 use Rattle.presence_lines.proofs.read.put_identified.Tie as tie
@@ -13,14 +13,14 @@ put-record-requires-2 c κs =
     let at-k = c.before.before.before.before in
     let at_read = at-k.before.before.before in
     let at-if1 = at_read.before.before in
-    identified-short 0 0 0 0 _ [] [] _ _ _ at_read.read.ensures at-if1.if1.false refl _ _ at-k.k.given.1 c.before.prefix2.ensures
+    identified_short 0 0 0 0 _ [] [] _ _ _ at_read.read.ensures at-if1.if1.false refl _ _ at-k.k.given.1 c.before.prefix2.ensures
 
 returns-2 : tie.Need-returns-2
 returns-2 c =
     let at_read = c.before.before.before in
     let at-if1 = at_read.before.before in
     let start = at-if1.before.before.before in
-    identified-not _ _ _ 0 _ _ [] _ _ _ at_read.read.ensures at-if1.if1.false refl _ c.enum_told.given.1 start.requires
+    identified_not _ _ _ 0 _ _ [] _ _ _ at_read.read.ensures at-if1.if1.false refl _ c.enum_told.given.1 start.requires
 
 returns-3 : tie.Need-returns-3
 returns-3 c =
@@ -29,7 +29,7 @@ returns-3 c =
     let at-k = at_first.before.before.before in
     let at_read = at-k.before.before.before in
     let at-if1 = at_read.before.before in
-    identified-read _ _ _ _ _ _ _ _ _ _ at_read.read.ensures at-if1.if1.false refl _ _ _ at-k.k.given.1 at_first.prefix2.ensures refl at-put.put-record2.ensures
+    identified_read _ _ _ _ _ _ _ _ _ _ at_read.read.ensures at-if1.if1.false refl _ _ _ at-k.k.given.1 at_first.prefix2.ensures refl at-put.put-record2.ensures
 
 pub put-identified-spec : {M : Type 1} → statement M
 put-identified-spec =
@@ -38,7 +38,7 @@ put-identified-spec =
     (λ c κs. search rules)
     (λ c κs. omega (arith, ap length c.before.prefix.ensures, length-take 0 c.before.before.before.before.before.args.word.now))
     (λ c. search rules)
-    (λ c. identified-long _ _ _ _ _ _ _ _ c.before.before.before.before.before.if1.true c.before.before.before.before.prefix.ensures c.before.before.put_record.ensures)
+    (λ c. identified_long _ _ _ _ _ _ _ _ c.before.before.before.before.before.if1.true c.before.before.before.before.prefix.ensures c.before.before.put_record.ensures)
     (λ c. search rules)
     (λ c κs. search rules)
     (λ c. search rules)

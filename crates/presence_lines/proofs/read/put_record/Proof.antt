@@ -1,5 +1,5 @@
 -- `read::put_record` meets its contract.
-use Rattle.presence_lines.proofs.ReadLaws.{record-done}
+use Rattle.presence_lines.proofs.ReadLaws.{record_done}
 use borrow.Author.Rules.{rules}
 use Rattle.presence_lines.proofs.read.put_record.Statement.{statement}
 use Rattle.presence_lines.proofs.read.put_record.Tie as tie
@@ -18,4 +18,4 @@ put-record-spec =
     (λ c. search rules)
     (λ c κs. search rules)
     (λ c. search rules)
-    (λ c. search (record-done, rules)))
+    (λ c. search (record_done, rules)))

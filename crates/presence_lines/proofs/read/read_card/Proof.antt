@@ -1,6 +1,6 @@
 -- `read::read_card` meets its contract.
 use native.Mathlib.Omega.{arith}
-use Rattle.presence_lines.proofs.ReadLaws.{no_kind, no-rate, no-identifier, card-put, identifier-hex}
+use Rattle.presence_lines.proofs.ReadLaws.{no_kind, no_rate, no_identifier, card-put, identifier_hex}
 use borrow.Author.Rules.{rules}
 use Rattle.presence_lines.proofs.read.read_card.Statement.{statement}
 use Rattle.presence_lines.proofs.read.read_card.Tie as tie
@@ -20,7 +20,7 @@ returns-2 c =
     let at_place = at-if1.before in
     let at_before = at_place.before.before in
     let at-behind = at_before.before in
-    no-rate _ _ _ _ at-behind.behind-colon.ensures at_before.before_colon.ensures at_place.index-among.ensures
+    no_rate _ _ _ _ at-behind.behind-colon.ensures at_before.before_colon.ensures at_place.index-among.ensures
     _ _ at-if1.if1.false at-behind2.behind-colon2.ensures at-place2.index-among2.ensures c.if2.true
 
 returns-3 : tie.Need-returns-3
@@ -51,7 +51,7 @@ returns-4 c =
     let at_place = at-if1.before in
     let at_before = at_place.before.before in
     let at-behind = at_before.before in
-    no-identifier _ _ _ _ at-behind.behind-colon.ensures at_before.before_colon.ensures at_place.index-among.ensures
+    no_identifier _ _ _ _ at-behind.behind-colon.ensures at_before.before_colon.ensures at_place.index-among.ensures
     _ _ at-if1.if1.false at-behind2.behind-colon2.ensures at-place2.index-among2.ensures
     _ _ at-if2.if2.false at-before2.before-colon2.ensures at_test.is-identifier.ensures c.if3.false
 
@@ -72,7 +72,7 @@ read-card-spec =
     (λ c κs. search rules)
     (λ c. omega arith)
     (λ c. omega arith)
-    (λ c κs. identifier-hex _ _ c.before.before.is-identifier.ensures c.before.if3.true)
+    (λ c κs. identifier_hex _ _ c.before.before.is-identifier.ensures c.before.if3.true)
     (λ c. search rules)
     returns-3
     returns-4)

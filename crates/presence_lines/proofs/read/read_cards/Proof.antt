@@ -3,15 +3,15 @@ use mathlib.Core.Path.{◌≡◌, refl}
 use Prim.Native.Nat.{◌≤◌, ◌-◌}
 use native.Mathlib.Omega.{arith}
 use lib.ListN.{length, drop}
-use Rattle.bench.specs.WordLaws.{wordsBehind}
+use Rattle.bench.specs.WordLaws.{words_behind}
 use Rattle.presence_lines.specs.Readings.{ReadSoFar}
-use Rattle.presence_lines.proofs.ReadLaws.{filled_none, filled-all, filled-not, filled_more}
+use Rattle.presence_lines.proofs.ReadLaws.{filled_none, filled_all, filled_not, filled_more}
 use borrow.Author.Rules.{rules}
 use Rattle.presence_lines.proofs.read.read_cards.Statement.{statement}
 use Rattle.presence_lines.proofs.read.read_cards.Tie as tie
 
 abbrev invariant-loop : tie.invariant-loop
-invariant-loop line from records₀ n at₀ len₀ records at len = (n ≡ length line) × (at ≤ n) × (length records ≡ length records₀) × ReadSoFar (wordsBehind (drop from line)) (wordsBehind (drop at line)) records₀ len records
+invariant-loop line from records₀ n at₀ len₀ records at len = (n ≡ length line) × (at ≤ n) × (length records ≡ length records₀) × ReadSoFar (words_behind (drop from line)) (words_behind (drop at line)) records₀ len records
 
 abbrev decreases-loop : tie.decreases-loop
 decreases-loop line from records₀ n at₀ len₀ records at len = n - at
@@ -22,7 +22,7 @@ returns c =
     let at-find = at-put.before.before.before in
     let at_test = at-find.before in
     let at-loop = at_test.before in
-    filled-not _ _ _ _ _ _ at-loop.loop.invariant.3 _ _ at_test.loop-test.true at-find.find.ensures.0 refl _ _ at-put.read-card.ensures c.enum_told.given.1
+    filled_not _ _ _ _ _ _ at-loop.loop.invariant.3 _ _ at_test.loop-test.true at-find.find.ensures.0 refl _ _ at-put.read-card.ensures c.enum_told.given.1
 
 loop-again : tie.Need-loop-preserved invariant-loop decreases-loop
 loop-again c =
@@ -41,7 +41,7 @@ returns-2 : tie.Need-returns-2 invariant-loop decreases-loop
 returns-2 c =
     let at-loop = c.before in
     let start = at-loop.before.before.before in
-    filled-all _ start.args.line.now _ _ at-loop.loop.at _ at-loop.loop.invariant.3 (omega arith)
+    filled_all _ start.args.line.now _ _ at-loop.loop.at _ at-loop.loop.invariant.3 (omega arith)
 
 pub read-cards-spec : {M : Type 1} → statement M
 read-cards-spec =

@@ -1,16 +1,16 @@
 -- `list::are_readable` meets its contract.
-use Rattle.presence_list.specs.Steps.{readableIn}
+use Rattle.presence_list.specs.Steps.{readable_in}
 use Rattle.errors.specs.Rules.{picked}
 use borrow.Author.Rules.{rules}
 use Rattle.presence_list.proofs.list.are_readable.Statement.{statement}
 use Rattle.presence_list.proofs.list.are_readable.Tie as tie
 
 returns : tie.Need-returns
-unfolding readableIn
+unfolding readable_in
 returns c = search (picked, rules) depth 14
 
 returns-2 : tie.Need-returns-2
-unfolding readableIn
+unfolding readable_in
 returns-2 c = search (picked, rules) depth 14
 
 pub are-readable-spec : {M : Type 1} → statement M

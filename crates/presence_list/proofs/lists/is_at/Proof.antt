@@ -1,11 +1,11 @@
 -- `lists::is_at` meets its contract.
-use Rattle.presence_list.specs.Lookups.{cards-at-room, cards-at-fit, there, not_there}
+use Rattle.presence_list.specs.Lookups.{cards_at_room, cards_at-fit, there, not_there}
 use borrow.Author.Rules.{rules}
 use Rattle.presence_list.proofs.lists.is_at.Statement.{statement}
 use Rattle.presence_list.proofs.lists.is_at.Tie as tie
 
 card-at-requires : tie.Need-card-at-requires
-card-at-requires c κs = (search (cards-at-room, rules), search (cards-at-fit, rules))
+card-at-requires c κs = (search (cards_at_room, rules), search (cards_at-fit, rules))
 
 returns : tie.Need-returns
 returns c = search (there, rules)

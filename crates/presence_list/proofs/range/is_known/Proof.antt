@@ -1,5 +1,5 @@
 -- `range::is_known` meets its contract.
-use Rattle.presence_list.specs.Checks.{known-rate, known-not}
+use Rattle.presence_list.specs.Checks.{known-rate, known_not}
 use borrow.Author.Rules.{rules}
 use Rattle.presence_list.proofs.range.is_known.Statement.{statement}
 use Rattle.presence_list.proofs.range.is_known.Tie as tie
@@ -8,7 +8,7 @@ returns : tie.Need-returns
 returns c = search (known-rate, rules)
 
 returns-2 : tie.Need-returns-2
-returns-2 c = search (known-not, rules)
+returns-2 c = search (known_not, rules)
 
 pub is-known-spec : {M : Type 1} → statement M
 is-known-spec =

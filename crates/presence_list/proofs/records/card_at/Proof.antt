@@ -1,5 +1,5 @@
 -- `records::card_at` meets its contract.
-use Rattle.presence_list.specs.Names.{lengthOffset}
+use Rattle.presence_list.specs.Names.{length_offset}
 use Rattle.presence_list.specs.Checks.{card-length, card-part}
 use Prim.Native.Nat.{◌+◌}
 use native.Mathlib.Omega.{arith}
@@ -8,7 +8,7 @@ use Rattle.presence_list.proofs.records.card_at.Statement.{statement}
 use Rattle.presence_list.proofs.records.card_at.Tie as tie
 
 cast-n : tie.Need-overflow-cast-n
-cast-n c = omega (arith, c.shared-slice-known.given (c.before.args.at + lengthOffset))
+cast-n c = omega (arith, c.shared-slice-known.given (c.before.args.at + length_offset))
 
 add-end-2 : tie.Need-overflow-add-end-2
 add-end-2 c = let n = card-length c.before.args.cards.now c.before.args.at c.before.requires.1 in omega arith

@@ -2,7 +2,7 @@
 use mathlib.Core.Path.{◌∙◌}
 use native.Mathlib.Omega.{arith}
 use lib.ListN.{length-set}
-use Rattle.simulated_chip.specs.Additions.{putCard}
+use Rattle.simulated_chip.specs.Additions.{put_card_of}
 use borrow.Author.Rules.{rules}
 use Rattle.simulated_chip.proofs.add.put_card.Statement.{statement}
 use Rattle.simulated_chip.proofs.add.put_card.Tie as tie
@@ -20,7 +20,7 @@ same_length : tie.Need-same-length
 same_length c = c.before.before.put-text.auto.1.0 ∙ simp length-set
 
 returns : tie.Need-returns
-unfolding putCard
+unfolding put_card_of
 returns c = c.before.before.put-text.ensures
 
 pub put-card-spec : {M : Type 1} → statement M

@@ -3,8 +3,8 @@ use mathlib.Core.Path.{◌≡◌, refl}
 use Prim.Native.Nat.{◌*◌, ◌≤◌}
 use native.Mathlib.Omega.{arith}
 use lib.ListN.{length}
-use Rattle.chip_protocol.specs.Names.{longestReply}
-use Rattle.simulated_chip.specs.Memory.{sentSize, replySize, places}
+use Rattle.chip_protocol.specs.Names.{longest_reply}
+use Rattle.simulated_chip.specs.Memory.{sent_size, reply_size, places}
 use borrow.Author.Rules.{rules}
 use Rattle.simulated_chip.proofs.add.put_first.Statement.{statement}
 use Rattle.simulated_chip.proofs.add.put_first.Tie as tie
@@ -12,15 +12,15 @@ use Rattle.simulated_chip.proofs.add.put_first.Tie as tie
 put-text-requires : tie.Need-put-text-requires
 put-text-requires c κs =
     let s = c.before.before.before.before.before in
-    let l : length s.args.sent.now ≡ places * sentSize = search rules in
+    let l : length s.args.sent.now ≡ places * sent_size = search rules in
     let p = s.requires.1 in
     omega arith
 
 put-text-requires-2 : tie.Need-put-text-requires-2
 put-text-requires-2 c κs =
     let s = c.before.before.before.before.before.before.before in
-    let l : length s.args.replies.now ≡ places * replySize = search rules in
-    let w : length s.args.atqb.now ≤ longestReply = rw c.before.before.before.before.enum-told2.given.1 at s.requires.0 in
+    let l : length s.args.replies.now ≡ places * reply_size = search rules in
+    let w : length s.args.atqb.now ≤ longest_reply = rw c.before.before.before.before.enum-told2.given.1 at s.requires.0 in
     let p = s.requires.1 in
     omega arith
 

@@ -1,14 +1,14 @@
 -- `chip::behind_target` meets its contract.
-use Rattle.simulated_chip.specs.StepLaws.{behind-none, behind-some}
+use Rattle.simulated_chip.specs.StepLaws.{behind_none, behind_some}
 use borrow.Author.Rules.{rules}
 use Rattle.simulated_chip.proofs.chip.behind_target.Statement.{statement}
 use Rattle.simulated_chip.proofs.chip.behind_target.Tie as tie
 
 returns : tie.Need-returns
-returns c = search (behind-none, rules)
+returns c = search (behind_none, rules)
 
 returns-2 : tie.Need-returns-2
-returns-2 c = search (behind-some, rules)
+returns-2 c = search (behind_some, rules)
 
 pub behind-target-spec : {M : Type 1} → statement M
 behind-target-spec =

@@ -2,7 +2,7 @@
 use mathlib.Core.Path.{sym}
 use native.Mathlib.Omega.{arith}
 use lib.Seq.{length-take-le}
-use Rattle.simulated_chip.specs.StepLaws.{short-bytes, packet-put, error-put}
+use Rattle.simulated_chip.specs.StepLaws.{short_bytes, packet-put, error_put}
 use borrow.Author.Rules.{rules}
 use Rattle.simulated_chip.proofs.chip.put_packet.Statement.{statement}
 use Rattle.simulated_chip.proofs.chip.put_packet.Tie as tie
@@ -11,7 +11,7 @@ slice-aggregate-build-response : tie.Need-slice-aggregate-build-response
 slice-aggregate-build-response c =
     let s = c.before.before.before.before.before.before in
     let n = c.before.before.size.given.0.0 in
-    let few = short-bytes s.args.size n s.requires.2 c.before.before.size.given.1 in
+    let few = short_bytes s.args.size n s.requires.2 c.before.before.size.given.1 in
     sym (length-take-le n s.args.out.now (let l = s.requires.1 in omega arith))
 
 returns : tie.Need-returns
@@ -26,7 +26,7 @@ returns-2 c =
     let at = c.before.before.before in
     let s = at.before.before.before.before.before.before.before.before in
     let p = s.requires in
-    error-put _ _ _ _ _ _ _ p.0 at.before.before.before.before.enum_told.given.1 at.before.before.before.format.ensures at.build.ensures _ c.built-length2.ensures
+    error_put _ _ _ _ _ _ _ p.0 at.before.before.before.before.enum_told.given.1 at.before.before.before.format.ensures at.build.ensures _ c.built-length2.ensures
 
 pub put-packet-spec : {M : Type 1} → statement M
 put-packet-spec =

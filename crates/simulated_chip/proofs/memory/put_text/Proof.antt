@@ -2,7 +2,7 @@
 use mathlib.Core.Path.{refl, ◌∙◌}
 use native.Mathlib.Omega.{arith}
 use lib.ListN.{length-set, length-take, length-drop}
-use Rattle.simulated_chip.specs.MemoryLaws.{text-put}
+use Rattle.simulated_chip.specs.MemoryLaws.{text_put}
 use borrow.Author.Rules.{rules}
 use Rattle.simulated_chip.proofs.memory.put_text.Statement.{statement}
 use Rattle.simulated_chip.proofs.memory.put_text.Tie as tie
@@ -10,7 +10,7 @@ use Rattle.simulated_chip.proofs.memory.put_text.Tie as tie
 returns : tie.Need-returns
 returns c =
     let p = c.before.before.before.before.before.before.requires in
-    text-put _ _ _ _ _ refl refl p.1 _ c.before.before.copy.ensures.1
+    text_put _ _ _ _ _ refl refl p.1 _ c.before.before.copy.ensures.1
 
 pub put-text-spec : {M : Type 1} → statement M
 put-text-spec =

@@ -1,5 +1,5 @@
 -- `memory::text_at` meets its contract.
-use Rattle.simulated_chip.specs.MemoryLaws.{text-part}
+use Rattle.simulated_chip.specs.MemoryLaws.{text_part}
 use borrow.Author.Rules.{rules}
 use Rattle.simulated_chip.proofs.memory.text_at.Statement.{statement}
 use Rattle.simulated_chip.proofs.memory.text_at.Tie as tie
@@ -14,4 +14,4 @@ text-at-spec =
     (λ c. search rules)
     (λ c. search rules)
     (λ c. search rules)
-    (λ c. search (text-part, rules)))
+    (λ c. search (text_part, rules)))

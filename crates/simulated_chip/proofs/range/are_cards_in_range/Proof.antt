@@ -1,19 +1,19 @@
 -- `range::are_cards_in_range` meets its contract.
 use mathlib.Core.Path.{◌≡◌, refl, sym, ◌∙◌}
 use Prim.Native.Nat.{ℕ, ◌-◌, ◌*◌, ◌≤◌}
-use Rattle.chip_protocol.specs.Names.{mostCards}
-use Rattle.simulated_chip.specs.Counted.{all_from, all-turn, all-not, all_end}
-use Rattle.simulated_chip.specs.Memory.{cardSize}
-use Rattle.simulated_chip.specs.Range.{cardInRange, cardsInRange}
+use Rattle.chip_protocol.specs.Names.{most_cards}
+use Rattle.simulated_chip.specs.Counted.{all_from, all_turn, all_not, all_end}
+use Rattle.simulated_chip.specs.Memory.{card_size}
+use Rattle.simulated_chip.specs.Range.{card_in_range, cards_in_range}
 use borrow.Author.Rules.{rules}
 use Rattle.simulated_chip.proofs.range.are_cards_in_range.Statement.{statement}
 use Rattle.simulated_chip.proofs.range.are_cards_in_range.Tie as tie
 
 abbrev invariant-loop : tie.invariant-loop
-invariant-loop cards i₀ i = (i ≤ mostCards) × (cardsInRange cards ≡ all_from (λ (k : ℕ). cardInRange (cardSize * k) cards) (mostCards - i) i)
+invariant-loop cards i₀ i = (i ≤ most_cards) × (cards_in_range cards ≡ all_from (λ (k : ℕ). card_in_range (card_size * k) cards) (most_cards - i) i)
 
 abbrev decreases-loop : tie.decreases-loop
-decreases-loop cards i₀ i = mostCards - i
+decreases-loop cards i₀ i = most_cards - i
 
 loop-holds : tie.Need-loop-init invariant-loop decreases-loop
 loop-holds c = (search rules, refl)
@@ -21,12 +21,12 @@ loop-holds c = (search rules, refl)
 loop-again : tie.Need-loop-preserved invariant-loop decreases-loop
 loop-again c =
     let at = c.before.before.before in
-    (search rules, all-turn _ _ _ _ at.before.loop.invariant.1 at.loop-test.true (sym c.before.is-card-in-range.ensures ∙ c.if1.true))
+    (search rules, all_turn _ _ _ _ at.before.loop.invariant.1 at.loop-test.true (sym c.before.is-card-in-range.ensures ∙ c.if1.true))
 
 returns : tie.Need-returns invariant-loop decreases-loop
 returns c =
     let at = c.before.before.before in
-    all-not _ _ _ _ at.before.loop.invariant.1 at.loop-test.true (sym c.before.is-card-in-range.ensures ∙ c.if1.false)
+    all_not _ _ _ _ at.before.loop.invariant.1 at.loop-test.true (sym c.before.is-card-in-range.ensures ∙ c.if1.false)
 
 returns-2 : tie.Need-returns-2 invariant-loop decreases-loop
 returns-2 c = all_end _ _ _ _ c.before.loop.invariant.1 c.loop-test.false

@@ -2,17 +2,17 @@
 use mathlib.Core.Path.{◌≡◌, refl}
 use Prim.Native.Nat.{ℕ, ◌-◌, ◌*◌, ◌≤◌}
 use lib.Dec.{leb}
-use Rattle.protocol.specs.Starts.{dataLimit}
+use Rattle.protocol.specs.Starts.{data_limit}
 use Rattle.simulated_chip.specs.Counted.{all_from, all_end}
-use Rattle.simulated_chip.specs.Memory.{sentSize, places, textLength}
-use Rattle.simulated_chip.specs.Range.{sentInRange}
-use Rattle.simulated_chip.specs.RangeLaws.{texts-turn, texts-not}
+use Rattle.simulated_chip.specs.Memory.{sent_size, places, text_length}
+use Rattle.simulated_chip.specs.Range.{sent_in_range}
+use Rattle.simulated_chip.specs.RangeLaws.{texts_turn, texts_not}
 use borrow.Author.Rules.{rules}
 use Rattle.simulated_chip.proofs.range.are_sent_in_range.Statement.{statement}
 use Rattle.simulated_chip.proofs.range.are_sent_in_range.Tie as tie
 
 abbrev invariant-loop : tie.invariant-loop
-invariant-loop sent i₀ i = (i ≤ places) × (sentInRange sent ≡ all_from (λ (k : ℕ). leb (textLength (sentSize * k) sent) dataLimit) (places - i) i)
+invariant-loop sent i₀ i = (i ≤ places) × (sent_in_range sent ≡ all_from (λ (k : ℕ). leb (text_length (sent_size * k) sent) data_limit) (places - i) i)
 
 abbrev decreases-loop : tie.decreases-loop
 decreases-loop sent i₀ i = places - i
@@ -23,12 +23,12 @@ loop-holds c = (search rules, refl)
 returns : tie.Need-returns invariant-loop decreases-loop
 returns c =
     let at = c.before.before.before in
-    texts-not sentSize dataLimit at.before.before.args.sent.now _ _ at.loop-test.true c.before.text-length.ensures.0 _ at.before.loop.invariant.1 c.if1.true
+    texts_not sent_size data_limit at.before.before.args.sent.now _ _ at.loop-test.true c.before.text-length.ensures.0 _ at.before.loop.invariant.1 c.if1.true
 
 loop-again : tie.Need-loop-preserved invariant-loop decreases-loop
 loop-again c =
     let at = c.before.before.before in
-    (search rules, texts-turn sentSize dataLimit at.before.before.args.sent.now _ _ at.loop-test.true c.before.text-length.ensures.0 _ at.before.loop.invariant.1 c.if1.false)
+    (search rules, texts_turn sent_size data_limit at.before.before.args.sent.now _ _ at.loop-test.true c.before.text-length.ensures.0 _ at.before.loop.invariant.1 c.if1.false)
 
 returns-2 : tie.Need-returns-2 invariant-loop decreases-loop
 returns-2 c = all_end _ _ _ _ c.before.loop.invariant.1 c.loop-test.false

@@ -4,14 +4,14 @@ use Prim.Native.Nat.{◌/◌, ◌-◌, ◌≤◌}
 use native.Mathlib.Omega.{arith}
 use lib.Dec.{eqb}
 use lib.ListN.{length, length-set}
-use Rattle.chip_protocol.specs.Chip.{registerValue}
-use Rattle.simulated_chip.specs.ResponseLaws.{readSoFar, registers-turn, registers-end}
+use Rattle.chip_protocol.specs.Chip.{register_value_of}
+use Rattle.simulated_chip.specs.ResponseLaws.{read_so_far, registers_turn, registers-end}
 use borrow.Author.Rules.{rules}
 use Rattle.simulated_chip.proofs.response.read_registers.Statement.{statement}
 use Rattle.simulated_chip.proofs.response.read_registers.Tie as tie
 
 abbrev invariant-loop : tie.invariant-loop
-invariant-loop on bytes out₀ count i₀ out i = (i ≤ length bytes / 2) × (length out ≡ length out₀) × (readSoFar (eqb on 1) bytes i out ≡ readSoFar (eqb on 1) bytes 0 out)
+invariant-loop on bytes out₀ count i₀ out i = (i ≤ length bytes / 2) × (length out ≡ length out₀) × (read_so_far (eqb on 1) bytes i out ≡ read_so_far (eqb on 1) bytes 0 out)
 
 abbrev decreases-loop : tie.decreases-loop
 decreases-loop on bytes out₀ count i₀ out i = length bytes / 2 - i
@@ -27,8 +27,8 @@ loop-again c =
     let next = c.before.before.loop-test.true in (
       search rules,
       length-set at.out at.i c.register-value.result ∙ at.invariant.1,
-      registers-turn (eqb s.args.on 1) s.args.bytes.now at.i _ at.out next (let k = at.invariant.1 in omega arith)
-          (c.register-value.ensures ∙ ap (registerValue (eqb s.args.on 1)) c.before.word-at.ensures) ∙ at.invariant.2,
+      registers_turn (eqb s.args.on 1) s.args.bytes.now at.i _ at.out next (let k = at.invariant.1 in omega arith)
+          (c.register-value.ensures ∙ ap (register_value_of (eqb s.args.on 1)) c.before.word-at.ensures) ∙ at.invariant.2,
     )
 
 returns : tie.Need-returns invariant-loop decreases-loop

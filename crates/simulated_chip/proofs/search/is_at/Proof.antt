@@ -1,16 +1,16 @@
 -- `search::is_at` meets its contract.
 use Rattle.errors.specs.Rules.{picked}
-use Rattle.simulated_chip.specs.Memory.{isStoredAt}
+use Rattle.simulated_chip.specs.Memory.{is_stored_at}
 use borrow.Author.Rules.{rules}
 use Rattle.simulated_chip.proofs.search.is_at.Statement.{statement}
 use Rattle.simulated_chip.proofs.search.is_at.Tie as tie
 
 returns : tie.Need-returns
-unfolding isStoredAt
+unfolding is_stored_at
 returns c = search (picked, rules) depth 8
 
 returns-2 : tie.Need-returns-2
-unfolding isStoredAt
+unfolding is_stored_at
 returns-2 c = search (picked, rules) depth 8
 
 pub is-at-spec : {M : Type 1} → statement M

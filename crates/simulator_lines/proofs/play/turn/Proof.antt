@@ -1,10 +1,10 @@
 -- `play::turn` meets its contract.
 use Rattle.core.specs.Prelude.{◌≡◌, true, length}
 use mathlib.Core.Path.{refl, sym, ap, ◌∙◌}
-use Rattle.protocol.specs.Session.{bufferNeed}
-use Rattle.simulator_lines.specs.Plays.{playedFrom}
+use Rattle.protocol.specs.Session.{buffer_need}
+use Rattle.simulator_lines.specs.Plays.{played_from}
 use Rattle.simulator_lines.specs.Represents.{is_over}
-use Rattle.simulator_lines.proofs.PlayLaws.{next-turn, pause-turn, ends-over}
+use Rattle.simulator_lines.proofs.PlayLaws.{next_turn, pause_turn, ends_over}
 use borrow.Author.Rules.{rules}
 use Rattle.simulator_lines.proofs.play.turn.Statement.{statement}
 use Rattle.simulator_lines.proofs.play.turn.Tie as tie
@@ -81,17 +81,17 @@ returns c = λ p h. c.on-write.ensures (sym c.before.before.before.before.before
 returns-2 : tie.Need-returns-2
 returns-2 c = λ p h.
     let start = c.before.before.before.before.before.before.before.before.before.before.before.before.before.before.before.before.before.before.before in
-    let room : length start.args.buffer.now ≡ bufferNeed = search rules in
-    next-turn start.args.play _ _ _ _ c.played.ensures _ _ _ _ _ _ _ _ _ p _ c.before.before.event.ensures h room _ _ (sym c.before.before.before.before.before.before.before.before.before.before.before.before.before.before.before.order-of.ensures ∙ c.before.before.before.before.before.before.before.before.before.before.before.before.before.enum_told.given.1) refl c.before.before.before.before.before.before.before.before.before.before.before.before.next-event.ensures c.before.before.before.before.before.before.before.before.before.next.ensures refl (c.before.behind-next.ensures _ _) refl refl
+    let room : length start.args.buffer.now ≡ buffer_need = search rules in
+    next_turn start.args.play _ _ _ _ c.played.ensures _ _ _ _ _ _ _ _ _ p _ c.before.before.event.ensures h room _ _ (sym c.before.before.before.before.before.before.before.before.before.before.before.before.before.before.before.order-of.ensures ∙ c.before.before.before.before.before.before.before.before.before.before.before.before.before.enum_told.given.1) refl c.before.before.before.before.before.before.before.before.before.before.before.before.next-event.ensures c.before.before.before.before.before.before.before.before.before.next.ensures refl (c.before.behind-next.ensures _ _) refl refl
 
 returns-3 : tie.Need-returns-3
 returns-3 c = λ p h.
     let start = c.before.before.before.before.before.before.before.before.before.before.before.before.before.before.before.before in
-    let room : length start.args.buffer.now ≡ bufferNeed = search rules in
-    pause-turn start.args.play _ _ _ _ c.played2.ensures _ _ _ _ _ _ _ _ _ p _ c.before.event2.ensures h room (sym c.before.before.before.before.before.before.before.before.before.before.before.before.order-of.ensures ∙ c.before.before.before.before.before.before.before.before.before.before.enum-told2.given.1) refl refl refl refl refl
+    let room : length start.args.buffer.now ≡ buffer_need = search rules in
+    pause_turn start.args.play _ _ _ _ c.played2.ensures _ _ _ _ _ _ _ _ _ p _ c.before.event2.ensures h room (sym c.before.before.before.before.before.before.before.before.before.before.before.before.order-of.ensures ∙ c.before.before.before.before.before.before.before.before.before.before.enum-told2.given.1) refl refl refl refl refl
 
 returns-4 : tie.Need-returns-4
-returns-4 c = λ p h. ends-over c.before.before.before.before.before.before.args.play _ _ _ _ _ _ p (playedFrom 1 p) 1 h refl true (sym (ap is_over (sym c.before.before.order-of.ensures ∙ c.enum-told3.given.1))) refl
+returns-4 c = λ p h. ends_over c.before.before.before.before.before.before.args.play _ _ _ _ _ _ p (played_from 1 p) 1 h refl true (sym (ap is_over (sym c.before.before.order-of.ensures ∙ c.enum-told3.given.1))) refl
 
 pub turn_spec : {M : Type 1} → statement M
 turn_spec =

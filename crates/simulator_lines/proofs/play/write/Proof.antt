@@ -1,6 +1,6 @@
 -- `play::write` meets its contract.
 use mathlib.Core.Path.{refl}
-use Rattle.simulator_lines.proofs.PlayLaws.{none-sent, both-sent, nothing-sent, refusal-sent}
+use Rattle.simulator_lines.proofs.PlayLaws.{none_sent, both_sent, nothing_sent, refusal_sent}
 use borrow.Author.Rules.{rules}
 use Rattle.simulator_lines.proofs.play.write.Statement.{statement}
 use Rattle.simulator_lines.proofs.play.write.Tie as tie
@@ -39,13 +39,13 @@ returns : tie.Need-returns
 returns c = λ l h.
     let at_with = c.before.before.before.before.before in
     let at-step = c.before.before.before.before.before.before.before.before.before.before.before.before.before.before in
-    both-sent _ _ _ _ _ _ _ _ _ _ _ _ l at-step.step.ensures refl h _ _ _ _ _ _ _ _ c.before.before.before.before.before.before.before.before.before.before.answer.given.1 c.before.before.before.prefix.ensures at-step.step.auto.1.1.1.1.1.0 at_with.with.ensures c.with2.ensures
+    both_sent _ _ _ _ _ _ _ _ _ _ _ _ l at-step.step.ensures refl h _ _ _ _ _ _ _ _ c.before.before.before.before.before.before.before.before.before.before.answer.given.1 c.before.before.before.prefix.ensures at-step.step.auto.1.1.1.1.1.0 at_with.with.ensures c.with2.ensures
 
 returns-2 : tie.Need-returns-2
-returns-2 c = λ l h. none-sent _ _ _ _ _ _ _ _ _ _ _ _ l c.before.before.before.before.step.ensures refl h (nothing-sent _ _ c.enum_told.given.1)
+returns-2 c = λ l h. none_sent _ _ _ _ _ _ _ _ _ _ _ _ l c.before.before.before.before.step.ensures refl h (nothing_sent _ _ c.enum_told.given.1)
 
 returns-3 : tie.Need-returns-3
-returns-3 c = λ l h. none-sent _ _ _ _ _ _ _ _ _ _ _ _ l c.before.before.before.before.step.ensures refl h (refusal-sent _ _ _ c.enum-told2.given.1)
+returns-3 c = λ l h. none_sent _ _ _ _ _ _ _ _ _ _ _ _ l c.before.before.before.before.step.ensures refl h (refusal_sent _ _ _ c.enum-told2.given.1)
 
 pub write_spec : {M : Type 1} → statement M
 write_spec =

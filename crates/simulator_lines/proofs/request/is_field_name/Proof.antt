@@ -1,6 +1,6 @@
 -- `request::is_field_name` meets its contract.
 use Rattle.framing.specs.Rules.{steps}
-use Rattle.simulator_lines.specs.Requests.{isFieldName}
+use Rattle.simulator_lines.specs.Requests.{is_field_name_of}
 use borrow.Author.Rules.{rules}
 use Rattle.simulator_lines.proofs.request.is_field_name.Statement.{statement}
 use Rattle.simulator_lines.proofs.request.is_field_name.Tie as tie
@@ -12,7 +12,7 @@ is-exactly-requires : tie.Need-is-exactly-requires
 is-exactly-requires c κs = search rules
 
 returns : tie.Need-returns
-unfolding isFieldName
+unfolding is_field_name_of
 returns c = search (steps, rules) depth 12
 
 slice-aggregate-is-exactly-2 : tie.Need-slice-aggregate-is-exactly-2
@@ -22,7 +22,7 @@ is-exactly-requires-2 : tie.Need-is-exactly-requires-2
 is-exactly-requires-2 c κs = search rules
 
 returns-2 : tie.Need-returns-2
-unfolding isFieldName
+unfolding is_field_name_of
 returns-2 c = search (steps, rules) depth 12
 
 slice-aggregate-is-exactly-3 : tie.Need-slice-aggregate-is-exactly-3
@@ -32,7 +32,7 @@ is-exactly-requires-3 : tie.Need-is-exactly-requires-3
 is-exactly-requires-3 c κs = search rules
 
 returns-3 : tie.Need-returns-3
-unfolding isFieldName
+unfolding is_field_name_of
 returns-3 c = search (steps, rules) depth 12
 
 pub is-field-name-spec : {M : Type 1} → statement M

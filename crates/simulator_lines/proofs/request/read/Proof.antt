@@ -1,11 +1,11 @@
 -- `request::read` meets its contract.
-use Rattle.simulator_lines.proofs.RequestLaws.{asked-long, asked-field, asked-on, asked-off, asked-input, said-call, said-event, said-nothing}
+use Rattle.simulator_lines.proofs.RequestLaws.{asked_long, asked-field, asked-on, asked-off, asked_input, said_call, said_event, said-nothing}
 use borrow.Author.Rules.{rules}
 use Rattle.simulator_lines.proofs.request.read.Statement.{statement}
 use Rattle.simulator_lines.proofs.request.read.Tie as tie
 
 returns : tie.Need-returns
-returns c = search (asked-long, rules) depth 10
+returns c = search (asked_long, rules) depth 10
 
 word-requires : tie.Need-word-requires
 word-requires c κs = search rules
@@ -47,13 +47,13 @@ enum-told-2 : tie.Need-enum-told-2
 enum-told-2 c = search rules
 
 returns-5 : tie.Need-returns-5
-returns-5 c = search (asked-input, said-call, rules) depth 10
+returns-5 c = search (asked_input, said_call, rules) depth 10
 
 returns-6 : tie.Need-returns-6
-returns-6 c = search (asked-input, said-event, rules) depth 10
+returns-6 c = search (asked_input, said_event, rules) depth 10
 
 returns-7 : tie.Need-returns-7
-returns-7 c = search (asked-input, said-nothing, rules) depth 10
+returns-7 c = search (asked_input, said-nothing, rules) depth 10
 
 pub read_spec : {M : Type 1} → statement M
 read_spec =

@@ -1,8 +1,8 @@
 -- `lines::answer` meets its contract. The table's text has the definitions' fields.
 use mathlib.Core.Path.{refl, sym, ap, subst, ◌∙◌}
 use Rattle.bench.specs.Numbers.{number_in}
-use Rattle.slowest_call.specs.Tables.{kindIn, KindWithin, written}
-use Rattle.slowest_call.proofs.LineLaws.{kind-by, number_by, shown-other, shown-no-kind, shown-no-number, shown-script, refused-script}
+use Rattle.slowest_call.specs.Tables.{kind_in, KindWithin, written}
+use Rattle.slowest_call.proofs.LineLaws.{kind_by, number_by, shown-other, shown_no_kind, shown_no_number, shown-script, refused_script}
 use borrow.Author.Rules.{rules}
 use Rattle.slowest_call.proofs.lines.answer.Statement.{statement}
 use Rattle.slowest_call.proofs.lines.answer.Tie as tie
@@ -20,8 +20,8 @@ returns-2 : tie.Need-returns-2
 returns-2 c =
     let at-kind = c.before.before.before.before in
     let at_test = at-kind.before.before.before in
-    shown-no-kind _ _ _ _ (sym at_test.before.count.ensures ∙ at_test.if1.false)
-    (kind-by _ _ at-kind.kind-named.result _ at-kind.before.word.ensures at-kind.kind-named.ensures.0 (ap kindIn c.before.before.enum_told.given.1))
+    shown_no_kind _ _ _ _ (sym at_test.before.count.ensures ∙ at_test.if1.false)
+    (kind_by _ _ at-kind.kind-named.result _ at-kind.before.word.ensures at-kind.kind-named.ensures.0 (ap kind_in c.before.before.enum_told.given.1))
     c.put-refused2.ensures
 
 returns-3 : tie.Need-returns-3
@@ -30,8 +30,8 @@ returns-3 c =
     let at-known = at_read.before.before.before in
     let at-kind = at-known.before.before in
     let at_test = at-kind.before.before.before in
-    shown-no-number _ _ _ _ (sym at_test.before.count.ensures ∙ at_test.if1.false) at-known.kind.given.0.0
-    (kind-by _ _ at-kind.kind-named.result _ at-kind.before.word.ensures at-kind.kind-named.ensures.0 (ap kindIn at-known.kind.given.1))
+    shown_no_number _ _ _ _ (sym at_test.before.count.ensures ∙ at_test.if1.false) at-known.kind.given.0.0
+    (kind_by _ _ at-kind.kind-named.result _ at-kind.before.word.ensures at-kind.kind-named.ensures.0 (ap kind_in at-known.kind.given.1))
     (number_by _ _ at_read.read.result _ at_read.before.word2.ensures at_read.read.ensures (ap number_in c.before.before.enum-told2.given.1))
     c.put-refused3.ensures
 
@@ -44,7 +44,7 @@ returns-4 c =
     let at-kind = at-known.before.before in
     let at_test = at-kind.before.before.before in
     shown-script _ _ _ _ (sym at_test.before.count.ensures ∙ at_test.if1.false) at-known.kind.given.0.0
-    (kind-by _ _ at-kind.kind-named.result _ at-kind.before.word.ensures at-kind.kind-named.ensures.0 (ap kindIn at-known.kind.given.1)) _
+    (kind_by _ _ at-kind.kind-named.result _ at-kind.before.word.ensures at-kind.kind-named.ensures.0 (ap kind_in at-known.kind.given.1)) _
     (number_by _ _ at_read.read.result _ at_read.before.word2.ensures at_read.read.ensures (ap number_in at-idle.idle.given.1))
     (subst KindWithin at-known.kind.given.1 at-kind.kind-named.ensures.1) _ at-script.script.ensures c.before.n.given.1
 
@@ -56,8 +56,8 @@ returns-5 c =
     let at-known = at_read.before.before.before in
     let at-kind = at-known.before.before in
     let at_test = at-kind.before.before.before in
-    refused-script _ _ _ _ (sym at_test.before.count.ensures ∙ at_test.if1.false) at-known.kind.given.0.0
-    (kind-by _ _ at-kind.kind-named.result _ at-kind.before.word.ensures at-kind.kind-named.ensures.0 (ap kindIn at-known.kind.given.1)) _
+    refused_script _ _ _ _ (sym at_test.before.count.ensures ∙ at_test.if1.false) at-known.kind.given.0.0
+    (kind_by _ _ at-kind.kind-named.result _ at-kind.before.word.ensures at-kind.kind-named.ensures.0 (ap kind_in at-known.kind.given.1)) _
     (number_by _ _ at_read.read.result _ at_read.before.word2.ensures at_read.read.ensures (ap number_in at-idle.idle.given.1))
     (subst KindWithin at-known.kind.given.1 at-kind.kind-named.ensures.1) _ _ _ at-script.script.ensures c.before.before.before.refusal.given.1 c.put-refused4.ensures
 

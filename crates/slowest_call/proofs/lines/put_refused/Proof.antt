@@ -1,8 +1,8 @@
 -- `lines::put_refused` meets its contract.
 use mathlib.Core.Path.{◌≡◌}
 use lib.ListN.{length}
-use Rattle.slowest_call.specs.Texts.{scriptRoom}
-use Rattle.slowest_call.proofs.LineLaws.{refused-shown}
+use Rattle.slowest_call.specs.Texts.{script_room}
+use Rattle.slowest_call.proofs.LineLaws.{refused_shown}
 use borrow.Author.Rules.{rules}
 use Rattle.slowest_call.proofs.lines.put_refused.Statement.{statement}
 use Rattle.slowest_call.proofs.lines.put_refused.Tie as tie
@@ -19,4 +19,4 @@ put-refused-spec =
     (λ c.
     let at-put = c.before.before.before.before in
     let start = at-put.before.before.before in
-    refused-shown _ _ _ _ _ _ _ c.before.before.before.numbered.ensures at-put.put.ensures c.put-decimal.ensures (search rules)))
+    refused_shown _ _ _ _ _ _ _ c.before.before.before.numbered.ensures at-put.put.ensures c.put-decimal.ensures (search rules)))

@@ -1,5 +1,5 @@
 -- `lines::reply` meets its contract.
-use Rattle.slowest_call.proofs.LineLaws.{reply-text, reply-long, reply-end}
+use Rattle.slowest_call.proofs.LineLaws.{reply_text, reply_long, reply-end}
 use borrow.Author.Rules.{rules}
 use Rattle.slowest_call.proofs.lines.reply.Statement.{statement}
 use Rattle.slowest_call.proofs.lines.reply.Tie as tie
@@ -18,6 +18,6 @@ reply-spec =
     (λ c. search rules)
     (λ c κs. search rules)
     (λ c. search rules)
-    (λ c. (search (reply-text, rules) depth 8, λ _. search rules))
-    (λ c. (search (reply-long, rules), λ _. search rules))
+    (λ c. (search (reply_text, rules) depth 8, λ _. search rules))
+    (λ c. (search (reply_long, rules), λ _. search rules))
     (λ c. (search (reply-end, rules), λ h. h)))

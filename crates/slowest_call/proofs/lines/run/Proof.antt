@@ -3,12 +3,12 @@ use mathlib.Core.Path.{◌≡◌, sym}
 use Prim.Native.Nat.{ℕ}
 use lib.ListN.{length, length-replicate}
 use borrow.Author.Rules.{rules}
-use Rattle.slowest_call.specs.Texts.{scriptRoom}
+use Rattle.slowest_call.specs.Texts.{script_room}
 use Rattle.slowest_call.proofs.lines.run.Statement.{statement}
 use Rattle.slowest_call.proofs.lines.run.Tie as tie
 
 abbrev invariant-loop : tie.invariant-loop
-invariant-loop buffer₀ line₀ out₀ unread₀ turns₀ buffer line out unread turns = (length buffer ≡ 65536) × (length line ≡ 8192) × (length out ≡ scriptRoom)
+invariant-loop buffer₀ line₀ out₀ unread₀ turns₀ buffer line out unread turns = (length buffer ≡ 65536) × (length line ≡ 8192) × (length out ≡ script_room)
 
 abbrev decreases-loop : tie.decreases-loop
 decreases-loop buffer₀ line₀ out₀ unread₀ turns₀ buffer line out unread turns = turns

@@ -1,6 +1,6 @@
 -- `script::most` meets its contract.
 use native.Mathlib.Omega.{arith}
-use Rattle.slowest_call.proofs.ScriptLaws.{most-field, most-value, most-there}
+use Rattle.slowest_call.proofs.ScriptLaws.{most-field, most-value, most_there}
 use borrow.Author.Rules.{rules}
 use Rattle.slowest_call.proofs.script.most.Statement.{statement}
 use Rattle.slowest_call.proofs.script.most.Tie as tie
@@ -9,7 +9,7 @@ returns : tie.Need-returns
 returns c =
     let at_read = c.before.before in
     let start = at_read.before.before.before in
-    absurd (most-there _ start.requires.1 _ _ (most-field _ start.requires.0 _ start.requires.1 _ _ at_read.before.field.ensures (omega arith)) at_read.read.ensures c.enum_told.given.1)
+    absurd (most_there _ start.requires.1 _ _ (most-field _ start.requires.0 _ start.requires.1 _ _ at_read.before.field.ensures (omega arith)) at_read.read.ensures c.enum_told.given.1)
 
 returns-2 : tie.Need-returns-2
 returns-2 c =

@@ -4,7 +4,7 @@ use mathlib.Core.List.{[]}
 use Prim.Native.Nat.{◌≤◌}
 use native.Mathlib.Omega.{arith}
 use lib.ListN.{length, get_or, drop}
-use Rattle.slowest_call.specs.Fields.{fields_of, field-passed, no_field, field-here}
+use Rattle.slowest_call.specs.Fields.{fields_of, field_passed, no_field, field_here}
 use borrow.Author.Rules.{rules}
 use Rattle.slowest_call.proofs.table.field_start.Statement.{statement}
 use Rattle.slowest_call.proofs.table.field_start.Tie as tie
@@ -27,5 +27,5 @@ field-start-spec =
     (λ c. search rules)
     (λ c. search rules)
     (λ c. search rules)
-    (λ c. let at-find = c.before.find in let at-loop = c.before.before.before.loop in (omega (arith, c.if1.false, at-find.ensures.1), field-passed _ _ _ at-loop.invariant.0 at-find.ensures.0 _ _ at-loop.invariant.1 (search rules) _ c.if1.false at-find.ensures.1 refl))
-    (λ c. (search rules, search (field-here, rules))))
+    (λ c. let at-find = c.before.find in let at-loop = c.before.before.before.loop in (omega (arith, c.if1.false, at-find.ensures.1), field_passed _ _ _ at-loop.invariant.0 at-find.ensures.0 _ _ at-loop.invariant.1 (search rules) _ c.if1.false at-find.ensures.1 refl))
+    (λ c. (search rules, search (field_here, rules))))

@@ -4,17 +4,17 @@ use Prim.Native.Nat.{◌≤◌, ◌<◌, ◌-◌}
 use native.Mathlib.Omega.{arith}
 use lib.ListN.{drop}
 use Rattle.slowest_call.specs.Kinds.{kinds}
-use Rattle.slowest_call.specs.Texts.{kindNamed, kindCount}
-use Rattle.slowest_call.proofs.ScriptLaws.{name-field, named_none, named_here, named-later, named-nowhere}
+use Rattle.slowest_call.specs.Texts.{kind_named_of, kind_count}
+use Rattle.slowest_call.proofs.ScriptLaws.{name-field, named_none, named_here, named_later, named_nowhere}
 use borrow.Author.Rules.{rules}
 use Rattle.slowest_call.proofs.table.kind_named.Statement.{statement}
 use Rattle.slowest_call.proofs.table.kind_named.Tie as tie
 
 abbrev invariant-loop : tie.invariant-loop
-invariant-loop table name n₀ n = (n ≤ kindCount) × (kindNamed kinds name ≡ kindNamed (drop n kinds) name)
+invariant-loop table name n₀ n = (n ≤ kind_count) × (kind_named_of kinds name ≡ kind_named_of (drop n kinds) name)
 
 abbrev decreases-loop : tie.decreases-loop
-decreases-loop table name n₀ n = kindCount - n
+decreases-loop table name n₀ n = kind_count - n
 
 pub kind-named-spec : {M : Type 1} → statement M
 kind-named-spec =
@@ -27,8 +27,8 @@ kind-named-spec =
     (λ c. search rules)
     (λ c κs. search rules)
     (λ c κs. search rules)
-    (λ c. let at-loop = c.before.before.before.before.loop in let within : at-loop.n < kindCount = search rules in (named_here _ _ within at-loop.invariant.1 _ _ c.before.is-exactly.ensures (name-field _ c.before.before.before.before.before.before.before.requires _ within _ _ c.before.before.field.ensures (omega arith)) c.if1.true, within))
+    (λ c. let at-loop = c.before.before.before.before.loop in let within : at-loop.n < kind_count = search rules in (named_here _ _ within at-loop.invariant.1 _ _ c.before.is-exactly.ensures (name-field _ c.before.before.before.before.before.before.before.requires _ within _ _ c.before.before.field.ensures (omega arith)) c.if1.true, within))
     (λ c. search rules)
     (λ c. search rules)
-    (λ c. let at-loop = c.before.before.before.before.loop in let within : at-loop.n < kindCount = search rules in (search rules, named-later _ _ within at-loop.invariant.1 _ _ c.before.is-exactly.ensures (name-field _ c.before.before.before.before.before.before.before.requires _ within _ _ c.before.before.field.ensures (omega arith)) c.if1.false))
-    (λ c. (search (named-nowhere, rules), tt)))
+    (λ c. let at-loop = c.before.before.before.before.loop in let within : at-loop.n < kind_count = search rules in (search rules, named_later _ _ within at-loop.invariant.1 _ _ c.before.is-exactly.ensures (name-field _ c.before.before.before.before.before.before.before.requires _ within _ _ c.before.before.field.ensures (omega arith)) c.if1.false))
+    (λ c. (search (named_nowhere, rules), tt)))

@@ -1,7 +1,7 @@
 -- `type_a::is_target_data` meets its contract.
 use borrow.Author.Rules.{rules}
 use native.Mathlib.Omega.{arith}
-use Rattle.targets.proofs.TypeALaws.{few_bytes, other_length, short-uid, uid-then}
+use Rattle.targets.proofs.TypeALaws.{few_bytes, other_length, short_uid, uid_then}
 use Rattle.targets.proofs.type_a.is_target_data.Statement.{statement}
 use Rattle.targets.proofs.type_a.is_target_data.Tie as tie
 
@@ -14,10 +14,10 @@ is-target-data-spec =
     (λ c κs. search rules)
     (λ c κs. search rules)
     (λ c. omega arith)
-    (λ c. search (short-uid, rules))
+    (λ c. search (short_uid, rules))
     (λ c. search rules)
     (λ c. search rules)
     (λ c. search rules)
     (λ c κs. search rules)
-    (λ c. search (uid-then, rules))
+    (λ c. search (uid_then, rules))
     (λ c. search (other_length, rules)))

@@ -2,7 +2,7 @@
 use borrow.Author.Rules.{rules}
 use mathlib.Core.Path.{ap}
 use mathlib.Core.Option.{some}
-use Rattle.cut_lines.proofs.ShownLaws.{no-refusal}
+use Rattle.cut_lines.proofs.ShownLaws.{no_refusal}
 use Rattle.cut_lines.proofs.shown.Shown.of.Statement.{statement}
 use Rattle.cut_lines.proofs.shown.Shown.of.Tie as tie
 
@@ -19,4 +19,4 @@ of_spec =
     (λ c. rw c.before.before.output.given.1 (ap some c.numbered.ensures))
     (λ c. rw c.before.before.output2.given.1 (ap some c.numbered2.ensures))
     (λ c. rw c.before.before.output3.given.1 (ap some c.numbered3.ensures))
-    (λ c. no-refusal c.before.args.output c.match.keys4))
+    (λ c. no_refusal c.before.args.output c.match.keys4))

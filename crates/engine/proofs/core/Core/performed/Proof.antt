@@ -2,9 +2,9 @@
 use mathlib.Core.Path.{subst}
 use native.Mathlib.Omega.{arith}
 use Rattle.core.specs.Prelude.{take}
-use Rattle.stages.specs.Decided.{layoutBytes, DecisionFits}
-use Rattle.engine.specs.Core.{performsOf}
-use Rattle.engine.specs.Laws.{part-copied, done-copied, type1-copied, lengths-copied, found_within, found-taken, answer-fits}
+use Rattle.stages.specs.Decided.{layout_bytes, DecisionFits}
+use Rattle.engine.specs.Core.{performs_of}
+use Rattle.engine.specs.Laws.{part_copied, done_copied, type1_copied, lengths_copied, found_within, found_taken, answer-fits}
 use Rattle.engine.proofs.Ends.{goes_on}
 use borrow.Author.Rules.{rules}
 use Rattle.engine.proofs.core.Core.performed.Statement.{statement}
@@ -26,45 +26,45 @@ continued-requires : tie.Need-continued-requires
 continued-requires c κs = c.before.before.before.before.before.before.before.before.requires
 
 returns : tie.Need-returns
-unfolding performsOf
+unfolding performs_of
 returns c =
     let a = c.before.before.before.before.before.before.before.before.before.before.before.before.before.args in
     let p = c.before.before.before.before.before.before.before.before.before.before.before.before.before.requires in
     let d = c.before.before.before.before.before.before.before.decision.given in
     let n = subst (DecisionFits (take a.self.found a.found.now) a.response.now) d.1 p.1 in
-    rw d.1 (part-copied a.self _ a.response.now a.buffer.now _ _ _ d.0.0 d.0.1.0 n p.0 p.2.4 c.before.before.before.append.ensures (c.ended.ensures _ _))
+    rw d.1 (part_copied a.self _ a.response.now a.buffer.now _ _ _ d.0.0 d.0.1.0 n p.0 p.2.4 c.before.before.before.append.ensures (c.ended.ensures _ _))
 
 returns-2 : tie.Need-returns-2
-unfolding performsOf
+unfolding performs_of
 returns-2 c =
     let a = c.before.before.before.before.before.before.before.before.before.before.before.before.before.args in
     rw c.before.before.before.before.before.before.before.decision2.given.1
-    (done-copied a.self _ (layoutBytes (take a.self.found a.found.now) a.response.now c.before.before.before.before.before.before.before.decision2.given.0.0) a.buffer.now _ _ _ c.before.before.before.put-answer.ensures.0 c.before.before.before.put-answer.ensures.1 (c.ended2.ensures _ _))
+    (done_copied a.self _ (layout_bytes (take a.self.found a.found.now) a.response.now c.before.before.before.before.before.before.before.decision2.given.0.0) a.buffer.now _ _ _ c.before.before.before.put-answer.ensures.0 c.before.before.before.put-answer.ensures.1 (c.ended2.ensures _ _))
 
 returns-3 : tie.Need-returns-3
-unfolding performsOf
+unfolding performs_of
 returns-3 c =
     let a = c.before.before.before.before.before.before.before.before.before.before.before.before.before.args in
     rw c.before.before.before.before.before.before.before.decision3.given.1
-    (type1-copied a.self _ (layoutBytes (take a.self.found a.found.now) a.response.now c.before.before.before.before.before.before.before.decision3.given.0.0) a.buffer.now _ _ _ c.before.before.before.put-answer2.ensures.0 c.before.before.before.put-answer2.ensures.1 (c.ended3.ensures _ _))
+    (type1_copied a.self _ (layout_bytes (take a.self.found a.found.now) a.response.now c.before.before.before.before.before.before.before.decision3.given.0.0) a.buffer.now _ _ _ c.before.before.before.put-answer2.ensures.0 c.before.before.before.put-answer2.ensures.1 (c.ended3.ensures _ _))
 
 returns-4 : tie.Need-returns-4
-unfolding performsOf
+unfolding performs_of
 returns-4 c =
     let a = c.before.before.before.before.before.before.before.before.before.before.before.before.before.args in
     rw c.before.before.before.before.before.before.before.decision4.given.1
-    (lengths-copied a.self _ (layoutBytes (take a.self.found a.found.now) a.response.now c.before.before.before.before.before.before.before.decision4.given.0.0) a.buffer.now _ _ _ _ _ c.before.before.before.put-answer3.ensures.0 c.before.before.before.put-answer3.ensures.1 (c.ended4.ensures _ _))
+    (lengths_copied a.self _ (layout_bytes (take a.self.found a.found.now) a.response.now c.before.before.before.before.before.before.before.decision4.given.0.0) a.buffer.now _ _ _ _ _ c.before.before.before.put-answer3.ensures.0 c.before.before.before.put-answer3.ensures.1 (c.ended4.ensures _ _))
 
 returns-5 : tie.Need-returns-5
-unfolding performsOf
+unfolding performs_of
 returns-5 c = rw c.before.enum_told.given.1 (c.ended5.ensures _ _)
 
 returns-6 : tie.Need-returns-6
-unfolding performsOf
+unfolding performs_of
 returns-6 c = rw c.before.before.decision5.given.1 (c.ended6.ensures _ _)
 
 returns-7 : tie.Need-returns-7
-unfolding performsOf
+unfolding performs_of
 returns-7 c = rw c.before.before.decision6.given.1 (c.ended7.ensures _ _)
 
 returns-8 : tie.Need-returns-8
@@ -83,7 +83,7 @@ performed-spec =
     (λ c κs. search rules)
     (λ c. search rules)
     (λ c. let x = c.before.before.before.before.before.before.before in found_within x.args.self x.args.command.now x.args.found.now x.args.buffer.now x.requires.2)
-    (λ c. let x = c.before.before.before.before.before.before.before.before in found-taken x.args.self x.args.command.now x.args.found.now x.args.buffer.now x.requires.2)
+    (λ c. let x = c.before.before.before.before.before.before.before.before in found_taken x.args.self x.args.command.now x.args.found.now x.args.buffer.now x.requires.2)
     (λ c κs.
     let x = c.before.before.before.before.before.before.before.before.before in
     answer-fits x.args.self x.args.command.now x.args.found.now x.args.buffer.now x.requires.2 x.args.response.now _ x.requires.0
@@ -91,7 +91,7 @@ performed-spec =
     (λ c κs. search rules)
     (λ c. search rules)
     (λ c. let x = c.before.before.before.before.before.before.before in found_within x.args.self x.args.command.now x.args.found.now x.args.buffer.now x.requires.2)
-    (λ c. let x = c.before.before.before.before.before.before.before.before in found-taken x.args.self x.args.command.now x.args.found.now x.args.buffer.now x.requires.2)
+    (λ c. let x = c.before.before.before.before.before.before.before.before in found_taken x.args.self x.args.command.now x.args.found.now x.args.buffer.now x.requires.2)
     (λ c κs.
     let x = c.before.before.before.before.before.before.before.before.before in
     answer-fits x.args.self x.args.command.now x.args.found.now x.args.buffer.now x.requires.2 x.args.response.now _ x.requires.0
@@ -99,7 +99,7 @@ performed-spec =
     (λ c κs. search rules)
     (λ c. search rules)
     (λ c. let x = c.before.before.before.before.before.before.before in found_within x.args.self x.args.command.now x.args.found.now x.args.buffer.now x.requires.2)
-    (λ c. let x = c.before.before.before.before.before.before.before.before in found-taken x.args.self x.args.command.now x.args.found.now x.args.buffer.now x.requires.2)
+    (λ c. let x = c.before.before.before.before.before.before.before.before in found_taken x.args.self x.args.command.now x.args.found.now x.args.buffer.now x.requires.2)
     (λ c κs.
     let x = c.before.before.before.before.before.before.before.before.before in
     answer-fits x.args.self x.args.command.now x.args.found.now x.args.buffer.now x.requires.2 x.args.response.now _ x.requires.0

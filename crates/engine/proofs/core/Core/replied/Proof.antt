@@ -4,11 +4,11 @@ use mathlib.Core.Path.{sym, ap, ◌∙◌}
 use native.Mathlib.Omega.{arith}
 use Rattle.core.specs.Prelude.{take}
 use lib.Seq.{length-take-le}
-use Rattle.exchange.specs.Responses.{its-response}
+use Rattle.exchange.specs.Responses.{its_response}
 use Rattle.stages.specs.Decided.{DecisionRefines}
-use Rattle.engine.specs.Core.{arrays, performsOf, replyDecision}
-use Rattle.engine.specs.Ends.{endReply, Checked, without-response, with-response, end-performs}
-use Rattle.engine.proofs.Ends.{no-packet, refines-fault, refines-response}
+use Rattle.engine.specs.Core.{arrays, performs_of, reply_decision}
+use Rattle.engine.specs.Ends.{end_reply, Checked, without_response, with_response, end_performs}
+use Rattle.engine.proofs.Ends.{no_packet, refines_fault, refines_response}
 use borrow.Author.Rules.{rules}
 use Rattle.engine.proofs.core.Core.replied.Statement.{statement}
 use Rattle.engine.proofs.core.Core.replied.Tie as tie
@@ -33,16 +33,16 @@ performed-requires c κs =
     let response = c.before.before.before.before.before.before.match.response.now in
     let checked : Checked a.self.exchange.code a.packet.now response a.end to
     = ⊎_elim
-    (λ w. without-response _ _ _ _ _ _ w.3.ensures w.1.given.1 _ w.4.taken w.5.ensures w.6 (ap (λ x. x.now) w.7))
+    (λ w. without_response _ _ _ _ _ _ w.3.ensures w.1.given.1 _ w.4.taken w.5.ensures w.6 (ap (λ x. x.now) w.7))
     (⊎_elim
-    (λ w. with-response _ _ _ _ _ _ w.3.ensures w.1.given.1 w.4.left p.0 w.6 (ap (λ x. x.now) w.7))
-    (λ w. no-packet _ _ _ _ _ w.0.keys2 w.1 (ap (λ x. x.now) w.2)))
+    (λ w. with_response _ _ _ _ _ _ w.3.ensures w.1.given.1 w.4.left p.0 w.6 (ap (λ x. x.now) w.7))
+    (λ w. no_packet _ _ _ _ _ w.0.keys2 w.1 (ap (λ x. x.now) w.2)))
     c.before.before.before.before.before.before.match.branch in
     let h = arrays a.command.now a.found.now in
-    let refines : DecisionRefines (take a.self.found a.found.now) response c.before.before.before.match2.decision (replyDecision a.self h (endReply response to))
+    let refines : DecisionRefines (take a.self.found a.found.now) response c.before.before.before.match2.decision (reply_decision a.self h (end_reply response to))
     = ⊎_elim
-    (λ w. refines-fault a.self h _ _ _ _ to w.4 _ w.1.given.1 (w.3.ensures _))
-    (λ w. refines-response a.self h _ _ _ _ to w.2 w.0.keys2 w.1.ensures)
+    (λ w. refines_fault a.self h _ _ _ _ to w.4 _ w.1.given.1 (w.3.ensures _))
+    (λ w. refines_response a.self h _ _ _ _ to w.2 w.0.keys2 w.1.ensures)
     c.before.before.before.match2.branch in
     (checked.few, refines.fits, p.1)
 
@@ -54,20 +54,20 @@ returns c =
     let response = c.before.before.before.before.before.before.before.before.before.before.before.before.before.match.response.now in
     let checked : Checked a.self.exchange.code a.packet.now response a.end to
     = ⊎_elim
-    (λ w. without-response _ _ _ _ _ _ w.3.ensures w.1.given.1 _ w.4.taken w.5.ensures w.6 (ap (λ x. x.now) w.7))
+    (λ w. without_response _ _ _ _ _ _ w.3.ensures w.1.given.1 _ w.4.taken w.5.ensures w.6 (ap (λ x. x.now) w.7))
     (⊎_elim
-    (λ w. with-response _ _ _ _ _ _ w.3.ensures w.1.given.1 w.4.left p.0 w.6 (ap (λ x. x.now) w.7))
-    (λ w. no-packet _ _ _ _ _ w.0.keys2 w.1 (ap (λ x. x.now) w.2)))
+    (λ w. with_response _ _ _ _ _ _ w.3.ensures w.1.given.1 w.4.left p.0 w.6 (ap (λ x. x.now) w.7))
+    (λ w. no_packet _ _ _ _ _ w.0.keys2 w.1 (ap (λ x. x.now) w.2)))
     c.before.before.before.before.before.before.before.before.before.before.before.before.before.match.branch in
     let h = arrays a.command.now a.found.now in
-    let refines : DecisionRefines (take a.self.found a.found.now) response c.before.before.before.before.before.before.before.before.before.before.match2.decision (replyDecision a.self h (endReply response to))
+    let refines : DecisionRefines (take a.self.found a.found.now) response c.before.before.before.before.before.before.before.before.before.before.match2.decision (reply_decision a.self h (end_reply response to))
     = ⊎_elim
-    (λ w. refines-fault a.self h _ _ _ _ to w.4 _ w.1.given.1 (w.3.ensures _))
-    (λ w. refines-response a.self h _ _ _ _ to w.2 w.0.keys2 w.1.ensures)
+    (λ w. refines_fault a.self h _ _ _ _ to w.4 _ w.1.given.1 (w.3.ensures _))
+    (λ w. refines_response a.self h _ _ _ _ to w.2 w.0.keys2 w.1.ensures)
     c.before.before.before.before.before.before.before.before.before.before.match2.branch in
     c.before.before.before.before.before.before.performed.ensures
-    ∙ ap (λ d. performsOf a.self h d a.buffer.now) (refines.is ∙ ap (replyDecision a.self h) checked.reply)
-    ∙ end-performs a.self h a.self.exchange.code a.packet.now a.end a.buffer.now
+    ∙ ap (λ d. performs_of a.self h d a.buffer.now) (refines.is ∙ ap (reply_decision a.self h) checked.reply)
+    ∙ end_performs a.self h a.self.exchange.code a.packet.now a.end a.buffer.now
 
 pub replied-spec : {M : Type 1} → statement M
 replied-spec =
@@ -80,8 +80,8 @@ replied-spec =
     (λ c. search rules)
     (λ c κs. search rules)
     (λ c κs. search rules)
-    (λ c. omega (arith, (its-response _ _ _ c.before.response-payload.ensures c.if1.false).long))
-    (λ c. omega (arith, (its-response _ _ _ c.before.response-payload.ensures c.if1.false).long))
+    (λ c. omega (arith, (its_response _ _ _ c.before.response-payload.ensures c.if1.false).long))
+    (λ c. omega (arith, (its_response _ _ _ c.before.response-payload.ensures c.if1.false).long))
     (λ c. search rules)
     (λ c. search rules)
     slice-aggregate-pending

@@ -5,7 +5,7 @@ use lib.ListN.{length-take}
 use lib.Seq.{length-take-le}
 use Rattle.errors.specs.Choice.{pick}
 use Rattle.stages.specs.Stages.{cmd}
-use Rattle.engine.specs.Core.{arrays, sendsOf, stageOf}
+use Rattle.engine.specs.Core.{arrays, sends_of, stage_of}
 use borrow.Author.Rules.{rules}
 use Rattle.engine.proofs.core.Core.send.Statement.{statement}
 use Rattle.engine.proofs.core.Core.send.Tie as tie
@@ -29,23 +29,23 @@ sent-requires-2 : tie.Need-sent-requires-2
 sent-requires-2 c κs = let l = c.before.before.before.before.command.result.bytes in let n : c.before.before.before.before.command.result.len ≤ 12 = c.before.before.before.before.command.ensures.fits in (omega (arith, length-take c.before.before.before.before.command.result.len l), c.before.before.before.before.before.before.before.before.requires.2)
 
 returns : tie.Need-returns
-unfolding stageOf pick
+unfolding stage_of pick
 returns c = λ f.
     let a = c.before.before.before.before.before.before.before.before.before.before.args in
     let p = c.before.before.before.before.before.before.command.result in
     let later = take a.self.command a.command.now in
     c.before.before.sent.ensures (arrays a.command.now f)
-    ∙ ap (λ m. sendsOf a.self (arrays a.command.now f) a.call m a.buffer.now)
+    ∙ ap (λ m. sends_of a.self (arrays a.command.now f) a.call m a.buffer.now)
     (sym (ap (λ t. cmd p.code p.clock (pick t later (take p.len p.bytes))) c.before.before.before.before.before.if1.true) ∙ c.before.before.before.before.before.before.command.ensures.is)
 
 returns-2 : tie.Need-returns-2
-unfolding stageOf pick
+unfolding stage_of pick
 returns-2 c = λ f.
     let a = c.before.before.before.before.before.before.before.before.before.before.before.args in
     let p = c.before.before.before.before.before.before.before.command.result in
     let later = take a.self.command a.command.now in
     c.before.before.sent2.ensures (arrays a.command.now f)
-    ∙ ap (λ m. sendsOf a.self (arrays a.command.now f) a.call m a.buffer.now)
+    ∙ ap (λ m. sends_of a.self (arrays a.command.now f) a.call m a.buffer.now)
     (sym (ap (λ t. cmd p.code p.clock (pick t later (take p.len p.bytes))) c.before.before.before.before.before.before.if1.false) ∙ c.before.before.before.before.before.before.before.command.ensures.is)
 
 pub send-spec : {M : Type 1} → statement M

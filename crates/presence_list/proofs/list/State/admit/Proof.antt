@@ -1,28 +1,28 @@
 -- `list::State::admit` meets its contract.
-use Rattle.presence_list.specs.Steps.{admissionOf}
+use Rattle.presence_list.specs.Steps.{admission_of}
 use Rattle.errors.specs.Rules.{picked}
 use borrow.Author.Rules.{rules}
 use Rattle.presence_list.proofs.list.State.admit.Statement.{statement}
 use Rattle.presence_list.proofs.list.State.admit.Tie as tie
 
 returns : tie.Need-returns
-unfolding admissionOf
+unfolding admission_of
 returns c = search (picked, rules) depth 14
 
 returns-2 : tie.Need-returns-2
-unfolding admissionOf
+unfolding admission_of
 returns-2 c = search (picked, rules) depth 14
 
 returns-3 : tie.Need-returns-3
-unfolding admissionOf
+unfolding admission_of
 returns-3 c = search (picked, rules) depth 14
 
 returns-4 : tie.Need-returns-4
-unfolding admissionOf
+unfolding admission_of
 returns-4 c = search (picked, rules) depth 14
 
 returns-5 : tie.Need-returns-5
-unfolding admissionOf
+unfolding admission_of
 returns-5 c = search (picked, rules) depth 14
 
 pub admit-spec : {M : Type 1} → statement M

@@ -1,8 +1,8 @@
 -- `chip::State::add_card` meets its contract.
 use Rattle.simulated_chip.specs.Counted.{length_from}
-use Rattle.simulated_chip.specs.Memory.{cardsIn}
-use Rattle.simulated_chip.specs.AdmissionLaws.{card-taken}
-use Rattle.simulated_chip.specs.AdditionLaws.{card-added, card-refused, card-out-of-range}
+use Rattle.simulated_chip.specs.Memory.{cards_in}
+use Rattle.simulated_chip.specs.AdmissionLaws.{card_taken}
+use Rattle.simulated_chip.specs.AdditionLaws.{card-added, card_refused, card_out_of_range}
 use borrow.Author.Rules.{rules}
 use Rattle.simulated_chip.proofs.chip.State.add_card.Statement.{statement}
 use Rattle.simulated_chip.proofs.chip.State.add_card.Tie as tie
@@ -11,7 +11,7 @@ with-card-requires : tie.Need-with-card-requires
 with-card-requires c κs =
     let at = c.before.before.before.before.before in
     let a = at.before.before.before.before.before.before.before.before.before.args in
-    card-taken a.cards.now a.sent.now a.replies.now a.self.count a.kind a.bitrate a.list-data.now a.atqb.now _ at.admit-card.ensures c.before.before.before.enum_told.given.1
+    card_taken a.cards.now a.sent.now a.replies.now a.self.count a.kind a.bitrate a.list-data.now a.atqb.now _ at.admit-card.ensures c.before.before.before.enum_told.given.1
 
 returns : tie.Need-returns
 returns c =
@@ -19,21 +19,21 @@ returns c =
     let s = at.before.before.before.before.before.before.before.before.before in
     let a = s.args in
     card-added a.self a.cards.now a.sent.now a.replies.now _ at.before.before.before.is_in_range.ensures at.before.before.if1.true _ a.kind a.bitrate a.list-data.now a.atqb.now
-    (at.admit-card.ensures (cardsIn a.self.count a.cards.now a.sent.now a.replies.now) (length_from _ a.self.count 0)) _ c.before.before.before.before.enum_told.given.1 c.with-card.ensures
+    (at.admit-card.ensures (cards_in a.self.count a.cards.now a.sent.now a.replies.now) (length_from _ a.self.count 0)) _ c.before.before.before.before.enum_told.given.1 c.with-card.ensures
 
 returns-2 : tie.Need-returns-2
 returns-2 c =
     let at = c.before.before.before.before in
     let s = at.before.before.before.before.before.before.before.before.before in
     let a = s.args in
-    card-refused a.self a.cards.now a.sent.now a.replies.now _ at.before.before.before.is_in_range.ensures at.before.before.if1.true _ a.kind a.bitrate a.list-data.now a.atqb.now
-    (at.admit-card.ensures (cardsIn a.self.count a.cards.now a.sent.now a.replies.now) (length_from _ a.self.count 0)) _ _ _ c.before.before.refusal.given.1 c.refuses.ensures
+    card_refused a.self a.cards.now a.sent.now a.replies.now _ at.before.before.before.is_in_range.ensures at.before.before.if1.true _ a.kind a.bitrate a.list-data.now a.atqb.now
+    (at.admit-card.ensures (cards_in a.self.count a.cards.now a.sent.now a.replies.now) (length_from _ a.self.count 0)) _ _ _ c.before.before.refusal.given.1 c.refuses.ensures
 
 returns-3 : tie.Need-returns-3
 returns-3 c =
     let at = c.before.before in
     let a = at.before.before.before.before.before.before.args in
-    card-out-of-range a.self a.cards.now a.sent.now a.replies.now _ at.is_in_range.ensures _ _ a.kind a.bitrate a.list-data.now a.atqb.now c.before.if1.false c.refuses2.ensures
+    card_out_of_range a.self a.cards.now a.sent.now a.replies.now _ at.is_in_range.ensures _ _ a.kind a.bitrate a.list-data.now a.atqb.now c.before.if1.false c.refuses2.ensures
 
 pub add-card-spec : {M : Type 1} → statement M
 add-card-spec =

@@ -1,16 +1,16 @@
 -- `chip::State::after` meets its contract.
-use Rattle.simulated_chip.specs.StepLaws.{after-reset, after-configuration, after-listed, after-jumped, after-other}
+use Rattle.simulated_chip.specs.StepLaws.{after_reset_lem, after_configuration, after-listed, after-jumped, after-other}
 use borrow.Author.Rules.{rules}
 use Rattle.simulated_chip.proofs.chip.State.after.Statement.{statement}
 use Rattle.simulated_chip.proofs.chip.State.after.Tie as tie
 
 returns : tie.Need-returns
-returns c = let a = c.before.before.before.args in λ sent replies. after-reset a.self a.cards.now sent replies a.bytes.now _ c.match.keys1
+returns c = let a = c.before.before.before.args in λ sent replies. after_reset_lem a.self a.cards.now sent replies a.bytes.now _ c.match.keys1
 
 returns-2 : tie.Need-returns-2
 returns-2 c =
     let a = c.before.before.before.before.args in
-    λ sent replies. after-configuration a.self a.cards.now sent replies a.bytes.now _ _ c.before.match.keys2 c.field-on-after.ensures
+    λ sent replies. after_configuration a.self a.cards.now sent replies a.bytes.now _ _ c.before.match.keys2 c.field-on-after.ensures
 
 returns-3 : tie.Need-returns-3
 returns-3 c =

@@ -3,22 +3,22 @@ use mathlib.Core.Path.{◌≡◌}
 use Prim.Native.Nat.{◌*◌}
 use native.Mathlib.Omega.{arith}
 use lib.ListN.{length}
-use Rattle.chip_protocol.specs.Names.{mostCards}
-use Rattle.simulated_chip.specs.Memory.{cardSize}
+use Rattle.chip_protocol.specs.Names.{most_cards}
+use Rattle.simulated_chip.specs.Memory.{card_size}
 use Rattle.simulated_chip.specs.AdditionLaws.{card-put}
 use borrow.Author.Rules.{rules}
 use Rattle.simulated_chip.proofs.chip.State.with_card.Statement.{statement}
 use Rattle.simulated_chip.proofs.chip.State.with_card.Tie as tie
 
 put-first-requires : tie.Need-put-first-requires
-put-first-requires c κs = let p = c.before.before.before.before.before.requires in (p.wakeUp, let f = p.few in omega arith)
+put-first-requires c κs = let p = c.before.before.before.before.before.requires in (p.wake_up, let f = p.few in omega arith)
 
 put-card-requires : tie.Need-put-card-requires
 put-card-requires c κs =
     let s = c.before.before.before.before.before.before.before.before.before in
-    let l : length s.args.cards.now ≡ mostCards * cardSize = search rules in
+    let l : length s.args.cards.now ≡ most_cards * card_size = search rules in
     let p = s.requires in
-    (p.listData, let f = p.few in omega arith)
+    (p.list_data, let f = p.few in omega arith)
 
 returns : tie.Need-returns
 returns c =

@@ -3,7 +3,7 @@ use mathlib.Core.Path.{◌≡◌}
 use Prim.Native.Nat.{◌*◌}
 use native.Mathlib.Omega.{arith}
 use lib.ListN.{length}
-use Rattle.simulated_chip.specs.Memory.{sentSize, replySize, places}
+use Rattle.simulated_chip.specs.Memory.{sent_size, reply_size, places}
 use Rattle.simulated_chip.specs.AdditionLaws.{reply-put}
 use borrow.Author.Rules.{rules}
 use Rattle.simulated_chip.proofs.chip.State.with_reply.Statement.{statement}
@@ -12,7 +12,7 @@ use Rattle.simulated_chip.proofs.chip.State.with_reply.Tie as tie
 put-text-requires : tie.Need-put-text-requires
 put-text-requires c κs =
     let s = c.before.before.before.before.before.before in
-    let l : length s.args.sent.now ≡ places * sentSize = search rules in
+    let l : length s.args.sent.now ≡ places * sent_size = search rules in
     let p = s.requires in
     let n = c.before.wide.ensures.0 in
     omega arith
@@ -20,7 +20,7 @@ put-text-requires c κs =
 put-text-requires-2 : tie.Need-put-text-requires-2
 put-text-requires-2 c κs =
     let s = c.before.before.before.before.before.before.before.before in
-    let l : length s.args.replies.now ≡ places * replySize = search rules in
+    let l : length s.args.replies.now ≡ places * reply_size = search rules in
     let p = s.requires in
     let n = c.before.before.before.wide.ensures.0 in
     omega arith

@@ -1,12 +1,12 @@
 -- `channel::Unread::behind_next` meets its contract.
 use mathlib.Core.Path.{refl}
-use Rattle.simulator_lines.proofs.RingLaws.{none-behind, next-behind}
+use Rattle.simulator_lines.proofs.RingLaws.{none_behind, next-behind}
 use borrow.Author.Rules.{rules}
 use Rattle.simulator_lines.proofs.channel.Unread.behind_next.Statement.{statement}
 use Rattle.simulator_lines.proofs.channel.Unread.behind_next.Tie as tie
 
 returns : tie.Need-returns
-returns c = λ packets lengths. none-behind c.before.before.args.self packets lengths c.if1.true
+returns c = λ packets lengths. none_behind c.before.before.args.self packets lengths c.if1.true
 
 add-place : tie.Need-overflow-add-place
 add-place c = search rules

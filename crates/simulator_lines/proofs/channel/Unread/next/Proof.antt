@@ -1,5 +1,5 @@
 -- `channel::Unread::next` meets its contract.
-use Rattle.simulator_lines.proofs.RingLaws.{next-is}
+use Rattle.simulator_lines.proofs.RingLaws.{next_is}
 use borrow.Author.Rules.{rules}
 use Rattle.simulator_lines.proofs.channel.Unread.next.Statement.{statement}
 use Rattle.simulator_lines.proofs.channel.Unread.next.Tie as tie
@@ -28,7 +28,7 @@ prefix-requires c κs = search rules
 returns : tie.Need-returns
 returns c =
     let start = c.before.before.before.before.before in
-    next-is start.args.packets.now start.args.lengths.now _ _ _ _ c.before.before.before.before.place.ensures c.before.slice.ensures c.prefix.ensures
+    next_is start.args.packets.now start.args.lengths.now _ _ _ _ c.before.before.before.before.place.ensures c.before.slice.ensures c.prefix.ensures
 
 pub next-spec : {M : Type 1} → statement M
 next-spec =

@@ -2,15 +2,15 @@
 use Rattle.core.specs.Prelude.{◌≡◌, ◌*◌, length, set}
 use mathlib.Core.Path.{refl, ◌∙◌}
 use lib.ListN.{length-set}
-use Rattle.chip_protocol.specs.Names.{longestPacket}
-use Rattle.simulator_lines.specs.Ring.{placesLimit}
-use Rattle.simulator_lines.proofs.RingLaws.{full-with, room-with}
+use Rattle.chip_protocol.specs.Names.{longest_packet}
+use Rattle.simulator_lines.specs.Ring.{places_limit}
+use Rattle.simulator_lines.proofs.RingLaws.{full_with, room_with}
 use borrow.Author.Rules.{rules}
 use Rattle.simulator_lines.proofs.channel.Unread.with.Statement.{statement}
 use Rattle.simulator_lines.proofs.channel.Unread.with.Tie as tie
 
 returns : tie.Need-returns
-returns c = λ long. (full-with _ _ _ _ c.if1.true, long)
+returns c = λ long. (full_with _ _ _ _ c.if1.true, long)
 
 add-place : tie.Need-overflow-add-place
 add-place c = search rules
@@ -39,8 +39,8 @@ add-t10 c = search rules
 returns-2 : tie.Need-returns-2
 returns-2 c = λ long.
     let start = c.before.before.before.before.before.before.before.before.before.before in
-    let room : length start.args.packets.now ≡ placesLimit * longestPacket = search rules in (
-      room-with start.args.self.first start.args.self.count start.args.packets.now start.args.lengths.now _ (set start.args.lengths.now c.before.before.before.before.place.result (length c.before.before.before.prefix.result.now)) _ start.args.packet.now _ _ c.before.before.before.before.before.before.before.if1.false c.before.before.before.before.place.ensures room long c.before.before.before.prefix.ensures c.before.put.ensures refl,
+    let room : length start.args.packets.now ≡ places_limit * longest_packet = search rules in (
+      room_with start.args.self.first start.args.self.count start.args.packets.now start.args.lengths.now _ (set start.args.lengths.now c.before.before.before.before.place.result (length c.before.before.before.prefix.result.now)) _ start.args.packet.now _ _ c.before.before.before.before.before.before.before.if1.false c.before.before.before.before.place.ensures room long c.before.before.before.prefix.ensures c.before.put.ensures refl,
       length-set start.args.lengths.now _ _ ∙ long,
     )
 
