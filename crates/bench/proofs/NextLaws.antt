@@ -5,7 +5,7 @@ use Prim.Native.Nat.{ℕ, suc, ◌+◌, ◌-◌, ◌≤◌, ◌<◌}
 use native.Mathlib.Omega.{arith}
 use lib.ListN.{length, take, drop}
 use lib.Seq.{slice, take_all, length-take-le, length-slice}
-use Rattle.bytes.specs.Bytes.{index_of}
+use Rattle.octets.specs.Bytes.{index_of}
 use Rattle.bench.specs.Lines.{before_feed, NoFeed, Begun, line_of, last_of, unread_of, unread_in, next_of, unread_line, NextLine}
 use Rattle.bench.specs.LineLaws.{none_before, none_both, begun_none, line_begun, ended, input_ended, unread_inside, unread_nothing, unread_behind, part_slice}
 use Rattle.bench.specs.declared.lines.Given.{Given}

@@ -12,8 +12,8 @@ use Rattle.std.proofs.Math.ListN.{length, drop_of_length-le}
 use Rattle.std.proofs.Math.Seq.{slice, take-nil, take-length, take-append-add}
 use Rattle.std.proofs.lemmas.List.{take-append-le}
 use Rattle.errors.specs.Choice.{pick}
-use Rattle.bytes.specs.Bytes.{index_of, index_after}
-use Rattle.bytes.specs.Bytes as bytes
+use Rattle.octets.specs.Bytes.{index_of, index_after}
+use Rattle.octets.specs.Bytes as bytes
 use Rattle.bench.specs.Lines.{feed, before_feed, NoFeed, with_text, Counted, Begun, line_of, end_of, unread_of, unread_in, nothing, NextLine, last_of}
 use Rattle.bench.specs.declared.lines.Given.{Given}
 use Rattle.bench.specs.declared.lines.Unread.{Unread}

@@ -57,7 +57,7 @@ fn add(part: &[u8], line: &mut [u8], len: usize) -> usize
 fn before_feed(part: &[u8]) -> usize
     ensures { (result ≡ before_feed part.now) × IsPrefixLen result part.now }
 {
-    bytes::scan::find(part, 0, part.len(), b'\n')
+    octets::scan::find(part, 0, part.len(), b'\n')
 }
 
 fn line_of(len: usize, line: &[u8]) -> Line

@@ -11,7 +11,7 @@ pub fn put(text: &[u8], out: &mut [u8], at: usize) -> usize
     if out.len() - at < text.len() {
         return at;
     }
-    bytes::copy(text, &mut out[at..]);
+    octets::copy(text, &mut out[at..]);
     at + text.len()
 }
 

@@ -112,7 +112,7 @@ pub(crate) fn read_text(line: &[u8], k: usize, bytes: &mut [u8], at: usize) -> P
     if framing::is_exactly(word, b"-") {
         return Put::Bytes(at);
     }
-    bytes::copy(word, &mut bytes[at..]);
+    octets::copy(word, &mut bytes[at..]);
     Put::Bytes(at + word.len())
 }
 

@@ -55,7 +55,7 @@ fn append_crc(data: &[u8], out: &mut [u8], initial: u16, inverted: bool) -> Adde
         return Added::Refused(Refusal::ShortBuffer);
     }
     let crc = calculate_crc(data, initial, inverted);
-    bytes::copy(data, out);
+    octets::copy(data, out);
     out[n] = (crc % 256) as u8;
     out[n + 1] = (crc / 256) as u8;
     Added::Bytes(n + 2)

@@ -7,7 +7,7 @@ use borrow.Author.Tests.{lt-ltb, le-ltb, ltb-true, ltb-false}
 use lib.ListN.{length-append}
 use lib.Seq.{take-take}
 use Rattle.errors.specs.Choice.{pick}
-use Rattle.bytes.specs.Bytes.{index_of, index_after}
+use Rattle.octets.specs.Bytes.{index_of, index_after}
 use Rattle.bench.specs.Lines.{feed, before_feed}
 use Rattle.bench_input.specs.Table.{input_of}
 use Rattle.cut_script.specs.ScriptLines.{joined, glue}

@@ -8,8 +8,8 @@ use borrow.Author.Tests.{le-ltb}
 use lib.ListN.{length-take, length-drop, drop_of_length-le}
 use lib.Seq.{slice, take-length, take-take, take-add, take_at, drop_at, drop-drop, length-take-le, get_or-drop}
 use Rattle.errors.specs.Choice.{pick}
-use Rattle.bytes.specs.Bytes.{index_of}
-use Rattle.bytes.specs.Bytes as bytes
+use Rattle.octets.specs.Bytes.{index_of}
+use Rattle.octets.specs.Bytes as bytes
 use Rattle.bench.specs.Lines.{feed, before_feed}
 use Rattle.bench.specs.Texts.{over, placed, put_at, Placed}
 use Rattle.bench.specs.TextLaws.{length_over}

@@ -11,7 +11,7 @@ ghost use Rattle.cut_lines.specs.Readings.{used_by, behind_feed, EntriesOf};
 use super::LINE_COUNT_LIMIT;
 use bench::{prefix, text};
 use bench_input::{BYTES_ROOM, Input};
-use bytes::scan;
+use octets::scan;
 
 // What a line says, where it begins, and where the next one does. Its byte strings stand from there on in an array beside.
 #[derive(Drop)]

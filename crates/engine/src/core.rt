@@ -165,7 +165,7 @@ impl Core {
         let core = self.running(call, exchange);
         match order {
             Order::Ack => {
-                bytes::copy(&ACK_BYTES, buffer);
+                octets::copy(&ACK_BYTES, buffer);
                 let output = Output::Ack;
                 Progress { core, output }
             }

@@ -69,7 +69,7 @@ impl Core {
     {
         let call = self.call;
         let three = [bytes.0, bytes.1, bytes.2];
-        bytes::copy(&three, command);
+        octets::copy(&three, command);
         self.with_command(3)
             .send(call.to_stage(stage), command, buffer)
     }

@@ -58,7 +58,7 @@ fn put_part(part: &[u8], buffer: &mut [u8], at: usize)
     requires { at + length part.now ≤ length buffer.old }
     ensures { buffer.new ≡ take at buffer.old ++ (part.now ++ drop (at + length part.now) buffer.old) }
 {
-    bytes::copy(part, &mut buffer[at..]);
+    octets::copy(part, &mut buffer[at..]);
 }
 
 // The IDm of a packet: bytes 2 to 9, as far as there are any.

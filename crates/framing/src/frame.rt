@@ -41,7 +41,7 @@ fn build_directed(direction: u8, code: u8, bytes: &[u8], buffer: &mut [u8]) -> B
         Place::At(start) => {
             buffer[start] = direction;
             buffer[start + 1] = code;
-            bytes::copy(bytes, &mut buffer[start + 2..]);
+            octets::copy(bytes, &mut buffer[start + 2..]);
             super::enclose(Rcs956Format::LENGTH, n, buffer);
             Built::Frame(start + n + names::ENDING_SIZE)
         }

@@ -391,7 +391,7 @@ pub fn build(format: FrameFormat, payload: &[u8], buffer: &mut [u8]) -> Built
     let length = format.length;
     match room_for(format, n, buffer.len()) {
         Place::At(start) => {
-            bytes::copy(payload, &mut buffer[start..]);
+            octets::copy(payload, &mut buffer[start..]);
             enclose(length, n, buffer);
             Built::Frame(start + n + names::ENDING_SIZE)
         }

@@ -26,7 +26,7 @@ fn sum_of_last(bytes: &[u8], n: usize) -> u8
     ensures { result ≡ total (drop (piece_size - n) bytes.now) % 256 }
 {
     let mut padded = [0; 2 * PIECE_SIZE];
-    bytes::copy(bytes, &mut padded);
+    octets::copy(bytes, &mut padded);
     let from = PIECE_SIZE - n;
     plain_sum(&padded[from..from + PIECE_SIZE])
 }

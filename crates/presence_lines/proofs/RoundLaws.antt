@@ -11,7 +11,7 @@ use borrow.Author.Tests.{ltb-false, leb-true}
 use lib.Dec.{eqb, ltb, leb}
 use lib.ListN.{length, take, drop, replicate, length-append, length-take, length-drop, drop_of_length-le}
 use lib.Seq.{drop-cons, take_at}
-use Rattle.bytes.specs.Bytes.{index_of, slice}
+use Rattle.octets.specs.Bytes.{index_of, slice}
 use Rattle.errors.specs.Choice.{pick, same, same_is}
 use Rattle.targets.specs.Bitrates.{ascii}
 use Rattle.bench.specs.Hex.{is_hex_of, pairs_of}

@@ -3,7 +3,7 @@ use Rattle.std.specs.Prelude.{◌≡◌, refl}
 use Rattle.errors.specs.Choice.{pick, same, in_range}
 use Rattle.framing.specs.Lists.{starts}
 use Rattle.targets.specs.Bitrates.{ascii}
-use Rattle.bytes.specs.Bytes.{index_after, index_of}
+use Rattle.octets.specs.Bytes.{index_after, index_of}
 use Rattle.bench.specs.Hex.{value_of, all_hex_digits, is_hex_of, pairs_of, digit_of, digits_of_lem, hex_of}
 use Rattle.bench.specs.Numbers.{digit_value_of, all_decimal, number_from, is_number, number_of}
 use Rattle.bench.specs.Texts.{over, decimal_under, decimal_of}

@@ -1,7 +1,7 @@
 -- The lines of the program `presence`, and the text that is printed for each. A line that cannot be read gives `refused 4`.
 use Rattle.std.specs.Prelude.{Bool, true, false, List, [], ◌∷◌, ◌++◌, ℕ, suc, ◌+◌, ◌-◌, ◌/◌, leb, ltb, length, take, drop, get_or, replicate}
 use Rattle.std.proofs.Math.Option.{Option, none, some}
-use Rattle.bytes.specs.Bytes.{index_of}
+use Rattle.octets.specs.Bytes.{index_of}
 use Rattle.errors.specs.Choice.{pick, same}
 use Rattle.errors.specs.Refusals.{round_numbered}
 use Rattle.errors.specs.declared.Refusal.TheVariants.{BadArgument}

@@ -56,14 +56,14 @@ fn index_among(word: &[u8], text: &[u8]) -> usize
 fn before_colon(word: &[u8]) -> &[u8]
     ensures { result.now ≡ before_colon word.now }
 {
-    let n = bytes::scan::find(word, 0, word.len(), b':');
+    let n = octets::scan::find(word, 0, word.len(), b':');
     &word[..n]
 }
 
 fn behind_colon(word: &[u8]) -> &[u8]
     ensures { result.now ≡ behind_colon word.now }
 {
-    let n = bytes::scan::find(word, 0, word.len(), b':');
+    let n = octets::scan::find(word, 0, word.len(), b':');
     if n < word.len() {
         &word[n + 1..]
     } else {
@@ -146,7 +146,7 @@ fn read_cards(line: &[u8], from: usize, records: &mut [u8]) -> Cards
     let mut at = from;
     let mut len = 0;
     while at < n {
-        let end = bytes::scan::find(line, at + 1, n, b' ');
+        let end = octets::scan::find(line, at + 1, n, b' ');
         let Cards::Bytes(next) = read_card(&line[at + 1..end], records, len) else {
             return Cards::Unreadable;
         };
@@ -162,12 +162,12 @@ pub(crate) fn read_line(line: &[u8], records: &mut [u8]) -> Read
     ensures { (read_in result records.new ≡ said_of (words_of_lem line.now)) × (read_bytes result ≤ records_room) }
 {
     let n = line.len();
-    let end = bytes::scan::find(line, 0, n, b' ');
+    let end = octets::scan::find(line, 0, n, b' ');
     if n <= end {
         return Read::Unreadable;
     }
     if framing::is_exactly(&line[..end], b"round") {
-        let second = bytes::scan::find(line, end + 1, n, b' ');
+        let second = octets::scan::find(line, end + 1, n, b' ');
         let Number::Value(number) = number::read(&line[end + 1..second]) else {
             return Read::Unreadable;
         };

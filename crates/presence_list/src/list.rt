@@ -136,7 +136,7 @@ impl State {
         }
         let came = without(cards, count, &list, n, arrived);
         let left = without(&list, n, cards, count, departed);
-        bytes::copy(&list, cards);
+        octets::copy(&list, cards);
         RoundEffect {
             state: State {
                 number,

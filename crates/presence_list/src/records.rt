@@ -27,7 +27,7 @@ pub(crate) fn put_at(text: &[u8], cards: &mut [u8], at: usize)
     requires { at + length text.now ≤ length cards.old }
     ensures { cards.new ≡ take at cards.old ++ (text.now ++ drop (at + length text.now) cards.old) }
 {
-    bytes::copy(text, &mut cards[at..]);
+    octets::copy(text, &mut cards[at..]);
 }
 
 // A lent record as the list keeps it: zeros behind its identifier, and not missed.
@@ -37,7 +37,7 @@ pub(crate) fn entry_of(found: &[u8]) -> [u8; RECORD_SIZE]
 {
     let card = card_at(found, 0);
     let mut entry = [0u8; RECORD_SIZE];
-    bytes::copy(card, &mut entry);
+    octets::copy(card, &mut entry);
     entry[LENGTH_OFFSET] = found[LENGTH_OFFSET];
     entry[BITRATE_OFFSET] = found[BITRATE_OFFSET];
     entry

@@ -8,7 +8,7 @@ use bench::lines::{Line, Unread};
 use bench::{lines, prefix, text};
 use bench_input::slice;
 use bench_session::{BUFFER_SIZE, OUT_ROOM};
-use bytes::scan;
+use octets::scan;
 use engine::session::Session;
 use framing::starts_with;
 use slowest_call::lines::answer;

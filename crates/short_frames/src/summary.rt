@@ -52,7 +52,7 @@ fn print_number(number: u64, text: &[u8]) {
 
 // The first line of the text.
 fn print_first(text: &[u8]) {
-    let end = bytes::scan::find(text, 0, text.len(), b'\n');
+    let end = octets::scan::find(text, 0, text.len(), b'\n');
     print(&text[..end]);
     print(b"\n");
 }

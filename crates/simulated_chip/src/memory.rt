@@ -46,5 +46,5 @@ pub(crate) fn put_text(text: &[u8], memory: &mut [u8], at: usize)
     let n = text.len();
     memory[at] = (n % 256) as u8;
     memory[at + 1] = (n / 256) as u8;
-    bytes::copy(text, &mut memory[at + TEXT_OFFSET..]);
+    octets::copy(text, &mut memory[at + TEXT_OFFSET..]);
 }

@@ -30,8 +30,8 @@ fn put_two(head: &[u8], rest: &[u8], out: &mut [u8]) -> usize
     ensures { (result ≡ length head.now + length rest.now) × (take result out.new ≡ head.now ++ rest.now) }
 {
     let n = head.len();
-    bytes::copy(head, out);
-    bytes::copy(rest, &mut out[n..]);
+    octets::copy(head, out);
+    octets::copy(rest, &mut out[n..]);
     n + rest.len()
 }
 

@@ -6,7 +6,7 @@ ghost use Rattle.slowest_call.specs.Kinds.{kinds};
 ghost use Rattle.slowest_call.specs.Texts.{kind_named_of};
 ghost use Rattle.slowest_call.specs.Tables.{run_fields, KindWithin, kind_in};
 
-use bytes::scan;
+use octets::scan;
 use framing::is_exactly;
 
 pub(crate) const KIND_COUNT: u8 = 27;

@@ -15,7 +15,7 @@ pub fn append(part: &[u8], target: &mut [u8], len: usize) -> usize
     if target.len() - len < part.len() {
         return len;
     }
-    bytes::copy(part, &mut target[len..]);
+    octets::copy(part, &mut target[len..]);
     len + part.len()
 }
 
