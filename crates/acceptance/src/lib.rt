@@ -14,7 +14,7 @@ use framing::settings::Setting;
 use framing::{Built, FrameFormat, settings};
 
 // A payload of at most 2 bytes.
-#[derive(Drop)]
+#[derive(Clone, Copy)]
 pub enum Payload {
     Empty,
     One(u8),
@@ -22,14 +22,14 @@ pub enum Payload {
 }
 
 // An entry of the list: a setting by its number, 0 to 5, and a payload.
-#[derive(Drop)]
+#[derive(Clone, Copy)]
 pub struct Entry {
     pub setting: u8,
     pub payload: Payload,
 }
 
 // Where a step leads.
-#[derive(Drop)]
+#[derive(Clone, Copy)]
 pub enum Reached {
     At(Entry),
     End,
@@ -39,7 +39,7 @@ pub enum Reached {
 const SETTINGS: u8 = 6;
 
 // The payload behind another one, if there is one.
-#[derive(Drop)]
+#[derive(Clone, Copy)]
 enum Following {
     Next(Payload),
     Nothing,

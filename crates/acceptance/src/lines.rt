@@ -15,7 +15,7 @@ const LONGEST_LINE: usize = 25;
 const DIGITS: [u8; 16] = *b"0123456789ABCDEF";
 
 // Lines at the start of a buffer: their bytes, their number, and where the step behind the last one leads.
-#[derive(Drop)]
+#[derive(Clone, Copy)]
 pub struct Block {
     pub len: usize,
     pub count: usize,

@@ -12,7 +12,7 @@ ghost use Rattle.std.specs.Prelude.{◌≡◌, take};
 use errors::Refusal;
 
 // How many bytes stand at a lent buffer's start now, or a refusal.
-#[derive(Drop)]
+#[derive(Clone, Copy)]
 pub enum Put {
     Bytes(usize),
     Refused(Refusal),

@@ -7,14 +7,14 @@ use super::text;
 use libc::{STDIN_FILENO, STDOUT_FILENO};
 
 // What of the lent buffer was read and is no part of a line yet.
-#[derive(Drop)]
+#[derive(Clone, Copy)]
 pub struct Unread {
     pub from: usize,
     pub to: usize,
 }
 
 // The length of a line that stands at the start of the lent buffer; or that the buffer is too short for it; or that there is none.
-#[derive(Drop)]
+#[derive(Clone, Copy)]
 pub enum Line {
     Text(usize),
     OverLong,
@@ -22,7 +22,7 @@ pub enum Line {
 }
 
 // A line, and what is still unread.
-#[derive(Drop)]
+#[derive(Clone, Copy)]
 pub struct Given {
     pub line: Line,
     pub unread: Unread,

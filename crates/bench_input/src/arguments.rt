@@ -8,20 +8,20 @@ use bench::{Put, hex, number, words};
 use errors::Refusal;
 
 // What a word says as BYTE and as WORD; as MS it is a `Number`.
-#[derive(Drop)]
+#[derive(Clone, Copy)]
 pub enum Byte {
     Value(u8),
     Unreadable,
 }
 
-#[derive(Drop)]
+#[derive(Clone, Copy)]
 pub enum Word {
     Value(u16),
     Unreadable,
 }
 
 // A time-out that may be absent: whether it is given, and its ms.
-#[derive(Drop)]
+#[derive(Clone, Copy)]
 pub enum Wait {
     Value(u8, u16),
     Unreadable,

@@ -14,21 +14,21 @@ use calls::start::Numbers;
 use errors::Refusal;
 
 // The numbers with one more argument.
-#[derive(Drop)]
+#[derive(Clone, Copy)]
 pub enum ReadNumbers {
     Value(Numbers),
     Unreadable,
 }
 
 // What was read of a line: its numbers, the number of its byte strings, and where they end.
-#[derive(Drop)]
+#[derive(Clone, Copy)]
 pub struct Taken {
     pub numbers: Numbers,
     pub count: usize,
     pub ends: Ends,
 }
 
-#[derive(Drop)]
+#[derive(Clone, Copy)]
 pub enum Next {
     Value(Taken),
     Unreadable,

@@ -27,7 +27,7 @@ pub const BYTES_ROOM: usize = 8192;
 // An event has its number behind this one in the table.
 const EVENTS_FROM: u8 = 128;
 // The places where four byte strings end: each begins where the one before ends, and the ends behind the last equal it.
-#[derive(Drop)]
+#[derive(Clone, Copy)]
 pub struct Ends {
     pub first: usize,
     pub second: usize,
@@ -36,7 +36,7 @@ pub struct Ends {
 }
 
 // What a line says: a call by its number, an event by its number with the number of its packet's bytes, or nothing that can be read.
-#[derive(Drop)]
+#[derive(Clone, Copy)]
 pub enum Input {
     Call(u8, Numbers, Ends),
     Event(u8, usize),

@@ -47,7 +47,7 @@ pub(crate) const LINE_TABLE: [u8; 711] = *b"\
     slept  86";
 
 // The row of a line.
-#[derive(Drop)]
+#[derive(Clone, Copy)]
 pub enum RowFound {
     At(usize),
     Nothing,

@@ -26,7 +26,7 @@ pub const BUFFER_SIZE: usize = 1024;
 pub const OUT_ROOM: usize = 2112;
 
 // The session after a line, and the length of the text printed for it.
-#[derive(Drop)]
+#[derive(Clone, Copy)]
 pub struct Answered {
     pub session: Session,
     pub len: usize,

@@ -24,7 +24,7 @@ use stages::start::Start;
 // A call's arguments that are numbers: milliseconds, a word of 16 bits, two bytes, and its caller. What a call does not use counts for
 // nothing; each has a caller.
 #[repr(C)]
-#[derive(Drop)]
+#[derive(Clone, Copy)]
 pub struct Numbers {
     pub ms: u32,
     pub word: u16,

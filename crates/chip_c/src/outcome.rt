@@ -7,7 +7,7 @@ use simulated_chip::chip::Answer;
 
 // The refusal's number, 0 where there is none; and how long the packet behind ACK is, 0 where the chip sends nothing.
 #[repr(C)]
-#[derive(Drop)]
+#[derive(Clone, Copy)]
 pub struct Outcome {
     pub refusal: u8,
     pub packet: usize,

@@ -31,7 +31,7 @@ pub const ANSWER_ROOM: usize = 2112;
 const BYTES_ROOM: usize = 4096;
 
 // The chip's numbers after a line, and the length of the text printed for it.
-#[derive(Drop)]
+#[derive(Clone, Copy)]
 pub struct Answered {
     pub state: State,
     pub len: usize,

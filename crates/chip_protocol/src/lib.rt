@@ -3,7 +3,7 @@
 #![tactic(auto)]
 
 // The kinds of discovery: Type A, B and F, and a DEP partner.
-#[derive(Drop)]
+#[derive(Clone, Copy)]
 pub enum Kind {
     TypeA,
     TypeB,

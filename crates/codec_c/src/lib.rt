@@ -14,7 +14,7 @@ use framing::settings::Setting;
 use framing::{Built, FrameType};
 
 // What a packet was found to be, in numbers.
-#[derive(Drop)]
+#[derive(Clone, Copy)]
 struct Found {
     kind: u8,
     start: usize,

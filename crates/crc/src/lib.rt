@@ -15,7 +15,7 @@ const CRC_A_INIT: u16 = 0x6363;
 
 const CRC_B_INIT: u16 = 0xFFFF;
 
-#[derive(Drop)]
+#[derive(Clone, Copy)]
 pub enum Added {
     Bytes(usize),
     Refused(Refusal),

@@ -14,7 +14,7 @@ use bench_input::{BYTES_ROOM, Input};
 use octets::scan;
 
 // What a line says, where it begins, and where the next one does. Its byte strings stand from there on in an array beside.
-#[derive(Drop)]
+#[derive(Clone, Copy)]
 pub struct Entry {
     pub input: Input,
     pub from: usize,
@@ -22,7 +22,7 @@ pub struct Entry {
 }
 
 // How many lines there are, and the entry of each; more than the limit where there are too many.
-#[derive(Drop)]
+#[derive(Clone, Copy)]
 pub struct Entries {
     pub count: usize,
     pub at: [Entry; LINE_COUNT_LIMIT],

@@ -19,7 +19,7 @@ pub const SCRIPT_LIMIT: usize = 65536;
 pub const LINE_COUNT_LIMIT: usize = 4096;
 
 // Where the stretch starts, which goes to the script's end; or refused with 3; or with 29, no line or no refusal on the last one.
-#[derive(Drop)]
+#[derive(Clone, Copy)]
 pub enum Stretch {
     From(usize),
     OverLong,

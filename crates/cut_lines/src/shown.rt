@@ -8,7 +8,7 @@ use engine::core::Output;
 use errors::{CARD_STATUS_NUMBER, Numbered, STATUS_NUMBER};
 
 // A refusal, a list's without the number of codes finished; or anything else.
-#[derive(Drop)]
+#[derive(Clone, Copy)]
 pub enum Shown {
     Refusal(Numbered),
     Other,

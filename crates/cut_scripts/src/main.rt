@@ -10,7 +10,7 @@ use libc::{STDIN_FILENO, STDOUT_FILENO};
 const INPUT_ROOM: usize = 524288;
 
 // The number on the line that begins at a place, and the place behind the line.
-#[derive(Drop)]
+#[derive(Clone, Copy)]
 struct Header {
     len: usize,
     behind: usize,

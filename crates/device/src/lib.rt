@@ -138,7 +138,7 @@ fn hex_digit(n: u8) -> u8
 }
 
 // Version, a dot, revision: the first `len` of the bytes.
-#[derive(Drop)]
+#[derive(Clone, Copy)]
 struct Suffix {
     bytes: [u8; 5],
     len: usize,
@@ -179,7 +179,7 @@ fn dotted(version: u8, revision: u8) -> Suffix
 }
 
 // RCS956v, version, a dot and revision: the first `len` of the bytes.
-#[derive(Drop)]
+#[derive(Clone, Copy)]
 struct Named {
     tail: Tail,
     len: usize,

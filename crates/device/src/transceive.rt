@@ -19,7 +19,7 @@ pub const TYPE_2_KIND: u8 = 15;
 
 pub const TYPE_1_KIND: u8 = 16;
 
-#[derive(Drop)]
+#[derive(Clone, Copy)]
 pub enum Timeout {
     Standard,
     Ms(u16),

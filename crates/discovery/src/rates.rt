@@ -17,7 +17,7 @@ const CODE_106B: u8 = 3;
 pub(crate) const CODE_TYPE_1: u8 = 4;
 
 // The code of a bitrate, where the call takes it.
-#[derive(Drop)]
+#[derive(Clone, Copy)]
 pub enum Supported {
     Code(u8),
     Not,

@@ -27,7 +27,7 @@ const LATE_EVENT: u8 = 5;
 const SLEPT_EVENT: u8 = 6;
 
 // The event of a number, where it has one.
-#[derive(Drop)]
+#[derive(Clone, Copy)]
 pub enum Known {
     Is(Event),
     Not,

@@ -30,7 +30,7 @@ const OPENING_READ_TIME: u32 = 10;
 // What runs, which of its commands is on or comes next, where it stands in a list of its own, and what is awaited. The cursor is the
 // call's: nothing here looks into it, and any byte is in its range.
 #[repr(C)]
-#[derive(Drop)]
+#[derive(Clone, Copy)]
 pub struct Call {
     pub kind: u8,
     pub stage: u8,
@@ -39,7 +39,7 @@ pub struct Call {
 }
 
 // How a command ends: a reset is done, the packet that ends its exchange is in, or it failed.
-#[derive(Drop)]
+#[derive(Clone, Copy)]
 pub enum End {
     ResetDone,
     Arrived,
@@ -47,7 +47,7 @@ pub enum End {
 }
 
 // What an event does to a call: it does not fit, an order follows, the command of the call's stage comes next, or the command ends.
-#[derive(Drop)]
+#[derive(Clone, Copy)]
 pub enum Transition {
     Unfit,
     Orders(Order, Call, Exchange),

@@ -27,7 +27,7 @@ pub const FOUND_LIMIT: usize = 1024;
 
 // How much of each array is in use, the exchange, and the call.
 #[repr(C)]
-#[derive(Drop)]
+#[derive(Clone, Copy)]
 pub struct Core {
     pub command: usize,
     pub found: usize,
@@ -37,7 +37,7 @@ pub struct Core {
 
 // An order or an answer. The bytes of a write order (ACK has six) and of an answer stand at the buffer's start, so many of them.
 // With Type A's the lengths of the UID and the ATS among them may be given. A list that failed says how many of its codes were finished.
-#[derive(Drop)]
+#[derive(Clone, Copy)]
 pub enum Output {
     Ack,
     Command(usize),
@@ -54,7 +54,7 @@ pub enum Output {
 }
 
 // The new numbers, and what is given out.
-#[derive(Drop)]
+#[derive(Clone, Copy)]
 pub struct Progress {
     pub core: Core,
     pub output: Output,

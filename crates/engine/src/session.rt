@@ -14,7 +14,7 @@ use exchange::Event;
 use stages::put::DATA_LIMIT;
 
 #[repr(C)]
-#[derive(Drop)]
+#[derive(Clone, Copy)]
 pub struct Session {
     pub command: [u8; DATA_LIMIT],
     pub found: [u8; FOUND_LIMIT],
@@ -23,7 +23,7 @@ pub struct Session {
     pub core: Core,
 }
 
-#[derive(Drop)]
+#[derive(Clone, Copy)]
 pub struct Step {
     pub session: Session,
     pub output: Output,

@@ -5,7 +5,7 @@ ghost use Rattle.std.specs.Prelude.{◌≡◌};
 ghost use Rattle.errors.specs.Refusals.{plain as plain_of, numbered as numbered_of, fault_numbered, round_numbered};
 
 // 1 to 6: refused at once, and nothing changes.
-#[derive(Drop)]
+#[derive(Clone, Copy)]
 pub enum Refusal {
     OutOfTurn,
     ShortBuffer,
@@ -16,7 +16,7 @@ pub enum Refusal {
 }
 
 // 7 and up: a running call ends.
-#[derive(Drop)]
+#[derive(Clone, Copy)]
 pub enum Fault {
     Transport,
     TimeOut,
@@ -37,7 +37,7 @@ pub enum Fault {
 }
 
 // Document 02, N9: a round of discovery is refused, and the list stays as it is.
-#[derive(Drop)]
+#[derive(Clone, Copy)]
 pub enum RoundRefusal {
     AtOnce(Refusal),
     StaleRound,
@@ -50,7 +50,7 @@ pub const STATUS_NUMBER: u8 = 15;
 pub const CARD_STATUS_NUMBER: u8 = 20;
 
 // A refusal's number in document 01's table, and what it carries: 15 a status byte, 20 the two status flags (0 where there is none).
-#[derive(Drop)]
+#[derive(Clone, Copy)]
 pub struct Numbered {
     pub number: u8,
     pub status: u8,

@@ -12,7 +12,7 @@ use framing::FrameType;
 use framing::frame::{CONTROLLER_TO_HOST, Rcs956Format};
 
 // What the host returns. A packet's bytes are lent beside it.
-#[derive(Drop)]
+#[derive(Clone, Copy)]
 pub enum Event {
     Ok,
     Bad,
@@ -24,7 +24,7 @@ pub enum Event {
 }
 
 // An order that writes no command; a read has its ms, a pause its µs. An exchange itself never pauses.
-#[derive(Drop)]
+#[derive(Clone, Copy)]
 pub enum Order {
     Ack,
     Read(u32),
@@ -34,7 +34,7 @@ pub enum Order {
 
 // An exchange: its phase, the command's code and the command's clock in ms.
 #[repr(C)]
-#[derive(Drop)]
+#[derive(Clone, Copy)]
 pub struct Exchange {
     pub phase: u8,
     pub code: u8,
@@ -42,7 +42,7 @@ pub struct Exchange {
 }
 
 // What an event does: it does not fit, an order follows, the command's packet is in (step 5 is next), or the exchange has failed.
-#[derive(Drop)]
+#[derive(Clone, Copy)]
 pub enum Advanced {
     Unfit,
     Pending(Order, Exchange),

@@ -9,7 +9,7 @@ use super::{CODE_OFFSET, READ_REPLY_CODE, WRITE_REPLY_CODE, byte_at, idm, number
 use errors::Fault;
 
 // The reply is the one asked for; or 16, 21 or 20.
-#[derive(Drop)]
+#[derive(Clone, Copy)]
 pub enum Checked {
     Good,
     Faulty(Fault),

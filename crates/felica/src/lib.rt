@@ -30,7 +30,7 @@ const CODE_OFFSET: usize = 1;
 const IDM_OFFSET: usize = 2;
 
 // Four block numbers. An enum cannot hold an array.
-#[derive(Drop)]
+#[derive(Clone, Copy)]
 pub struct BlockNumbers(pub u8, pub u8, pub u8, pub u8);
 
 // The byte at a place, 0 where there is none.

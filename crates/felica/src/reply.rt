@@ -22,7 +22,7 @@ pub(crate) const FLAGS_END: usize = 12;
 pub const BLOCKS_OFFSET: usize = 13;
 
 // A reply taken apart: its flags. Its IDm and a read's block data are parts of the packet: `idm`, `blocks_read`.
-#[derive(Drop)]
+#[derive(Clone, Copy)]
 pub enum Reply {
     Read(u8, u8),
     Write(u8, u8),

@@ -31,7 +31,7 @@ pub(crate) const COUNT_OFFSET: usize = 13;
 const REQUEST_HEAD: usize = 14;
 
 // What a request asks for: the service code, the number of blocks, 1 to 4, and their block numbers, 0 behind them.
-#[derive(Drop)]
+#[derive(Clone, Copy)]
 pub struct Asked {
     pub service: u16,
     pub count: u8,
@@ -39,7 +39,7 @@ pub struct Asked {
 }
 
 // A request taken apart. Its IDm and a write's block data are parts of the packet: `idm`, `block_data`.
-#[derive(Drop)]
+#[derive(Clone, Copy)]
 pub enum Request {
     Read(Asked),
     Write(Asked),

@@ -11,7 +11,7 @@ pub const HOST_TO_CONTROLLER: u8 = 0xD4;
 
 pub const CONTROLLER_TO_HOST: u8 = 0xD5;
 
-#[derive(Drop)]
+#[derive(Clone, Copy)]
 pub struct Rcs956Format;
 
 impl Rcs956Format {

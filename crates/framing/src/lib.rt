@@ -22,7 +22,7 @@ pub use sums::{checksum, checksum_matches, length_checksum};
 use sums::{length_matches, pair_checksum};
 
 // How the length of the payload is written.
-#[derive(Drop)]
+#[derive(Clone, Copy)]
 pub enum LengthEncoding {
     Normal,
     ExtendedLittleEndian,
@@ -30,14 +30,14 @@ pub enum LengthEncoding {
 }
 
 // How the chip reports an error.
-#[derive(Drop)]
+#[derive(Clone, Copy)]
 pub enum ErrorDetection {
     ErrorFrame,
     StatusByte,
 }
 
 // One of the settings, or any other choice of the three.
-#[derive(Drop)]
+#[derive(Clone, Copy)]
 pub struct FrameFormat {
     pub length: LengthEncoding,
     pub error: ErrorDetection,
@@ -45,14 +45,14 @@ pub struct FrameFormat {
 }
 
 // What `build` answers: the frame's length, or a refusal.
-#[derive(Drop)]
+#[derive(Clone, Copy)]
 pub enum Built {
     Frame(usize),
     Refused(Refusal),
 }
 
 // What `parse` answers: the kind, with the frame's length; of a data frame where its payload lies.
-#[derive(Drop)]
+#[derive(Clone, Copy)]
 pub enum FrameType {
     Ack(usize),
     Error(usize),
@@ -362,7 +362,7 @@ fn enclose(encoding: LengthEncoding, n: usize, buffer: &mut [u8])
 }
 
 // Where a payload of n bytes is to be put.
-#[derive(Drop)]
+#[derive(Clone, Copy)]
 enum Place {
     At(usize),
     Refused(Refusal),

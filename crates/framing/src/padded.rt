@@ -10,7 +10,7 @@ use super::{FrameFormat, FrameType, names};
 
 // What `parse_padded` answers: how many zeros it stepped over, and the answer, whose place is that of the packet as it came. A frame's
 // length counts no extra zeros.
-#[derive(Drop)]
+#[derive(Clone, Copy)]
 pub struct Padded {
     pub zeros: usize,
     pub found: FrameType,

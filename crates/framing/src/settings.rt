@@ -5,7 +5,7 @@ ghost use Rattle.framing.specs.Settings.{format_of, setting_of};
 use super::{ErrorDetection, FrameFormat, LengthEncoding, names};
 
 // The setting of a number, if there is one.
-#[derive(Drop)]
+#[derive(Clone, Copy)]
 pub enum Setting {
     Format(FrameFormat),
     Nothing,
@@ -25,7 +25,7 @@ pub fn by_number(number: u8) -> Setting
     }
 }
 
-#[derive(Drop)]
+#[derive(Clone, Copy)]
 pub struct NormalErrorFrame;
 
 impl NormalErrorFrame {
@@ -46,7 +46,7 @@ impl NormalErrorFrame {
     }
 }
 
-#[derive(Drop)]
+#[derive(Clone, Copy)]
 pub struct NormalStatusByte;
 
 impl NormalStatusByte {
@@ -67,7 +67,7 @@ impl NormalStatusByte {
     }
 }
 
-#[derive(Drop)]
+#[derive(Clone, Copy)]
 pub struct LittleEndianErrorFrame;
 
 impl LittleEndianErrorFrame {
@@ -88,7 +88,7 @@ impl LittleEndianErrorFrame {
     }
 }
 
-#[derive(Drop)]
+#[derive(Clone, Copy)]
 pub struct LittleEndianStatusByte;
 
 impl LittleEndianStatusByte {
@@ -109,7 +109,7 @@ impl LittleEndianStatusByte {
     }
 }
 
-#[derive(Drop)]
+#[derive(Clone, Copy)]
 pub struct BigEndianErrorFrame;
 
 impl BigEndianErrorFrame {
@@ -130,7 +130,7 @@ impl BigEndianErrorFrame {
     }
 }
 
-#[derive(Drop)]
+#[derive(Clone, Copy)]
 pub struct BigEndianStatusByte;
 
 impl BigEndianStatusByte {

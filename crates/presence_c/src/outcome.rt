@@ -6,7 +6,7 @@ use presence_list::list::Answer;
 
 // The refusal's number, 0 where the round was accepted; and then how many came and left.
 #[repr(C)]
-#[derive(Drop)]
+#[derive(Clone, Copy)]
 pub struct Outcome {
     pub refusal: u8,
     pub arrived: usize,

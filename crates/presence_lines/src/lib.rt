@@ -25,7 +25,7 @@ pub const ANSWER_ROOM: usize = 8192;
 const RECORDS_ROOM: usize = 145660;
 
 // The list after a line, and the length of the text printed for it.
-#[derive(Drop)]
+#[derive(Clone, Copy)]
 pub struct Answered {
     pub list: Presence,
     pub len: usize,

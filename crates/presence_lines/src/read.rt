@@ -26,13 +26,13 @@ const KIND_LIMIT: usize = LAST_CARD_KIND as usize;
 const BITRATE_LIMIT: usize = LAST_BITRATE as usize;
 
 // A round's number, and the bytes of its records at the start of the lent buffer.
-#[derive(Drop)]
+#[derive(Clone, Copy)]
 pub(crate) enum Read {
     Round(u32, usize),
     Unreadable,
 }
 
-#[derive(Drop)]
+#[derive(Clone, Copy)]
 pub(crate) enum Cards {
     Bytes(usize),
     Unreadable,

@@ -15,7 +15,7 @@ pub const CARDS_SIZE: usize = CARD_LIMIT * RECORD_SIZE;
 
 // Whether a round was accepted (0 or 1), the last one's number, and how many cards the list has.
 #[repr(C)]
-#[derive(Drop)]
+#[derive(Clone, Copy)]
 pub struct State {
     pub number: u32,
     pub begun: u8,
@@ -24,7 +24,7 @@ pub struct State {
 
 // The list: its cards in order, and the arrivals and departures of the last accepted round, as records one behind the other.
 #[repr(C)]
-#[derive(Drop)]
+#[derive(Clone, Copy)]
 pub struct Presence {
     pub cards: [u8; CARDS_SIZE],
     pub arrived: [u8; CARDS_SIZE],
@@ -33,26 +33,26 @@ pub struct Presence {
 }
 
 // How many came and how many left, or a refusal: then nothing changed.
-#[derive(Drop)]
+#[derive(Clone, Copy)]
 pub enum Answer {
     Accepted(usize, usize),
     Refused(RoundRefusal),
 }
 
-#[derive(Drop)]
+#[derive(Clone, Copy)]
 pub struct RoundEffect {
     pub state: State,
     pub answer: Answer,
 }
 
-#[derive(Drop)]
+#[derive(Clone, Copy)]
 pub struct Round {
     pub list: Presence,
     pub answer: Answer,
 }
 
 // Whether a round is taken, but for the room of the list after it.
-#[derive(Drop)]
+#[derive(Clone, Copy)]
 pub enum Admission {
     Admitted,
     Refused(RoundRefusal),

@@ -32,7 +32,7 @@ pub const REFUSED_AT_ONCE_OUTCOME: u8 = 10;
 // of a list how many of its codes were finished; with a read its ms, with a pause its µs; with a write order and an answer the number
 // of bytes at the buffer's start, and with an answer whose UID and ATS are told apart the length of each. What does not apply is 0.
 #[repr(C)]
-#[derive(Drop)]
+#[derive(Clone, Copy)]
 pub struct Outcome {
     pub kind: u8,
     pub refusal: u8,
@@ -46,7 +46,7 @@ pub struct Outcome {
 }
 
 // A call that failed, or a list with so many codes finished: a fault's numbers are worked out at one place for both kinds.
-#[derive(Drop)]
+#[derive(Clone, Copy)]
 struct Failure {
     kind: u8,
     fault: Fault,

@@ -13,7 +13,7 @@ const OUTCOMES: usize = 272;
 
 // The outcomes of events and of calls by number, then: a session out of range not refused with 1, a short buffer with an outcome but 1
 // and 2, a refusal 1 or 2 that changed the session, and an outcome of more bytes than the buffer has.
-#[derive(Drop)]
+#[derive(Clone, Copy)]
 pub struct Tally {
     events: [u64; OUTCOMES],
     calls: [u64; OUTCOMES],

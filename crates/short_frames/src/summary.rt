@@ -5,7 +5,7 @@ const REFLECTED_POLYNOMIAL: u32 = 0xEDB88320;
 
 const ALL_ONES: u32 = 0xFFFFFFFF;
 
-#[derive(Drop)]
+#[derive(Clone, Copy)]
 pub struct Summary {
     lines: u64,
     bytes: u64,

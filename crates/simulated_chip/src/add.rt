@@ -16,19 +16,19 @@ use errors::Refusal;
 use targets::Bitrate;
 
 // Whether the card or the reply was added.
-#[derive(Drop)]
+#[derive(Clone, Copy)]
 pub enum Addition {
     Added,
     Refused(Refusal),
 }
 
-#[derive(Drop)]
+#[derive(Clone, Copy)]
 pub struct AddEffect {
     pub state: State,
     pub addition: Addition,
 }
 
-#[derive(Drop)]
+#[derive(Clone, Copy)]
 pub struct ChipAdded {
     pub chip: Chip,
     pub addition: Addition,

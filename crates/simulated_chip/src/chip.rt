@@ -23,7 +23,7 @@ use framing::frame::{Rcs956Format, build_response, command_in};
 
 // How many cards the field has, the place of the card found and 1 (0: none), and whether the RF field is on (0 or 1).
 #[repr(C)]
-#[derive(Drop)]
+#[derive(Clone, Copy)]
 pub struct State {
     pub count: u8,
     pub found: u8,
@@ -32,7 +32,7 @@ pub struct State {
 
 // The chip with its field: its cards, and for each card the bytes sent and the replies to them.
 #[repr(C)]
-#[derive(Drop)]
+#[derive(Clone, Copy)]
 pub struct Chip {
     pub cards: [u8; CARDS_SIZE],
     pub sent: [u8; SENT_MEMORY_SIZE],
@@ -41,20 +41,20 @@ pub struct Chip {
 }
 
 // What the chip sends: nothing; ACK and a packet of so many bytes, which stands at the buffer's start; or a refusal.
-#[derive(Drop)]
+#[derive(Clone, Copy)]
 pub enum Answer {
     Nothing,
     Packets(usize),
     Refused(Refusal),
 }
 
-#[derive(Drop)]
+#[derive(Clone, Copy)]
 pub struct StepEffect {
     pub state: State,
     pub answer: Answer,
 }
 
-#[derive(Drop)]
+#[derive(Clone, Copy)]
 pub struct ChipStep {
     pub chip: Chip,
     pub answer: Answer,

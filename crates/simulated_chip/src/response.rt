@@ -18,7 +18,7 @@ use super::names::{
 use super::search::{listed_place, partner_place, reply_place};
 
 // How many bytes the response has, or that the command is none that the chip knows.
-#[derive(Drop)]
+#[derive(Clone, Copy)]
 pub enum ResponseSize {
     Bytes(usize),
     SyntaxError,

@@ -14,7 +14,7 @@ pub const PLACES: usize = 128;
 pub const CHANNEL_SIZE: usize = PLACES * PACKET_SIZE;
 
 // The place of the next packet, and how many there are.
-#[derive(Drop)]
+#[derive(Clone, Copy)]
 pub struct Unread {
     pub first: usize,
     pub count: usize,

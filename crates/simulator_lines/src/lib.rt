@@ -23,7 +23,7 @@ use simulated_chip::chip::State;
 use simulated_chip::names::{CARDS_SIZE, REPLY_MEMORY_SIZE, SENT_MEMORY_SIZE};
 
 // The reader and the chip after a line, and the length of the text printed for it.
-#[derive(Drop)]
+#[derive(Clone, Copy)]
 pub struct Answered {
     pub session: Session,
     pub state: State,

@@ -16,7 +16,7 @@ use simulated_chip::chip::{Answer, State};
 use simulated_chip::names::{CARDS_SIZE, PACKET_SIZE, REPLY_MEMORY_SIZE, SENT_MEMORY_SIZE};
 
 // What an output asks of the channel: a write of so many bytes, the next packet, a pause; or the call is over.
-#[derive(Drop)]
+#[derive(Clone, Copy)]
 pub enum Order {
     Write(usize),
     Next,
@@ -44,7 +44,7 @@ fn order_of(output: Output) -> Order
 }
 
 // The chip's numbers, and the packets unread.
-#[derive(Drop)]
+#[derive(Clone, Copy)]
 pub struct Reaction {
     pub state: State,
     pub unread: Unread,
@@ -96,7 +96,7 @@ fn next_event(unread: Unread) -> Event
 }
 
 // A session with its last output, and the chip's end.
-#[derive(Drop)]
+#[derive(Clone, Copy)]
 pub struct Play {
     pub session: Session,
     pub output: Output,

@@ -7,7 +7,7 @@ use bench_input::{BYTES_ROOM, Ends, Input, LINE_LIMIT};
 use calls::start::Numbers;
 
 // A line for the field, the trace, or a call with the places of its byte strings.
-#[derive(Drop)]
+#[derive(Clone, Copy)]
 pub enum Request {
     Field,
     Trace(bool),

@@ -88,7 +88,7 @@ pub(crate) fn field(table: &[u8], k: usize) -> &[u8]
 }
 
 // The number of a kind.
-#[derive(Drop)]
+#[derive(Clone, Copy)]
 pub enum KindFound {
     Number(u8),
     Nothing,

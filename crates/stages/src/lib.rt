@@ -15,7 +15,7 @@ pub const FIXED_LIMIT: usize = 12;
 
 // The command of a stage: its code, its clock in ms, whether its data is the pending command, the bytes of any other data, and how many
 // they are. Bytes behind them are free, and so are all bytes and their number beside the pending command: nothing reads them.
-#[derive(Drop)]
+#[derive(Clone, Copy)]
 pub struct Command {
     pub code: u8,
     pub clock: u32,
@@ -53,10 +53,10 @@ impl Command {
 }
 
 // Bytes of the engine's own, or in another order than they came. An enum cannot hold an array.
-#[derive(Drop)]
+#[derive(Clone, Copy)]
 pub struct Head(pub u8, pub u8, pub u8);
 
-#[derive(Drop)]
+#[derive(Clone, Copy)]
 pub struct Tail(
     pub u8,
     pub u8,
@@ -75,7 +75,7 @@ pub struct Tail(
 // Bytes put together: the first `kept` found bytes, the first `head_len` bytes of `head`, `len` bytes of the response from `start` on,
 // and the first `tail_len` bytes of `tail`. The contracts fix the bytes. How they divide is free, and so are the bytes of `head` and
 // `tail` behind their lengths, which nothing reads.
-#[derive(Drop)]
+#[derive(Clone, Copy)]
 pub struct Layout {
     pub kept: usize,
     pub head: Head,
@@ -90,7 +90,7 @@ pub struct Layout {
 // cursor, the second number; the command of a stage with three bytes that become the pending command; a pause in µs, and then the
 // command of a stage; or the end of the call. `Part` is the answer of a part of the response, by its start and its length. With Type A's
 // bytes the lengths of the UID and the ATS among them may be given, and a list's refusal says how many of its codes were finished.
-#[derive(Drop)]
+#[derive(Clone, Copy)]
 pub enum Decision {
     Send(u8),
     Keep(u8, Layout),

@@ -8,7 +8,7 @@ use super::put::DATA_LIMIT;
 use errors::Refusal;
 
 // A command whose data were put by: the call's kind, its code, its clock in ms, and how many bytes its data has.
-#[derive(Drop)]
+#[derive(Clone, Copy)]
 pub struct First {
     pub kind: u8,
     pub code: u8,
@@ -17,7 +17,7 @@ pub struct First {
 }
 
 // The first command is this one; or that of stage 0 of a kind, with so many bytes put by.
-#[derive(Drop)]
+#[derive(Clone, Copy)]
 pub enum Start {
     Command(First),
     Staged(u8, usize),

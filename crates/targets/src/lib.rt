@@ -10,14 +10,14 @@ ghost use Rattle.errors.specs.Choice.{in_range};
 use errors::Refusal;
 
 // The length of a text's send part, which the text starts with.
-#[derive(Drop)]
+#[derive(Clone, Copy)]
 pub enum Parsed {
     Send(usize),
     Refused(Refusal),
 }
 
 // The send parts that the calls tell apart; any other well_formed one is Other.
-#[derive(Drop)]
+#[derive(Clone, Copy)]
 pub enum Bitrate {
     B106A,
     B212F,
@@ -29,7 +29,7 @@ pub enum Bitrate {
     Other,
 }
 
-#[derive(Drop)]
+#[derive(Clone, Copy)]
 pub enum Coded {
     Code(Bitrate),
     Refused(Refusal),
