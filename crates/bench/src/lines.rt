@@ -1,4 +1,6 @@
 // The lines of the input, one after the other, and what is written for each.
+#![tactic(auto, using(framing::specs::Rules::steps), unfolding(errors::specs::Choice::pick, crate::specs::Lines::line_of, crate::specs::Lines::unread_of))]
+
 ghost use Rattle.std.specs.Prelude.{◌≡◌, Bool, List, ◌++◌, ℕ, ◌≤◌, ◌<◌, length};
 ghost use Rattle.io.specs.Counts.{IsPrefixLen};
 ghost use Rattle.bench.specs.Lines.{Begun, NoFeed, before_feed, NextLine, next_of, unread_line, unread_in, line_of, unread_of, last_of, nothing as nothing_unread};
