@@ -10,9 +10,9 @@ use Rattle.engine.specs.SessionSteps.{fresh_session}
 use Rattle.engine.specs.Inputs.{Input, buffer_of, step_with}
 use Rattle.engine.specs.Refinement.{engine, engine_demand3}
 use Rattle.engine.specs.declared.session.Session.{Session}
-use Rattle.session_c.specs.Outcomes.{Reported}
-use Rattle.session_c.specs.Entries.{HostEntry, host_input, buffer_in, report_with}
-use Rattle.session_c.specs.Outputs.{output_in, output_is}
+use Rattle.session_host.specs.Outcomes.{Reported}
+use Rattle.session_host.specs.Entries.{HostEntry, host_input, buffer_in, report_with}
+use Rattle.session_host.specs.Outputs.{output_in, output_is}
 
 -- ---- entries of any kind, each with its engine's entry, if it has one, and the bytes of its buffer
 

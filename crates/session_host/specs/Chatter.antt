@@ -11,8 +11,8 @@ use Rattle.engine.specs.Inputs.{Input}
 use Rattle.engine.specs.Refinement.{engine}
 use Rattle.engine.specs.Chatter.{engine_chatter}
 use Rattle.engine.specs.declared.session.Session.{Session}
-use Rattle.session_c.specs.Entries.{HostEntry, host_input, buffer_in}
-use Rattle.session_c.specs.Demand3.{inputs, session_after, reports_for, same, MixedEntry, mixed_input, mixed_buffer}
+use Rattle.session_host.specs.Entries.{HostEntry, host_input, buffer_in}
+use Rattle.session_host.specs.Demand3.{inputs, session_after, reports_for, same, MixedEntry, mixed_input, mixed_buffer}
 
 module _ (E : Type 0) (input : E → Option Input) (buffer : E → List ℕ) where
   abbrev outputs : Session → List E → List (Spec.Output ℕ)

@@ -1,6 +1,6 @@
 // What the host is given, in numbers.
 ghost use Rattle.core.specs.Prelude.{◌≡◌};
-ghost use Rattle.session_c.specs.Outcomes.{bytes_outcome, time_outcome, lengths_outcome, refusal_outcome, outcome_of};
+ghost use Rattle.session_host.specs.Outcomes.{bytes_outcome, time_outcome, lengths_outcome, refusal_outcome, outcome_of};
 
 use engine::core::Output;
 use errors::{Fault, Numbered};

@@ -10,9 +10,9 @@ use Rattle.engine.specs.Inputs.{Input, after_input}
 use Rattle.engine.specs.Numbers.{after_event_number}
 use Rattle.engine.specs.declared.session.Session.{Session}
 use Rattle.engine.specs.declared.core.Progress.{Progress}
-use Rattle.session_c.specs.Outcomes.{Reported, report, step_reported, joined, outcome_of}
-use Rattle.session_c.specs.Entries.{event_input, report_with}
-use Rattle.session_c.specs.declared.outcome.Outcome.{Outcome}
+use Rattle.session_host.specs.Outcomes.{Reported, report, step_reported, joined, outcome_of}
+use Rattle.session_host.specs.Entries.{event_input, report_with}
+use Rattle.session_host.specs.declared.outcome.Outcome.{Outcome}
 
 abbrev pub report_after : After State → Reported
 report_after a = step_reported (stepped_of a)

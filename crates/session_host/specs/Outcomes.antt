@@ -7,7 +7,7 @@ use Rattle.engine.specs.declared.core.Core.{Core}
 use Rattle.engine.specs.declared.session.Session.{Session}
 use Rattle.engine.specs.declared.core.Output.{Output}
 use Rattle.engine.specs.declared.core.Output.TheVariants.{Ack, Command, Read, Drain, Pause, Done, Type1, UidAndAts, Nothing, Failed, FailedAfter, Refused}
-use Rattle.session_c.specs.declared.outcome.Outcome.{Outcome}
+use Rattle.session_host.specs.declared.outcome.Outcome.{Outcome}
 use Rattle.framing.specs.Names.{ack_size}
 
 -- the kinds of an outcome

@@ -14,9 +14,9 @@ use Rattle.engine.specs.Unchanged.{refused_unchanged, refused_ends, list_ends}
 use Rattle.engine.specs.declared.session.Session.{Session}
 use Rattle.engine.specs.declared.core.Output.{Output}
 use Rattle.engine.specs.declared.core.Output.TheVariants.{Ack, Command, Read, Drain, Pause, Done, Type1, UidAndAts, Nothing, Failed, FailedAfter, Refused}
-use Rattle.session_c.specs.Outcomes.{Reported, report, step_reported, refused_outcome, list_refused_outcome, refused_at_once_outcome, outcome_of}
-use Rattle.session_c.specs.Outputs.{fault_is}
-use Rattle.session_c.specs.Entries.{HostEntry, host_call, host_event, buffer_in, event_input, report_with, report_for}
+use Rattle.session_host.specs.Outcomes.{Reported, report, step_reported, refused_outcome, list_refused_outcome, refused_at_once_outcome, outcome_of}
+use Rattle.session_host.specs.Outputs.{fault_is}
+use Rattle.session_host.specs.Entries.{HostEntry, host_call, host_event, buffer_in, event_input, report_with, report_for}
 
 -- what a report has to say of the session s and the buffer b that went in
 pub record RefusedUnchanged (s : Session) (b : List ℕ) (r : Reported) : Type 0 where

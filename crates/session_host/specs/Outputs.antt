@@ -14,8 +14,8 @@ use Rattle.protocol.specs.Session.{Output as Given, orders, answers, rejects}
 use Rattle.engine.specs.Inputs.{output_of}
 use Rattle.engine.specs.declared.core.Output.{Output}
 use Rattle.engine.specs.declared.core.Output.TheVariants.{Ack, Command, Read, Drain, Pause, Done, Type1, UidAndAts, Nothing, Failed, FailedAfter, Refused}
-use Rattle.session_c.specs.Outcomes.{outcome_of}
-use Rattle.session_c.specs.declared.outcome.Outcome.{Outcome}
+use Rattle.session_host.specs.Outcomes.{outcome_of}
+use Rattle.session_host.specs.declared.outcome.Outcome.{Outcome}
 
 -- the first of a list that has this number; x where none has
 unfoldable pub with_number : {A : Type 0} → (A → Numbered) → A → List A → ℕ → A
