@@ -1,6 +1,6 @@
 -- The script of a list of system codes is sound: a sound script for each code, one behind the other.
 use Rattle.std.specs.Prelude.{◌≡◌, refl, Bool, true, false, cond, List, [], ◌∷◌, ◌++◌, map, ℕ, zero, suc, ◌+◌, ◌-◌, ◌*◌, ◌/◌, ◌≤◌, eqb, length, take, get_or}
-use Rattle.std.proofs.Common.{ap, sym, ◌∙◌, arith, eq-eqb, ne_eqb, eqb-true}
+use Rattle.std.proofs.Common.{ap, sym, subst, ◌∙◌, arith, eq-eqb, ne_eqb, eqb-true}
 use Rattle.std.proofs.Math.Option.{some}
 use Rattle.std.proofs.Math.ListN.{get_elem?}
 use Rattle.errors.specs.declared.Fault.{Fault}
@@ -64,10 +64,12 @@ pub codes_within : (code first finished : ℕ) (found : List Byte) (codes : List
 codes_within code first finished found [] = tt
 codes_within code first finished found (c ∷ codes) =
     let e : code_frames * suc (length codes) ≡ code_frames + code_frames * length codes = omega arith in
+    let on : ℕ → List Byte → Script = λ next bs. poll_codes code next (suc finished) (found ++ map (commands_later first) bs) codes in
+    let off : Fault → Script = λ r. finish (refused_after r finished) in
     rw e
-    (within_then (detect_type_f_of code (system_code_req c)) code_frames (code_frames * length codes) first _ (detect_within code (system_code_req c))
-    (λ next a. within_end _ _ (code_frames * length codes)
-    (λ bs. codes_within code next (suc finished) _ codes) (λ r. tt) a))
+    (within_then (detect_type_f_of code (system_code_req c)) code_frames (code_frames * length codes) first (λ next a. code_end (on next) off a) (detect_within code (system_code_req c))
+    (λ next a. within_end (on next) off (code_frames * length codes)
+    (λ bs. codes_within code next (suc finished) (found ++ map (commands_later first) bs) codes) (λ r. tt) a))
 
 -- ---- the answer
 
@@ -234,8 +236,10 @@ codes_correct code finished found [] rs so =
 codes_correct code finished found (c ∷ codes) rs so =
     let o : Form = polled_codes (suc finished + length codes) in
     let e : finished + suc (length codes) ≡ suc finished + length codes = omega arith in
-    rw e
-    (ends_then (CodeEnds rs) (Final o) _ (detect_type_f_of code (system_code_req c)) rs (detect-ends code (system_code_req c) rs)
-    (λ rs' a p. code-ends o rs rs' finished found so _ _
+    let on : ℕ → List Byte → Script = λ next bs. poll_codes code next (suc finished) (found ++ map (commands_later (length rs)) bs) codes in
+    let off : Fault → Script = λ r. finish (refused_after r finished) in
+    subst (λ n. Correct (polled_codes n) (poll_codes code (length rs) finished found (c ∷ codes)) rs) (sym e)
+    (ends_then (CodeEnds rs) (Final o) (λ next a. code_end (on next) off a) (detect_type_f_of code (system_code_req c)) rs (detect-ends code (system_code_req c) rs)
+    (λ rs' a p. code-ends o rs rs' finished found so (on (length rs')) off
     (λ bytes new. codes_correct code (suc finished) (found ++ map (commands_later (length rs)) bytes) codes rs' new)
     (λ r. tt) a p))

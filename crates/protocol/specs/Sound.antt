@@ -85,6 +85,10 @@ pub sound_if : (o : Form) (t : Bool) (x y : Start) (n : ℕ) → Sound o x n →
 sound_if o true x y n h k = h
 sound_if o false x y n h k = k
 
+-- a script that starts
+pub sound_starts : (o : Form) (s : Script) (n : ℕ) → Within s n → Correct o s [] → Sound o (starts s) n
+sound_starts o s n w c = (w, c)
+
 -- a test that computes
 pub holds : Unit {0}
 holds = tt
@@ -147,7 +151,7 @@ module _ (P : List (List ℕ) → Answer Byte → Type 0) where
       → Ends P (if_else (ltb (length bs) m) x y) rs
   ends_short bs m x y rs h k = ends_if (ltb (length bs) m) x y rs (λ t. h (ltb→lt (length bs) m t)) (λ t. k (nltb→le (length bs) m t))
 
-in_range_lem : (bs : List ℕ) (p : ℕ) → p < length bs → get_elem? bs p ≡ some (get_or bs p 0)
+pub in_range_lem : (bs : List ℕ) (p : ℕ) → p < length bs → get_elem? bs p ≡ some (get_or bs p 0)
 in_range_lem [] p h = absurd (not-suc-le-zero h)
 in_range_lem (b ∷ bs) zero h = refl
 in_range_lem (b ∷ bs) (suc p) h = in_range_lem bs p (le_of_suc-le-suc h)
@@ -155,6 +159,11 @@ in_range_lem (b ∷ bs) (suc p) h = in_range_lem bs p (le_of_suc-le-suc h)
 -- the bound m comes from a hypothesis, and the test on numerals computes
 pub reach : (bs : List ℕ) (p m : ℕ) → m ≤ length bs → T (ltb p m) → get_elem? bs p ≡ some (get_or bs p 0)
 reach bs p m h t = in_range_lem bs p (omega (arith, ltb→lt p m t))
+
+-- the same test, with what it says of each position
+pub ends_long : (P : List (List ℕ) → Answer Byte → Type 0) (bs : List ℕ) (m : ℕ) (x y : Script) (rs : List (List ℕ)) → (length bs < m → Ends P x rs)
+    → (m ≤ length bs → ((p : ℕ) → T (ltb p m) → get_elem? bs p ≡ some (get_or bs p 0)) → Ends P y rs) → Ends P (if_else (ltb (length bs) m) x y) rs
+ends_long P bs m x y rs h k = ends_short P bs m x y rs h (λ l. k l (λ p t. reach bs p m l t))
 
 pub part_placed : (rs : List (List ℕ)) (k : ℕ) (bs : List ℕ) (p n : ℕ) → response_to rs k ≡ bs → p + n ≤ length bs → PlacedBytes rs (part k bs p n)
 unfolding part
@@ -255,7 +264,7 @@ dep_cards cards h = record { cards = cards; form = refl; all_cards = h }
 
 -- Type A's answer with two lengths, whose list is command 0
 module _ (o : Form) (rs : List (List ℕ)) (list : List ℕ) (e : response_to rs 0 ≡ list) (long : uid_offset ≤ length list) where
-  cards-placed : PlacedBytes rs (card_a list)
+  pub cards-placed : PlacedBytes rs (card_a list)
   cards-placed =
       let at : (p : ℕ) → p < uid_offset → get_elem? (response_to rs 0) p ≡ some (get_or list p 0) = λ p h. rw e (in_range_lem list p (omega arith)) in
       card_byte (at (sens_res_offset + 1) (omega arith)) (card_byte (at sens_res_offset (omega arith)) (card_byte (at sel_res_offset (omega arith)) (placed-rest rs 0 list uid_offset e)))
@@ -272,6 +281,6 @@ module _ (o : Form) (rs : List (List ℕ)) (list : List ℕ) (e : response_to rs
       )
 
 -- for a script whose answer has card bytes alone; for any
-pub ruleset correct_rules = (holds, ends_either, ends_status, ends_short, ends_if, formed, no_bytes, card_byte, reach, placed-rest, cards_rest)
+pub ruleset correct_rules = (holds, ends_either, ends_status, ends_long, ends_if, formed, no_bytes, card_byte, reach, placed-rest, cards_rest)
 
-pub ruleset sound_rules = (correct_rules, sound_if, sound_bitrate, sound_code, within_either, within_if, within_status, own_byte, placed-part, placed_inner, placed-append, cards_part, version_name, first_byte, cards_flag, rates_active, rates_none, dep_cards)
+pub ruleset sound_rules = (correct_rules, sound_if, sound_starts, sound_bitrate, sound_code, within_either, within_if, within_status, own_byte, placed-part, placed_inner, placed-append, cards_part, version_name, first_byte, cards_flag, rates_active, rates_none, dep_cards)
