@@ -1,5 +1,5 @@
 -- Further ACK-led packets (document 02, N11) cannot matter to the host's entries, nor to lists that mix them with the session's own.
-use Rattle.core.specs.Prelude.{◌≡◌, ℕ, List}
+use Rattle.std.specs.Prelude.{◌≡◌, ℕ, List}
 use Rattle.std.proofs.Common.{sym, ap, ◌∙◌, subst}
 use Rattle.std.proofs.Math.Option.{Option}
 use Rattle.protocol.specs.Calls.{Call}

@@ -1,6 +1,6 @@
 -- Demand 3 of the host's entries, and of lists that mix them with the session's own: what is reported is what the engine gives out for
 -- its own entries, in the same order.
-use Rattle.core.specs.Prelude.{◌≡◌, ℕ, List, [], ◌∷◌}
+use Rattle.std.specs.Prelude.{◌≡◌, ℕ, List, [], ◌∷◌}
 use Rattle.std.specs.Prelude.{refl}
 use Rattle.std.proofs.Common.{ap₂}
 use Rattle.std.proofs.Math.Option.{Option, none, some}

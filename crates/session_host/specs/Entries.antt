@@ -1,5 +1,5 @@
 -- The host's entries, and what the host is given for each.
-use Rattle.core.specs.Prelude.{ℕ, List}
+use Rattle.std.specs.Prelude.{ℕ, List}
 use Rattle.std.proofs.Math.Option.{Option, none, some}
 use Rattle.errors.specs.declared.Refusal.TheVariants.{OutOfTurn}
 use Rattle.exchange.specs.Exchange.{Event}

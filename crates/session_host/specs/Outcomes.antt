@@ -1,5 +1,5 @@
 -- What the host is given, in numbers.
-use Rattle.core.specs.Prelude.{ℕ, List}
+use Rattle.std.specs.Prelude.{ℕ, List}
 use Rattle.errors.specs.Refusals.{numbered, fault_numbered}
 use Rattle.errors.specs.declared.Numbered.{Numbered}
 use Rattle.engine.specs.SessionSteps.{Stepped}

@@ -1,5 +1,5 @@
 -- What an outcome and the buffer say: the order, the answer or the refusal.
-use Rattle.core.specs.Prelude.{◌≡◌, ℕ, ◌≤◌, cond, List, [], ◌∷◌, take, ◌==◌, slice_index_or}
+use Rattle.std.specs.Prelude.{◌≡◌, ℕ, ◌≤◌, cond, List, [], ◌∷◌, take, ◌==◌, slice_index_or}
 use Rattle.std.specs.Prelude.{refl}
 use Rattle.std.proofs.Common.{ap, arith}
 use Rattle.errors.specs.Refusals.{numbered, fault_numbered}

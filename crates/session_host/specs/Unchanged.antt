@@ -1,6 +1,6 @@
 -- Refusals of the host's entries, of any session: one at once changes neither session nor buffer; that of a call that ran, a list's too, ends it,
 -- leaves the buffer as it was and the session free.
-use Rattle.core.specs.Prelude.{◌≡◌, ℕ, ◌≤◌, Bool, true, false, ◌||◌, List, ◌==◌}
+use Rattle.std.specs.Prelude.{◌≡◌, ℕ, ◌≤◌, Bool, true, false, ◌||◌, List, ◌==◌}
 use Rattle.std.proofs.Common.{true≢false, ap, arith}
 use Rattle.std.specs.Prelude.{refl}
 use Rattle.std.proofs.Math.Option.{Option, none, some}

@@ -1,5 +1,5 @@
 // What the host is given, in numbers.
-ghost use Rattle.core.specs.Prelude.{◌≡◌};
+ghost use Rattle.std.specs.Prelude.{◌≡◌};
 ghost use Rattle.session_host.specs.Outcomes.{bytes_outcome, time_outcome, lengths_outcome, refusal_outcome, outcome_of};
 
 use engine::core::Output;
