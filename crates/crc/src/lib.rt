@@ -36,6 +36,7 @@ fn calculate_crc(data: &[u8], initial: u16, inverted: bool) -> u16
     if inverted { !register } else { register }
 }
 
+#[tactic(auto, using(errors::specs::Rules::picks, crate::proofs::Ends::short, crate::proofs::Ends::compared))]
 fn verify_crc(data: &[u8], initial: u16, inverted: bool) -> bool
     ensures { result ≡ checks (crc_kind initial inverted) «data».now }
 {
@@ -47,6 +48,7 @@ fn verify_crc(data: &[u8], initial: u16, inverted: bool) -> bool
     data[n] == (crc % 256) as u8 && data[n + 1] == (crc / 256) as u8
 }
 
+#[tactic(auto, using(errors::specs::Rules::picks, crate::proofs::Ends::no_room, crate::proofs::Ends::written))]
 fn append_crc(data: &[u8], out: &mut [u8], initial: u16, inverted: bool) -> Added
     ensures { ◌≡◌ {A = Returned × List ℕ} (returned result, out.new) (added (crc_kind initial inverted) «data».now out.old) }
 {

@@ -1,5 +1,5 @@
 -- What the chip's end reads in the bytes that a host wrote: the code and the data of a command, where its frame fills them.
-use Rattle.std.specs.Prelude.{◌≡◌, ℕ, ◌-◌, ◌≤◌, List, [], ◌∷◌, length, take, drop, ◌==◌, ◌≢◌, slice_index, refl}
+use Rattle.std.specs.Prelude.{◌≡◌, ℕ, ◌-◌, List, [], ◌∷◌, length, take, drop, ◌==◌, ◌≢◌, slice_index, refl}
 use Rattle.std.proofs.Math.Path.{ap}
 use Rattle.std.proofs.Common.{◌∙◌, arith, length-drop, take_all}
 use borrow.Author.Tests.{eq-eqb, ne_eqb}

@@ -3,7 +3,7 @@ use Rattle.std.specs.Prelude.{◌≡◌, ℕ, zero, suc, ◌+◌, ◌%◌, ◌<�
 use Rattle.std.proofs.Common.{sym, ap, ◌∙◌, append_assoc, arith, eq-eqb, ne_eqb, drop_at}
 use Rattle.std.proofs.Math.Seq.{take-append_seam}
 use Rattle.errors.specs.Choice.{pick, same}
-use Rattle.framing.specs.Commands.{behind_direction_of, command_at, command_in}
+use Rattle.framing.specs.Commands.{behind_direction_of, command_in}
 use Rattle.framing.specs.Enclose.{length-head}
 use Rattle.framing.specs.Frames.{ack, ending, head_of, data_start_of, frame_of, normal_head, extended_head, length_bytes}
 use Rattle.framing.specs.Lists.{Bytes, starts}

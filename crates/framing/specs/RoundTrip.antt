@@ -1,6 +1,6 @@
 -- A built frame parses to its payload and length, except under StatusByte, where it gives Error exactly when byte 5 is 0x7F. In an
 -- extended frame byte 5 is a length byte.
-use Rattle.std.specs.Prelude.{◌≡◌, ℕ, zero, suc, ◌+◌, ◌<◌, ◌≤◌, Bool, true, false, List, [], ◌∷◌, ◌++◌, length, ◌==◌, nat_lt, slice_index}
+use Rattle.std.specs.Prelude.{◌≡◌, ℕ, zero, suc, ◌<◌, ◌≤◌, Bool, true, false, List, [], ◌∷◌, ◌++◌, length, ◌==◌, nat_lt, slice_index}
 use Rattle.std.proofs.Math.Path.{refl, sym}
 use Rattle.std.proofs.Common.{ap, ◌∙◌, append-nil, inl, inr, arith, ltb-true}
 use Rattle.framing.specs.Enclose.{length-frame}

@@ -1,4 +1,6 @@
 // The RC-S956's frames (frame.rs): its format, the frames of a command and of its response, and a command taken out of its frame.
+#![tactic(auto, using(errors::specs::Rules::picks), unfolding(errors::specs::Choice::pick, crate::specs::Commands::behind_direction_of, crate::specs::Build::build_of, crate::specs::Commands::command_in, crate::specs::Build::returned))]
+
 ghost use Rattle.std.specs.Prelude.{◌≡◌};
 ghost use Rattle.framing.specs.Build.{returned, left, build_of};
 ghost use Rattle.framing.specs.Settings.{rcs956, payload_from, command_payload, response_payload};

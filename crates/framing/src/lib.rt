@@ -1,5 +1,5 @@
 // Frames on the host link of the PN532 family (framing.rs): checksums, the six settings, build and parse.
-#![tactic(auto)]
+#![tactic(auto, using(errors::specs::Rules::picks), unfolding(errors::specs::Choice::pick, crate::specs::Build::place_of, crate::specs::Build::limit_of, crate::specs::Checks::marked, crate::specs::Parse::extends, crate::specs::Frames::head_of, crate::specs::Frames::length_bytes, crate::specs::Build::build_of, crate::specs::Checks::checked, crate::specs::Parse::data_of, crate::specs::Frames::data_start_of, crate::specs::Build::enclosed, crate::specs::Parse::extended_of, crate::specs::Checks::has_marker_of, crate::specs::Parse::is_error_of, crate::specs::Parse::normal_of, crate::specs::Checks::pair_length_of, crate::specs::Parse::parse_of, crate::specs::Parse::payload_of, crate::specs::Build::returned, errors::specs::Choice::same, crate::specs::Lists::starts))]
 
 pub mod frame;
 mod names;

@@ -1,4 +1,6 @@
 // Packets of boards that pad the start: up to 16 zeros before the start bytes (document 02, N2).
+#![tactic(auto, using(errors::specs::Rules::picks), unfolding(errors::specs::Choice::pick, crate::specs::Unpadded::extra_at_of, crate::specs::Padded::extra_zeros_of, crate::specs::Padded::parse_padded_of))]
+
 ghost use Rattle.std.specs.Prelude.{◌≡◌, ◌≤◌};
 ghost use Rattle.framing.specs.Names.{extended_start};
 ghost use Rattle.framing.specs.Padded.{most_zeros, extra_zeros_of, zeros_in, parse_padded_of};

@@ -1,4 +1,6 @@
 // The six settings, in document 01's order: each length form with ErrorFrame, then with StatusByte.
+#![tactic(auto, using(errors::specs::Rules::picks), unfolding(errors::specs::Choice::pick, crate::specs::Settings::setting_of))]
+
 ghost use Rattle.std.specs.Prelude.{◌≡◌};
 ghost use Rattle.framing.specs.Settings.{format_of, setting_of};
 

@@ -1,4 +1,6 @@
 // Sums of bytes modulo 256, in a byte that wraps, and the checksums that are made of them.
+#![tactic(auto, using(errors::specs::Rules::picks), unfolding(errors::specs::Choice::pick, crate::specs::Frames::checksum_of, crate::specs::Checks::matches, crate::specs::Frames::total))]
+
 ghost use Rattle.std.specs.Prelude.{◌≡◌, ◌-◌, ◌%◌, ◌≤◌, [], ◌∷◌, length, drop};
 ghost use Rattle.framing.specs.Frames.{total, checksum_of};
 ghost use Rattle.framing.specs.Checks.{matches};

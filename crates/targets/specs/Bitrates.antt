@@ -6,7 +6,7 @@ use Prim.Native.String.{String, [] as empty, ◌∷◌ as ◌then◌}
 use Rattle.errors.specs.Choice.{same}
 use Rattle.errors.specs.declared.Numbered.{Numbered}
 use Rattle.errors.specs.declared.Refusal.TheVariants.{Bitrate as BadBitrate}
-use Rattle.errors.specs.Refusals.{Returned, answered, refused, plain, numbered}
+use Rattle.errors.specs.Refusals.{Returned, answered, refused, numbered}
 use Rattle.targets.specs.declared.Bitrate.{Bitrate}
 use Rattle.targets.specs.declared.Bitrate.TheVariants.{B106A, B212F, B424F, B106B, B212B, B424B, B848B, Other}
 use Rattle.targets.specs.declared.Coded.{Coded}

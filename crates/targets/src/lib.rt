@@ -36,6 +36,7 @@ pub enum Coded {
 }
 
 // The byte stands between the two, both included.
+#[tactic(auto, unfolding(errors::specs::Choice::in_range))]
 fn in_range(byte: u8, low: u8, high: u8) -> bool
     ensures { result ≡ in_range low high byte }
 {
@@ -43,6 +44,7 @@ fn in_range(byte: u8, low: u8, high: u8) -> bool
 }
 
 // The length of the digits that the text starts with and a capital letter behind them; 0 where none follows.
+#[tactic(auto, using(crate::proofs::RateLaws::letter_next, crate::proofs::RateLaws::no_letter, crate::proofs::RateLaws::digits_more, crate::proofs::RateLaws::no_more), unfolding(crate::specs::Form::all_digits))]
 fn rate_length(text: &[u8]) -> usize
     ensures { StartsWithRate text.now result }
 {
@@ -60,6 +62,7 @@ fn rate_length(text: &[u8]) -> usize
 }
 
 // One rate: one or more digits, then one capital letter.
+#[tactic(auto, using(crate::proofs::RateLaws::no_rate, crate::proofs::RateLaws::is_rate_lem))]
 pub fn is_valid_bitrate(text: &[u8]) -> bool
     ensures { result ≡ is_rate text.now }
 {
@@ -68,6 +71,7 @@ pub fn is_valid_bitrate(text: &[u8]) -> bool
 }
 
 // One rate, or two with `/` between; the send part is the first.
+#[tactic(auto, using(crate::proofs::RateLaws::no_send, crate::proofs::RateLaws::send_alone, crate::proofs::RateLaws::no_slash, crate::proofs::RateLaws::send_both, crate::proofs::RateLaws::receive_bad))]
 pub fn parse(text: &[u8]) -> Parsed
     ensures { parsed result ≡ send_part_of text.now }
 {
@@ -89,6 +93,7 @@ pub fn parse(text: &[u8]) -> Parsed
 }
 
 // The number that three digits write; 0, which no bitrate has, where one is no digit.
+#[tactic(auto, using(crate::proofs::Laws::digit_least, crate::proofs::Laws::first_none, crate::proofs::Laws::second_none, crate::proofs::Laws::third_none, crate::proofs::Laws::three_digits))]
 fn bitrate_number(a: u8, b: u8, c: u8) -> u16
     ensures { result ≡ rate_number a b c }
 {
@@ -134,6 +139,7 @@ fn bitrate_code(a: u8, b: u8, c: u8, suffix: u8) -> Bitrate
 }
 
 // The code of the send part. The calls compare texts, so `0106A` is not `106A`. One of the seven texts is well_formed and needs no parse.
+#[tactic(auto, using(crate::proofs::Laws::refused_too, crate::proofs::Laws::other_length, crate::proofs::Laws::four_code, crate::proofs::Laws::known_code))]
 pub fn code(text: &[u8]) -> Coded
     ensures { coded result ≡ choice_of text.now }
 {

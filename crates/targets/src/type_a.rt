@@ -22,6 +22,7 @@ pub fn is_type2(sel_res: u8) -> bool
 }
 
 // A UID of single, double or triple size.
+#[tactic(auto, using(errors::specs::Rules::picks), unfolding(crate::specs::TypeA::is_uid_length))]
 fn is_uid_length(length: usize) -> bool
     ensures { result ≡ is_uid_length length }
 {
@@ -32,6 +33,7 @@ fn is_uid_length(length: usize) -> bool
 }
 
 // No bytes, or an ATS: its first byte is its own length.
+#[tactic(auto, using(crate::proofs::TypeALaws::no_ats, crate::proofs::TypeALaws::an_ats))]
 fn is_ats(bytes: &[u8]) -> bool
     ensures { result ≡ is_ats bytes.now }
 {
@@ -42,6 +44,7 @@ fn is_ats(bytes: &[u8]) -> bool
 }
 
 // Target data: a UID of a length that there is, and behind it an ATS or nothing.
+#[tactic(auto, using(errors::specs::Rules::picks), unfolding(errors::specs::Choice::pick, crate::specs::TypeA::is_target_data))]
 pub fn is_target_data(bytes: &[u8]) -> bool
     ensures { result ≡ is_target_data bytes.now }
 {
