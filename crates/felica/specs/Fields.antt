@@ -1,5 +1,5 @@
 -- Packets taken apart: the fields by their places, and what is a request or a reply.
-use Rattle.std.specs.Prelude.{Bool, true, false, ◌≡◌, List, [], ◌∷◌, ℕ, ◌+◌, ◌*◌, eqb, leb, length, take, drop, get_or}
+use Rattle.std.specs.Prelude.{Bool, true, false, List, [], ◌∷◌, ℕ, ◌+◌, ◌*◌, eqb, leb, length, take, drop, get_or}
 use Rattle.errors.specs.Choice.{pick}
 use Rattle.framing.specs.Lists.{both}
 use Rattle.felica.specs.Names.{idm_size, block_size, most_blocks, element_size, element, code_offset, idm_offset, services_offset, service_low_offset, service_high_offset, count_offset, request_head, flag1_offset, flag2_offset, flags_end, blocks_offset}

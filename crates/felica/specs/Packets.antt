@@ -2,7 +2,7 @@
 -- A byte string is a list of numbers.
 use Rattle.std.specs.Prelude.{Bool, List, [], ◌∷◌, ◌++◌, ℕ, suc, ◌*◌, ◌/◌, ◌%◌, eqb, leb, length}
 use Rattle.errors.specs.Choice.{pick}
-use Rattle.errors.specs.Refusals.{refused, plain, numbered}
+use Rattle.errors.specs.Refusals.{refused, numbered}
 use Rattle.framing.specs.Build.{Left, left, put_frame}
 use Rattle.framing.specs.Lists.{both}
 use Rattle.felica.specs.Names.{idm_size, block_size, most_blocks, element, one_service}

@@ -1,4 +1,6 @@
 // What a reply says to the one who sent the request (document 02, N5).
+#![tactic(auto, using(crate::specs::Rules::bounds), unfolding(errors::specs::Choice::pick, crate::specs::Checks::by_flags_of, crate::specs::Checks::check_of, crate::specs::Checks::is_complete, crate::specs::Checks::is_from_of))]
+
 ghost use Rattle.std.specs.Prelude.{◌≡◌};
 ghost use Rattle.felica.specs.Fields.{idm_in, count_in};
 ghost use Rattle.felica.specs.Checks.{is_complete, is_from_of, by_flags_of, check_of, read_check, write_check};

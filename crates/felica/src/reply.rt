@@ -1,4 +1,6 @@
 // Replies to Read and Write Without Encryption. `flag1` and `flag2` are their status flags.
+#![tactic(auto, using(crate::specs::Rules::bounds), unfolding(errors::specs::Choice::pick, crate::specs::Fields::has_blocks_of, crate::specs::Fields::is_read_reply_of, crate::specs::Fields::is_reply_of, crate::specs::Fields::is_write_reply_of, crate::specs::Fields::reads_blocks_of, crate::specs::Fields::reply_fields_of, crate::specs::Packets::are_blocks_of, crate::specs::Packets::built_of, crate::specs::Packets::read_reply_fits, crate::specs::Packets::reply_packet, framing::specs::Build::put_frame, framing::specs::Build::returned))]
+
 ghost use Rattle.std.specs.Prelude.{◌≡◌, [], ◌∷◌, ◌++◌, ◌*◌, ◌/◌, ◌≤◌, length};
 ghost use Rattle.framing.specs.Build.{returned, left, put_frame};
 ghost use Rattle.felica.specs.Names.{idm_size, block_size, most_blocks};

@@ -1,4 +1,6 @@
 // Requests: Read and Write Without Encryption.
+#![tactic(auto, using(crate::specs::Rules::bounds), unfolding(errors::specs::Choice::pick, crate::specs::Fields::asks_blocks, crate::specs::Fields::is_block_list_of, crate::specs::Fields::is_request_of, crate::specs::Fields::parsed_request, crate::specs::Packets::block_list, crate::specs::Packets::built_of, crate::specs::Packets::request, crate::specs::Packets::request_fits, crate::specs::Packets::write_fits_of, framing::specs::Build::put_frame, framing::specs::Build::returned))]
+
 ghost use Rattle.std.specs.Prelude.{◌≡◌, ◌++◌, ◌+◌, ◌*◌, ◌≤◌, length, take, drop};
 ghost use Rattle.framing.specs.Build.{returned, left, put_frame};
 ghost use Rattle.felica.specs.Names.{idm_size, block_size, most_blocks, element_size, request_head};
