@@ -1,4 +1,6 @@
 // HEX: pairs of hex digits of either case, printed in upper case. `-` stands for no bytes.
+#![tactic(auto, using(framing::specs::Rules::steps), unfolding(errors::specs::Choice::pick, errors::specs::Choice::in_range, crate::specs::Hex::value_of, crate::specs::Hex::digit_of, crate::specs::Hex::is_hex_of, crate::specs::Texts::returned))]
+
 ghost use Rattle.std.specs.Prelude.{◌≡◌, Bool, ◌+◌, ◌*◌, ◌/◌, ◌≤◌, ◌<◌, length};
 ghost use Rattle.bench.specs.Texts.{returned, over, placed, put_at};
 ghost use Rattle.bench.specs.Hex.{value_of, all_hex_digits, is_hex_of, pairs_of, read_of, digit_of, digits_of_lem, hex_of};

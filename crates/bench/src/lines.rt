@@ -1,10 +1,12 @@
-// The lines of standard input, one after the other, and what is written for each.
+// The lines of the input, one after the other, and what is written for each.
+#![tactic(auto, using(framing::specs::Rules::steps), unfolding(errors::specs::Choice::pick, crate::specs::Lines::line_of, crate::specs::Lines::unread_of))]
+
 ghost use Rattle.std.specs.Prelude.{◌≡◌, Bool, List, ◌++◌, ℕ, ◌≤◌, ◌<◌, length};
 ghost use Rattle.io.specs.Counts.{IsPrefixLen};
 ghost use Rattle.bench.specs.Lines.{Begun, NoFeed, before_feed, NextLine, next_of, unread_line, unread_in, line_of, unread_of, last_of, nothing as nothing_unread};
 
 use super::text;
-use libc::{STDIN_FILENO, STDOUT_FILENO};
+use std::io::Read;
 
 // What of the lent buffer was read and is no part of a line yet.
 #[derive(Clone, Copy)]
@@ -70,12 +72,29 @@ fn line_of(len: usize, line: &[u8]) -> Line
     }
 }
 
-// Reads once, and says how many bytes came: none at the end of the input.
-fn fill(buffer: &mut [u8]) -> usize
+// Reads once, and says how many bytes came: none at the end of the input. A read that fails gives none either.
+fn fill<R: Read>(input: &mut R, buffer: &mut [u8]) -> usize
     ensures { IsPrefixLen result buffer.new }
 {
-    let got = libc::read(STDIN_FILENO, buffer);
-    io::count(got, buffer)
+    match input.read(buffer) {
+        Ok(n) => n,
+        Err(_) => 0,
+    }
+}
+
+// Reads until the buffer is full or no more bytes come, and gives how many stand at its start.
+pub fn read_full<R: Read>(input: &mut R, buffer: &mut [u8]) -> usize
+    ensures { IsPrefixLen result buffer.new }
+{
+    let mut done = 0;
+    while done < buffer.len() {
+        let n = fill(input, &mut buffer[done..]);
+        if n == 0 {
+            break;
+        }
+        done += n;
+    }
+    done
 }
 
 // What is unread of a buffer of n bytes: nothing where the places are none of the buffer's.
@@ -110,13 +129,13 @@ fn last(len: usize, line: &[u8]) -> Given
 // Reads on until a line feed or the end of the input, behind the `start` bytes of a line.
 // A loop has to end, and nothing says that the input does: it counts its turns down from a number that no run uses up. Were it
 // used up, the line would be given as far as it was read.
-fn read_on(start: usize, buffer: &mut [u8], line: &mut [u8]) -> Given
+fn read_on<R: Read>(input: &mut R, start: usize, buffer: &mut [u8], line: &mut [u8]) -> Given
     ensures { (t l : List ℕ) → NoFeed t → Begun t l start line.old → NextLine t l result.line line.new (unread_in result.unread buffer.new) }
 {
     let mut len = start;
     let mut turns = u64::MAX;
     while turns > 0 {
-        let to = fill(buffer);
+        let to = fill(input, buffer);
         if to == 0 {
             return last(len, line);
         }
@@ -137,7 +156,7 @@ fn read_on(start: usize, buffer: &mut [u8], line: &mut [u8]) -> Given
 // Puts the next line, without its line feed, at the start of `line`. The last line may lack its line feed.
 // The input is read only where the unread bytes have no line feed. No contract can say what comes then: what is given is fixed by it, and
 // the bytes of `buffer` that are not among the unread ones afterwards are free.
-pub fn next(unread: Unread, buffer: &mut [u8], line: &mut [u8]) -> Given
+pub fn next<R: Read>(input: &mut R, unread: Unread, buffer: &mut [u8], line: &mut [u8]) -> Given
     ensures line_after { before_feed (unread_in unread buffer.old) < length (unread_in unread buffer.old) → next_of result buffer.new line.new ≡ unread_line unread buffer.old line.old }
     ensures next_line { NextLine (unread_in unread buffer.old) line.old result.line line.new (unread_in result.unread buffer.new) }
 {
@@ -156,11 +175,11 @@ pub fn next(unread: Unread, buffer: &mut [u8], line: &mut [u8]) -> Given
             },
         };
     }
-    read_on(len, buffer, line)
+    read_on(input, len, buffer, line)
 }
 
 // Writes the first n bytes to standard output. False where there are none, or they could not be written.
-pub fn write(out: &[u8], n: usize) -> bool
+pub fn write(rt: &impl Print, out: &[u8], n: usize) -> bool
     ensures { result ≡ Bool.true → (0 < n) × (n ≤ length out.now) }
 {
     if n == 0 {
@@ -169,5 +188,5 @@ pub fn write(out: &[u8], n: usize) -> bool
     if out.len() < n {
         return false;
     }
-    io::write_all(STDOUT_FILENO, &out[..n])
+    rt.write_all(&out[..n]).is_ok()
 }

@@ -1,4 +1,6 @@
 // A number in decimal digits, read from a word.
+#![tactic(auto, using(framing::specs::Rules::steps), unfolding(errors::specs::Choice::pick, errors::specs::Choice::in_range, crate::specs::Numbers::digit_value_of))]
+
 ghost use Rattle.std.specs.Prelude.{◌≡◌};
 ghost use Rattle.bench.specs.Numbers.{digit_value_of, number_of, number_in};
 

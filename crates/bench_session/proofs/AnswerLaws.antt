@@ -1,5 +1,5 @@
 -- Laws of an answer: what was read, the engine's step, and the text with its line feed.
-use Rattle.core.specs.Prelude.{◌≡◌, ℕ, ◌+◌, List, length, take, set}
+use Rattle.std.specs.Prelude.{◌≡◌, ℕ, ◌+◌, List, length, take, set}
 use mathlib.Core.Path.{refl, sym, ap, ap₂, ◌∙◌}
 use native.Mathlib.Nat.{zero-add}
 use Rattle.exchange.specs.Steps.{event_of}

@@ -1,5 +1,5 @@
 -- The session, the engine's buffer and the text after a line.
-use Rattle.core.specs.Prelude.{ℕ, ◌+◌, List, length, take, slice_set}
+use Rattle.std.specs.Prelude.{ℕ, ◌+◌, List, length, take, slice_set}
 use Rattle.std.proofs.Math.Option.{Option, none, some}
 use Rattle.errors.specs.declared.Refusal.TheVariants.{BadArgument}
 use Rattle.exchange.specs.Exchange.{Event}

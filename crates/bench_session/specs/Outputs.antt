@@ -1,5 +1,5 @@
 -- The text that is printed for an order or an answer.
-use Rattle.core.specs.Prelude.{ℕ, List, [], ◌∷◌, ◌++◌, length, take, ◌==◌}
+use Rattle.std.specs.Prelude.{ℕ, List, [], ◌∷◌, ◌++◌, length, take, ◌==◌}
 use Rattle.errors.specs.Choice.{pick}
 use Rattle.errors.specs.Refusals.{numbered, fault_numbered, status_number, card_status_number}
 use Rattle.errors.specs.declared.Numbered.{Numbered}

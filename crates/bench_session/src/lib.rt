@@ -150,7 +150,8 @@ fn fed(answer: Answered, out: &mut [u8; OUT_ROOM]) -> Answered
 
 // Answers standard input line by line on standard output. `lines::next` has the contract of a line, by the bytes that come, and `reply`
 // that of the text for it; free is what the operating system reads and writes.
-pub fn run() {
+pub fn run<R: std::io::Input + Print>(rt: &R) {
+    let mut input = rt.reader();
     let mut read = io::large_buffer();
     let mut line = [0u8; LINE_LIMIT];
     let mut buffer = [0u8; BUFFER_SIZE];
@@ -159,14 +160,14 @@ pub fn run() {
     let mut unread = Unread::nothing();
     let mut turns = u64::MAX;
     while turns > 0 {
-        let given = lines::next(unread, &mut read, &mut line);
+        let given = lines::next(&mut input, unread, &mut read, &mut line);
         unread = given.unread;
         let next = given.line;
         let replied = reply(session, next, &line, &mut buffer, &mut out);
         let n = replied.len;
         let after = replied.session;
         session = after;
-        if !lines::write(&out, n) {
+        if !lines::write(rt, &out, n) {
             return;
         }
         turns -= 1;

@@ -11,6 +11,7 @@ use simulated_chip::names::{CARDS_SIZE, REPLY_MEMORY_SIZE, SENT_MEMORY_SIZE};
 use simulated_chip::{Kind, names};
 use targets::Bitrate;
 
+#[tactic(auto, unfolding(errors::specs::Choice::pick, simulated_chip::specs::Memory::kind_at))]
 fn kind_by(number: u8) -> Kind
     ensures { result ≡ kind_at number }
 {
@@ -23,6 +24,7 @@ fn kind_by(number: u8) -> Kind
 }
 
 // A bitrate has its code's number; no other number is one that a kind takes.
+#[tactic(auto, unfolding(errors::specs::Choice::pick, crate::specs::Numbers::rate_by_of))]
 fn rate_by(number: u8) -> Bitrate
     ensures { result ≡ rate_by_of number }
 {
@@ -36,6 +38,7 @@ fn rate_by(number: u8) -> Bitrate
 }
 
 // A kind that there is not has no bitrate, so that a card of it is refused as one with a bitrate that is not of its kind.
+#[tactic(auto, using(errors::specs::Rules::picks), unfolding(errors::specs::Choice::pick, crate::specs::Numbers::bitrate_by_of))]
 fn bitrate_by(kind: u8, number: u8) -> Bitrate
     ensures { result ≡ bitrate_by_of kind number }
 {

@@ -6,7 +6,7 @@ use Rattle.exchange.specs.Exchange.{Event}
 use Rattle.protocol.specs.Machine.{Machine}
 use Rattle.engine.specs.Inputs.{gives}
 use Rattle.engine.specs.Refinement.{engine}
-use Rattle.session_c.specs.Demand3.{MixedEntry, mixed_input, mixed_buffer}
+use Rattle.session_host.specs.Demand3.{MixedEntry, mixed_input, mixed_buffer}
 use Rattle.chip_protocol.specs.Names.{longest_packet}
 use Rattle.chip_protocol.specs.Chip.{chip_step}
 use Rattle.chip_protocol.specs.Channel.{Chip, simulated}

@@ -7,7 +7,7 @@ use Rattle.protocol.specs.Calls.{DeviceCall, ReaderCall, device, unknown, detect
 use Rattle.calls.specs.Numbers.{call_of}
 use Rattle.calls.specs.declared.start.Numbers.{Numbers}
 use Rattle.engine.specs.Inputs.{Input, opens, asks}
-use Rattle.session_c.specs.Entries.{HostEntry, host_call, host_input}
+use Rattle.session_host.specs.Entries.{HostEntry, host_call, host_input}
 
 module _ (n : Numbers) (first second third fourth b : List ℕ) where
   -- rcs956_call with this number is this call

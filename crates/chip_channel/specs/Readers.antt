@@ -13,9 +13,9 @@ use Rattle.engine.specs.Numbers.{event_by_of}
 use Rattle.engine.specs.Refinement.{engine}
 use Rattle.engine.specs.SessionSteps.{fresh_session}
 use Rattle.engine.specs.declared.session.Session.{Session}
-use Rattle.session_c.specs.Demand3.{session_after, MixedEntry, mixed_input, mixed_buffer}
-use Rattle.session_c.specs.Entries.{HostEntry, host_event, host_input, buffer_in, report_with}
-use Rattle.session_c.specs.Outputs.{output_in, output_is}
+use Rattle.session_host.specs.Demand3.{session_after, MixedEntry, mixed_input, mixed_buffer}
+use Rattle.session_host.specs.Entries.{HostEntry, host_event, host_input, buffer_in, report_with}
+use Rattle.session_host.specs.Outputs.{output_in, output_is}
 use Rattle.engine.specs.Inputs.{step_with}
 use Rattle.chip_protocol.specs.Channel.{Chip, simulated}
 use Rattle.chip_protocol.specs.Alike.{Alike}

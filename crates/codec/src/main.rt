@@ -1,6 +1,6 @@
 // The frame and CRC library on its own, for goods-in: one line in, one line out.
 #![tactic(auto)]
 
-fn main() {
-    bench_codec::run();
+fn main(rt: HostRuntime) {
+    bench_codec::run(&rt);
 }

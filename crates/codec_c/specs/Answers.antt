@@ -66,11 +66,11 @@ pub record ParsedPadded : Type 0 where
   pub zeros : ℕ
 
 abbrev pub parsed_padded : ℕ → Found → ℕ → ParsedPadded
-parsed_padded answer places zeros = record { answer = answer; places = places; zeros = zeros }
+parsed_padded answer places extra = record { answer = answer; places = places; zeros = extra }
 
 abbrev pub padded_of : Padded → ParsedPadded
 padded_of a = parsed_padded 0 (frame_found a.found) a.zeros
 
 unfoldable pub padded_for : Setting → List ℕ → Found → ℕ → ParsedPadded
-padded_for (Format f) packet before zeros = padded_of (parse_padded_of f true packet)
-padded_for Setting.Nothing packet before zeros = parsed_padded 4 before zeros
+padded_for (Format f) packet before extra = padded_of (parse_padded_of f true packet)
+padded_for Setting.Nothing packet before extra = parsed_padded 4 before extra

@@ -71,6 +71,7 @@ pub extern "C" fn rcs956_checksum(bytes: &[u8]) -> u8
 }
 
 // Writes the payload's frame to the buffer's start, and its length to `count`. A refusal writes nothing.
+#[tactic(auto, unfolding(crate::specs::Answers::build_for, crate::specs::Answers::written_of, framing::specs::Build::returned))]
 #[unsafe(no_mangle)]
 pub extern "C" fn rcs956_frame_build(
     setting: u8,
@@ -93,6 +94,7 @@ pub extern "C" fn rcs956_frame_build(
 }
 
 // Says what the packet starts with: its kind, the payload's start and length, the frame's length. A refusal writes nothing.
+#[tactic(auto, unfolding(crate::specs::Answers::parse_for))]
 #[unsafe(no_mangle)]
 pub extern "C" fn rcs956_frame_parse(
     setting: u8,
@@ -117,6 +119,7 @@ pub extern "C" fn rcs956_frame_parse(
 
 // The same behind up to 16 extra zeros, with their number. The places are those of the packet as it came; the frame's length counts no
 // extra zeros.
+#[tactic(auto, unfolding(crate::specs::Answers::padded_for))]
 #[unsafe(no_mangle)]
 pub extern "C" fn rcs956_frame_parse_padded(
     setting: u8,
@@ -160,6 +163,7 @@ pub extern "C" fn rcs956_crc_b_check(bytes: &[u8]) -> bool
 }
 
 // Writes the bytes and their CRC_B to the start of `out`, and their number to `count`. A refusal writes nothing.
+#[tactic(auto, unfolding(crate::specs::Answers::append_b, crate::specs::Answers::written_of))]
 #[unsafe(no_mangle)]
 pub extern "C" fn rcs956_crc_b_append(bytes: &[u8], out: &mut [u8], count: &mut usize) -> u8
     ensures { written result out.new count.new ≡ append_b bytes.now out.old count.old }

@@ -1,6 +1,6 @@
 // The program `codec` over the standards' vectors and document 01's edges; its answers were written by hand from those papers.
 #![tactic(auto)]
 
-fn main() {
-    bench_codec::run();
+fn main(rt: HostRuntime) {
+    bench_codec::run(&rt);
 }

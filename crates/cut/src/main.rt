@@ -1,6 +1,6 @@
 // A fault script from standard input, cut down to its shortest end that still shows its fault.
 #![tactic(auto)]
 
-fn main() {
-    cut_lines::run();
+fn main(rt: HostRuntime) {
+    cut_lines::run(&rt);
 }

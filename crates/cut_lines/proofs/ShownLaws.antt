@@ -1,5 +1,5 @@
 -- Laws of what a line shows: the variants of an output that are no refusal, and the same refusal.
-use Rattle.core.specs.Prelude.{◌≡◌, ℕ, Bool, true, false, not, List, [], ◌∷◌}
+use Rattle.std.specs.Prelude.{◌≡◌, ℕ, Bool, true, false, not, List, [], ◌∷◌}
 use mathlib.Core.Path.{refl, sym}
 use mathlib.Core.Option.{none}
 use denote.Enum.Declared.{tag_of}

@@ -1,5 +1,5 @@
 -- What a line shows of a fault, by what the engine gave out.
-use Rattle.core.specs.Prelude.{Bool, true, false}
+use Rattle.std.specs.Prelude.{Bool, true, false}
 use Rattle.std.proofs.Math.Option.{Option, none, some}
 use Rattle.errors.specs.Refusals.{numbered, fault_numbered}
 use Rattle.errors.specs.declared.Numbered.{Numbered}

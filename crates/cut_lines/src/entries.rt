@@ -73,7 +73,7 @@ fn read_line(line: &[u8], bytes: &mut [u8], at: usize) -> Input
     input
 }
 
-// Reads the lines of a script that is not over_long_lem.
+// Reads the lines of a script that is not over-long.
 pub(crate) fn read(script: &[u8], bytes: &mut [u8]) -> Entries
     requires { (length script.now ≤ length bytes.old) × (length script.now ≤ script_limit) }
     ensures { EntriesOf script.now bytes.new result × (length bytes.new ≡ length bytes.old) }

@@ -6,9 +6,9 @@ ghost use Rattle.cut_script.specs.Answer.{script_limit, cut_of, written_for};
 use super::{Stretch, cut};
 use bench::{lines, text};
 use bench_input::slice;
-use libc::STDIN_FILENO;
+use std::io::Read;
 
-// One byte more than a script may have tells one that is over_long_lem.
+// One byte more than a script may have tells one that is over-long.
 const INPUT_ROOM: usize = 65537;
 
 fn room() -> [u8; INPUT_ROOM]
@@ -17,12 +17,12 @@ fn room() -> [u8; INPUT_ROOM]
     [0; INPUT_ROOM]
 }
 
-// Reads what is left of standard input. A loop has to end: it counts its turns down from a number that no run uses up.
-fn read_rest() {
+// Reads what is left of the input. A loop has to end: it counts its turns down from a number that no run uses up.
+fn read_rest<R: Read>(input: &mut R) {
     let mut rest = io::large_buffer();
     let mut turns = u64::MAX;
     while turns > 0 {
-        if io::read_full(STDIN_FILENO, &mut rest) == 0 {
+        if lines::read_full(input, &mut rest) == 0 {
             return;
         }
         turns -= 1;
@@ -40,15 +40,16 @@ pub fn put_cut(script: &[u8], out: &mut [u8]) -> usize
     }
 }
 
-// Cuts standard input down, which is read to its end even where it is over_long_lem. `put_cut` has the contract of what is written; free is what the
+// Cuts standard input down, which is read to its end even where it is over-long. `put_cut` has the contract of what is written; free is what the
 // operating system reads and writes.
-pub fn run() {
+pub fn run<R: Input + Print>(rt: &R) {
+    let mut reader = rt.reader();
     let mut input = room();
-    let n = io::read_full(STDIN_FILENO, &mut input);
+    let n = lines::read_full(&mut reader, &mut input);
     if n == INPUT_ROOM {
-        read_rest();
+        read_rest(&mut reader);
     }
     let mut out = io::large_buffer();
     let len = put_cut(&input[..n], &mut out);
-    lines::write(&out, len);
+    lines::write(rt, &out, len);
 }

@@ -4,8 +4,9 @@
 
 ghost use Rattle.std.specs.Prelude.{◌≡◌, ◌≤◌, ◌<◌, length};
 
+use bench::lines;
 use cut_lines::{Stretch, cut};
-use libc::{STDIN_FILENO, STDOUT_FILENO};
+use std::io::Result;
 
 const INPUT_ROOM: usize = 524288;
 
@@ -50,34 +51,34 @@ fn read_header(input: &[u8], start: usize) -> Header
     Header { len, behind: at }
 }
 
-fn write_stretch(stretch: Stretch) -> bool {
+fn write_stretch(rt: &impl Print, stretch: Stretch) -> Result<()> {
     match stretch {
-        Stretch::From(place) => io::print_decimal(STDOUT_FILENO, place as u64),
-        Stretch::OverLong => io::write_all(STDOUT_FILENO, b"refused 3"),
-        Stretch::NoRefusal => io::write_all(STDOUT_FILENO, b"refused 29"),
+        Stretch::From(place) => rt.println(place),
+        Stretch::OverLong => rt.println("refused 3"),
+        Stretch::NoRefusal => rt.println("refused 29"),
     }
 }
 
-fn write_cuts(input: &[u8]) {
+fn write_cuts(rt: &impl Print, input: &[u8]) -> Result<()> {
     let mut at = 0;
     while at < input.len() {
         let header = read_header(input, at);
         let from = header.behind;
         if input.len() < from {
-            return;
+            return Ok(());
         }
         if input.len() - from < header.len {
-            return;
+            return Ok(());
         }
         let to = from + header.len;
-        write_stretch(cut(&input[from..to]));
-        io::write_all(STDOUT_FILENO, b"\n");
+        write_stretch(rt, cut(&input[from..to]))?;
         at = to;
     }
+    Ok(())
 }
 
-fn main() {
+fn main(rt: HostRuntime) -> Result<()> {
     let mut input = room();
-    let n = io::read_full(STDIN_FILENO, &mut input);
-    write_cuts(&input[..n]);
+    let n = lines::read_full(&mut rt.reader(), &mut input);
+    write_cuts(&rt, &input[..n])
 }

@@ -1,5 +1,5 @@
 -- Events by their numbers.
-use Rattle.core.specs.Prelude.{◌≡◌, ℕ, List, [], ◌∷◌}
+use Rattle.std.specs.Prelude.{◌≡◌, ℕ, List, [], ◌∷◌}
 use mathlib.Core.Path.{refl}
 use mathlib.Core.Option.{Option, none}
 use denote.Enum.Declared.{tag_of}

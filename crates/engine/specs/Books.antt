@@ -1,5 +1,5 @@
 -- The reader's books, as books.rt has them in two arrays: their range, and what is booked of what comes out.
-use Rattle.core.specs.Prelude.{ℕ, ◌+◌, Bool, List, [], ◌∷◌, length, nat_le, nat_lt, slice_index, slice_set}
+use Rattle.std.specs.Prelude.{ℕ, ◌+◌, Bool, List, [], ◌∷◌, length, nat_le, nat_lt, slice_index, slice_set}
 use Rattle.errors.specs.Choice.{pick}
 use Rattle.framing.specs.Lists.{both}
 use Rattle.framing.specs.Padded.{extra_zeros_of}

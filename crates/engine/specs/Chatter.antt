@@ -1,5 +1,5 @@
 -- Further ACK-led packets (document 02, N11): they cannot matter to the engine, from any sessions of it that stand for one session.
-use Rattle.core.specs.Prelude.{◌≡◌, ℕ, List}
+use Rattle.std.specs.Prelude.{◌≡◌, ℕ, List}
 use Rattle.protocol.specs.Calls.{Call}
 use Rattle.protocol.specs.Session as Spec
 use Rattle.protocol.specs.Machine.{entries}

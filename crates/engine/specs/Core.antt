@@ -1,5 +1,5 @@
 -- What a call or an event does to the running call, its arrays and the buffer: the contracts of core.rt and reply.rt.
-use Rattle.core.specs.Prelude.{◌≡◌, ℕ, ◌≤◌, Bool, List, [], length, take, ◌==◌, nat_le, nat_lt}
+use Rattle.std.specs.Prelude.{◌≡◌, ℕ, ◌≤◌, Bool, List, [], length, take, ◌==◌, nat_le, nat_lt}
 use Rattle.errors.specs.Choice.{pick}
 use Rattle.errors.specs.declared.Refusal.{Refusal}
 use Rattle.errors.specs.declared.Refusal.TheVariants.{OutOfTurn, ShortBuffer, OverLong}

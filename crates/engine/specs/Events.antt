@@ -1,5 +1,5 @@
 -- Each event that a running call meets, and each call that begins: the engine does what the definitions say.
-use Rattle.core.specs.Prelude.{◌≡◌, ℕ, ◌≤◌, true, false, List, [], length, take, nat_le}
+use Rattle.std.specs.Prelude.{◌≡◌, ℕ, ◌≤◌, true, false, List, [], length, take, nat_le}
 use Rattle.std.proofs.Math.Path.{refl}
 use Rattle.std.proofs.Common.{arith}
 use Rattle.errors.specs.Choice.{pick}

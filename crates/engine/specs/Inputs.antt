@@ -1,5 +1,5 @@
 -- The entries as the engine is given them, and what it does to each, as the host sees it.
-use Rattle.core.specs.Prelude.{ℕ, List, length, take}
+use Rattle.std.specs.Prelude.{ℕ, List, length, take}
 use Rattle.exchange.specs.Exchange.{write, read, drain, pause, Event}
 use Rattle.protocol.specs.Scripts.{done, type1, uid_and_ats, nothing, refused, refused_after}
 use Rattle.protocol.specs.Calls.{ReaderCall, opening, reader}

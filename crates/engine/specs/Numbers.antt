@@ -1,5 +1,5 @@
 -- Calls as inputs, and the events by their numbers.
-use Rattle.core.specs.Prelude.{◌≡◌, ℕ, zero, suc, List, [], ◌∷◌, ◌≢◌, slice_index_or}
+use Rattle.std.specs.Prelude.{◌≡◌, ℕ, zero, suc, List, [], ◌∷◌, ◌≢◌, slice_index_or}
 use Rattle.std.proofs.Math.Option.{Option, none, some}
 use Rattle.std.specs.Prelude.{refl}
 use Rattle.errors.specs.declared.Refusal.TheVariants.{OutOfTurn}

@@ -1,6 +1,6 @@
 -- A list of system codes in one call, and the single calls in its place: equal for the engine too, from every session of it that stands for
 -- an open, idle one.
-use Rattle.core.specs.Prelude.{◌≡◌, ℕ, true, List, length}
+use Rattle.std.specs.Prelude.{◌≡◌, ℕ, true, List, length}
 use Rattle.protocol.specs.Arguments.{system_codes_fit, words_in}
 use Rattle.protocol.specs.Session.{Books}
 use Rattle.protocol.specs.Machine.{entries}

@@ -1,5 +1,5 @@
 -- The state relation: which running call, and which session of the definitions, the engine's numbers and arrays represent.
-use Rattle.core.specs.Prelude.{◌≡◌, ℕ, true, false, List, [], take, ◌==◌, nat_eq, nat_le}
+use Rattle.std.specs.Prelude.{◌≡◌, ℕ, true, false, List, [], take, ◌==◌, nat_eq, nat_le}
 use Rattle.exchange.specs.Packets.{Reply}
 use Rattle.exchange.specs.Steps.{phase_in, draining_phase}
 use Rattle.exchange.specs.declared.Exchange.{Exchange}

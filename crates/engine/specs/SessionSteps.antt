@@ -1,5 +1,5 @@
 -- What each entry does to a session, field by field, and to the buffer: the contracts of state.rt and session.rt.
-use Rattle.core.specs.Prelude.{ℕ, Bool, true, false, List, length, replicate, ◌==◌, nat_lt}
+use Rattle.std.specs.Prelude.{ℕ, Bool, true, false, List, length, replicate, ◌==◌, nat_lt}
 use Rattle.errors.specs.Choice.{pick}
 use Rattle.errors.specs.declared.Refusal.TheVariants.{OutOfTurn, ShortBuffer, BadArgument}
 use Rattle.framing.specs.Lists.{both}

@@ -1,5 +1,5 @@
 -- What it is for the engine's step to do what the definitions say, and the ways in which a call goes on.
-use Rattle.core.specs.Prelude.{◌≡◌, ℕ, ◌≤◌, Bool, true, false, cond, leb, List, map, length, take, drop, nat_le, nat_lt}
+use Rattle.std.specs.Prelude.{◌≡◌, ℕ, ◌≤◌, Bool, true, false, cond, leb, List, map, length, take, drop, nat_le, nat_lt}
 use Rattle.std.proofs.Math.Path.{refl, ap, subst}
 use Rattle.std.proofs.Common.{sym, ◌∙◌, arith}
 use borrow.Author.Tests.{ltb-false, le-leb}
@@ -201,7 +201,7 @@ module _ (p : Position) (m : Running) where
       → take v.pending v.command ≡ later → take v.kept v.found ≡ found → Refines p.kind i later found d s
       → Simulates (is_opening p.call) m (performs_of (core_with v (call_of p stage i phase)) (arrays_at v) d b) (effect p.call (start_script s))
   unfolding performs_of phase_in
-  decision_sims v stage phase d s b e f (refines_end a c h) = sim_answer v (call_of p stage _ phase) p.call m c a b h
+  decision_sims {i = i} v stage phase d s b e f (refines_end a c h) = sim_answer v (call_of p stage i phase) p.call m c a b h
   decision_sims v stage phase d s b e f (refines_send n code clock bytes k h q is-command answered failing) =
       stage_sims v _ _ n _ h (reply k q record { answered = answered; failing = failing }) (call_of p stage _ phase) code clock bytes b e f is-command refl
   decision_sims v stage phase d s b e f (refines_reset n r h q is-command l) = stage_sims v _ _ n _ h (reset_reply r q l) (call_of p stage _ phase) reset_mode_code command_clock reset_mode_data b e f is-command refl

@@ -1,6 +1,6 @@
 -- Refusals at once change neither session nor buffer, of any session; a fault ends the call, leaves the buffer as it was and the
 -- session free.
-use Rattle.core.specs.Prelude.{◌≡◌, ℕ, ◌≤◌, Bool, true, false, List, [], length, ◌==◌, ◌≢◌, nat_le, nat_lt}
+use Rattle.std.specs.Prelude.{◌≡◌, ℕ, ◌≤◌, Bool, true, false, List, [], length, ◌==◌, ◌≢◌, nat_le, nat_lt}
 use Rattle.std.proofs.Math.Path.{refl, ap}
 use Rattle.std.proofs.Common.{arith, ltb-false}
 use Rattle.errors.specs.Choice.{pick}

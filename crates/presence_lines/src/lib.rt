@@ -111,7 +111,8 @@ pub fn reply(list: Presence, next: Line, line: &[u8], out: &mut [u8; ANSWER_ROOM
 
 // Answers standard input line by line on standard output. `lines::next` has the contract of a line, by the bytes that come, and `reply`
 // that of the text for it; free is what the operating system reads and writes.
-pub fn run() {
+pub fn run<R: Input + Print>(rt: &R) {
+    let mut input = rt.reader();
     let mut buffer = io::large_buffer();
     let mut line = [0u8; LINE_LIMIT];
     let mut out = [0u8; ANSWER_ROOM];
@@ -119,14 +120,14 @@ pub fn run() {
     let mut unread = Unread::nothing();
     let mut turns = u64::MAX;
     while turns > 0 {
-        let given = lines::next(unread, &mut buffer, &mut line);
+        let given = lines::next(&mut input, unread, &mut buffer, &mut line);
         unread = given.unread;
         let next = given.line;
         let replied = reply(list, next, &line, &mut out);
         let n = replied.len;
         let after = replied.list;
         list = after;
-        if !lines::write(&out, n) {
+        if !lines::write(rt, &out, n) {
             return;
         }
         turns -= 1;

@@ -60,6 +60,7 @@ pub enum Admission {
 
 impl State {
     // Whether the list is one that can be: each field in its range, and the cards in order.
+    #[tactic(auto, using(errors::specs::Rules::picks), unfolding(errors::specs::Choice::pick, crate::specs::Steps::list_in_range))]
     fn is_in_range(self, cards: &[u8; CARDS_SIZE]) -> bool
         ensures { result ≡ list_in_range self cards.now }
     {
@@ -78,6 +79,7 @@ impl State {
     }
 
     // Whether the number is not above that of the last accepted round.
+    #[tactic(auto, using(errors::specs::Rules::picks), unfolding(errors::specs::Choice::pick, crate::specs::Steps::stale_at))]
     fn is_stale(self, number: u32) -> bool
         ensures { result ≡ stale_at self number }
     {
@@ -88,6 +90,7 @@ impl State {
     }
 
     // Refusals in their order: 3, 1, 4, 27.
+    #[tactic(auto, using(errors::specs::Rules::picks), unfolding(errors::specs::Choice::pick, crate::specs::Steps::admission_of))]
     fn admit(self, cards: &[u8; CARDS_SIZE], number: u32, records: &[u8]) -> Admission
         ensures { result ≡ admission_of self cards.now number records.now }
     {
@@ -166,6 +169,7 @@ impl State {
 }
 
 // Whether the records are whole, and their kinds and bitrates some that there are.
+#[tactic(auto, using(errors::specs::Rules::picks), unfolding(errors::specs::Choice::pick, crate::specs::Steps::readable_in))]
 fn are_readable(records: &[u8]) -> bool
     ensures { result ≡ readable_in records.now }
 {

@@ -27,6 +27,7 @@ pub(crate) fn place(cards: &[u8], count: usize, card: &[u8]) -> usize
 }
 
 // Whether the list has the card whose place this is.
+#[tactic(auto, using(crate::specs::Lookups::there, crate::specs::Lookups::not_there))]
 pub(crate) fn is_at(cards: &[u8], count: usize, place: usize, card: &[u8]) -> bool
     requires { CardsAt count cards.now × (place ≡ place_of card_in card.now (pieces count cards.now)) }
     ensures { result ≡ has card_in card.now (pieces count cards.now) }

@@ -16,6 +16,7 @@ pub const LAST_CARD_KIND: u8 = 4;
 pub const LAST_BITRATE: u8 = 6;
 
 // Whether an identifier of the records is too long.
+#[tactic(auto, using(crate::specs::Checks::long_found, crate::specs::Checks::long_turn, crate::specs::Checks::long_end))]
 pub(crate) fn any_over_long(records: &[u8]) -> bool
     ensures { result ≡ any long_in (pieces (length records.now / record_size) records.now) }
 {
@@ -31,6 +32,7 @@ pub(crate) fn any_over_long(records: &[u8]) -> bool
 }
 
 // Whether the kind and the bitrate of the record that starts at a place are some.
+#[tactic(auto, using(crate::specs::Checks::known_not))]
 fn is_known(records: &[u8], at: usize) -> bool
     requires { at + record_size ≤ length records.now }
     ensures { result ≡ is_known_in (take record_size (drop at records.now)) }
@@ -57,6 +59,7 @@ pub(crate) fn are_known(records: &[u8]) -> bool
 }
 
 // Whether the fields of the list's record that starts at a place are in range.
+#[tactic(auto, using(crate::specs::Checks::range_known, crate::specs::Checks::range_missed, crate::specs::Checks::range_long))]
 fn is_in_range(cards: &[u8], at: usize) -> bool
     requires { at + record_size ≤ length cards.now }
     ensures { result ≡ in_range_in (take record_size (drop at cards.now)) }

@@ -23,6 +23,7 @@ pub(crate) fn card_at(cards: &[u8], at: usize) -> &[u8]
 }
 
 // Puts a text into a memory from a place on.
+#[tactic(auto, using(crate::specs::MemoryLaws::copied))]
 pub(crate) fn put_at(text: &[u8], cards: &mut [u8], at: usize)
     requires { at + length text.now ≤ length cards.old }
     ensures { cards.new ≡ take at cards.old ++ (text.now ++ drop (at + length text.now) cards.old) }

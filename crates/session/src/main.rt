@@ -1,6 +1,6 @@
 // The engine without a reader: calls and events from standard input, one line in, one line out.
 #![tactic(auto)]
 
-fn main() {
-    bench_session::run();
+fn main(rt: HostRuntime) {
+    bench_session::run(&rt);
 }

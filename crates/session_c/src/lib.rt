@@ -1,17 +1,14 @@
 // The C interface of the session, as include/rcs956.h describes it: the session is updated in place.
 #![tactic(auto)]
 
-pub mod outcome;
-
-ghost use Rattle.core.specs.Prelude.{◌≡◌};
+ghost use Rattle.std.specs.Prelude.{◌≡◌};
 ghost use Rattle.engine.specs.SessionSteps.{fresh_session};
-ghost use Rattle.session_c.specs.Outcomes.{report};
-ghost use Rattle.session_c.specs.Entries.{host_call, host_event, report_for};
+ghost use Rattle.session_host.specs.Outcomes.{report};
+ghost use Rattle.session_host.specs.Entries.{host_call, host_event, report_for};
 
 use calls::start::Numbers;
 use engine::session::Session;
-use engine::{by_number, state};
-use outcome::Outcome;
+use session_host::outcome::Outcome;
 
 // A session in which no call runs, and with no opening behind it.
 #[unsafe(no_mangle)]
@@ -35,23 +32,7 @@ pub extern "C" fn rcs956_call(
 ) -> Outcome
     ensures { report session.new result buffer.new ≡ report_for session.old (host_call number numbers first.now second.now third.now fourth.now buffer.old) }
 {
-    let core = session.core;
-    let progress = state::call(
-        core,
-        &mut session.command,
-        &mut session.frames,
-        &mut session.books,
-        number,
-        numbers,
-        first,
-        second,
-        third,
-        fourth,
-        buffer,
-    );
-    let after = progress.core;
-    session.core = after;
-    Outcome::of(progress.output)
+    session_host::call(session, number, numbers, first, second, third, fourth, buffer)
 }
 
 // An event, by its number, with a packet's bytes. What comes out is the same.
@@ -64,18 +45,5 @@ pub extern "C" fn rcs956_event(
 ) -> Outcome
     ensures { report session.new result buffer.new ≡ report_for session.old (host_event number packet.now buffer.old) }
 {
-    let core = session.core;
-    let progress = by_number::event(
-        core,
-        &mut session.command,
-        &mut session.found,
-        &mut session.frames,
-        &mut session.books,
-        number,
-        packet,
-        buffer,
-    );
-    let after = progress.core;
-    session.core = after;
-    Outcome::of(progress.output)
+    session_host::event(session, number, packet, buffer)
 }

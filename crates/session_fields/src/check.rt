@@ -8,6 +8,7 @@ use engine::session::Session;
 use errors::Numbered;
 use exchange::Exchange;
 use stages::put::DATA_LIMIT;
+use std::io::Result;
 
 const OUTCOMES: usize = 272;
 
@@ -236,26 +237,23 @@ fn is_changed(before: Session, after: Session, kind: usize) -> bool {
     }
 }
 
-fn line(text: &[u8], n: u64) {
-    io::write_all(libc::STDOUT_FILENO, text);
-    io::print_decimal(libc::STDOUT_FILENO, n);
-    io::write_all(libc::STDOUT_FILENO, b"\n");
+fn line(rt: &impl Print, text: &str, n: u64) -> Result<()> {
+    println!(rt; "{text}{n}")
 }
 
 // The line of a refusal.
-fn print_refused(counts: [u64; OUTCOMES], k: u8) {
-    let n = k as usize;
-    io::write_all(libc::STDOUT_FILENO, b"refused ");
-    io::print_decimal(libc::STDOUT_FILENO, k as u64);
-    line(b" ", counts[n]);
+fn print_refused(rt: &impl Print, counts: [u64; OUTCOMES], k: u8) -> Result<()> {
+    let count = counts[k as usize];
+    println!(rt; "refused {k} {count}")
 }
 
-fn refusals(counts: [u64; OUTCOMES]) {
+fn refusals(rt: &impl Print, counts: [u64; OUTCOMES]) -> Result<()> {
     let mut left: u8 = 22;
     while left > 0 {
-        print_refused(counts, 23 - left);
+        print_refused(rt, counts, 23 - left)?;
         left -= 1;
     }
+    Ok(())
 }
 
 impl Tally {
@@ -296,28 +294,28 @@ impl Tally {
 
     // One line for each outcome of an event, with its count; of the calls, whose list grows, how many thousands were accepted and which
     // refusals were met; and one for each kind of violation.
-    pub(crate) fn print(self) {
+    pub(crate) fn print(self, rt: &impl Print) -> Result<()> {
         let counts = self.events;
         let calls = self.calls;
-        line(b"write ", counts[256]);
-        line(b"read ", counts[257]);
-        line(b"drain ", counts[258]);
-        line(b"pause ", counts[259]);
-        line(b"done ", counts[260]);
-        line(b"done type1 ", counts[261]);
-        line(b"none ", counts[262]);
-        line(b"done uid ats ", counts[263]);
-        refusals(counts);
-        line(b"thousands of calls accepted ", calls[256] / 1000);
-        line(b"calls refused 1, met ", met(calls[1]));
-        line(b"calls refused 2, met ", met(calls[2]));
-        line(b"calls refused 3, met ", met(calls[3]));
-        line(b"calls refused 4, met ", met(calls[4]));
-        line(b"calls refused 5, met ", met(calls[5]));
-        line(b"calls refused 6, met ", met(calls[6]));
-        line(b"out of range and not refused with 1: ", self.unfit);
-        line(b"short buffer and not refused with 1 or 2: ", self.short);
-        line(b"refused with 1 or 2 and changed: ", self.changed);
-        line(b"more bytes than the buffer: ", self.long);
+        line(rt, "write ", counts[256])?;
+        line(rt, "read ", counts[257])?;
+        line(rt, "drain ", counts[258])?;
+        line(rt, "pause ", counts[259])?;
+        line(rt, "done ", counts[260])?;
+        line(rt, "done type1 ", counts[261])?;
+        line(rt, "none ", counts[262])?;
+        line(rt, "done uid ats ", counts[263])?;
+        refusals(rt, counts)?;
+        line(rt, "thousands of calls accepted ", calls[256] / 1000)?;
+        line(rt, "calls refused 1, met ", met(calls[1]))?;
+        line(rt, "calls refused 2, met ", met(calls[2]))?;
+        line(rt, "calls refused 3, met ", met(calls[3]))?;
+        line(rt, "calls refused 4, met ", met(calls[4]))?;
+        line(rt, "calls refused 5, met ", met(calls[5]))?;
+        line(rt, "calls refused 6, met ", met(calls[6]))?;
+        line(rt, "out of range and not refused with 1: ", self.unfit)?;
+        line(rt, "short buffer and not refused with 1 or 2: ", self.short)?;
+        line(rt, "refused with 1 or 2 and changed: ", self.changed)?;
+        line(rt, "more bytes than the buffer: ", self.long)
     }
 }

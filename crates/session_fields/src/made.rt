@@ -88,7 +88,7 @@ fn drawn_event(x: u64) -> Event {
     }
 }
 
-// How many bytes of the room a packet has: a whole frame, an ACK, an over_long_lem packet, none, or any number.
+// How many bytes of the room a packet has: a whole frame, an ACK, an over-long packet, none, or any number.
 fn length(x: u64, frame: usize) -> usize {
     match x % 8 {
         0 => 0,

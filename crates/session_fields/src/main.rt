@@ -6,6 +6,7 @@ mod draw;
 mod made;
 
 use check::Tally;
+use std::io::Result;
 
 const SESSIONS: u64 = 50000;
 
@@ -19,7 +20,7 @@ fn turn(seed: u64, tally: Tally) -> Tally {
     tally.checked(draw::is_call(seed), session, after, output, size)
 }
 
-fn main() {
+fn main(rt: HostRuntime) -> Result<()> {
     let mut tally = Tally::empty();
     let mut seed = 1;
     let mut left = SESSIONS;
@@ -28,5 +29,5 @@ fn main() {
         seed = draw::next_seed(seed);
         left -= 1;
     }
-    tally.print();
+    tally.print(&rt)
 }

@@ -1,6 +1,6 @@
 // The program `session` on lists of system codes, with the answers of the Rust driver.
 #![tactic(auto)]
 
-fn main() {
-    bench_session::run();
+fn main(rt: HostRuntime) {
+    bench_session::run(&rt);
 }

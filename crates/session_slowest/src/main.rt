@@ -8,9 +8,9 @@ use bench::lines::{Line, Unread};
 use bench::{lines, prefix, text};
 use bench_input::slice;
 use bench_session::{BUFFER_SIZE, OUT_ROOM};
-use octets::scan;
 use engine::session::Session;
 use framing::starts_with;
+use octets::scan;
 use slowest_call::lines::answer;
 use slowest_call::script::SCRIPT_ROOM;
 
@@ -93,18 +93,19 @@ fn report_of(next: Line, line: &[u8], report: &mut [u8]) -> usize {
     text::put(b"\n", report, played)
 }
 
-fn main() {
+fn main(rt: HostRuntime) {
+    let mut input = rt.reader();
     let mut buffer = io::large_buffer();
     let mut line = [0u8; LINE_ROOM];
     let mut report = [0u8; REPORT_ROOM];
     let mut unread = Unread::nothing();
     let mut turns = u64::MAX;
     while turns > 0 {
-        let given = lines::next(unread, &mut buffer, &mut line);
+        let given = lines::next(&mut input, unread, &mut buffer, &mut line);
         unread = given.unread;
         let next = given.line;
         let n = report_of(next, &line, &mut report);
-        if !lines::write(&report, n) {
+        if !lines::write(&rt, &report, n) {
             return;
         }
         turns -= 1;

@@ -5,14 +5,25 @@
 mod summary;
 
 use acceptance::{Entry, Reached, lines};
+use std::env::{Env, FillError};
+use std::io::Result;
 use summary::Summary;
 
 // How many entries there are: under each of the six settings 1 payload of no byte, 256 of one and 65,536 of two.
 const ENTRIES: usize = 394758;
 
+// Whether the program was given an argument, of any length.
+fn has_argument(rt: &impl Env) -> bool {
+    match rt.arg(1, &mut [0u8; 1]) {
+        Ok(_) => true,
+        Err(FillError::TooLong) => true,
+        Err(FillError::NotPresent) => false,
+    }
+}
+
 // No contract can say what is written: `lines::put_lines` says what each block is, and acceptance's `printed` what they are together.
-fn main() {
-    let summed = 1 < os::arg_count();
+fn main(rt: HostRuntime) -> Result<()> {
+    let summed = has_argument(&rt);
     let mut summary = Summary::empty();
     let mut buffer = io::large_buffer();
     let mut step = Reached::At(Entry::first());
@@ -23,14 +34,13 @@ fn main() {
         step = block.step;
         left -= block.count;
         if summed {
-            summary = summary.with(block.count, &buffer[..len]);
+            summary = summary.with(&rt, block.count, &buffer[..len])?;
         } else {
-            if !io::write_all(libc::STDOUT_FILENO, &buffer[..len]) {
-                return;
-            }
+            rt.write_all(&buffer[..len])?;
         }
     }
     if summed {
-        summary.print();
+        summary.print(&rt)?;
     }
+    Ok(())
 }

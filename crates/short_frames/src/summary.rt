@@ -1,5 +1,5 @@
 // A summary of the lines, for the gate: the first line of each block, then how many lines and bytes there are, and their CRC-32.
-use std::num::wrapping_add_u64;
+use std::io::Result;
 
 const REFLECTED_POLYNOMIAL: u32 = 0xEDB88320;
 
@@ -37,24 +37,11 @@ fn crc_of(crc: u32, text: &[u8]) -> u32 {
     crc
 }
 
-fn as_u64(number: u32) -> u64 {
-    number as u64
-}
-
-fn print(text: &[u8]) {
-    io::write_all(libc::STDOUT_FILENO, text);
-}
-
-fn print_number(number: u64, text: &[u8]) {
-    io::print_decimal(libc::STDOUT_FILENO, number);
-    print(text);
-}
-
 // The first line of the text.
-fn print_first(text: &[u8]) {
+fn print_first(rt: &impl Print, text: &[u8]) -> Result<()> {
     let end = octets::scan::find(text, 0, text.len(), b'\n');
-    print(&text[..end]);
-    print(b"\n");
+    rt.write_all(&text[..end])?;
+    rt.print("\n")
 }
 
 impl Summary {
@@ -67,19 +54,19 @@ impl Summary {
     }
 
     // Takes a block in, and prints its first line.
-    pub(crate) fn with(self, lines: usize, text: &[u8]) -> Summary {
-        print_first(text);
-        Summary {
-            lines: wrapping_add_u64(self.lines, lines as u64),
-            bytes: wrapping_add_u64(self.bytes, text.len() as u64),
+    pub(crate) fn with(self, rt: &impl Print, lines: usize, text: &[u8]) -> Result<Summary> {
+        print_first(rt, text)?;
+        Ok(Summary {
+            lines: self.lines.wrapping_add(lines as u64),
+            bytes: self.bytes.wrapping_add(text.len() as u64),
             crc: crc_of(self.crc, text),
-        }
+        })
     }
 
-    pub(crate) fn print(self) {
-        print_number(self.lines, b" lines, ");
-        print_number(self.bytes, b" bytes, CRC-32 ");
-        io::print_hex(libc::STDOUT_FILENO, as_u64(self.crc ^ ALL_ONES), 8);
-        print(b"\n");
+    pub(crate) fn print(self, rt: &impl Print) -> Result<()> {
+        let lines = self.lines;
+        let bytes = self.bytes;
+        let crc = self.crc ^ ALL_ONES;
+        println!(rt; "{lines} lines, {bytes} bytes, CRC-32 {crc:08x}")
     }
 }

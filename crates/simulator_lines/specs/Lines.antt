@@ -1,5 +1,5 @@
 -- The program `simulator` between two lines, by the definitions, and how a call's line ends. With the trace on, each order and event of the call is printed before it.
-use Rattle.core.specs.Prelude.{ℕ, List}
+use Rattle.std.specs.Prelude.{ℕ, List}
 use Rattle.protocol.specs.Session.{Session}
 use Rattle.chip_protocol.specs.Channel.{simulated, Channel}
 use Rattle.simulator_lines.specs.Plays.{Playing, end_text}

@@ -1,5 +1,5 @@
 -- A call of the program `simulator`, played to its end: the definitions' session and the definitions' chip over a channel, with the program's two limits.
-use Rattle.core.specs.Prelude.{ℕ, zero, suc, List, [], ◌∷◌}
+use Rattle.std.specs.Prelude.{ℕ, zero, suc, List, [], ◌∷◌}
 use Rattle.exchange.specs.Exchange.{Order, write, read, drain, pause}
 use Rattle.protocol.specs.Scripts.{Byte}
 use Rattle.protocol.specs.Session.{Session, Output, orders, answers, rejects, event, buffer_need, StepResult, step}

@@ -1,5 +1,5 @@
 -- The program's values in the terms of the definitions' play.
-use Rattle.core.specs.Prelude.{◌≡◌, ℕ, ◌*◌, ◌≤◌, Bool, true, false, List, length, take, ◌==◌}
+use Rattle.std.specs.Prelude.{◌≡◌, ℕ, ◌*◌, ◌≤◌, Bool, true, false, List, length, take, ◌==◌}
 use Rattle.errors.specs.Choice.{pick}
 use Rattle.framing.specs.Names.{ack_size}
 use Rattle.exchange.specs.declared.Event.{Event}

@@ -1,5 +1,5 @@
 -- What a line of the program `simulator` asks for: a line of `chip` but `frame`, the trace on or off, or a call of `session`. An event is no line here.
-use Rattle.core.specs.Prelude.{ℕ, Bool, true, false, List, length, nat_lt}
+use Rattle.std.specs.Prelude.{ℕ, Bool, true, false, List, length, nat_lt}
 use Rattle.errors.specs.Choice.{pick, same}
 use Rattle.targets.specs.Bitrates.{ascii}
 use Rattle.calls.specs.declared.start.Numbers.{Numbers}

@@ -1,5 +1,5 @@
 -- The packets that are not yet read, in their memory: a ring of places, each with room for a packet, and the length of each.
-use Rattle.core.specs.Prelude.{ℕ, ◌+◌, ◌*◌, ◌%◌, List, [], ◌∷◌, ◌++◌, length, take, nat_lt, slice_index}
+use Rattle.std.specs.Prelude.{ℕ, ◌+◌, ◌*◌, ◌%◌, List, [], ◌∷◌, ◌++◌, length, take, nat_lt, slice_index}
 use Rattle.std.proofs.Math.Seq.{slice}
 use Rattle.errors.specs.Choice.{pick}
 use Rattle.chip_protocol.specs.Names.{longest_packet}

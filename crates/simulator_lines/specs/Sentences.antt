@@ -1,6 +1,6 @@
 -- N10's sentences of the program `simulator`: a call that ends within n events, with room for two packets of each besides those unread, ends in the program as in the run of chip_protocol's
 -- channel, which loses nothing. So what is printed at its end is the sentence's answer.
-use Rattle.core.specs.Prelude.{◌≡◌, ℕ, zero, suc, ◌+◌, ◌-◌, ◌*◌, ◌<◌, ◌≤◌, false, List, [], ◌∷◌, ◌++◌, length, slice_index}
+use Rattle.std.specs.Prelude.{◌≡◌, ℕ, zero, suc, ◌+◌, ◌-◌, ◌*◌, ◌<◌, ◌≤◌, false, List, [], ◌∷◌, ◌++◌, length, slice_index}
 use Rattle.std.specs.Prelude.{refl}
 use Rattle.std.proofs.Common.{sym, ap, ◌∙◌, subst, append-nil, append_assoc, zero-add, suc-add, arith, lt-ltb, length-append}
 use Rattle.std.proofs.Math.Option.{Option, none, some}

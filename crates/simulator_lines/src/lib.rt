@@ -34,6 +34,7 @@ pub struct Answered {
 
 // A call, played to its end.
 fn called(
+    rt: &impl Print,
     sim: Answered,
     input: Input,
     bytes: &[u8; BYTES_ROOM],
@@ -54,6 +55,7 @@ fn called(
     let started = step.session;
     let output = step.output;
     let end = play::to_end(
+        rt,
         Play {
             session: started,
             output,
@@ -85,6 +87,7 @@ fn called(
 
 // A line by what it asks for.
 fn answer(
+    rt: &impl Print,
     sim: Answered,
     line: &[u8],
     cards: &mut [u8; CARDS_SIZE],
@@ -120,6 +123,7 @@ fn answer(
             len: text::put(b"ok", out, 0),
         },
         Request::Call(number, numbers, ends) => called(
+            rt,
             sim,
             Input::Call(number, numbers, ends),
             &bytes,
@@ -166,6 +170,7 @@ fn fed(sim: Answered, out: &mut [u8; OUT_ROOM]) -> Answered {
 
 // The answer to a line that stands at the start of `line`, with its line feed; nothing at the end of the input.
 fn reply(
+    rt: &impl Print,
     sim: Answered,
     next: Line,
     line: &[u8],
@@ -180,6 +185,7 @@ fn reply(
     match next {
         Line::Text(n) => {
             let answered = answer(
+                rt,
                 sim,
                 prefix(n, line),
                 cards,
@@ -200,8 +206,8 @@ fn reply(
     }
 }
 
-fn written(out: &[u8; OUT_ROOM], n: usize) -> bool {
-    lines::write(out, n)
+fn written(rt: &impl Print, out: &[u8; OUT_ROOM], n: usize) -> bool {
+    lines::write(rt, out, n)
 }
 
 fn begun() -> Answered {
@@ -219,7 +225,8 @@ fn no_packets() -> [u8; CHANNEL_SIZE] {
 }
 
 // Answers standard input line by line on standard output.
-pub fn run() {
+pub fn run<R: std::io::Input + Print>(rt: &R) {
+    let mut input = rt.reader();
     let mut read = io::large_buffer();
     let mut line = [0u8; LINE_LIMIT];
     let mut buffer = [0u8; BUFFER_SIZE];
@@ -233,10 +240,11 @@ pub fn run() {
     let mut unread = Unread::nothing();
     let mut turns = u64::MAX;
     while turns > 0 {
-        let given = lines::next(unread, &mut read, &mut line);
+        let given = lines::next(&mut input, unread, &mut read, &mut line);
         unread = given.unread;
         let next = given.line;
         let replied = reply(
+            rt,
             sim,
             next,
             &line,
@@ -250,7 +258,7 @@ pub fn run() {
         );
         let n = replied.len;
         sim = replied;
-        if !written(&out, n) {
+        if !written(rt, &out, n) {
             return;
         }
         turns -= 1;

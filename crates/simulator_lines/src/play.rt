@@ -105,12 +105,18 @@ pub struct Play {
 }
 
 // The trace of an order: two spaces, and the line that `session` prints for it.
-fn trace_order(trace: bool, output: Output, buffer: &[u8; BUFFER_SIZE], out: &mut [u8; OUT_ROOM]) {
+fn trace_order(
+    rt: &impl Print,
+    trace: bool,
+    output: Output,
+    buffer: &[u8; BUFFER_SIZE],
+    out: &mut [u8; OUT_ROOM],
+) {
     if trace {
         let n = output::print(output, buffer, out);
         let end = text::put(b"\n", out, n);
-        lines::write(b"  ", 2);
-        lines::write(out, end);
+        lines::write(rt, b"  ", 2);
+        lines::write(rt, out, end);
     }
 }
 
@@ -127,11 +133,17 @@ fn put_event(event: Event, packet: &[u8], out: &mut [u8]) -> usize {
 }
 
 // The trace of an event: two spaces, and its line.
-fn trace_event(trace: bool, event: Event, packet: &[u8], out: &mut [u8; OUT_ROOM]) {
+fn trace_event(
+    rt: &impl Print,
+    trace: bool,
+    event: Event,
+    packet: &[u8],
+    out: &mut [u8; OUT_ROOM],
+) {
     if trace {
         let n = put_event(event, packet, out);
         let end = text::put(b"\n", out, n);
-        lines::write(out, end);
+        lines::write(rt, out, end);
     }
 }
 
@@ -179,6 +191,7 @@ fn played(step: Step, state: State, unread: Unread) -> Play
 
 // The order of the last output, answered by the channel; the play as it was where the call is over.
 fn turn(
+    rt: &impl Print,
     play: Play,
     trace: bool,
     cards: &[u8; CARDS_SIZE],
@@ -198,21 +211,21 @@ fn turn(
     let order = order_of(output);
     match order {
         Order::Write(n) => {
-            trace_order(trace, output, buffer, out);
-            trace_event(trace, Event::Ok, b"", out);
+            trace_order(rt, trace, output, buffer, out);
+            trace_event(rt, trace, Event::Ok, b"", out);
             on_write(play, n, cards, sent, replies, packets, lengths, buffer)
         }
         Order::Next => {
             let event = next_event(unread);
             let packet = unread.next(packets, lengths);
-            trace_order(trace, output, buffer, out);
-            trace_event(trace, event, packet, out);
+            trace_order(rt, trace, output, buffer, out);
+            trace_event(rt, trace, event, packet, out);
             let step = session.event(event, packet, buffer);
             played(step, state, unread.behind_next())
         }
         Order::Pause => {
-            trace_order(trace, output, buffer, out);
-            trace_event(trace, Event::Slept, b"", out);
+            trace_order(rt, trace, output, buffer, out);
+            trace_event(rt, trace, Event::Slept, b"", out);
             let step = session.event(Event::Slept, b"", buffer);
             played(step, state, unread)
         }
@@ -237,6 +250,7 @@ const EVENT_LIMIT: usize = 4096;
 
 // The call to its end.
 pub(crate) fn to_end(
+    rt: &impl Print,
     start: Play,
     trace: bool,
     cards: &[u8; CARDS_SIZE],
@@ -257,7 +271,7 @@ pub(crate) fn to_end(
             return now;
         }
         let after = turn(
-            now, trace, cards, sent, replies, packets, lengths, buffer, out,
+            rt, now, trace, cards, sent, replies, packets, lengths, buffer, out,
         );
         now = after;
         left -= 1;

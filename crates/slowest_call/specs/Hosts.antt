@@ -14,8 +14,8 @@ use Rattle.engine.specs.Inputs.{Input}
 use Rattle.engine.specs.Refinement.{engine}
 use Rattle.engine.specs.SessionSteps.{fresh_session}
 use Rattle.engine.specs.declared.session.Session.{Session}
-use Rattle.session_c.specs.Entries.{HostEntry, host_input, buffer_in}
-use Rattle.session_c.specs.Demand3.{inputs, session_after, reports_for, same, MixedEntry, mixed_input, mixed_buffer}
+use Rattle.session_host.specs.Entries.{HostEntry, host_input, buffer_in}
+use Rattle.session_host.specs.Demand3.{inputs, session_after, reports_for, same, MixedEntry, mixed_input, mixed_buffer}
 use Rattle.slowest_call.specs.Question.{ends_at_last, roomy, events_of}
 use Rattle.slowest_call.specs.Kinds.{Kind, kind_of, most, start, slowest}
 use Rattle.slowest_call.specs.Machines.{lines_given, mode_behind, machine_lines, machine_longest, MachineRun, machine_run}

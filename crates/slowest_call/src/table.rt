@@ -6,8 +6,8 @@ ghost use Rattle.slowest_call.specs.Kinds.{kinds};
 ghost use Rattle.slowest_call.specs.Texts.{kind_named_of};
 ghost use Rattle.slowest_call.specs.Tables.{run_fields, KindWithin, kind_in};
 
-use octets::scan;
 use framing::is_exactly;
+use octets::scan;
 
 pub(crate) const KIND_COUNT: u8 = 27;
 

@@ -1,9 +1,0 @@
--- `chipset::registers::write_register` meets its contract.
-use Rattle.chipset.specs.Commands.{first_of}
-use borrow.Author.Rules.{rules}
-use Rattle.chipset.proofs.registers.write_register.Statement.{statement}
-use Rattle.chipset.proofs.registers.write_register.Tie as tie
-
-pub write-register-spec : {M : Type 1} → statement M
-unfolding first_of
-write-register-spec = tie.close (tie.spec (λ c κs. search rules) (λ c. c.of-registers.ensures))
