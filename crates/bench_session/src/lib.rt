@@ -158,8 +158,7 @@ pub fn run<R: std::io::Input + Print>(rt: &R) {
     let mut out = [0u8; OUT_ROOM];
     let mut session = Session::fresh();
     let mut unread = Unread::nothing();
-    let mut turns = u64::MAX;
-    while turns > 0 {
+    for _ in 0..u64::MAX {
         let given = lines::next(&mut input, unread, &mut read, &mut line);
         unread = given.unread;
         let next = given.line;
@@ -170,6 +169,5 @@ pub fn run<R: std::io::Input + Print>(rt: &R) {
         if !lines::write(rt, &out, n) {
             return;
         }
-        turns -= 1;
     }
 }

@@ -278,8 +278,7 @@ pub fn run<R: Input + Print>(rt: &R) {
     let mut replies = [0u8; REPLY_MEMORY_SIZE];
     let mut state = State::fresh();
     let mut unread = Unread::nothing();
-    let mut turns = u64::MAX;
-    while turns > 0 {
+    for _ in 0..u64::MAX {
         let given = lines::next(&mut input, unread, &mut buffer, &mut line);
         unread = given.unread;
         let next = given.line;
@@ -298,6 +297,5 @@ pub fn run<R: Input + Print>(rt: &R) {
         if !lines::write(rt, &out, n) {
             return;
         }
-        turns -= 1;
     }
 }

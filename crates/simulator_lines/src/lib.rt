@@ -238,8 +238,7 @@ pub fn run<R: std::io::Input + Print>(rt: &R) {
     let mut lengths = [0usize; PLACES];
     let mut sim = begun();
     let mut unread = Unread::nothing();
-    let mut turns = u64::MAX;
-    while turns > 0 {
+    for _ in 0..u64::MAX {
         let given = lines::next(&mut input, unread, &mut read, &mut line);
         unread = given.unread;
         let next = given.line;
@@ -261,6 +260,5 @@ pub fn run<R: std::io::Input + Print>(rt: &R) {
         if !written(rt, &out, n) {
             return;
         }
-        turns -= 1;
     }
 }
