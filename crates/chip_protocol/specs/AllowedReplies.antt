@@ -1,28 +1,28 @@
 -- A reply is added to the card added last exactly where the field with it is allowed; 4 is given exactly where there is another reply to the same bytes, or
 -- the CRC_A of a Type 2 card's is missing.
-use Rattle.std.specs.Prelude.{◌≡◌, Bool, ◌↔◌, ◌⊎◌, ℕ, ◌-◌, ◌≤◌, ◌<◌, length, take}
+use Rattle.std.specs.Prelude.{◌≡◌, Bool, ◌↔◌, ◌⊎◌, ℕ, zero, suc, ◌+◌, ◌-◌, ◌≤◌, ◌<◌, length, take}
 use Rattle.std.proofs.Math.Path.{refl, subst}
 use Rattle.std.proofs.Common.{sym, ap, ◌∙◌, arith, length-append}
 use Rattle.std.proofs.Math.Bool.{true, false}
 use Rattle.std.proofs.lemmas.Bool.{false≢true}
 use mathlib.Core.List.{List, [], ◌∷◌, ◌++◌}
 use Rattle.std.proofs.Math.Logic.{inl, inr}
-use Rattle.std.proofs.Math.Option.{none, some}
+use Rattle.std.proofs.Math.Option.{Option, none, some}
 use borrow.Author.Tests.{leb-true, ltb-true, lt-ltb, le-leb}
 use Rattle.std.proofs.Math.Dec.{leb, ltb}
 use Rattle.std.proofs.Math.Seq.{take-append_seam}
-use Rattle.errors.specs.Choice.{pick, same, same_self, same_not}
+use Rattle.errors.specs.Choice.{pick, same, same_self, same_is, same_not}
 use Rattle.errors.specs.declared.Refusal.{Refusal}
 use Rattle.errors.specs.declared.Refusal.TheVariants.{OverLong, BadArgument}
 use Rattle.framing.specs.Lists.{Bytes}
 use Rattle.protocol.specs.Starts.{data_limit}
 use Rattle.chip_protocol.specs.Names.{longest_reply}
-use Rattle.chip_protocol.specs.Field.{StatedReply, Card, wupb, reply_to, is_type2_card, crc_fits, ReplyFits, RepliesFit, is_stated, wakes_up, FieldFits, reply_limit, RepliesAllowed, CardsAllowed, FieldAllowed}
+use Rattle.chip_protocol.specs.Field.{StatedReply, Card, wupb, reply_to, is_type2_card, crc_fits, ReplyFits, RepliesFit, is_stated, wakes_up, CardFits, FieldFits, reply_limit, RepliesAllowed, CardAllowed, CardsAllowed, FieldAllowed}
 use Rattle.chip_protocol.specs.Chip.{card_in}
 use Rattle.chip_protocol.specs.Add.{Added, added, refuses, with_reply, add_reply_to, add_reply}
 use Rattle.chip_protocol.specs.declared.Kind.{Kind}
 use Rattle.chip_protocol.specs.declared.Kind.TheVariants.{TypeA, TypeB, TypeF, Dep}
-use Rattle.chip_protocol.specs.Allowed.{not_four, not_three, later-added, later-pick, cards_append, last-allowed, before-allowed}
+use Rattle.chip_protocol.specs.Allowed.{not_four, not_three, Later, later-added, later-pick, cards_append, last-allowed, before-allowed}
 
 -- ---- stated replies
 

@@ -16,11 +16,12 @@ use Rattle.protocol.specs.Device.{device_new}
 use Rattle.protocol.specs.Discovery as discovery
 use Rattle.protocol.specs.Discovery.{sensf_req}
 use Rattle.protocol.specs.Machine.{Machine}
-use Rattle.protocol.specs.Session.{event}
-use Rattle.protocol.specs.Starts.{start_of, starts, clock_of, code_for}
+use Rattle.protocol.specs.Session.{Session, event}
+use Rattle.protocol.specs.Starts.{start_of, starts, clock_of, limited, code_for}
 use Rattle.chip_protocol.specs.Names.{firmware_version}
 use Rattle.chip_protocol.specs.Field.{Card, is_bitrate_of, br_ty, reply_to, is_type2_card, FieldFits}
-use Rattle.chip_protocol.specs.Chip.{ChipState, card_at}
+use Rattle.chip_protocol.specs.Chip.{ChipState, card_at, first_place_of}
+use Rattle.chip_protocol.specs.declared.Kind.{Kind}
 use Rattle.chip_protocol.specs.declared.Kind.TheVariants.{TypeA, TypeB, TypeF, Dep}
 use Rattle.chip_protocol.specs.Channel.{simulated, as_is, Channel, channel, End, call_run}
 use Rattle.chip_protocol.specs.Search.{finds_first}

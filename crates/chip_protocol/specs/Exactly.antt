@@ -1,8 +1,9 @@
 -- None exactly when there is no such card.
 use Rattle.std.specs.Prelude.{◌≡◌, refl, Bool, true, false, cond, List, ◌↔◌, ℕ, ◌+◌, ◌-◌, ◌≤◌, get_or}
-use Rattle.std.proofs.Common.{sym, ap, ◌∙◌, arith}
+use Rattle.std.proofs.Common.{sym, ap, ◌∙◌, subst, arith}
 use Rattle.std.proofs.lemmas.Bool.{false≢true}
 use Rattle.std.proofs.Math.Option.{Option, none, some}
+use Rattle.errors.specs.declared.Fault.TheVariants.{NoCard}
 use Rattle.targets.specs.TypeA.{is_type2}
 use Rattle.targets.specs.declared.Bitrate.{Bitrate}
 use Rattle.protocol.specs.Scripts.{Answer, done, type1, uid_and_ats, nothing, refused, refused_after}

@@ -1,5 +1,5 @@
 -- The simulated chip with a field that fits: each response fits a packet, and the field stays.
-use Rattle.std.specs.Prelude.{◌≡◌, refl, Bool, true, false, List, [], ◌∷◌, map, ℕ, suc, ◌/◌, ◌≤◌, ◌<◌, eqb, ltb, length, drop}
+use Rattle.std.specs.Prelude.{◌≡◌, refl, Bool, true, false, List, [], ◌∷◌, map, ℕ, suc, ◌/◌, ◌≤◌, ◌<◌, eqb, ltb, length, get_or, drop}
 use Rattle.std.proofs.Common.{ap, subst, arith, ltb-false}
 use Rattle.std.proofs.Math.Option.{Option, none, some}
 use Rattle.errors.specs.Choice.{pick, same}
@@ -9,7 +9,7 @@ use Rattle.protocol.specs.Arguments.{words_in}
 use Rattle.protocol.specs.Calls.{get_firmware_version_code, read_register_code, write_register_code, set_parameters_code, reset_mode_code, rf_configuration_code, in_data_exchange_code, in_communicate_thru_code, in_list_passive_target_code, in_jump_for_dep_code}
 use Rattle.protocol.specs.Names.{ciu_fifo_data, ciu_tx_control, sens_req, one_target, target_number}
 use Rattle.chip_protocol.specs.Names.{longest_response, firmware_version, success_status, tx_control_on, tx_control_off, other_register}
-use Rattle.chip_protocol.specs.Packets.{responds, syntax_error, ResponseFits}
+use Rattle.chip_protocol.specs.Packets.{Response, responds, syntax_error, ResponseFits}
 use Rattle.chip_protocol.specs.Field.{StatedReply, Card, reply_to, is_type2_card, crc_fits, ReplyFits, RepliesFit, FieldFits}
 use Rattle.chip_protocol.specs.Chip.{ChipState, with_found_of, card_at, listed_place, partner_place, listed, jumped, exchanged, exchanged_with, register_value_of, registers_read, response_to, field_on_after, state_after}
 use Rattle.chip_protocol.specs.Script.{AllBytes, Fits, responder}

@@ -1,15 +1,16 @@
 -- The chip's packets at the host's end: each response is intact, fits a packet, and is not led by ACK.
-use Rattle.std.specs.Prelude.{◌≡◌, true, false, List, [], ◌∷◌, ℕ, zero, suc, ◌+◌, ◌%◌, ◌≤◌, length}
+use Rattle.std.specs.Prelude.{◌≡◌, true, false, List, [], ◌∷◌, ℕ, zero, suc, ◌+◌, ◌%◌, ◌≤◌, ◌<◌, length}
 use Rattle.std.proofs.Math.Path.{refl}
 use Rattle.std.proofs.Common.{arith}
 use borrow.Author.Tests.{eq-eqb}
 use Rattle.framing.specs.Enclose.{length-frame, start-most}
 use Rattle.framing.specs.Exact.{sof-frame}
 use Rattle.framing.specs.Commands.{command_in}
-use Rattle.framing.specs.Frames.{ack}
+use Rattle.framing.specs.Frames.{ack, frame_of}
 use Rattle.framing.specs.Intact.{Filled, rcs956_frame, bytes_cons, bytes_nil, frame_filled, built_intact, frame_not_ack}
 use Rattle.framing.specs.Intact as framing
 use Rattle.framing.specs.Lists.{Bytes, starts}
+use Rattle.framing.specs.Names.{longest_extended}
 use Rattle.framing.specs.Padded.{unpadded}
 use Rattle.framing.specs.Unpadded.{unpadded-start}
 use Rattle.framing.specs.declared.LengthEncoding.TheVariants.{NormalOrExtendedBigEndian}
