@@ -16,7 +16,7 @@ use bench_input::{BYTES_ROOM, Ends, Input, LINE_LIMIT, slice};
 use calls::start::Numbers;
 use engine::by_number;
 use engine::by_number::Known;
-use engine::core::Output;
+use engine::running::Output;
 use engine::session::{Session, Step};
 use errors::Refusal;
 

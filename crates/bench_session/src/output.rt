@@ -6,7 +6,7 @@ ghost use Rattle.bench_session.specs.Outputs.{out_room, text_limit, done_text, t
 
 use super::{BUFFER_SIZE, OUT_ROOM};
 use bench::{hex, prefix, text};
-use engine::core::Output;
+use engine::running::Output;
 use errors::{CARD_STATUS_NUMBER, Numbered, STATUS_NUMBER};
 use framing::ACK_SIZE;
 

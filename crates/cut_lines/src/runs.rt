@@ -17,7 +17,7 @@ use bench_input::{Input, slice};
 use bench_session::BUFFER_SIZE;
 use calls::NO_CALL_KIND;
 use calls::start::OPEN_CALL;
-use engine::core::{Core, Output};
+use engine::running::{Core, Output};
 use engine::session::{Session, Step};
 use errors::Numbered;
 

@@ -5,7 +5,7 @@ ghost use Rattle.engine.specs.SessionSteps.{state_of, effected};
 ghost use Rattle.engine.specs.Numbers.{event_by_of, known_in, after_event_number};
 
 use super::books::{BOOKS_SIZE, CALLER_COUNT};
-use super::core::{Core, FOUND_LIMIT, Progress};
+use super::running::{Core, FOUND_LIMIT, Progress};
 use super::state;
 use errors::Refusal;
 use exchange::Event;

@@ -10,7 +10,7 @@ ghost use Rattle.engine.specs.Ends.{GoesOn};
 ghost use Rattle.engine.specs.Core.{Lent, arrays, progressed, keeps_of, performs_of, transitioned_of};
 
 use super::call::{Call, End, PAUSE_PHASE};
-use super::core::{Core, Output, Progress};
+use super::running::{Core, Output, Progress};
 use exchange::Order;
 use stages::put::append;
 use stages::{Decision, Head, Layout};

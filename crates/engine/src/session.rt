@@ -7,7 +7,7 @@ ghost use Rattle.engine.specs.Numbers.{call_input};
 ghost use Rattle.engine.specs.SessionSteps.{stepped, fresh_session};
 
 use super::books::{BOOKS_SIZE, CALLER_COUNT};
-use super::core::{Core, FOUND_LIMIT, Output};
+use super::running::{Core, FOUND_LIMIT, Output};
 use super::state;
 use calls::start::Numbers;
 use exchange::Event;

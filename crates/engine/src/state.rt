@@ -12,7 +12,7 @@ ghost use Rattle.engine.specs.Numbers.{call_input};
 
 use super::books;
 use super::books::{BOOKS_SIZE, CALLER_COUNT, LAST_CALLER, PADDED_MODE};
-use super::core::{BUFFER_NEED, Core, Progress};
+use super::running::{BUFFER_NEED, Core, Progress};
 use calls::start::Numbers;
 use calls::{NO_CALL_KIND, start};
 use device::OPENING_KIND;

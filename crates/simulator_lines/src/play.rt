@@ -8,7 +8,7 @@ ghost use Rattle.simulator_lines.specs.Represents.{order_asked, is_over, next_ev
 use super::channel::{CHANNEL_SIZE, PLACES, Unread};
 use bench::{hex, lines, prefix, text};
 use bench_session::{BUFFER_SIZE, OUT_ROOM, output};
-use engine::core::Output;
+use engine::running::Output;
 use engine::session::{Session, Step};
 use exchange::Event;
 use framing::{ACK_BYTES, ACK_SIZE};
