@@ -3,7 +3,7 @@
 
 pub mod output;
 
-ghost use Rattle.core.specs.Prelude.{◌≡◌, ◌+◌, ◌≤◌, length, slice_set};
+ghost use Rattle.std.specs.Prelude.{◌≡◌, ◌+◌, ◌≤◌, length, slice_set};
 ghost use Rattle.engine.specs.SessionSteps.{stepped};
 ghost use Rattle.bench_input.specs.Readings.{input_in};
 ghost use Rattle.bench_session.specs.Outputs.{out_room, text_limit};

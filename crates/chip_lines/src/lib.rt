@@ -1,5 +1,5 @@
 // The lines of the program `chip`: cards and replies for the field, and the bytes that a host wrote, in; the packets that the chip sends, out.
-#![tactic(auto)]
+#![tactic(auto, using(errors::specs::Rules::picks), unfolding(errors::specs::Choice::pick, bench::specs::Words::words_of_lem, crate::specs::ChipLines::bitrate_named_of, crate::specs::ChipLines::card_line_of, crate::specs::ChipLines::chip_line_of, crate::specs::ChipLines::on_words, crate::specs::ChipLines::reply_line_of, crate::specs::Lines::line_reply, crate::specs::Lines::refused_text, simulated_chip::specs::Steps::zeros))]
 
 mod print;
 mod words_of;

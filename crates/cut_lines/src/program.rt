@@ -1,5 +1,5 @@
 // The program `cut`: a script on standard input, the stretch or a refusal on standard output.
-ghost use Rattle.core.specs.Prelude.{◌≡◌, ◌≤◌, length};
+ghost use Rattle.std.specs.Prelude.{◌≡◌, ◌≤◌, length};
 ghost use Rattle.bench.specs.Texts.{placed, placed_at};
 ghost use Rattle.cut_script.specs.Answer.{script_limit, cut_of, written_for};
 

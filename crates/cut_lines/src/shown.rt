@@ -1,5 +1,5 @@
 // What the last line of a list prints, as far as a fault is told by it.
-ghost use Rattle.core.specs.Prelude.{◌≡◌};
+ghost use Rattle.std.specs.Prelude.{◌≡◌};
 ghost use Rattle.std.proofs.Math.Option.{some};
 ghost use Rattle.cut_script.specs.Bench.{same_numbered, same_refusal};
 ghost use Rattle.cut_lines.specs.Shown.{shown_in, refused_by, at_once_by};

@@ -1,5 +1,5 @@
 // Events by their numbers, for a host: the running call's numbers go by value, and the session's arrays are lent.
-ghost use Rattle.core.specs.Prelude.{◌≡◌, ℕ, List};
+ghost use Rattle.std.specs.Prelude.{◌≡◌, ℕ, List};
 ghost use Rattle.engine.specs.Core.{arrays};
 ghost use Rattle.engine.specs.SessionSteps.{state_of, effected};
 ghost use Rattle.engine.specs.Numbers.{event_by_of, known_in, after_event_number};

@@ -1,5 +1,5 @@
 // One running call: its numbers, and what a call or an event does to them, to the arrays and to the buffer.
-ghost use Rattle.core.specs.Prelude.{◌≡◌, ℕ, ◌≤◌, true, List, length};
+ghost use Rattle.std.specs.Prelude.{◌≡◌, ℕ, ◌≤◌, true, List, length};
 ghost use Rattle.exchange.specs.Steps.{event_of, order_of};
 ghost use Rattle.stages.specs.Stages.{cmd};
 ghost use Rattle.stages.specs.Starts.{Starts, StartFits, Start as StartOf};

@@ -1,5 +1,5 @@
 // The session and its entries: a call or an event goes in with the buffer; the session comes back with an order or an answer.
-ghost use Rattle.core.specs.Prelude.{◌≡◌};
+ghost use Rattle.std.specs.Prelude.{◌≡◌};
 ghost use Rattle.exchange.specs.Steps.{event_of};
 ghost use Rattle.engine.specs.Inputs.{gives, step_with};
 ghost use Rattle.calls.specs.Numbers.{call_of};

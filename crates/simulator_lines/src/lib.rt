@@ -5,7 +5,7 @@ mod channel;
 mod play;
 mod request;
 
-ghost use Rattle.core.specs.Prelude.{◌≡◌};
+ghost use Rattle.std.specs.Prelude.{◌≡◌};
 ghost use Rattle.bench_input.specs.Readings.{input_in};
 ghost use Rattle.simulator_lines.specs.Plays.{call_played};
 ghost use Rattle.simulator_lines.specs.Lines.{Simulator, call_ended};

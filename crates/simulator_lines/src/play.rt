@@ -1,5 +1,5 @@
 // A call played to its end against the chip: a write succeeds, a read or a drain gets the next packet or times out, a pause is over.
-ghost use Rattle.core.specs.Prelude.{◌≡◌};
+ghost use Rattle.std.specs.Prelude.{◌≡◌};
 ghost use Rattle.exchange.specs.Exchange as Ordered;
 ghost use Rattle.chip_protocol.specs.Channel.{simulated, Channel};
 ghost use Rattle.simulator_lines.specs.Plays.{Playing, limited_after, played_from, event_limit};
