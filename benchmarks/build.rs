@@ -78,7 +78,7 @@ fn main() {
     fs::write(out, MODULES.replace('@', &source.display().to_string())).unwrap();
 
     let archives =
-        fs::canonicalize("../target/staticlib").expect("`rt staticlib` of both crates comes first");
+        fs::canonicalize("../target/staticlib").expect("`tools/archive` of both crates comes first");
     for name in ["libcodec_c.a", "libsession_c.a"] {
         println!("cargo::rerun-if-changed={}", archives.join(name).display());
     }

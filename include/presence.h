@@ -1,7 +1,7 @@
 /*
  * The list of present cards, for C and C++: document 02's N9.
  *
- * The functions stand in libpresence_c.a, which `rt staticlib presence_c` proves and writes to target/staticlib/, for x86-64 Linux. Their
+ * The functions stand in libpresence_c.a, which `tools/archive presence_c` proves and writes to target/staticlib/, for x86-64 Linux. Their
  * contracts are those of crates/presence_c/src/lib.rt.
  *
  * A round of discovery hands in its number and the cards found. Who was seen in the last accepted round or the one before it is present. A card

@@ -1,7 +1,7 @@
 /*
  * The RC-S956 reader engine, for C and C++.
  *
- * The functions stand in libsession_c.a, which `rt staticlib session_c` proves and writes to target/staticlib/, for x86-64 Linux. Their
+ * The functions stand in libsession_c.a, which `tools/archive session_c` proves and writes to target/staticlib/, for x86-64 Linux. Their
  * contracts are those of crates/session_c/src/lib.rt. hosts/c has hosts that run them.
  *
  * Orders and events. The engine does no transport itself. A call gives an outcome. Where that is an order, the host carries it out

@@ -1,7 +1,7 @@
 /*
  * A chip with a field of cards, for C and C++: document 02's N10. It is the other end of the wire, for hosts that are tried without a chip.
  *
- * The functions stand in libchip_c.a, which `rt staticlib chip_c` proves and writes to target/staticlib/, for x86-64 Linux. Their
+ * The functions stand in libchip_c.a, which `tools/archive chip_c` proves and writes to target/staticlib/, for x86-64 Linux. Their
  * contracts are those of crates/chip_c/src/lib.rt. hosts/c/with_chip.c runs a reader at this chip.
  *
  * A host writes bytes; rcs956_chip_step takes them. For the frame of a command the chip sends two packets, ACK (RCS956_CHIP_ACK) and its

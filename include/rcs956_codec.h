@@ -1,7 +1,7 @@
 /*
  * Frames and CRCs of the RC-S956 reader engine, for C.
  *
- * The functions stand in libcodec_c.a, which `rt staticlib codec_c` proves and writes to target/staticlib/, for x86-64 Linux.
+ * The functions stand in libcodec_c.a, which `tools/archive codec_c` proves and writes to target/staticlib/, for x86-64 Linux.
  * Their contracts are those of crates/codec_c/src/lib.rt, in terms of crates/codec_c/specs/Answers.antt.
  *
  * Answers. A function that can refuse answers 0, or the number of the refusal: document 01's, as named below. A refusal writes

@@ -77,7 +77,7 @@ ROW, HIGH, GAP = 74, 30, 26
 def crates():
     """Name and dependencies, those of the kit left out; and the names of those that read or write, by the kit's `io`."""
     lines = [line.split("#")[0] for line in read("crates.txt").splitlines()]
-    named = {line.split(":")[0].strip(): line.split(":")[1].split() for line in lines if ":" in line}
+    named = {line.split(":")[0].split()[0]: line.split(":")[1].split() for line in lines if ":" in line}
     io_users = {"io"}
     for _ in named:
         io_users |= {name for name, needs in named.items() if io_users & set(needs)}

@@ -2,7 +2,7 @@
 -- (`line_follows`, `session-prints`).
 use Rattle.std.specs.Prelude.{◌≡◌, ℕ, List, [], ◌∷◌, ◌++◌, map, length}
 use Rattle.std.proofs.Math.Path.{refl, subst}
-use Rattle.std.proofs.Common.{sym, ap, ap₂, ◌∙◌}
+use Rattle.std.proofs.Common.{ap, ap₂, ◌∙◌}
 use Rattle.std.proofs.Math.Option.{Option, none, some}
 use Rattle.errors.specs.Refusals.{numbered, fault_numbered}
 use Rattle.errors.specs.declared.Refusal.TheVariants.{BadArgument}
@@ -10,11 +10,11 @@ use Rattle.targets.specs.Bitrates.{ascii}
 use Rattle.exchange.specs.Exchange.{Order, write, read, drain, pause, Event}
 use Rattle.protocol.specs.Scripts.{Byte, Answer, done, type1, uid_and_ats, nothing, refused, refused_after}
 use Rattle.protocol.specs.Calls.{Call, opening, reader}
-use Rattle.protocol.specs.Session.{Session, fresh, Entry, call, event, StepResult, step_result, step, buffer_need, orders, answers, rejects}
+use Rattle.protocol.specs.Session.{Session, fresh, call, event, StepResult, step_result, step, buffer_need, orders, answers, rejects}
 use Rattle.protocol.specs.Session.{Output as Given}
 use Rattle.protocol.specs.Machine.{output_values}
 use Rattle.calls.specs.Numbers.{call_of}
-use Rattle.engine.specs.Inputs.{Input, gives, output_of, entry_of, step_with}
+use Rattle.engine.specs.Inputs.{gives, output_of, entry_of, step_with}
 use Rattle.engine.specs.Numbers.{call_input, event_by_of}
 use Rattle.engine.specs.Relation.{SessionRepresents}
 use Rattle.engine.specs.Refinement.{simulate, fresh_represents}

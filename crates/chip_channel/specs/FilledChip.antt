@@ -18,13 +18,13 @@ use Rattle.chip_protocol.specs.Allowed.{card_outcomes, card_exactly}
 use Rattle.chip_protocol.specs.AllowedReplies.{reply_outcomes, reply_exactly, no_card, allowed-fits}
 use Rattle.chip_protocol.specs.Fits.{by_pick}
 use Rattle.chip_protocol.specs.declared.Kind.{Kind}
-use Rattle.simulated_chip.specs.Memory.{card_size, sent_size, reply_size, places, cards_in, state_in, chip_state}
+use Rattle.simulated_chip.specs.Memory.{card_size, sent_size, reply_size, places, chip_state}
 use Rattle.simulated_chip.specs.Range.{in_range}
-use Rattle.simulated_chip.specs.Additions.{add_card_in, add_reply_in, add_card_of, add_reply_of}
-use Rattle.simulated_chip.specs.AddMeaning.{field_after, AddMeans, card_means, reply_means}
+use Rattle.simulated_chip.specs.Additions.{add_card_of, add_reply_of}
+use Rattle.simulated_chip.specs.AddMeaning.{field_after, card_means, reply_means}
 use Rattle.simulated_chip.specs.FreshMeaning.{fresh_in_range, fresh_means, zeros-length}
 use Rattle.simulated_chip.specs.Steps.{fresh_chip_memory, step_in, step_of}
-use Rattle.simulated_chip.specs.StepMeaning.{Means, step_means}
+use Rattle.simulated_chip.specs.StepMeaning.{step_means}
 use Rattle.simulated_chip.specs.declared.chip.Chip.{Chip as Memory}
 use Rattle.chip_channel.specs.ChipCode.{CodeState}
 

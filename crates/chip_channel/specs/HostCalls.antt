@@ -1,5 +1,5 @@
 -- N10's calls through the C interface: which call of rcs956.h each is, by its number.
-use Rattle.std.specs.Prelude.{◌≡◌, Bool, false, cond, List, [], ℕ}
+use Rattle.std.specs.Prelude.{◌≡◌, Bool, false, cond, List, ℕ}
 use Rattle.std.proofs.Math.Path.{refl, ap}
 use Rattle.std.proofs.Math.Option.{Option, some}
 use Rattle.protocol.specs.Arguments.{flag, ms_of, is_long_wait}
@@ -7,7 +7,7 @@ use Rattle.protocol.specs.Calls.{DeviceCall, ReaderCall, device, unknown, detect
 use Rattle.calls.specs.Numbers.{call_of}
 use Rattle.calls.specs.declared.start.Numbers.{Numbers}
 use Rattle.engine.specs.Inputs.{Input, opens, asks}
-use Rattle.session_host.specs.Entries.{HostEntry, host_call, host_input}
+use Rattle.session_host.specs.Entries.{host_call, host_input}
 
 module _ (n : Numbers) (first second third fourth b : List ℕ) where
   -- rcs956_call with this number is this call

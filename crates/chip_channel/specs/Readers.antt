@@ -8,7 +8,7 @@ use Rattle.exchange.specs.Exchange.{Event, ok, bad, pkt, time, fail, late, slept
 use Rattle.protocol.specs.Session as Spec
 use Rattle.protocol.specs.Session.{Entry, event, fresh, step, step_result, StepResult}
 use Rattle.protocol.specs.Machine.{Machine, output_values, state_after}
-use Rattle.engine.specs.Inputs.{Input, gives, buffer_of, entry_of}
+use Rattle.engine.specs.Inputs.{Input, gives, entry_of}
 use Rattle.engine.specs.Numbers.{event_by_of}
 use Rattle.engine.specs.Refinement.{engine}
 use Rattle.engine.specs.SessionSteps.{fresh_session}

@@ -6,7 +6,7 @@ use Rattle.errors.specs.Choice.{pick}
 use Rattle.errors.specs.Refusals.{status_number, card_status_number}
 use Rattle.errors.specs.declared.Numbered.{Numbered}
 use Rattle.exchange.specs.Exchange.{Event}
-use Rattle.protocol.specs.Calls.{opening, reader}
+use Rattle.protocol.specs.Calls.{opening}
 use Rattle.protocol.specs.Session.{Running, idle, busy, Books, Session, fresh, Entry, call, event, Effect, unchanged, runs, ends, effect_of, call_effect, after_effect, given, step, buffer_need}
 use Rattle.protocol.specs.Machine.{output_values}
 use Rattle.calls.specs.Numbers.{call_of, reader_call}

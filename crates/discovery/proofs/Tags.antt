@@ -6,7 +6,6 @@ use mathlib.Core.Logic.{inl, inr}
 use mathlib.Core.Option.{none}
 use Prim.Native.Nat.{ℕ}
 use borrow.Author.Tests.{ne_eqb}
-use denote.Enum.Declared.{tag_of}
 use lib.Dec.{eqb}
 use types.Run.{OneOf, miss}
 use Rattle.errors.specs.Refusals.{by_status}
@@ -15,6 +14,7 @@ use Rattle.errors.specs.declared.Fault.TheVariants.{Transport, TimeOut, FalseSta
 use Rattle.stages.specs.Stages as stages
 use Rattle.stages.specs.Decided.{DecisionRefines}
 use Rattle.stages.specs.declared.Decision.{Decision}
+use Rattle.stages.specs.declared.Layout.{Layout}
 use Rattle.stages.specs.declared.Decision.TheVariants.{Send, Keep, Next, Put, Pause, Done, Part, Type1, UidAndAts, Nothing, Refused, RefusedAfter}
 use Rattle.targets.specs.declared.Bitrate.{Bitrate}
 use Rattle.targets.specs.declared.Bitrate.TheVariants.{B106A, B212F, B424F, B106B, B212B, B424B, B848B, Other}
@@ -22,46 +22,6 @@ use Rattle.targets.specs.contracts.Bitrate.{the_type}
 use Rattle.protocol.specs.Discovery.{by_no_card}
 use Rattle.protocol.specs.Starts.{type_a_code, type_b_code, type_f_code, dep_code}
 use Rattle.discovery.specs.Decisions.{on_end}
-
-pub no_type_a : (b : Bitrate) → OneOf (4 ∷ 5 ∷ 6 ∷ 7 ∷ []) (tag_of the_type b) → none ≡ type_a_code b
-no_type_a B106A h = absurd (miss (4 ∷ 5 ∷ 6 ∷ 7 ∷ []) 0 tt h)
-no_type_a B212F h = absurd (miss (4 ∷ 5 ∷ 6 ∷ 7 ∷ []) 1 tt h)
-no_type_a B424F h = absurd (miss (4 ∷ 5 ∷ 6 ∷ 7 ∷ []) 2 tt h)
-no_type_a B106B h = absurd (miss (4 ∷ 5 ∷ 6 ∷ 7 ∷ []) 3 tt h)
-no_type_a B212B h = refl
-no_type_a B424B h = refl
-no_type_a B848B h = refl
-no_type_a Other h = refl
-
-pub no_type_b : (b : Bitrate) → OneOf (0 ∷ 1 ∷ 2 ∷ 4 ∷ 5 ∷ 6 ∷ 7 ∷ []) (tag_of the_type b) → none ≡ type_b_code b
-no_type_b B106A h = refl
-no_type_b B212F h = refl
-no_type_b B424F h = refl
-no_type_b B106B h = absurd (miss (0 ∷ 1 ∷ 2 ∷ 4 ∷ 5 ∷ 6 ∷ 7 ∷ []) 3 tt h)
-no_type_b B212B h = refl
-no_type_b B424B h = refl
-no_type_b B848B h = refl
-no_type_b Other h = refl
-
-pub no_type_f : (b : Bitrate) → OneOf (0 ∷ 3 ∷ 4 ∷ 5 ∷ 6 ∷ 7 ∷ []) (tag_of the_type b) → none ≡ type_f_code b
-no_type_f B106A h = refl
-no_type_f B212F h = absurd (miss (0 ∷ 3 ∷ 4 ∷ 5 ∷ 6 ∷ 7 ∷ []) 1 tt h)
-no_type_f B424F h = absurd (miss (0 ∷ 3 ∷ 4 ∷ 5 ∷ 6 ∷ 7 ∷ []) 2 tt h)
-no_type_f B106B h = refl
-no_type_f B212B h = refl
-no_type_f B424B h = refl
-no_type_f B848B h = refl
-no_type_f Other h = refl
-
-pub no_dep : (b : Bitrate) → OneOf (3 ∷ 4 ∷ 5 ∷ 6 ∷ 7 ∷ []) (tag_of the_type b) → none ≡ dep_code b
-no_dep B106A h = absurd (miss (3 ∷ 4 ∷ 5 ∷ 6 ∷ 7 ∷ []) 0 tt h)
-no_dep B212F h = absurd (miss (3 ∷ 4 ∷ 5 ∷ 6 ∷ 7 ∷ []) 1 tt h)
-no_dep B424F h = absurd (miss (3 ∷ 4 ∷ 5 ∷ 6 ∷ 7 ∷ []) 2 tt h)
-no_dep B106B h = refl
-no_dep B212B h = refl
-no_dep B424B h = refl
-no_dep B848B h = refl
-no_dep Other h = refl
 
 -- the status bytes 01 and 0A
 pub no_partner-known : (x : ℕ) → OneOf (1 ∷ 10 ∷ []) x → (eqb x 1 || eqb x 10) ≡ true
@@ -72,8 +32,7 @@ pub partner-known : (x : ℕ) → (OneOf (1 ∷ 10 ∷ []) x → ⊥) → (eqb x
 partner-known x h = rw (ne_eqb x 1 (λ e. h (inl e)), ne_eqb x 10 (λ e. h (inr e)))
 
 -- no status
-pub not_status : {A : Type 0} (f : ℕ → A) (a : A) (fault : Fault) → OneOf (0 ∷ 1 ∷ 2 ∷ 3 ∷ 4 ∷ 5 ∷ 6 ∷ 7 ∷ 9 ∷ 10 ∷ 11 ∷ 12 ∷ 13 ∷ 14 ∷ 15 ∷ []) (tag_of Rattle.errors.specs.contracts.Fault.the_type fault)
-    → by_status f a fault ≡ a
+pub not_status : {A : Type 0} (f : ℕ → A) (a : A) (fault : Fault) → ((s : ℕ) → fault ≡ Status s → ⊥) → by_status f a fault ≡ a
 not_status f a Transport h = refl
 not_status f a TimeOut h = refl
 not_status f a FalseStart h = refl
@@ -82,7 +41,7 @@ not_status f a Length h = refl
 not_status f a FrameKind h = refl
 not_status f a Identifier h = refl
 not_status f a Code h = refl
-not_status f a (Status s) h = absurd (miss (0 ∷ 1 ∷ 2 ∷ 3 ∷ 4 ∷ 5 ∷ 6 ∷ 7 ∷ 9 ∷ 10 ∷ 11 ∷ 12 ∷ 13 ∷ 14 ∷ 15 ∷ []) 8 tt h)
+not_status f a (Status s) h = absurd (h s refl)
 not_status f a ShortResponse h = refl
 not_status f a NoCard h = refl
 not_status f a CrcA h = refl
@@ -92,8 +51,7 @@ not_status f a OtherCard h = refl
 not_status f a UidLayout h = refl
 
 -- no 17
-pub not_no_card : {A : Type 0} (x a : A) (fault : Fault) → OneOf (0 ∷ 1 ∷ 2 ∷ 3 ∷ 4 ∷ 5 ∷ 6 ∷ 7 ∷ 8 ∷ 9 ∷ 11 ∷ 12 ∷ 13 ∷ 14 ∷ 15 ∷ []) (tag_of Rattle.errors.specs.contracts.Fault.the_type fault)
-    → by_no_card x a fault ≡ a
+pub not_no_card : {A : Type 0} (x a : A) (fault : Fault) → (fault ≡ NoCard → ⊥) → by_no_card x a fault ≡ a
 not_no_card x a Transport h = refl
 not_no_card x a TimeOut h = refl
 not_no_card x a FalseStart h = refl
@@ -104,7 +62,7 @@ not_no_card x a Identifier h = refl
 not_no_card x a Code h = refl
 not_no_card x a (Status s) h = refl
 not_no_card x a ShortResponse h = refl
-not_no_card x a NoCard h = absurd (miss (0 ∷ 1 ∷ 2 ∷ 3 ∷ 4 ∷ 5 ∷ 6 ∷ 7 ∷ 8 ∷ 9 ∷ 11 ∷ 12 ∷ 13 ∷ 14 ∷ 15 ∷ []) 10 tt h)
+not_no_card x a NoCard h = absurd (h refl)
 not_no_card x a CrcA h = refl
 not_no_card x a Rate h = refl
 not_no_card x a (CardStatus s t) h = refl
@@ -113,16 +71,18 @@ not_no_card x a UidLayout h = refl
 
 -- no end with bytes or with a fault
 pub not_ended : (f b : List ℕ) (F : List ℕ → stages.Decision) (G : Fault → stages.Decision) (r : Decision) (d : stages.Decision)
-    → OneOf (0 ∷ 1 ∷ 2 ∷ 3 ∷ 4 ∷ 7 ∷ 8 ∷ 9 ∷ 11 ∷ []) (tag_of Rattle.stages.specs.contracts.Decision.the_type r) → DecisionRefines f b r d → DecisionRefines f b r (on_end F G d)
-not_ended f b F G (Send n) d h k = record { is = ap (on_end F G) k.is; fits = k.fits }
-not_ended f b F G (Keep n l) d h k = record { is = ap (on_end F G) k.is; fits = k.fits }
-not_ended f b F G (Next n c l) d h k = record { is = ap (on_end F G) k.is; fits = k.fits }
-not_ended f b F G (Put n x) d h k = record { is = ap (on_end F G) k.is; fits = k.fits }
-not_ended f b F G (Pause us n) d h k = record { is = ap (on_end F G) k.is; fits = k.fits }
-not_ended f b F G (Done l) d h k = absurd (miss (0 ∷ 1 ∷ 2 ∷ 3 ∷ 4 ∷ 7 ∷ 8 ∷ 9 ∷ 11 ∷ []) 5 tt h)
-not_ended f b F G (Part s n) d h k = absurd (miss (0 ∷ 1 ∷ 2 ∷ 3 ∷ 4 ∷ 7 ∷ 8 ∷ 9 ∷ 11 ∷ []) 6 tt h)
-not_ended f b F G (Type1 l) d h k = record { is = ap (on_end F G) k.is; fits = k.fits }
-not_ended f b F G (UidAndAts l uid ats) d h k = record { is = ap (on_end F G) k.is; fits = k.fits }
-not_ended f b F G Nothing d h k = record { is = ap (on_end F G) k.is; fits = k.fits }
-not_ended f b F G (Refused r) d h k = absurd (miss (0 ∷ 1 ∷ 2 ∷ 3 ∷ 4 ∷ 7 ∷ 8 ∷ 9 ∷ 11 ∷ []) 10 tt h)
-not_ended f b F G (RefusedAfter r n) d h k = record { is = ap (on_end F G) k.is; fits = k.fits }
+    → ((x : Layout) → r ≡ Done x → ⊥) → ((x y : ℕ) → r ≡ Part x y → ⊥) → ((x : Fault) → r ≡ Refused x → ⊥)
+    → DecisionRefines f b r d → DecisionRefines f b r (on_end F G d)
+not_ended f b F G (Send n) d h₁ h₂ h₃ k = record { is = ap (on_end F G) k.is; fits = k.fits }
+not_ended f b F G (Keep n l) d h₁ h₂ h₃ k = record { is = ap (on_end F G) k.is; fits = k.fits }
+not_ended f b F G (Next n c l) d h₁ h₂ h₃ k = record { is = ap (on_end F G) k.is; fits = k.fits }
+not_ended f b F G (Put n x) d h₁ h₂ h₃ k = record { is = ap (on_end F G) k.is; fits = k.fits }
+not_ended f b F G (Pause us n) d h₁ h₂ h₃ k = record { is = ap (on_end F G) k.is; fits = k.fits }
+not_ended f b F G (Done l) d h₁ h₂ h₃ k = absurd (h₁ l refl)
+not_ended f b F G (Part s n) d h₁ h₂ h₃ k = absurd (h₂ s n refl)
+not_ended f b F G (Type1 l) d h₁ h₂ h₃ k = record { is = ap (on_end F G) k.is; fits = k.fits }
+not_ended f b F G (UidAndAts l uid ats) d h₁ h₂ h₃ k = record { is = ap (on_end F G) k.is; fits = k.fits }
+not_ended f b F G Nothing d h₁ h₂ h₃ k = record { is = ap (on_end F G) k.is; fits = k.fits }
+not_ended f b F G (Refused r) d h₁ h₂ h₃ k = absurd (h₃ r refl)
+not_ended f b F G (RefusedAfter r n) d h₁ h₂ h₃ k = record { is = ap (on_end F G) k.is; fits = k.fits }
+

@@ -42,8 +42,8 @@ row_sound : (w : Row) → Sound (row_form w) (row_start w) call_frames
 row_sound (row holds code clock bytes q) = sound_if (rule_form q) holds _ _ call_frames (rule_sound code clock bytes q) tt
 row_sound resets = search sound_rules depth 60
 
--- Type A's script, behind its list
-type1_correct : (list rid : List ℕ) (fifo : List ℕ) (first : List ℕ) → Correct only_cards (discovery.card_type1 list rid) (rid ∷ (list ∷ (fifo ∷ (first ∷ []))))
+-- Type A's script in parts, each upon the responses before it
+type1_correct : (list rid fifo first : List ℕ) → Correct only_cards (discovery.card_type1 list rid) (rid ∷ (list ∷ (fifo ∷ (first ∷ []))))
 type1_correct list rid fifo first = search correct_rules depth 60
 
 try_correct : (fifo first : List ℕ) → Correct only_cards discovery.try_type1 (fifo ∷ (first ∷ []))
@@ -52,17 +52,17 @@ try_correct fifo first = search (type1_correct, correct_rules) depth 60
 no_target_correct : (first : List ℕ) → Correct only_cards discovery.no_target (first ∷ [])
 no_target_correct first = search (try_correct, correct_rules) depth 60
 
-without_crc_correct : (list : List ℕ) (a : Answer Byte) → ((rs : List (List ℕ)) → response_to rs 0 ≡ list → Final only_cards rs a) → Correct only_cards (discovery.by_type2 list a) (list ∷ [])
-without_crc_correct list a h = search (h, correct_rules) depth 60
+type2_correct : (list : List ℕ) (a : Answer Byte) → ((rs : List (List ℕ)) → response_to rs 0 ≡ list → Final only_cards rs a) → Correct only_cards (discovery.by_type2 list a) (list ∷ [])
+type2_correct list a h = search (h, correct_rules) depth 60
 
 cards_placed : (rs : List (List ℕ)) (list : List ℕ) → response_to rs 0 ≡ list → uid_offset ≤ length list → Final only_cards rs (done (discovery.card_a list))
 cards_placed rs list e long = (cards-placed only_cards rs list e long, cards_rest 0 list uid_offset)
 
 found_correct : (list : List ℕ) → Correct only_cards (discovery.found_a list) (list ∷ [])
-found_correct list = search (without_crc_correct, cards_placed, correct_rules) depth 60
+found_correct list = search (type2_correct, cards_placed, correct_rules) depth 60
 
 split_correct : (list : List ℕ) → Correct only_cards (discovery.found_split list) (list ∷ [])
-split_correct list = search (without_crc_correct, target_answer_lem, correct_rules) depth 60
+split_correct list = search (type2_correct, target_answer_lem, correct_rules) depth 60
 
 type_a_sound : (code : ℕ) (uid : List ℕ) → Within (discovery.detect_type_a_of code uid) call_frames × Correct only_cards (discovery.detect_type_a_of code uid) []
 type_a_sound code uid = (search sound_rules depth 60, search (no_target_correct, found_correct, correct_rules) depth 60)
@@ -79,7 +79,7 @@ words_sound code words =
     let right = codes_correct code 0 [] codes [] record { placed = no_bytes; polled = no_codes } in
     rw (sym (words_count words)) (codes_within code 0 0 [] codes, rw (sym e) right)
 
--- Type F's script
+-- Type F's script: its poll with the field on and with the field switched on, and what comes before
 poll_correct : (code : ℕ) (req first : List ℕ) → Correct only_cards (discovery.poll 1 code req) (first ∷ [])
 poll_correct code req first = search correct_rules depth 60
 
@@ -112,6 +112,7 @@ device_sound (transceive text selRes ridRes bytes ms) = search sound_rules depth
 device_sound (read_without_encryption idm service blocks ms) = search (block_rules, sound_rules) depth 60
 device_sound (write_without_encryption idm service blocks bytes ms) = search (block_rules, sound_rules) depth 60
 
+-- the opening's script in parts: its last commands, all behind the version, the whole
 abbrev opening_last : ℕ → ℕ → ℕ → Script
 opening_last ic ver rev =
     rf_configuration_of analog106a_item analog106a
@@ -125,7 +126,6 @@ opening_rest ic ver rev =
     (rf_configuration_of max_rty_com_item max_rty_com
     (rf_configuration_of max_retries_item max_retries (opening_last ic ver rev))))
 
--- the opening's script, from the version's response on
 opening_end : (ver first r2 r3 r4 r5 : List ℕ) → version_need ≤ length ver → Correct version_and_name (opening_last (get_or ver 0 0) (get_or ver 1 0) (get_or ver 2 0)) (r5 ∷ (r4 ∷ (r3 ∷ (r2 ∷ (ver ∷ (first ∷ []))))))
 opening_end ver first r2 r3 r4 r5 h = search (version_name, correct_rules) depth 60
 

@@ -7,7 +7,7 @@ use Rattle.std.proofs.Math.Decide.{dec_lt}
 use Rattle.std.proofs.Math.ListN.{get_elem?}
 use Rattle.exchange.specs.Exchange.{write, pkt}
 use Rattle.exchange.specs.Packets.{command_frame}
-use Rattle.protocol.specs.Record.{Item, ordered, accepted, Record, lines_of, frames, line, RecordLine}
+use Rattle.protocol.specs.Record.{ordered, accepted, Record, lines_of, frames, line, RecordLine}
 use Rattle.protocol.specs.Claim.{allowed_between, Between, Serves, Once}
 
 -- a line is one line

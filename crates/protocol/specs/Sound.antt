@@ -151,7 +151,7 @@ module _ (P : List (List ℕ) → Answer Byte → Type 0) where
       → Ends P (if_else (ltb (length bs) m) x y) rs
   ends_short bs m x y rs h k = ends_if (ltb (length bs) m) x y rs (λ t. h (ltb→lt (length bs) m t)) (λ t. k (nltb→le (length bs) m t))
 
-pub in_range_lem : (bs : List ℕ) (p : ℕ) → p < length bs → get_elem? bs p ≡ some (get_or bs p 0)
+in_range_lem : (bs : List ℕ) (p : ℕ) → p < length bs → get_elem? bs p ≡ some (get_or bs p 0)
 in_range_lem [] p h = absurd (not-suc-le-zero h)
 in_range_lem (b ∷ bs) zero h = refl
 in_range_lem (b ∷ bs) (suc p) h = in_range_lem bs p (le_of_suc-le-suc h)

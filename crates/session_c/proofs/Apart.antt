@@ -6,7 +6,7 @@
 --     together         and those, at any values, are the struct of them in memory
 -- Assumes `Logic`.
 use mathlib.Core.Path.{refl, sym}
-use Rattle.std.specs.Prelude.{ℕ, ◌+◌, List, [], ◌∷◌}
+use Rattle.core.specs.Prelude.{ℕ, ◌+◌, List, [], ◌∷◌}
 use mathlib.Core.List.{map-id}
 use seplogic.Ra.Ura.{Ura}
 use seplogic.Ra.TreeShare.{full_share}

@@ -1,5 +1,5 @@
 -- Laws of a play: what an order asks, the chip's step over the channel, a turn, and the turns up to the end.
-use Rattle.std.specs.Prelude.{◌≡◌, ℕ, zero, suc, ◌+◌, ◌-◌, ◌%◌, ◌<◌, ◌≤◌, Bool, true, false, eqb, ◌⊎◌, List, [], ◌∷◌, length, take, drop}
+use Rattle.std.specs.Prelude.{◌≡◌, ℕ, zero, suc, ◌+◌, ◌-◌, ◌%◌, ◌<◌, ◌≤◌, Bool, true, false, eqb, ◌⊎◌, List, [], length, take, drop}
 use mathlib.Core.Path.{refl, sym, ap, ap₂, ◌∙◌, subst}
 use mathlib.Core.Bool.{false≢true}
 use mathlib.Core.Logic.{inl, inr}
@@ -11,7 +11,7 @@ use lib.Seq.{take_all, take-append_seam}
 use Rattle.errors.specs.Choice.{pick}
 use Rattle.errors.specs.declared.Refusal.{Refusal}
 use Rattle.framing.specs.Frames.{ack}
-use Rattle.exchange.specs.Exchange.{Order, write, read, drain, pause, Event, ok, pkt, time, slept}
+use Rattle.exchange.specs.Exchange.{Order, write, read, drain, pause, Event, ok, pkt, slept}
 use Rattle.exchange.specs.Steps.{event_of}
 use Rattle.exchange.specs.declared.Event.{Event as CodeEvent}
 use Rattle.protocol.specs.Scripts.{Byte}
@@ -29,7 +29,7 @@ use Rattle.bench.specs.Texts.{over, Placed, placed, placed_at}
 use Rattle.bench_input.specs.Table.{Said}
 use Rattle.bench_session.specs.Answers.{said_step}
 use Rattle.bench_session.specs.Outputs.{text_of}
-use Rattle.bench_session.specs.Sessions.{line_step, given_text, text_given, Follows, line_follows}
+use Rattle.bench_session.specs.Sessions.{line_step, given_text, text_given, line_follows}
 use Rattle.chip_protocol.specs.Names.{longest_packet}
 use Rattle.chip_protocol.specs.Chip.{ChipState, chip_step}
 use Rattle.chip_protocol.specs.Channel.{simulated, Channel, behind_next, next_packet, event_for}

@@ -7,7 +7,7 @@ use Rattle.targets.specs.Bitrates.{ascii}
 use Rattle.calls.specs.declared.start.Numbers.{Numbers}
 use Rattle.bench_input.specs.Arguments.{line_limit, word_at}
 use Rattle.bench_input.specs.Readings.{input_in, Reads}
-use Rattle.bench_input.specs.Table.{Said, input_of}
+use Rattle.bench_input.specs.Table.{input_of}
 use Rattle.bench_input.specs.declared.Ends.{Ends}
 use Rattle.bench_input.specs.declared.Input.{Input}
 use Rattle.bench_input.specs.declared.Input.TheVariants.{Call as CallInput, Event as EventInput, Unreadable as NoInput}

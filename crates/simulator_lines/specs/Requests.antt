@@ -2,7 +2,6 @@
 use Rattle.std.specs.Prelude.{ℕ, Bool, true, false, List, length, nat_lt}
 use Rattle.errors.specs.Choice.{pick, same}
 use Rattle.targets.specs.Bitrates.{ascii}
-use Rattle.calls.specs.declared.start.Numbers.{Numbers}
 use Rattle.bench_input.specs.Arguments.{line_limit, word_at}
 use Rattle.bench_input.specs.Readings.{input_in}
 use Rattle.bench_input.specs.Table.{Said, calls, happens, unreadable, input_of}

@@ -14,7 +14,7 @@ use Rattle.protocol.specs.Scripts.{Script, finish, command, reset, field_pause}
 use Rattle.protocol.specs.Calls.{Call, is_opening}
 use Rattle.protocol.specs.Session.{Rest, by_reply, of_reset, Phase, exchange, reset_ack, reset_pause, field_pausing, opening_ack, opening_reads}
 use Rattle.protocol.specs.Session.{CallResult, start_script, after_exchange, progress, begin, Running, idle, busy, Books, call, orders}
-use Rattle.protocol.specs.Session.{given, step}
+use Rattle.protocol.specs.Session.{step}
 use Rattle.protocol.specs.Record.{Item, ordered, accepted, one_if, frames, events, pending_order, acked, idle_under, idle_reads}
 use Rattle.protocol.specs.Laws.{split, by_write, by_read, by_pause, ack_is_ack}
 use Rattle.protocol.specs.Invariant.{due_rest, due_step, due}

@@ -4,8 +4,7 @@ use Rattle.std.proofs.Common.{sym, ap, ap₂, ◌∙◌, append-nil}
 use Rattle.std.proofs.Math.Option.{Option, none, some}
 use Rattle.errors.specs.Choice.{pick, same, in_range}
 use Rattle.framing.specs.Frames.{ack}
-use Rattle.targets.specs.Bitrates.{ascii}
-use Rattle.exchange.specs.Exchange.{Event, ok, bad, pkt, time, fail, late, slept}
+use Rattle.exchange.specs.Exchange.{Event, pkt}
 use Rattle.protocol.specs.Calls.{is_opening}
 use Rattle.protocol.specs.Session.{Entry, call, event, buffer_need, fresh, session_after}
 use Rattle.protocol.specs.Record.{events}
@@ -15,7 +14,7 @@ use Rattle.calls.specs.Numbers.{call_of}
 use Rattle.engine.specs.Numbers.{event_by_of}
 use Rattle.bench.specs.Hex.{value_of, all_hex_digits, is_hex_of, pairs_of, digit_of, digits_of_lem, hex_of}
 use Rattle.bench.specs.Texts.{decimal_of}
-use Rattle.bench.specs.WordLaws.{words_behind, words_behind_lem}
+use Rattle.bench.specs.WordLaws.{words_behind_lem}
 use Rattle.bench.specs.Words.{ahead, words_of_lem}
 use Rattle.bench.specs.Numbers.{digit_value_of, all_decimal, number_from, is_number}
 use Rattle.bench_input.specs.Arguments.{hex_arg, whole_arg, pairs_arg, byte_arg, flag_arg, word_arg, ms_arg, text_arg, is_none, hex_or_none, present_arg, name_arg, wait_arg}

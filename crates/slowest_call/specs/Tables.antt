@@ -1,5 +1,5 @@
 -- What the code has of the runs: a table as a text, four fields for each kind and the lines that open the reader behind all of them.
-use Rattle.std.specs.Prelude.{Bool, true, cond, List, [], ◌∷◌, ◌++◌, map, ℕ, zero, suc, ◌<◌}
+use Rattle.std.specs.Prelude.{cond, List, [], ◌∷◌, ◌++◌, map, ℕ, zero, suc, ◌<◌}
 use Rattle.std.proofs.Math.Option.{Option, none, some}
 use Rattle.framing.specs.Frames.{ack}
 use Rattle.exchange.specs.Exchange.{pkt}
