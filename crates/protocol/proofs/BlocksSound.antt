@@ -1,7 +1,7 @@
 -- The scripts of Read and Write Without Encryption are sound: one frame, and each byte of a read's answer at its place.
 use Rattle.std.specs.Prelude.{◌≡◌, refl, List, [], ◌∷◌, ℕ, ◌*◌, drop}
 use Rattle.std.proofs.Common.{arith, length-drop}
-use Rattle.felica.specs.Accepted.{good_read}
+use Rattle.felica.proofs.Accepted.{good_read}
 use Rattle.felica.specs.Checks.{read_check}
 use Rattle.felica.specs.Names.{block_size}
 use Rattle.felica.specs.declared.check.Checked.{Checked}
