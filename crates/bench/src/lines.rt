@@ -127,14 +127,13 @@ fn last(len: usize, line: &[u8]) -> Given
 }
 
 // Reads on until a line feed or the end of the input, behind the `start` bytes of a line.
-// A loop has to end, and nothing says that the input does: it counts its turns down from a number that no run uses up. Were it
-// used up, the line would be given as far as it was read.
+// A loop has to end, and nothing says that the input does: it counts its turns up to a number that no run comes to. Were it
+// come to, the line would be given as far as it was read.
 fn read_on<R: Read>(input: &mut R, start: usize, buffer: &mut [u8], line: &mut [u8]) -> Given
     ensures { (t l : List ℕ) → NoFeed t → Begun t l start line.old → NextLine t l result.line line.new (unread_in result.unread buffer.new) }
 {
     let mut len = start;
-    let mut turns = u64::MAX;
-    while turns > 0 {
+    for _ in 0..u64::MAX {
         let to = fill(input, buffer);
         if to == 0 {
             return last(len, line);
@@ -148,7 +147,6 @@ fn read_on<R: Read>(input: &mut R, start: usize, buffer: &mut [u8], line: &mut [
                 unread: Unread { from: stop + 1, to },
             };
         }
-        turns -= 1;
     }
     last(len, line)
 }

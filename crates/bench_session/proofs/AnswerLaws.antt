@@ -8,8 +8,8 @@ use Rattle.engine.specs.Inputs.{gives, step_with}
 use Rattle.engine.specs.Numbers.{event_by_of, known_in}
 use Rattle.engine.specs.SessionSteps.{Stepped, stepped}
 use Rattle.errors.specs.declared.Refusal.TheVariants.{BadArgument}
-use Rattle.engine.specs.declared.core.Output.{Output}
-use Rattle.engine.specs.declared.core.Output.TheVariants.{Refused}
+use Rattle.engine.specs.declared.running.Output.{Output}
+use Rattle.engine.specs.declared.running.Output.TheVariants.{Refused}
 use Rattle.engine.specs.declared.by_number.Known.{Known}
 use Rattle.engine.specs.declared.by_number.Known.TheVariants.{Is, Not}
 use Rattle.engine.specs.declared.session.Session.{Session}

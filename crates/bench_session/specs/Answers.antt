@@ -7,7 +7,7 @@ use Rattle.engine.specs.Inputs.{gives, step_with}
 use Rattle.calls.specs.Numbers.{call_of}
 use Rattle.engine.specs.Numbers.{call_input, event_by_of}
 use Rattle.engine.specs.SessionSteps.{Stepped}
-use Rattle.engine.specs.declared.core.Output.TheVariants.{Refused}
+use Rattle.engine.specs.declared.running.Output.TheVariants.{Refused}
 use Rattle.engine.specs.declared.session.Session.{Session}
 use Rattle.bench.specs.Texts.{over}
 use Rattle.bench.specs.declared.lines.Line.{Line}

@@ -5,8 +5,8 @@ use Rattle.errors.specs.Refusals.{numbered, fault_numbered, status_number, card_
 use Rattle.errors.specs.declared.Numbered.{Numbered}
 use Rattle.framing.specs.Names.{ack_size}
 use Rattle.targets.specs.Bitrates.{ascii}
-use Rattle.engine.specs.declared.core.Output.{Output}
-use Rattle.engine.specs.declared.core.Output.TheVariants.{Ack, Command, Read, Drain, Pause, Done, Type1, UidAndAts, Nothing, Failed, FailedAfter, Refused}
+use Rattle.engine.specs.declared.running.Output.{Output}
+use Rattle.engine.specs.declared.running.Output.TheVariants.{Ack, Command, Read, Drain, Pause, Done, Type1, UidAndAts, Nothing, Failed, FailedAfter, Refused}
 use Rattle.bench.specs.Texts.{decimal_of}
 use Rattle.bench.specs.Hex.{hex_of}
 

@@ -19,8 +19,8 @@ use Rattle.engine.specs.Numbers.{call_input, event_by_of}
 use Rattle.engine.specs.Relation.{SessionRepresents}
 use Rattle.engine.specs.Refinement.{simulate, fresh_represents}
 use Rattle.engine.specs.SessionSteps.{Stepped, fresh_session}
-use Rattle.engine.specs.declared.core.Output.{Output}
-use Rattle.engine.specs.declared.core.Output.TheVariants.{Ack, Command, Read, Drain, Pause, Done, Type1, UidAndAts, Nothing, Failed, FailedAfter, Refused}
+use Rattle.engine.specs.declared.running.Output.{Output}
+use Rattle.engine.specs.declared.running.Output.TheVariants.{Ack, Command, Read, Drain, Pause, Done, Type1, UidAndAts, Nothing, Failed, FailedAfter, Refused}
 use Rattle.engine.specs.declared.session.Session as Engine
 use Rattle.bench.specs.Hex.{hex_of}
 use Rattle.bench.specs.Texts.{decimal_of}

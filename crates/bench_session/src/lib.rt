@@ -3,7 +3,7 @@
 
 pub mod output;
 
-ghost use Rattle.core.specs.Prelude.{◌≡◌, ◌+◌, ◌≤◌, length, slice_set};
+ghost use Rattle.std.specs.Prelude.{◌≡◌, ◌+◌, ◌≤◌, length, slice_set};
 ghost use Rattle.engine.specs.SessionSteps.{stepped};
 ghost use Rattle.bench_input.specs.Readings.{input_in};
 ghost use Rattle.bench_session.specs.Outputs.{out_room, text_limit};
@@ -16,7 +16,7 @@ use bench_input::{BYTES_ROOM, Ends, Input, LINE_LIMIT, slice};
 use calls::start::Numbers;
 use engine::by_number;
 use engine::by_number::Known;
-use engine::core::Output;
+use engine::running::Output;
 use engine::session::{Session, Step};
 use errors::Refusal;
 
@@ -158,8 +158,7 @@ pub fn run<R: std::io::Input + Print>(rt: &R) {
     let mut out = [0u8; OUT_ROOM];
     let mut session = Session::fresh();
     let mut unread = Unread::nothing();
-    let mut turns = u64::MAX;
-    while turns > 0 {
+    for _ in 0..u64::MAX {
         let given = lines::next(&mut input, unread, &mut read, &mut line);
         unread = given.unread;
         let next = given.line;
@@ -170,6 +169,5 @@ pub fn run<R: std::io::Input + Print>(rt: &R) {
         if !lines::write(rt, &out, n) {
             return;
         }
-        turns -= 1;
     }
 }

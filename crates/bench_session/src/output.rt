@@ -1,12 +1,12 @@
 // What is printed for an order or an answer.
-ghost use Rattle.core.specs.Prelude.{◌≡◌, ◌≤◌, ◌++◌, length};
+ghost use Rattle.std.specs.Prelude.{◌≡◌, ◌≤◌, ◌++◌, length};
 ghost use Rattle.bench.specs.Texts.{placed, placed_at, decimal_of, Appends};
 ghost use Rattle.bench.specs.Hex.{hex_of};
 ghost use Rattle.bench_session.specs.Outputs.{out_room, text_limit, done_text, type1_text, lengths_text, refused_text, list_refused_text, text_of};
 
 use super::{BUFFER_SIZE, OUT_ROOM};
 use bench::{hex, prefix, text};
-use engine::core::Output;
+use engine::running::Output;
 use errors::{CARD_STATUS_NUMBER, Numbered, STATUS_NUMBER};
 use framing::ACK_SIZE;
 

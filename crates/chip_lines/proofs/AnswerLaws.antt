@@ -27,15 +27,15 @@ use Rattle.bench.specs.declared.lines.Line.{Line}
 use Rattle.bench.specs.declared.lines.Line.TheVariants.{Text, OverLong, End}
 use Rattle.chip_protocol.specs.Names.{longest_packet}
 use Rattle.simulated_chip.specs.Memory.{fresh_numbers}
-use Rattle.simulated_chip.specs.Steps.{AfterStep, after_step, step_in, zeros, step_of, by_value}
-use Rattle.simulated_chip.specs.Additions.{AfterAddition, after_addition, chip_added, add_card_in, add_reply_in, add_card_of, add_reply_of}
+use Rattle.simulated_chip.specs.Steps.{after_step, step_in, zeros, step_of}
+use Rattle.simulated_chip.specs.Additions.{after_addition, add_card_in, add_reply_in, add_card_of, add_reply_of}
 use Rattle.chip_protocol.specs.declared.Kind.{Kind}
 use Rattle.simulated_chip.specs.declared.add.Addition.{Addition}
 use Rattle.simulated_chip.specs.declared.chip.Answer.{Answer}
 use Rattle.simulated_chip.specs.declared.chip.Chip.{Chip}
 use Rattle.simulated_chip.specs.declared.chip.State.{State}
 use Rattle.chip_lines.specs.ChipLines.{line_limit, bytes_room, ChipLine, fresh, card, reply, frame, unreadable, bitrate_named_of, one_word, two_words, three_words, four_words, five_words, on_words, chip_line_of}
-use Rattle.chip_lines.specs.Lines.{text_limit, answer_room, LineAnswer, refused_text, addition_text, sent_text, answer_to, AfterLine, after_line, printed, line_reply}
+use Rattle.chip_lines.specs.Lines.{text_limit, answer_room, LineAnswer, refused_text, addition_text, sent_text, answer_to, after_line, printed, line_reply}
 use Rattle.chip_lines.specs.Readings.{chip_of, Prints, Answers}
 
 -- ---- a test that decides the line

@@ -1,7 +1,7 @@
 -- What `chip` prints, by the definitions' chip (chip_protocol): for any lines, from an empty field, the program writes what that chip prints.
 use Rattle.std.specs.Prelude.{◌≡◌, true, List, [], ◌∷◌, ◌++◌, ℕ, ◌+◌, ◌*◌, ◌≤◌, take, drop}
 use Rattle.std.proofs.Math.Path.{refl, ap}
-use Rattle.std.proofs.Common.{sym, ap₂, ◌∙◌, subst, arith, le-ltb}
+use Rattle.std.proofs.Common.{ap₂, ◌∙◌, arith, le-ltb}
 use Rattle.std.proofs.Math.ListN.{length}
 use Rattle.std.proofs.Math.Seq.{take-append_seam}
 use Rattle.errors.specs.Choice.{pick}
@@ -22,8 +22,8 @@ use Rattle.simulated_chip.specs.RangeLaws.{in_range_lem}
 use Rattle.simulated_chip.specs.Additions.{addition_in, AfterAddition, chip_added, add_card_of, add_reply_of}
 use Rattle.simulated_chip.specs.AddMeaning.{field_after, AddMeans, card_means, reply_means}
 use Rattle.simulated_chip.specs.FreshMeaning.{fresh_in_range, fresh_means, zeros-length}
-use Rattle.simulated_chip.specs.Steps.{AfterStep, zeros, fresh_chip_memory, command_step, received_step, step_in, step_of}
-use Rattle.simulated_chip.specs.StepMeaning.{packets_in, Means, step_means}
+use Rattle.simulated_chip.specs.Steps.{zeros, fresh_chip_memory, command_step, received_step, step_in, step_of}
+use Rattle.simulated_chip.specs.StepMeaning.{packets_in, step_means}
 use Rattle.simulated_chip.specs.declared.chip.Chip.{Chip}
 use Rattle.chip_lines.specs.ChipLines.{ChipLine, fresh, card, reply, frame, unreadable, chip_line_of}
 use Rattle.chip_lines.specs.Lines.{LineAnswer, refused_text, addition_text, packets_text, sent_text, answer_to, printed, line_reply}

@@ -1,5 +1,5 @@
 // The lines of the program `chip`: cards and replies for the field, and the bytes that a host wrote, in; the packets that the chip sends, out.
-#![tactic(auto)]
+#![tactic(auto, using(errors::specs::Rules::picks), unfolding(errors::specs::Choice::pick, bench::specs::Words::words_of_lem, crate::specs::ChipLines::bitrate_named_of, crate::specs::ChipLines::card_line_of, crate::specs::ChipLines::chip_line_of, crate::specs::ChipLines::on_words, crate::specs::ChipLines::reply_line_of, crate::specs::Lines::line_reply, crate::specs::Lines::refused_text, simulated_chip::specs::Steps::zeros))]
 
 mod print;
 mod words_of;
@@ -278,8 +278,7 @@ pub fn run<R: Input + Print>(rt: &R) {
     let mut replies = [0u8; REPLY_MEMORY_SIZE];
     let mut state = State::fresh();
     let mut unread = Unread::nothing();
-    let mut turns = u64::MAX;
-    while turns > 0 {
+    for _ in 0..u64::MAX {
         let given = lines::next(&mut input, unread, &mut buffer, &mut line);
         unread = given.unread;
         let next = given.line;
@@ -298,6 +297,5 @@ pub fn run<R: Input + Print>(rt: &R) {
         if !lines::write(rt, &out, n) {
             return;
         }
-        turns -= 1;
     }
 }

@@ -1,4 +1,6 @@
 // What is printed for an addition to the field, and for the bytes that the host wrote. Each function gives the length of its text.
+#![tactic(auto, using(errors::specs::Rules::picks), unfolding(errors::specs::Choice::pick, crate::specs::Lines::addition_text, crate::specs::Lines::refused_text, crate::specs::Lines::sent_text))]
+
 ghost use Rattle.chip_lines.specs.Lines.{refused_text, addition_text, sent_text};
 ghost use Rattle.chip_lines.specs.Readings.{Prints};
 

@@ -1,4 +1,6 @@
 // A line by the number of its words.
+#![tactic(auto, using(errors::specs::Rules::picks), unfolding(errors::specs::Choice::pick, crate::specs::ChipLines::five_words, crate::specs::ChipLines::four_words, crate::specs::ChipLines::one_word, crate::specs::ChipLines::three_words, crate::specs::ChipLines::two_words))]
+
 ghost use Rattle.std.specs.Prelude.{List, ℕ, ◌≤◌, length};
 ghost use Rattle.chip_lines.specs.ChipLines.{line_limit, one_word, two_words, three_words, four_words, five_words};
 ghost use Rattle.chip_lines.specs.Lines.{answer_to};

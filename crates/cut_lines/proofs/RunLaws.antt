@@ -13,7 +13,7 @@ use Rattle.calls.specs.declared.start.Numbers.{Numbers}
 use Rattle.engine.specs.Relation.{Represents, free, runs, SessionRepresents}
 use Rattle.engine.specs.Refinement.{fresh_represents}
 use Rattle.engine.specs.SessionSteps.{stepped, arrays_in, fresh_session}
-use Rattle.engine.specs.declared.core.Core.{Core}
+use Rattle.engine.specs.declared.running.Core.{Core}
 use Rattle.engine.specs.declared.session.Session.{Session}
 use Rattle.engine.specs.declared.session.Step.{Step}
 use Rattle.bench_input.specs.Readings.{input_in}

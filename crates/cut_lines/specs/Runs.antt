@@ -5,8 +5,8 @@ use Rattle.std.proofs.Math.Seq.{slice}
 use Rattle.errors.specs.declared.Numbered.{Numbered}
 use Rattle.protocol.specs.Session as Spec
 use Rattle.engine.specs.Relation.{SessionRepresents}
-use Rattle.engine.specs.declared.core.Core.{Core}
-use Rattle.engine.specs.declared.core.Output.{Output}
+use Rattle.engine.specs.declared.running.Core.{Core}
+use Rattle.engine.specs.declared.running.Output.{Output}
 use Rattle.engine.specs.declared.session.Session.{Session}
 use Rattle.engine.specs.declared.session.Step.{Step}
 use Rattle.bench_input.specs.Readings.{input_in}

@@ -1,5 +1,5 @@
 // The lines of a script, each read once.
-ghost use Rattle.core.specs.Prelude.{◌≡◌, ℕ, ◌+◌, ◌≤◌, length, take};
+ghost use Rattle.std.specs.Prelude.{◌≡◌, ℕ, ◌+◌, ◌≤◌, length, take};
 ghost use Rattle.std.proofs.Math.Seq.{slice};
 ghost use Rattle.bench_input.specs.Arguments.{bytes_room};
 ghost use Rattle.bench_input.specs.Readings.{input_in};

@@ -6,7 +6,7 @@ mod program;
 mod runs;
 mod shown;
 
-ghost use Rattle.core.specs.Prelude.{◌≡◌, length};
+ghost use Rattle.std.specs.Prelude.{◌≡◌, length};
 ghost use Rattle.cut_script.specs.Answer.{script_limit, cut_of};
 ghost use Rattle.cut_lines.specs.Readings.{answer_in};
 

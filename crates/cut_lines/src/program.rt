@@ -1,5 +1,5 @@
 // The program `cut`: a script on standard input, the stretch or a refusal on standard output.
-ghost use Rattle.core.specs.Prelude.{◌≡◌, ◌≤◌, length};
+ghost use Rattle.std.specs.Prelude.{◌≡◌, ◌≤◌, length};
 ghost use Rattle.bench.specs.Texts.{placed, placed_at};
 ghost use Rattle.cut_script.specs.Answer.{script_limit, cut_of, written_for};
 
@@ -17,15 +17,13 @@ fn room() -> [u8; INPUT_ROOM]
     [0; INPUT_ROOM]
 }
 
-// Reads what is left of the input. A loop has to end: it counts its turns down from a number that no run uses up.
+// Reads what is left of the input. A loop has to end: it counts its turns up to a number that no run comes to.
 fn read_rest<R: Read>(input: &mut R) {
     let mut rest = io::large_buffer();
-    let mut turns = u64::MAX;
-    while turns > 0 {
+    for _ in 0..u64::MAX {
         if lines::read_full(input, &mut rest) == 0 {
             return;
         }
-        turns -= 1;
     }
 }
 

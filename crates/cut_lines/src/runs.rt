@@ -1,5 +1,5 @@
 // Stretches of a script, run from a fresh session.
-ghost use Rattle.core.specs.Prelude.{◌≡◌, ℕ, ◌-◌, ◌<◌, ◌≤◌, true, List, length};
+ghost use Rattle.std.specs.Prelude.{◌≡◌, ℕ, ◌-◌, ◌<◌, ◌≤◌, true, List, length};
 ghost use Rattle.std.proofs.Math.Option.{some};
 ghost use Rattle.std.proofs.Math.Seq.{slice};
 ghost use Rattle.bench_input.specs.Readings.{input_in};
@@ -17,7 +17,7 @@ use bench_input::{Input, slice};
 use bench_session::BUFFER_SIZE;
 use calls::NO_CALL_KIND;
 use calls::start::OPEN_CALL;
-use engine::core::{Core, Output};
+use engine::running::{Core, Output};
 use engine::session::{Session, Step};
 use errors::Numbered;
 

@@ -1,10 +1,10 @@
 // What the last line of a list prints, as far as a fault is told by it.
-ghost use Rattle.core.specs.Prelude.{◌≡◌};
+ghost use Rattle.std.specs.Prelude.{◌≡◌};
 ghost use Rattle.std.proofs.Math.Option.{some};
 ghost use Rattle.cut_script.specs.Bench.{same_numbered, same_refusal};
 ghost use Rattle.cut_lines.specs.Shown.{shown_in, refused_by, at_once_by};
 
-use engine::core::Output;
+use engine::running::Output;
 use errors::{CARD_STATUS_NUMBER, Numbered, STATUS_NUMBER};
 
 // A refusal, a list's without the number of codes finished; or anything else.

@@ -13,7 +13,7 @@ use Rattle.engine.specs.Core.{Arrays, reply_decision}
 use Rattle.engine.specs.Ends.{reply_in, end_reply, GoesOn, Checked}
 use Rattle.engine.specs.declared.call.End.{End}
 use Rattle.engine.specs.declared.call.End.TheVariants.{ResetDone, Arrived, Failed}
-use Rattle.engine.specs.declared.core.Core.{Core}
+use Rattle.engine.specs.declared.running.Core.{Core}
 use Rattle.engine.specs.contracts.call.End.{the_type}
 
 -- no packet is in

@@ -15,7 +15,7 @@ use Rattle.engine.specs.Core.{Arrays, After, unchanged, transitioned_of, is_long
 use Rattle.engine.specs.declared.call.End.{End}
 use Rattle.engine.specs.declared.call.Transition.{Transition}
 use Rattle.engine.specs.declared.call.Transition.TheVariants.{Unfit, Orders, Sends, Ends}
-use Rattle.engine.specs.declared.core.Core.{Core}
+use Rattle.engine.specs.declared.running.Core.{Core}
 use Rattle.engine.specs.contracts.call.Transition.{the_type}
 
 -- all but `Unfit` fit

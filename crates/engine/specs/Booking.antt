@@ -14,7 +14,7 @@ use Rattle.protocol.specs.Session.{last_caller, add_frame, counted, counted_for,
 use Rattle.protocol.specs.Session as Spec
 use Rattle.protocol.specs.Laws.{frame_not_ack, ack_is_ack}
 use Rattle.engine.specs.Books.{Books, books, books_of, opened_in, mode_in, caller_in, no_books, is_in_range, one_more_of, by_caller, ended, booked}
-use Rattle.engine.specs.declared.core.Output.TheVariants.{Command}
+use Rattle.engine.specs.declared.running.Output.TheVariants.{Command}
 
 -- a flag as a number
 abbrev flag : Bool → ℕ

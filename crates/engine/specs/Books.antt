@@ -5,8 +5,8 @@ use Rattle.framing.specs.Lists.{both}
 use Rattle.framing.specs.Padded.{extra_zeros_of}
 use Rattle.protocol.specs.Calls.{is_padded_mode}
 use Rattle.protocol.specs.Session.{packet_limit, last_caller, no_counts, ceiling}
-use Rattle.engine.specs.declared.core.Output.{Output}
-use Rattle.engine.specs.declared.core.Output.TheVariants.{Ack, Command, Read, Drain, Pause, Done, Type1, UidAndAts, Nothing, Failed, FailedAfter, Refused}
+use Rattle.engine.specs.declared.running.Output.{Output}
+use Rattle.engine.specs.declared.running.Output.TheVariants.{Ack, Command, Read, Drain, Pause, Done, Type1, UidAndAts, Nothing, Failed, FailedAfter, Refused}
 
 abbrev pub books_size : ℕ
 books_size = 3

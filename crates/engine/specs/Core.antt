@@ -21,10 +21,10 @@ use Rattle.calls.specs.Tables.{command_of, decided_of, failed_of}
 use Rattle.stages.specs.Decided.{found_limit}
 use Rattle.engine.specs.Transitions.{opening_ack_phase, no_call_of, first_call, valid_call, fits, at, to_stage, to_cursor, Transitioned, unfitting, orders, sends, reset_done, replies, refuses, transition_of, pause_phase}
 use Rattle.engine.specs.declared.call.Call.{Call}
-use Rattle.engine.specs.declared.core.Core.{Core}
-use Rattle.engine.specs.declared.core.Progress.{Progress}
-use Rattle.engine.specs.declared.core.Output.{Output}
-use Rattle.engine.specs.declared.core.Output.TheVariants as out
+use Rattle.engine.specs.declared.running.Core.{Core}
+use Rattle.engine.specs.declared.running.Progress.{Progress}
+use Rattle.engine.specs.declared.running.Output.{Output}
+use Rattle.engine.specs.declared.running.Output.TheVariants as out
 use Rattle.calls.specs.Kinds.{no_call_kind}
 use Rattle.device.specs.Kinds.{opening_kind, reset_stage}
 

@@ -14,7 +14,7 @@ use Rattle.engine.specs.Core.{Arrays, performs_of, reply_decision, replies_of, f
 use Rattle.engine.specs.Transitions.{end_transition, reply_transition, reply_length}
 use Rattle.engine.specs.declared.call.End.{End}
 use Rattle.engine.specs.declared.call.End.TheVariants.{ResetDone, Arrived, Failed}
-use Rattle.engine.specs.declared.core.Core.{Core}
+use Rattle.engine.specs.declared.running.Core.{Core}
 
 -- the reply to a command with this code
 abbrev pub reply_in : ℕ → List ℕ → End → Reply

@@ -10,8 +10,8 @@ use Rattle.calls.specs.Firsts.{start_for}
 use Rattle.engine.specs.Core.{Arrays, After}
 use Rattle.engine.specs.SessionSteps.{State, arrays_in, state_in, stepped_of, event_after, Stepped}
 use Rattle.engine.specs.SessionSteps.{open_after as opened_at, start_after}
-use Rattle.engine.specs.declared.core.Output.{Output}
-use Rattle.engine.specs.declared.core.Output.TheVariants.{Ack, Command, Read, Drain, Pause, Done, Type1, UidAndAts, Nothing, Failed, FailedAfter, Refused}
+use Rattle.engine.specs.declared.running.Output.{Output}
+use Rattle.engine.specs.declared.running.Output.TheVariants.{Ack, Command, Read, Drain, Pause, Done, Type1, UidAndAts, Nothing, Failed, FailedAfter, Refused}
 use Rattle.engine.specs.declared.session.Session.{Session}
 use Rattle.framing.specs.Names.{ack_size}
 

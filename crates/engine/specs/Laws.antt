@@ -29,13 +29,13 @@ use Rattle.protocol.specs.Calls.{is_padded_mode}
 use Rattle.protocol.specs.Session.{seen, buffer_need, packet_limit, last_caller}
 use Rattle.protocol.specs.Starts.{data_limit}
 use Rattle.engine.specs.Books.{Books, books_of, caller_in, booked, extra_in}
-use Rattle.engine.specs.declared.core.Progress.{Progress}
+use Rattle.engine.specs.declared.running.Progress.{Progress}
 use Rattle.engine.specs.Booking.{range_caller}
 use Rattle.engine.specs.SessionSteps.{State, state, effected, booked_after_of, valid, is_valid_state}
 use Rattle.engine.specs.Core.{is_valid_of, Lent, Arrays, progressed, After, event_core, ends_of, done_of, answers_of, sends_of, running, after}
 use Rattle.engine.specs.declared.call.Call.{Call}
-use Rattle.engine.specs.declared.core.Core.{Core}
-use Rattle.engine.specs.declared.core.Output.TheVariants.{Command as Sends, Done, Type1, UidAndAts}
+use Rattle.engine.specs.declared.running.Core.{Core}
+use Rattle.engine.specs.declared.running.Output.TheVariants.{Command as Sends, Done, Type1, UidAndAts}
 use Rattle.framing.specs.Names.{longest_extended}
 
 -- ---- a command's frame fits a buffer of 1,024 bytes

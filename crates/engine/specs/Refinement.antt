@@ -28,7 +28,7 @@ use Rattle.engine.specs.Relation.{Position, Wait, call_at, Fields, core_with, ar
 use Rattle.engine.specs.Simulation.{Simulates}
 use Rattle.engine.specs.Events.{call_fits, event_sims, open_sims, call_sims}
 use Rattle.engine.specs.declared.call.Call.{Call as CallNumbers}
-use Rattle.engine.specs.declared.core.Core.{Core}
+use Rattle.engine.specs.declared.running.Core.{Core}
 use Rattle.engine.specs.declared.session.Session.{Session}
 use Rattle.calls.specs.Kinds.{no_call_kind}
 

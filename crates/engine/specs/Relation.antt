@@ -17,7 +17,7 @@ use Rattle.engine.specs.Core.{Arrays, arrays}
 use Rattle.engine.specs.Transitions.{exchange_phase, reset_ack_phase, reset_pause_phase, opening_ack_phase, opening_reads_phase, pause_phase, no_call_of}
 use Rattle.engine.specs.SessionSteps.{arrays_in, state_in}
 use Rattle.engine.specs.declared.call.Call.{Call}
-use Rattle.engine.specs.declared.core.Core.{Core}
+use Rattle.engine.specs.declared.running.Core.{Core}
 use Rattle.engine.specs.declared.session.Session.{Session}
 use Rattle.calls.specs.Kinds.{no_call_kind, last_kind, last_stage}
 use Rattle.device.specs.Kinds.{opening_kind}

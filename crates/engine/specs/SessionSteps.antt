@@ -12,9 +12,9 @@ use Rattle.stages.specs.Decided.{found_limit}
 use Rattle.engine.specs.Books.{Books, books_of, opened_in, mode_in, caller_in, no_books, books_in_range, booked, books_size}
 use Rattle.engine.specs.Core.{no_core, Arrays, arrays, progressed, After, after, unchanged, event_core, open_core, start_on}
 use Rattle.engine.specs.Core.{is_valid_of as valid_core}
-use Rattle.engine.specs.declared.core.Core.{Core}
-use Rattle.engine.specs.declared.core.Output.{Output}
-use Rattle.engine.specs.declared.core.Progress.{Progress}
+use Rattle.engine.specs.declared.running.Core.{Core}
+use Rattle.engine.specs.declared.running.Output.{Output}
+use Rattle.engine.specs.declared.running.Progress.{Progress}
 use Rattle.engine.specs.declared.session.Session.{Session}
 use Rattle.engine.specs.declared.session.Step.{Step}
 use Rattle.calls.specs.Kinds.{no_call_kind}

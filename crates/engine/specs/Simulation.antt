@@ -31,9 +31,9 @@ use Rattle.engine.specs.Inputs.{output_of}
 use Rattle.engine.specs.Relation.{Position, Wait, reply, reset_reply, pausing, call_at, phase_at, Fields, core_with, arrays_at, PositionAgrees, core_at, running_at, Represents, free, runs}
 use Rattle.engine.specs.Exchanges.{NoCommand, Good}
 use Rattle.engine.specs.declared.call.Call.{Call}
-use Rattle.engine.specs.declared.core.Core.{Core}
-use Rattle.engine.specs.declared.core.Output.{Output}
-use Rattle.engine.specs.declared.core.Output.TheVariants as out
+use Rattle.engine.specs.declared.running.Core.{Core}
+use Rattle.engine.specs.declared.running.Output.{Output}
+use Rattle.engine.specs.declared.running.Output.TheVariants as out
 use Rattle.protocol.specs.Names.{field_pause_time, command_clock}
 use Rattle.protocol.specs.Starts.{data_limit}
 use Rattle.calls.specs.Kinds.{last_stage}

@@ -28,9 +28,9 @@ use Rattle.engine.specs.Inputs.{Input, opens as opened, asks, gives, buffer_of, 
 use Rattle.engine.specs.Transitions.{Transitioned, unfitting, orders, sends as sends_stage, reset_done, replies, refuses, fits, transition_of, valid_call}
 use Rattle.engine.specs.SessionSteps.{State, state, state_in, valid, is_valid_state, is_free, is_admitted, with_room, with_caller, booked_after_of, event_after, open_after, start_after, arrays_in, stepped_of}
 use Rattle.engine.specs.declared.call.Call.{Call}
-use Rattle.engine.specs.declared.core.Core.{Core}
-use Rattle.engine.specs.declared.core.Output.{Output}
-use Rattle.engine.specs.declared.core.Output.TheVariants.{Ack, Command, Read, Drain, Pause, Done, Type1, UidAndAts, Nothing, Failed, FailedAfter, Refused}
+use Rattle.engine.specs.declared.running.Core.{Core}
+use Rattle.engine.specs.declared.running.Output.{Output}
+use Rattle.engine.specs.declared.running.Output.TheVariants.{Ack, Command, Read, Drain, Pause, Done, Type1, UidAndAts, Nothing, Failed, FailedAfter, Refused}
 use Rattle.engine.specs.declared.session.Session.{Session}
 use Rattle.calls.specs.Kinds.{no_call_kind}
 

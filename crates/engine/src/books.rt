@@ -1,10 +1,10 @@
 // The reader's books: what a session keeps beside its running call. They lie in two arrays, which are lent: three numbers, and the command
 // frames ordered since the last opening began, by caller.
-ghost use Rattle.core.specs.Prelude.{◌≡◌, ℕ, ◌≤◌, List};
+ghost use Rattle.std.specs.Prelude.{◌≡◌, ℕ, ◌≤◌, List};
 ghost use Rattle.protocol.specs.Session.{last_caller};
 ghost use Rattle.engine.specs.Books.{books_of, books_in_range, no_books, extra_in, one_more_of, counted_in, by_caller, ended, booked};
 
-use super::core::{Output, PACKET_LIMIT};
+use super::running::{Output, PACKET_LIMIT};
 use framing::padded;
 
 // The places of the three numbers: whether the reader is open, the mode that the last opening chose, whose call runs or ran last.

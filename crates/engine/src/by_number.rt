@@ -1,11 +1,11 @@
 // Events by their numbers, for a host: the running call's numbers go by value, and the session's arrays are lent.
-ghost use Rattle.core.specs.Prelude.{◌≡◌, ℕ, List};
+ghost use Rattle.std.specs.Prelude.{◌≡◌, ℕ, List};
 ghost use Rattle.engine.specs.Core.{arrays};
 ghost use Rattle.engine.specs.SessionSteps.{state_of, effected};
 ghost use Rattle.engine.specs.Numbers.{event_by_of, known_in, after_event_number};
 
 use super::books::{BOOKS_SIZE, CALLER_COUNT};
-use super::core::{Core, FOUND_LIMIT, Progress};
+use super::running::{Core, FOUND_LIMIT, Progress};
 use super::state;
 use errors::Refusal;
 use exchange::Event;

@@ -1,5 +1,5 @@
 // A running call, as a few numbers: what an event does to it, apart from buffer and session.
-ghost use Rattle.core.specs.Prelude.{◌≡◌, ℕ, List};
+ghost use Rattle.std.specs.Prelude.{◌≡◌, ℕ, List};
 ghost use Rattle.errors.specs.declared.Fault.TheVariants.{Transport};
 ghost use Rattle.exchange.specs.Exchange.{on_write, on_pause};
 ghost use Rattle.exchange.specs.Steps.{event_of};

@@ -1,5 +1,5 @@
 // What follows the packet that ends a command's exchange: the answer of a call, or its next command.
-ghost use Rattle.core.specs.Prelude.{◌≡◌, ℕ, ◌+◌, ◌≤◌, List, length, take};
+ghost use Rattle.std.specs.Prelude.{◌≡◌, ℕ, ◌+◌, ◌≤◌, List, length, take};
 ghost use Rattle.stages.specs.Stages.{put as put_by};
 ghost use Rattle.stages.specs.Put.{put, Puts};
 ghost use Rattle.stages.specs.Decided.{head_bytes, layout_bytes, Fitting, decision_in, DecisionFits, response_limit, head_limit, tail_limit};
@@ -10,7 +10,7 @@ ghost use Rattle.engine.specs.Ends.{GoesOn};
 ghost use Rattle.engine.specs.Core.{Lent, arrays, progressed, keeps_of, performs_of, transitioned_of};
 
 use super::call::{Call, End, PAUSE_PHASE};
-use super::core::{Core, Output, Progress};
+use super::running::{Core, Output, Progress};
 use exchange::Order;
 use stages::put::append;
 use stages::{Decision, Head, Layout};

@@ -1,5 +1,5 @@
 // The session and its entries: a call or an event goes in with the buffer; the session comes back with an order or an answer.
-ghost use Rattle.core.specs.Prelude.{◌≡◌};
+ghost use Rattle.std.specs.Prelude.{◌≡◌};
 ghost use Rattle.exchange.specs.Steps.{event_of};
 ghost use Rattle.engine.specs.Inputs.{gives, step_with};
 ghost use Rattle.calls.specs.Numbers.{call_of};
@@ -7,7 +7,7 @@ ghost use Rattle.engine.specs.Numbers.{call_input};
 ghost use Rattle.engine.specs.SessionSteps.{stepped, fresh_session};
 
 use super::books::{BOOKS_SIZE, CALLER_COUNT};
-use super::core::{Core, FOUND_LIMIT, Output};
+use super::running::{Core, FOUND_LIMIT, Output};
 use super::state;
 use calls::start::Numbers;
 use exchange::Event;

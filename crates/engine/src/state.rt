@@ -1,6 +1,6 @@
 // A call and an event on what a session holds: the numbers of the running call go by value, the books and the arrays are lent. A call is
 // admitted and what comes out is booked here.
-ghost use Rattle.core.specs.Prelude.{◌≡◌, ℕ, List, length};
+ghost use Rattle.std.specs.Prelude.{◌≡◌, ℕ, List, length};
 ghost use Rattle.exchange.specs.Steps.{event_of};
 ghost use Rattle.calls.specs.Numbers.{call_of};
 ghost use Rattle.protocol.specs.Starts.{data_limit};
@@ -12,7 +12,7 @@ ghost use Rattle.engine.specs.Numbers.{call_input};
 
 use super::books;
 use super::books::{BOOKS_SIZE, CALLER_COUNT, LAST_CALLER, PADDED_MODE};
-use super::core::{BUFFER_NEED, Core, Progress};
+use super::running::{BUFFER_NEED, Core, Progress};
 use calls::start::Numbers;
 use calls::{NO_CALL_KIND, start};
 use device::OPENING_KIND;

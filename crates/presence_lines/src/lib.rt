@@ -118,8 +118,7 @@ pub fn run<R: Input + Print>(rt: &R) {
     let mut out = [0u8; ANSWER_ROOM];
     let mut list = Presence::empty();
     let mut unread = Unread::nothing();
-    let mut turns = u64::MAX;
-    while turns > 0 {
+    for _ in 0..u64::MAX {
         let given = lines::next(&mut input, unread, &mut buffer, &mut line);
         unread = given.unread;
         let next = given.line;
@@ -130,6 +129,5 @@ pub fn run<R: Input + Print>(rt: &R) {
         if !lines::write(rt, &out, n) {
             return;
         }
-        turns -= 1;
     }
 }

@@ -3,7 +3,7 @@ use calls::{LAST_KIND, LAST_STAGE};
 use engine::books;
 use engine::books::{BOOKS_SIZE, CALLER_COUNT};
 use engine::call::PAUSE_PHASE;
-use engine::core::{BUFFER_NEED, Core, FOUND_LIMIT, Output};
+use engine::running::{BUFFER_NEED, Core, FOUND_LIMIT, Output};
 use engine::session::Session;
 use errors::Numbered;
 use exchange::Exchange;

@@ -2,7 +2,7 @@
 use calls::{LAST_KIND, LAST_STAGE};
 use engine::books::{BOOKS_SIZE, CALLER_COUNT};
 use engine::call::{Call, PAUSE_PHASE};
-use engine::core::{Core, FOUND_LIMIT};
+use engine::running::{Core, FOUND_LIMIT};
 use engine::session::Session;
 use exchange::Exchange;
 use stages::put::DATA_LIMIT;

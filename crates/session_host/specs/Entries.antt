@@ -8,7 +8,7 @@ use Rattle.calls.specs.Numbers.{call_of}
 use Rattle.calls.specs.declared.start.Numbers.{Numbers}
 use Rattle.engine.specs.Numbers.{call_input, event_by_of}
 use Rattle.engine.specs.declared.session.Session.{Session}
-use Rattle.engine.specs.declared.core.Output.TheVariants.{Refused}
+use Rattle.engine.specs.declared.running.Output.TheVariants.{Refused}
 use Rattle.session_host.specs.Outcomes.{Reported, report, step_reported, outcome_of}
 
 -- a call or an event as the host gives it: a number, its arguments and the bytes of the buffer

@@ -3,10 +3,10 @@ use Rattle.std.specs.Prelude.{ℕ, List}
 use Rattle.errors.specs.Refusals.{numbered, fault_numbered}
 use Rattle.errors.specs.declared.Numbered.{Numbered}
 use Rattle.engine.specs.SessionSteps.{Stepped}
-use Rattle.engine.specs.declared.core.Core.{Core}
+use Rattle.engine.specs.declared.running.Core.{Core}
 use Rattle.engine.specs.declared.session.Session.{Session}
-use Rattle.engine.specs.declared.core.Output.{Output}
-use Rattle.engine.specs.declared.core.Output.TheVariants.{Ack, Command, Read, Drain, Pause, Done, Type1, UidAndAts, Nothing, Failed, FailedAfter, Refused}
+use Rattle.engine.specs.declared.running.Output.{Output}
+use Rattle.engine.specs.declared.running.Output.TheVariants.{Ack, Command, Read, Drain, Pause, Done, Type1, UidAndAts, Nothing, Failed, FailedAfter, Refused}
 use Rattle.session_host.specs.declared.outcome.Outcome.{Outcome}
 use Rattle.framing.specs.Names.{ack_size}
 

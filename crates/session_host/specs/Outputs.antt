@@ -12,8 +12,8 @@ use Rattle.exchange.specs.Exchange.{write, read, drain, pause}
 use Rattle.protocol.specs.Scripts.{done, type1, uid_and_ats, nothing, refused, refused_after}
 use Rattle.protocol.specs.Session.{Output as Given, orders, answers, rejects}
 use Rattle.engine.specs.Inputs.{output_of}
-use Rattle.engine.specs.declared.core.Output.{Output}
-use Rattle.engine.specs.declared.core.Output.TheVariants.{Ack, Command, Read, Drain, Pause, Done, Type1, UidAndAts, Nothing, Failed, FailedAfter, Refused}
+use Rattle.engine.specs.declared.running.Output.{Output}
+use Rattle.engine.specs.declared.running.Output.TheVariants.{Ack, Command, Read, Drain, Pause, Done, Type1, UidAndAts, Nothing, Failed, FailedAfter, Refused}
 use Rattle.session_host.specs.Outcomes.{outcome_of}
 use Rattle.session_host.specs.declared.outcome.Outcome.{Outcome}
 

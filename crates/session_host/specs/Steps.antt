@@ -9,7 +9,7 @@ use Rattle.engine.specs.SessionSteps.{State, effected, arrays_in, state_in, step
 use Rattle.engine.specs.Inputs.{Input, after_input}
 use Rattle.engine.specs.Numbers.{after_event_number}
 use Rattle.engine.specs.declared.session.Session.{Session}
-use Rattle.engine.specs.declared.core.Progress.{Progress}
+use Rattle.engine.specs.declared.running.Progress.{Progress}
 use Rattle.session_host.specs.Outcomes.{Reported, report, step_reported, joined, outcome_of}
 use Rattle.session_host.specs.Entries.{event_input, report_with}
 use Rattle.session_host.specs.declared.outcome.Outcome.{Outcome}

@@ -12,8 +12,8 @@ use Rattle.engine.specs.Numbers.{call_input, event_by_of}
 use Rattle.engine.specs.SessionSteps.{state_in, is_free}
 use Rattle.engine.specs.Unchanged.{refused_unchanged, refused_ends, list_ends}
 use Rattle.engine.specs.declared.session.Session.{Session}
-use Rattle.engine.specs.declared.core.Output.{Output}
-use Rattle.engine.specs.declared.core.Output.TheVariants.{Ack, Command, Read, Drain, Pause, Done, Type1, UidAndAts, Nothing, Failed, FailedAfter, Refused}
+use Rattle.engine.specs.declared.running.Output.{Output}
+use Rattle.engine.specs.declared.running.Output.TheVariants.{Ack, Command, Read, Drain, Pause, Done, Type1, UidAndAts, Nothing, Failed, FailedAfter, Refused}
 use Rattle.session_host.specs.Outcomes.{Reported, report, step_reported, refused_outcome, list_refused_outcome, refused_at_once_outcome, outcome_of}
 use Rattle.session_host.specs.Outputs.{fault_is}
 use Rattle.session_host.specs.Entries.{HostEntry, host_call, host_event, buffer_in, event_input, report_with, report_for}

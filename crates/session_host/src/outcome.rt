@@ -2,7 +2,7 @@
 ghost use Rattle.std.specs.Prelude.{◌≡◌};
 ghost use Rattle.session_host.specs.Outcomes.{bytes_outcome, time_outcome, lengths_outcome, refusal_outcome, outcome_of};
 
-use engine::core::Output;
+use engine::running::Output;
 use errors::{Fault, Numbered};
 use framing::ACK_SIZE;
 

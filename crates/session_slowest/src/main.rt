@@ -99,8 +99,7 @@ fn main(rt: HostRuntime) {
     let mut line = [0u8; LINE_ROOM];
     let mut report = [0u8; REPORT_ROOM];
     let mut unread = Unread::nothing();
-    let mut turns = u64::MAX;
-    while turns > 0 {
+    for _ in 0..u64::MAX {
         let given = lines::next(&mut input, unread, &mut buffer, &mut line);
         unread = given.unread;
         let next = given.line;
@@ -108,6 +107,5 @@ fn main(rt: HostRuntime) {
         if !lines::write(&rt, &report, n) {
             return;
         }
-        turns -= 1;
     }
 }

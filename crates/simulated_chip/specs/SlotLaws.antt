@@ -1,5 +1,5 @@
 -- A card's slot and one of its replies' slots written: the other cards and replies are as they were, and the memory is in range again.
-use Rattle.std.specs.Prelude.{◌≡◌, refl, Bool, true, false, List, ℕ, zero, suc, ◌+◌, ◌*◌, ◌-◌, ◌≤◌, ◌<◌, eqb, leb, ltb, length, get_or}
+use Rattle.std.specs.Prelude.{◌≡◌, refl, Bool, true, false, List, ℕ, zero, suc, ◌+◌, ◌*◌, ◌≤◌, ◌<◌, eqb, leb, ltb, length, get_or}
 use Rattle.std.proofs.Common.{ap, ap₂, ◌∙◌, arith, ltb-true, ltb-false, eqb-true, le-leb}
 use Rattle.std.proofs.lemmas.Bool.{eqb-false}
 use Rattle.errors.specs.Choice.{pick}

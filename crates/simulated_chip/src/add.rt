@@ -1,4 +1,6 @@
 // A card more in the field, a reply more of the card added last: refused with 4 before 3, and nothing changes then.
+#![tactic(auto, using(errors::specs::Rules::picks), unfolding(errors::specs::Choice::pick, crate::specs::Additions::add_card_of, crate::specs::Additions::add_reply_of, crate::specs::Additions::put_card_of))]
+
 ghost use Rattle.std.specs.Prelude.{◌≡◌, ◌+◌, ◌≤◌, ◌<◌, length};
 ghost use Rattle.chip_protocol.specs.Names.{longest_list_data, longest_reply};
 ghost use Rattle.simulated_chip.specs.Memory.{card_size, places};

@@ -1,4 +1,6 @@
 // Whether a card or a reply is taken: 4 before 3.
+#![tactic(auto, using(errors::specs::Rules::picks), unfolding(errors::specs::Choice::pick, chip_protocol::specs::Add::add_card, crate::specs::Additions::is_protocol_byte_of, crate::specs::Additions::is_sound, crate::specs::Additions::is_type2_in, crate::specs::Additions::lengths_addition, crate::specs::Additions::limit_of_kind))]
+
 ghost use Rattle.std.specs.Prelude.{◌≡◌, Bool, List, ℕ, ◌+◌, ◌≤◌, length};
 ghost use Rattle.chip_protocol.specs.Names.{longest_list_data, most_cards};
 ghost use Rattle.chip_protocol.specs.Field.{Card, kind_number, br_ty, is_bitrate_of, least_list_data, protocol_fits, crc_fits};

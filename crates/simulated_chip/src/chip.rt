@@ -1,4 +1,6 @@
 // The chip: the bytes that a host wrote go in, and the packet behind ACK and the chip after it come out.
+#![tactic(auto, using(errors::specs::Rules::picks), unfolding(errors::specs::Choice::pick, chip_protocol::specs::Chip::field_on_after, chip_protocol::specs::Chip::response_to, chip_protocol::specs::Chip::state_after, chip_protocol::specs::Packets::response_packet, crate::specs::Range::in_range, crate::specs::Steps::step_of, crate::specs::Steps::zeros))]
+
 ghost use Rattle.std.specs.Prelude.{◌≡◌, Bool, List, ℕ, ◌*◌, ◌≤◌, eqb, length, drop};
 ghost use Rattle.chip_protocol.specs.Names.{longest_packet, longest_response, most_cards};
 ghost use Rattle.chip_protocol.specs.Packets.{response_packet};

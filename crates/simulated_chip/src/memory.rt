@@ -1,4 +1,6 @@
 // Texts in memory: the length in two bytes, low byte first, and the bytes.
+#![tactic(auto, using(errors::specs::Rules::picks), unfolding(errors::specs::Choice::pick, crate::specs::Memory::put_text, crate::specs::Memory::text_at_of))]
+
 ghost use Rattle.std.specs.Prelude.{◌≡◌, ◌+◌, ◌≤◌, ◌<◌, length, get_or};
 ghost use Rattle.simulated_chip.specs.Memory.{text_length, text_at_of, put_text};
 

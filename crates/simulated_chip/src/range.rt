@@ -1,4 +1,6 @@
 // Whether a chip's memory is one that can be: what a step or an addition looks at before all else.
+#![tactic(auto, using(errors::specs::Rules::picks), unfolding(errors::specs::Choice::pick, crate::specs::Range::card_in_range))]
+
 ghost use Rattle.std.specs.Prelude.{◌≡◌, ◌+◌, ◌≤◌, length};
 ghost use Rattle.simulated_chip.specs.Memory.{card_size};
 ghost use Rattle.simulated_chip.specs.Range.{card_in_range, cards_in_range, sent_in_range, replies_in_range};

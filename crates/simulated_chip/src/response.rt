@@ -1,4 +1,6 @@
 // Responses, put at the start of a lent array.
+#![tactic(auto, using(errors::specs::Rules::picks), unfolding(errors::specs::Choice::pick, chip_protocol::specs::Chip::register_value_of, chip_protocol::specs::Chip::registers_read))]
+
 ghost use Rattle.std.specs.Prelude.{◌≡◌, List, ◌++◌, map, Bool, ℕ, ◌+◌, ◌*◌, ◌/◌, ◌≤◌, ◌<◌, eqb, length, take, get_or};
 ghost use Rattle.protocol.specs.Arguments.{words_in};
 ghost use Rattle.chip_protocol.specs.Names.{most_cards, longest_response};

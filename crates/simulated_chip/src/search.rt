@@ -1,4 +1,6 @@
 // The search for a card in the field, and for a card's reply. A place is told by the number behind it, and 0 is none.
+#![tactic(auto, using(errors::specs::Rules::picks), unfolding(errors::specs::Choice::pick, chip_protocol::specs::Field::reply_to, crate::specs::Memory::is_stored_at, crate::specs::Memory::kind_at))]
+
 ghost use Rattle.std.specs.Prelude.{◌≡◌, List, Bool, ℕ, ◌+◌, ◌≤◌, length, drop};
 ghost use Rattle.chip_protocol.specs.Names.{most_cards, initiator_offset};
 ghost use Rattle.simulated_chip.specs.Memory.{card_size, kind_at, is_stored_at, cards_in, place_in, places, stated_from, reply_in};

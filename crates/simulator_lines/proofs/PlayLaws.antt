@@ -21,8 +21,8 @@ use Rattle.engine.specs.Inputs.{gives, output_of, step_with}
 use Rattle.engine.specs.Relation.{SessionRepresents}
 use Rattle.engine.specs.Refinement.{simulate}
 use Rattle.engine.specs.SessionSteps.{Stepped, stepped}
-use Rattle.engine.specs.declared.core.Output as Engine
-use Rattle.engine.specs.declared.core.Output.TheVariants.{Ack, Command, Read, Drain, Pause, Done, Type1, UidAndAts, Nothing, Failed, FailedAfter, Refused}
+use Rattle.engine.specs.declared.running.Output as Engine
+use Rattle.engine.specs.declared.running.Output.TheVariants.{Ack, Command, Read, Drain, Pause, Done, Type1, UidAndAts, Nothing, Failed, FailedAfter, Refused}
 use Rattle.engine.specs.declared.session.Session as Engine-session
 use Rattle.engine.specs.declared.session.Step.{Step}
 use Rattle.bench.specs.Texts.{over, Placed, placed, placed_at}

@@ -7,8 +7,8 @@ use Rattle.exchange.specs.declared.Event.TheVariants.{Time, Packet}
 use Rattle.protocol.specs.Machine.{output_values}
 use Rattle.engine.specs.Inputs.{output_of}
 use Rattle.engine.specs.Relation.{SessionRepresents}
-use Rattle.engine.specs.declared.core.Output.{Output}
-use Rattle.engine.specs.declared.core.Output.TheVariants.{Ack, Command, Read, Drain, Pause, Done, Type1, UidAndAts, Nothing, Failed, FailedAfter, Refused}
+use Rattle.engine.specs.declared.running.Output.{Output}
+use Rattle.engine.specs.declared.running.Output.TheVariants.{Ack, Command, Read, Drain, Pause, Done, Type1, UidAndAts, Nothing, Failed, FailedAfter, Refused}
 use Rattle.engine.specs.declared.session.Session.{Session}
 use Rattle.bench_session.specs.Outputs.{text_limit}
 use Rattle.chip_protocol.specs.Channel.{simulated, Channel}

@@ -1,5 +1,5 @@
 // The packets that the chip sent and that are not yet read: a ring of places, each with room for a packet.
-ghost use Rattle.core.specs.Prelude.{◌≡◌, ℕ, ◌%◌, List, length, take};
+ghost use Rattle.std.specs.Prelude.{◌≡◌, ℕ, ◌%◌, List, length, take};
 ghost use Rattle.chip_protocol.specs.Channel.{simulated, behind_next};
 ghost use Rattle.chip_protocol.specs.Names.{longest_packet};
 ghost use Rattle.simulator_lines.specs.Ring.{places_limit, kept_with, packet_at, unread_in};

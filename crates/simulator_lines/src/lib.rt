@@ -5,7 +5,7 @@ mod channel;
 mod play;
 mod request;
 
-ghost use Rattle.core.specs.Prelude.{◌≡◌};
+ghost use Rattle.std.specs.Prelude.{◌≡◌};
 ghost use Rattle.bench_input.specs.Readings.{input_in};
 ghost use Rattle.simulator_lines.specs.Plays.{call_played};
 ghost use Rattle.simulator_lines.specs.Lines.{Simulator, call_ended};
@@ -238,8 +238,7 @@ pub fn run<R: std::io::Input + Print>(rt: &R) {
     let mut lengths = [0usize; PLACES];
     let mut sim = begun();
     let mut unread = Unread::nothing();
-    let mut turns = u64::MAX;
-    while turns > 0 {
+    for _ in 0..u64::MAX {
         let given = lines::next(&mut input, unread, &mut read, &mut line);
         unread = given.unread;
         let next = given.line;
@@ -261,6 +260,5 @@ pub fn run<R: std::io::Input + Print>(rt: &R) {
         if !written(rt, &out, n) {
             return;
         }
-        turns -= 1;
     }
 }

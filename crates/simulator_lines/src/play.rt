@@ -1,5 +1,5 @@
 // A call played to its end against the chip: a write succeeds, a read or a drain gets the next packet or times out, a pause is over.
-ghost use Rattle.core.specs.Prelude.{◌≡◌};
+ghost use Rattle.std.specs.Prelude.{◌≡◌};
 ghost use Rattle.exchange.specs.Exchange as Ordered;
 ghost use Rattle.chip_protocol.specs.Channel.{simulated, Channel};
 ghost use Rattle.simulator_lines.specs.Plays.{Playing, limited_after, played_from, event_limit};
@@ -8,7 +8,7 @@ ghost use Rattle.simulator_lines.specs.Represents.{order_asked, is_over, next_ev
 use super::channel::{CHANNEL_SIZE, PLACES, Unread};
 use bench::{hex, lines, prefix, text};
 use bench_session::{BUFFER_SIZE, OUT_ROOM, output};
-use engine::core::Output;
+use engine::running::Output;
 use engine::session::{Session, Step};
 use exchange::Event;
 use framing::{ACK_BYTES, ACK_SIZE};

@@ -1,5 +1,5 @@
 // A line of the program, read.
-ghost use Rattle.core.specs.Prelude.{◌≡◌};
+ghost use Rattle.std.specs.Prelude.{◌≡◌};
 ghost use Rattle.simulator_lines.specs.Requests.{is_field_name_of, asked_of, asked_in};
 
 use bench::words;

@@ -65,8 +65,7 @@ pub fn run<R: Input + Print>(rt: &R) {
     let mut line = [0u8; LINE_LIMIT];
     let mut out = [0u8; SCRIPT_ROOM];
     let mut unread = Unread::nothing();
-    let mut turns = u64::MAX;
-    while turns > 0 {
+    for _ in 0..u64::MAX {
         let given = lines::next(&mut input, unread, &mut buffer, &mut line);
         unread = given.unread;
         let next = given.line;
@@ -74,6 +73,5 @@ pub fn run<R: Input + Print>(rt: &R) {
         if !lines::write(rt, &out, n) {
             return;
         }
-        turns -= 1;
     }
 }

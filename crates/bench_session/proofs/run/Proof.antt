@@ -1,5 +1,5 @@
 -- `run` is safe and ends. The invariant: each buffer has its length.
-use Rattle.core.specs.Prelude.{◌≡◌, ℕ, length}
+use Rattle.std.specs.Prelude.{◌≡◌, ℕ, length}
 use mathlib.Core.Path.{sym}
 use lib.ListN.{length-replicate}
 use borrow.Author.Rules.{rules}

@@ -1,5 +1,5 @@
 -- `called` meets its contract.
-use Rattle.core.specs.Prelude.{◌≡◌, length}
+use Rattle.std.specs.Prelude.{◌≡◌, length}
 use Rattle.protocol.specs.Session.{buffer_need}
 use Rattle.bench_input.specs.Readings.{input_in}
 use Rattle.bench_session.specs.Sessions.{line_step}

@@ -1,5 +1,5 @@
 -- `run` is safe and ends. The invariant: each buffer that is lent as a slice has its length.
-use Rattle.core.specs.Prelude.{◌≡◌, length}
+use Rattle.std.specs.Prelude.{◌≡◌, length}
 use native.Mathlib.Omega.{arith}
 use borrow.Author.Rules.{rules}
 use Rattle.simulator_lines.proofs.run.Statement.{statement}

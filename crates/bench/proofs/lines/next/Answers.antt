@@ -12,13 +12,12 @@ returns-then-stop-part g c =
       next_line = unread_fed _ _ _ _ _ _ _ rest is added _ _ (search rules) c.line_of.ensures refl;
     }
 
-pub returns : goal.returns
-returns g c =
+pub returns-clause-line_after : goal.returns-clause-line_after
+returns-clause-line_after g c = λ h. let none = unread_none _ _ _ _ _ _ _ c.within-rest.ensures c.before_feed-stop.ensures.0 c.add-len.ensures (search rules) in absurd (omega (arith, none))
+
+pub returns-clause-next_line : goal.returns-clause-next_line
+returns-clause-next_line g c =
     let rest = c.within-rest.ensures in
     let is = c.before_feed-stop.ensures.0 in
     let added = c.add-len.ensures in
-    let none = unread_none _ _ _ _ _ _ _ rest is added (search rules) in
-    record {
-      line_after = λ h. absurd (omega (arith, none));
-      next_line = c.read_on.ensures _ _ none (unread_put _ _ _ _ _ _ _ rest is added (search rules));
-    }
+    c.read_on.ensures _ _ (unread_none _ _ _ _ _ _ _ rest is added (search rules)) (unread_put _ _ _ _ _ _ _ rest is added (search rules))

@@ -1,5 +1,5 @@
 -- `entries::read` meets its contract. The invariant: n lines are read, up to the place `at`.
-use Rattle.core.specs.Prelude.{◌-◌, length}
+use Rattle.std.specs.Prelude.{◌-◌, length}
 use native.Mathlib.Omega.{arith}
 use borrow.Author.Rules.{rules}
 use Rattle.cut_lines.proofs.ReadLaws.{ReadSoFar, read_begins, found-line, line-part, line-fits, read_further, read_next, read_ends, read_too_many}

@@ -1,6 +1,6 @@
 -- `read_rest` meets its contract.
 use borrow.Author.Rules.{rules}
-use Rattle.core.specs.Prelude.{◌≡◌, length}
+use Rattle.std.specs.Prelude.{◌≡◌, length}
 use mathlib.Core.Path.{sym}
 use Rattle.cut_lines.proofs.program.read_rest.Statement.{statement}
 use Rattle.cut_lines.proofs.program.read_rest.Tie as tie

@@ -1,7 +1,7 @@
 -- `run` meets its contract.
 use borrow.Author.Rules.{rules}
 use mathlib.Core.Path.{refl}
-use Rattle.core.specs.Prelude.{◌-◌, ◌<◌, ◌≤◌, List}
+use Rattle.std.specs.Prelude.{◌-◌, ◌<◌, ◌≤◌, List}
 use native.Mathlib.Omega.{arith}
 use Rattle.engine.specs.Relation.{SessionRepresents}
 use Rattle.bench_input.specs.Table.{Said}

@@ -1,6 +1,6 @@
 -- `shortest` meets its contract.
 use borrow.Author.Rules.{rules}
-use Rattle.core.specs.Prelude.{◌≡◌, suc, ◌-◌, ◌<◌, List}
+use Rattle.std.specs.Prelude.{◌≡◌, suc, ◌-◌, ◌<◌, List}
 use mathlib.Core.Path.{sym, subst}
 use mathlib.Core.Option.{some}
 use native.Mathlib.Omega.{arith}

@@ -1,5 +1,5 @@
 -- `play::on_write` meets its contract.
-use Rattle.core.specs.Prelude.{◌≡◌, length}
+use Rattle.std.specs.Prelude.{◌≡◌, length}
 use mathlib.Core.Path.{refl}
 use Rattle.protocol.specs.Session.{buffer_need}
 use Rattle.simulator_lines.proofs.PlayLaws.{write_turn}

@@ -1,5 +1,5 @@
 -- `play::to_end` meets its contract. The invariant: what is left of the play from here on ends as the whole.
-use Rattle.core.specs.Prelude.{◌≡◌}
+use Rattle.std.specs.Prelude.{◌≡◌}
 use mathlib.Core.Path.{refl}
 use Rattle.simulator_lines.specs.Plays.{Playing, event_limit, played_from}
 use Rattle.simulator_lines.specs.Represents.{PlayIn}

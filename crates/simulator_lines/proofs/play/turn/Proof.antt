@@ -1,5 +1,5 @@
 -- `play::turn` meets its contract.
-use Rattle.core.specs.Prelude.{◌≡◌, true, length}
+use Rattle.std.specs.Prelude.{◌≡◌, true, length}
 use mathlib.Core.Path.{refl, sym, ap, ◌∙◌}
 use Rattle.protocol.specs.Session.{buffer_need}
 use Rattle.simulator_lines.specs.Plays.{played_from}

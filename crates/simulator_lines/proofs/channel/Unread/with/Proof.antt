@@ -1,5 +1,5 @@
 -- `channel::Unread::with` meets its contract.
-use Rattle.core.specs.Prelude.{◌≡◌, ◌*◌, length, set}
+use Rattle.std.specs.Prelude.{◌≡◌, ◌*◌, length, set}
 use mathlib.Core.Path.{refl, ◌∙◌}
 use lib.ListN.{length-set}
 use Rattle.chip_protocol.specs.Names.{longest_packet}

@@ -1,0 +1,13 @@
+use Rattle.std.proofs.Common.{rules}
+use Rattle.errors.specs.Rules.{same-value}
+use Rattle.bench.specs.TextLaws.{when_true, when_false}
+use Rattle.bench_codec.proofs.four_words.Goals as goal
+
+pub returns-then-is_exactly : goal.returns-then-is_exactly
+returns-then-is_exactly c = search (same-value, when_true, when_false, rules) depth 14
+
+pub returns-then-is_exactly-2 : goal.returns-then-is_exactly-2
+returns-then-is_exactly-2 c = search (same-value, when_true, when_false, rules) depth 14
+
+pub returns : goal.returns
+returns c = search (same-value, when_true, when_false, rules) depth 14

@@ -1,0 +1,25 @@
+use Rattle.std.proofs.Common.{rules}
+use Rattle.engine.specs.Core.{transitioned_of}
+use Rattle.engine.specs.Laws.{valid_command, valid-found}
+use Rattle.engine.proofs.Events.{no_call, does_not_fit, buffer_short, packet_long, goes_through, response_short}
+use Rattle.engine.proofs.running.Core.event.Goals as goal
+
+pub returns-then-call-eq-NO_CALL_KIND : goal.returns-then-call-eq-NO_CALL_KIND
+unfolding transitioned_of
+returns-then-call-eq-NO_CALL_KIND c = search (no_call, c.refused.ensures, rules)
+
+pub returns-in-Unfit : goal.returns-in-Unfit
+unfolding transitioned_of
+returns-in-Unfit c = search (does_not_fit, c.refused-in-Unfit.ensures, rules)
+
+pub returns-then-buffer-lt-BUFFER_NEED : goal.returns-then-buffer-lt-BUFFER_NEED
+unfolding transitioned_of
+returns-then-buffer-lt-BUFFER_NEED c = search (buffer_short, c.refused-then-buffer-lt-BUFFER_NEED.ensures, rules)
+
+pub returns-then-is_long : goal.returns-then-is_long
+unfolding transitioned_of
+returns-then-is_long c = search (packet_long, c.refused-then-is_long.ensures, rules)
+
+pub returns-in-Ends : goal.returns-in-Ends
+unfolding transitioned_of
+returns-in-Ends c = search (goes_through, rules)

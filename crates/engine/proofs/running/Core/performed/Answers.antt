@@ -1,0 +1,68 @@
+use mathlib.Core.Path.{subst}
+use native.Mathlib.Omega.{arith}
+use Rattle.std.specs.Prelude.{take}
+use Rattle.stages.specs.Decided.{layout_bytes, DecisionFits}
+use Rattle.engine.specs.Core.{performs_of}
+use Rattle.engine.specs.Laws.{part_copied, done_copied, type1_copied, lengths_copied, found_within, found_taken, answer-fits}
+use Rattle.engine.proofs.Ends.{goes_on}
+use Rattle.engine.proofs.running.Core.performed.Goals as goal
+
+pub overflow_add-end : goal.overflow_add-end
+overflow_add-end c = let a = c.args in let p = c.requires in let n = subst (DecisionFits (take a.self.found a.found.now) a.response.now) c.in-Part.is p.1 in omega (arith, n, p.0)
+
+pub slice_bounds-append-count : goal.slice_bounds-append-count
+slice_bounds-append-count c = let a = c.args in let n = subst (DecisionFits (take a.self.found a.found.now) a.response.now) c.in-Part.is c.requires.1 in omega (arith, n)
+
+pub slice_bounds-append-start : goal.slice_bounds-append-start
+slice_bounds-append-start c = let a = c.args in let n = subst (DecisionFits (take a.self.found a.found.now) a.response.now) c.in-Part.is c.requires.1 in omega (arith, n)
+
+pub slice_bounds-append-end : goal.slice_bounds-append-end
+slice_bounds-append-end c = let a = c.args in let n = subst (DecisionFits (take a.self.found a.found.now) a.response.now) c.in-Part.is c.requires.1 in omega (arith, n)
+
+pub continued-next-requires : goal.continued-next-requires
+continued-next-requires c = c.requires
+
+pub returns-in-Part : goal.returns-in-Part
+unfolding performs_of
+returns-in-Part c =
+    let a = c.args in
+    let p = c.requires in
+    let d = c.decision-1.given in
+    let n = subst (DecisionFits (take a.self.found a.found.now) a.response.now) d.1 p.1 in
+    rw d.1 (part_copied a.self _ a.response.now a.buffer.now _ _ _ d.0.0 d.0.1.0 n p.0 p.2.4 c.append-len.ensures (c.ended.ensures _ _))
+
+pub returns-in-Done : goal.returns-in-Done
+unfolding performs_of
+returns-in-Done c =
+    let a = c.args in
+    rw c.in-Done.is
+    (done_copied a.self _ (layout_bytes (take a.self.found a.found.now) a.response.now c.in-Done.layout) a.buffer.now _ _ _ c.put_answer-len.ensures.value c.put_answer-len.ensures.target_after (c.ended-in-Done.ensures _ _))
+
+pub returns-in-Type1 : goal.returns-in-Type1
+unfolding performs_of
+returns-in-Type1 c =
+    let a = c.args in
+    rw c.in-Type1.is
+    (type1_copied a.self _ (layout_bytes (take a.self.found a.found.now) a.response.now c.in-Type1.layout) a.buffer.now _ _ _ c.put_answer-len-in-Type1.ensures.value c.put_answer-len-in-Type1.ensures.target_after (c.ended-in-Type1.ensures _ _))
+
+pub returns-in-UidAndAts : goal.returns-in-UidAndAts
+unfolding performs_of
+returns-in-UidAndAts c =
+    let a = c.args in
+    rw c.in-UidAndAts.is
+    (lengths_copied a.self _ (layout_bytes (take a.self.found a.found.now) a.response.now c.in-UidAndAts.layout) a.buffer.now _ _ _ _ _ c.put_answer-len-in-UidAndAts.ensures.value c.put_answer-len-in-UidAndAts.ensures.target_after (c.ended-in-UidAndAts.ensures _ _))
+
+pub returns-in-Nothing : goal.returns-in-Nothing
+unfolding performs_of
+returns-in-Nothing c = rw c.in-Nothing.is (c.ended-in-Nothing.ensures _ _)
+
+pub returns-in-Refused : goal.returns-in-Refused
+unfolding performs_of
+returns-in-Refused c = rw c.in-Refused.is (c.ended-in-Refused.ensures _ _)
+
+pub returns-in-RefusedAfter : goal.returns-in-RefusedAfter
+unfolding performs_of
+returns-in-RefusedAfter c = rw c.in-RefusedAfter.is (c.ended-in-RefusedAfter.ensures _ _)
+
+pub returns-in_default : goal.returns-in_default
+returns-in_default c = c.continued-next.ensures (goes_on c.args.decision c.in_default.keys8)
