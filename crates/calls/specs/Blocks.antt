@@ -1,7 +1,7 @@
 -- A read and a write of FeliCa blocks: the response, held against the request, leads to what the script has.
 use Rattle.std.specs.Prelude.{◌≡◌, refl, true, List, [], ℕ, ◌+◌, ◌*◌, ◌≤◌, length, drop}
 use Rattle.std.proofs.Common.{sym, ap, ◌∙◌, arith, length-drop, drop_of_length-le, take_all}
-use Rattle.felica.specs.Accepted.{good_read}
+use Rattle.felica.proofs.Accepted.{good_read}
 use Rattle.felica.specs.Checks.{read_check, write_check}
 use Rattle.felica.specs.Laid.{request-length, fits_idm, fits_few, write_idm, write_few, write_few_bytes}
 use Rattle.felica.specs.Names.{block_size, blocks_offset}

@@ -12,7 +12,7 @@ use Rattle.errors.specs.Choice.{pick}
 use Rattle.crc.specs.Crc.{type_a as crc_a, checks}
 use Rattle.felica.specs.Names.{block_size}
 use Rattle.felica.specs.Packets.{read_request_of, write_request_of}
-use Rattle.felica.specs.Accepted.{good_read}
+use Rattle.felica.proofs.Accepted.{good_read}
 use Rattle.felica.specs.Checks.{read_check, write_check}
 use Rattle.felica.specs.declared.check.Checked.{Checked}
 use Rattle.felica.specs.declared.check.Checked.TheVariants.{Good, Faulty}

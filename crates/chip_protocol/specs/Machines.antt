@@ -8,9 +8,10 @@ use Rattle.protocol.specs.Calls.{Call, ReaderCall, reader}
 use Rattle.protocol.specs.Starts.{starts, start_of}
 use Rattle.protocol.specs.Session as Spec
 use Rattle.protocol.specs.Session.{Running, idle, busy, Books, admits, Session, fresh, Entry, call, event, Output, orders, answers, rejects, given, step}
-use Rattle.protocol.specs.Machine.{Machine, output_values, state_after, entries, still_represents}
+use Rattle.protocol.specs.Machine.{Machine, output_values, state_after, entries}
+use Rattle.protocol.proofs.Machine.{still_represents}
 use Rattle.protocol.specs.Runs.{session_at, idle_with, Accepts}
-use Rattle.protocol.specs.RunLaws.{call_cases}
+use Rattle.protocol.proofs.RunLaws.{call_cases}
 use Rattle.chip_protocol.specs.Claim.{is_accepted, Reached, Accepted}
 use Rattle.chip_protocol.specs.Channel.{Channel, event_for, channel_after, End, run, call_run}
 use Rattle.chip_protocol.specs.Script.{Responder, chip_of}

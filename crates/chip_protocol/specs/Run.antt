@@ -13,7 +13,7 @@ use Rattle.protocol.specs.Names.{command_clock, reset_pause_time, field_pause_ti
 use Rattle.protocol.specs.Starts.{data_limit, start_of, starts}
 use Rattle.protocol.specs.Session.{Rest, by_reply, of_reset, exchange, reset_ack, reset_pause, field_pausing, opening_ack, opening_reads, start_script, after_reply, progress, begin, idle, busy, Books, last_caller, books_for, book_order, book_answer, Session, packet_limit, call, event, Output, orders, answers, rejects, buffer_need, StepResult, step}
 use Rattle.protocol.specs.Runs.{session_at, settled, run_answer, run_state, run_events, exchange_books, run_books}
-use Rattle.protocol.specs.RunLaws.{fit-start, fit-reply, call_begins, stepped-plain, plain_ok, plain_slept, plain_time, plain-packet, plain-ack}
+use Rattle.protocol.proofs.RunLaws.{fit-start, fit-reply, call_begins, stepped-plain, plain_ok, plain_slept, plain_time, plain-packet, plain-ack}
 use Rattle.chip_protocol.specs.Packets.{Response, response_packet, ResponseFits}
 use Rattle.chip_protocol.specs.Channel.{Channel, channel, event_for, channel_after}
 use Rattle.chip_protocol.specs.Claim.{PacketsFit}

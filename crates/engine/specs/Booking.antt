@@ -9,7 +9,7 @@ use Rattle.exchange.specs.Packets.{command_frame, is_ack}
 use Rattle.exchange.specs.Exchange.{Order, write, read, drain, pause}
 use Rattle.protocol.specs.Scripts.{Byte, Answer}
 use Rattle.protocol.specs.Calls.{Call, is_opening, is_padded_mode}
-use Rattle.protocol.specs.Count.{length-counted}
+use Rattle.protocol.proofs.Count.{length-counted}
 use Rattle.protocol.specs.Session.{last_caller, add_frame, counted, counted_for, ceiling, succeeds, book_order, book_answer, Effect, unchanged, runs, ends, book_effect, caller_count}
 use Rattle.protocol.specs.Session as Spec
 use Rattle.protocol.specs.Laws.{frame_not_ack, ack_is_ack}

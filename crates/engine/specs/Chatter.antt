@@ -5,7 +5,8 @@ use Rattle.protocol.specs.Session as Spec
 use Rattle.protocol.specs.Machine.{entries}
 use Rattle.protocol.specs.Runs.{EventAndRoom, call_entries, lines_from}
 use Rattle.protocol.specs.Chatter.{waits, Alike}
-use Rattle.protocol.specs.ChatterMachine.{SameFrom, machine_chatter}
+use Rattle.protocol.specs.ChatterMachine.{SameFrom}
+use Rattle.protocol.proofs.ChatterMachine.{machine_chatter}
 use Rattle.engine.specs.Inputs.{Input}
 use Rattle.engine.specs.Refinement.{engine}
 use Rattle.engine.specs.declared.session.Session.{Session}

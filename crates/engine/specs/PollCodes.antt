@@ -6,7 +6,8 @@ use Rattle.protocol.specs.Session.{Books}
 use Rattle.protocol.specs.Machine.{entries}
 use Rattle.protocol.specs.PollList.{one_call, single_calls}
 use Rattle.protocol.specs.Runs.{EventAndRoom, idle_with}
-use Rattle.protocol.specs.PollMachine.{EqualFrom, machine_singles}
+use Rattle.protocol.specs.PollMachine.{EqualFrom}
+use Rattle.protocol.proofs.PollMachine.{machine_singles}
 use Rattle.engine.specs.Inputs.{Input}
 use Rattle.engine.specs.Refinement.{engine}
 use Rattle.engine.specs.declared.session.Session.{Session}

@@ -12,8 +12,10 @@ use Rattle.protocol.specs.Calls.{ReaderCall, opening, reader, is_padded_mode}
 use Rattle.protocol.specs.Starts.{start_of, data_limit}
 use Rattle.protocol.specs.Session.{Running, idle, last_caller, seen, started, Entry, call, event, Effect, unchanged as unchanged_of, runs as runs_of, ends, effect_of, after_effect, given, fresh, step, buffer_need}
 use Rattle.protocol.specs.Session as Spec
-use Rattle.protocol.specs.Machine.{output_values, Machine, Obeys, obeys, entries, given_out, state_after}
-use Rattle.protocol.specs.Reference.{off_entry, Plain, Padded, reference_of, MachineSame, machine_reference, machine_plain}
+use Rattle.protocol.specs.Machine.{output_values, Machine, Obeys, entries, given_out, state_after}
+use Rattle.protocol.proofs.Machine.{obeys}
+use Rattle.protocol.specs.Reference.{off_entry, Plain, Padded, reference_of, MachineSame}
+use Rattle.protocol.proofs.Reference.{machine_reference, machine_plain}
 use Rattle.stages.specs.Decided.{found_limit}
 use Rattle.engine.specs.Booking.{book_numbers, Bounded, begun_bounded, books_in_range_lem, open_flag, mode_flag, no_books_lem, bounded as bounded_by}
 use Rattle.engine.specs.Books.{no_books, booked as booked_by}

@@ -20,7 +20,8 @@ use Rattle.bench.specs.declared.lines.Line.{Line}
 use Rattle.bench.specs.declared.lines.Line.TheVariants.{Text, OverLong, End}
 use Rattle.presence_list.specs.Memory.{pieces}
 use Rattle.presence_list.specs.MemoryLaws.{length-pieces}
-use Rattle.presence_list.specs.Sizes.{FewAfter, few_after}
+use Rattle.presence_list.specs.Sizes.{FewAfter}
+use Rattle.presence_list.proofs.Sizes.{few_after}
 use Rattle.presence_list.specs.Steps.{round_of}
 use Rattle.presence_list.specs.declared.list.Answer.{Answer}
 use Rattle.presence_list.specs.declared.list.Answer.TheVariants.{Accepted, Refused}

@@ -10,7 +10,7 @@ use Rattle.errors.specs.Choice.{pick}
 use Rattle.exchange.specs.Packets.{response}
 use Rattle.felica.specs.Names.{idm_size, block_size}
 use Rattle.felica.specs.Packets.{read_reply_of, write_reply_of, read_reply_code}
-use Rattle.felica.specs.Accepted.{read_good, write_good}
+use Rattle.felica.proofs.Accepted.{read_good, write_good}
 use Rattle.felica.specs.Replies.{parts}
 use Rattle.protocol.specs.Scripts.{Script, finish, command, reset, field_pause, Byte, value, part, done}
 use Rattle.protocol.specs.Blocks.{read_blocks, write_blocks, response_blocks_offset}

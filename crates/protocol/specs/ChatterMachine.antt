@@ -1,28 +1,8 @@
 -- The same of a machine that simulates the definitions, from states that stand for one session.
-use Rattle.std.specs.Prelude.{◌≡◌, refl, List, [], ◌∷◌, map, ℕ}
-use Rattle.std.proofs.Common.{sym, ap, ap₂, ◌∙◌, subst}
-use Rattle.protocol.specs.Scripts.{Byte}
-use Rattle.protocol.specs.Calls.{Call}
-use Rattle.protocol.specs.Session.{Session, Output, orders, answers, rejects, outputs, session_after}
-use Rattle.protocol.specs.Machine.{output_values, plain_answer, Machine, given_out, state_after, entries, same_out, still_represents}
-use Rattle.protocol.specs.Runs.{EventAndRoom, call_entries, lines_from, cons_if, write_of, answers_in, writes_in}
-use Rattle.protocol.specs.Chatter.{waits, Alike, SameFor}
-use Rattle.protocol.specs.ChatterSame.{chatter_same}
-
-plain_answers : (outs : List (Output Byte)) → answers_in (map output_values outs) ≡ map plain_answer (answers_in outs)
-plain_answers [] = refl
-plain_answers (orders x ∷ outs) = plain_answers outs
-plain_answers (answers a ∷ outs) = ap (λ others. plain_answer a ∷ others) (plain_answers outs)
-plain_answers (rejects r ∷ outs) = plain_answers outs
-
-plain_write : (out : Output Byte) → write_of (output_values out) ≡ write_of out
-plain_write (orders x) = refl
-plain_write (answers a) = refl
-plain_write (rejects r) = refl
-
-plain-writes : (outs : List (Output Byte)) → writes_in (map output_values outs) ≡ writes_in outs
-plain-writes [] = refl
-plain-writes (out ∷ outs) = ap₂ cons_if (plain_write out) (plain-writes outs)
+use Rattle.std.specs.Prelude.{◌≡◌, List}
+use Rattle.protocol.specs.Session.{Session}
+use Rattle.protocol.specs.Machine.{Machine, given_out, state_after}
+use Rattle.protocol.specs.Runs.{answers_in, writes_in}
 
 module _ (M : Machine) where
   -- two lists of inputs, from two states. Afterwards both stand for one session, so that any further inputs give the same of both.
@@ -32,27 +12,3 @@ module _ (M : Machine) where
     pub counted : M.frames (state_after M s is) ≡ M.frames (state_after M t js)
     pub after : (m : Session) × M.Represents (state_after M s is) m × M.Represents (state_after M t js) m
     pub later : (ks : List M.Input) → given_out M (state_after M s is) ks ≡ given_out M (state_after M t js) ks
-
-  same_from : (s t : M.State) (m : Session) → M.Represents s m → M.Represents t m → (is js : List M.Input) → SameFor m (entries M is) (entries M js) → SameFrom s t is js
-  same_from s t m h k is js e =
-      let n : Session = session_after m (entries M is) in
-      let p : M.Represents (state_after M s is) n = still_represents M s m h is in
-      let q : M.Represents (state_after M t js) n = subst (λ r. M.Represents (state_after M t js) r) (sym e.after) (still_represents M t m k js) in
-      record {
-        result =
-            ap answers_in (same_out M s m h is) ∙ plain_answers (outputs m (entries M is))
-            ∙ ap (map plain_answer) e.result
-            ∙ sym (plain_answers (outputs m (entries M js))) ∙ sym (ap answers_in (same_out M t m k js));
-        written =
-            ap writes_in (same_out M s m h is) ∙ plain-writes (outputs m (entries M is))
-            ∙ e.written
-            ∙ sym (plain-writes (outputs m (entries M js))) ∙ sym (ap writes_in (same_out M t m k js));
-        counted = M.counts (state_after M s is) n p ∙ sym (M.counts (state_after M t js) n q);
-        after = (n, p, q);
-        later = λ ks. same_out M (state_after M s is) n p ks ∙ sym (same_out M (state_after M t js) n q ks);
-      }
-
-  pub machine_chatter : (s t : M.State) (m : Session) → M.Represents s m → M.Represents t m → (caller : ℕ) (c : Call) (room : ℕ) (es ds : List EventAndRoom) (is js : List M.Input)
-      → entries M is ≡ call_entries caller c room es → entries M js ≡ call_entries caller c room ds
-      → Alike waits (lines_from m caller c room es) (lines_from m caller c room ds) → SameFrom s t is js
-  machine_chatter s t m h k caller c room es ds is js p q a = same_from s t m h k is js (rw (p, q) (chatter_same m caller c room es ds a))

@@ -14,8 +14,7 @@ pub mod Session
 pub mod Record
 pub mod Own
 pub mod Claim
--- the theorems; what simulates the definitions has demand 3
-pub mod Demand3
+-- definitions: a machine that simulates the session, runs, polls, chatter; and samples
 pub mod Machine
 pub mod Runs
 pub mod PollList
@@ -24,27 +23,22 @@ pub mod PollMachine
 pub mod Chatter
 pub mod UidAndAts
 pub mod Sample
--- proofs
+-- what the theorems in proofs/ are said with, and first laws
 pub mod Laws
-pub mod RunLaws
 pub mod Values
 pub mod Sound
 pub mod PollSound
 pub mod PollAlong
 pub mod PollRuns
-pub mod BlocksSound
 pub mod BlocksHanded
 pub mod CallsSound
 pub mod Invariant
-pub mod Preserved
 pub mod Seen
 pub mod Theorem
-pub mod Once
 pub mod Count
 pub mod CountSum
 pub mod Reference
 pub mod ChatterLaws
-pub mod ChatterSame
 pub mod ChatterPairs
 pub mod ChatterWider
 pub mod ChatterMachine

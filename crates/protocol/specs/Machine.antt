@@ -1,10 +1,8 @@
 -- A machine that simulates the session of the definitions gives out the same, and so has demand 3.
-use Rattle.std.specs.Prelude.{◌≡◌, refl, List, [], ◌∷◌, map, ℕ}
-use Rattle.std.proofs.Common.{ap₂}
+use Rattle.std.specs.Prelude.{◌≡◌, List, [], ◌∷◌, map, ℕ}
 use Rattle.protocol.specs.Scripts.{Byte, value, Answer, done, type1, uid_and_ats, nothing, refused, refused_after}
-use Rattle.protocol.specs.Session.{Session, fresh, Entry, Output, orders, answers, rejects, step, outputs, session_after, StepResult}
+use Rattle.protocol.specs.Session.{Session, fresh, Entry, Output, orders, answers, rejects, step, outputs, StepResult}
 use Rattle.protocol.specs.Claim.{Demand3}
-use Rattle.protocol.specs.Demand3.{demand3}
 
 -- what is given out, its bytes without their places
 abbrev pub plain_answer : Answer Byte → Answer ℕ
@@ -51,22 +49,3 @@ module _ (M : Machine) where
   pub record Obeys (is : List M.Input) : Type 0 where
     pub same : given_out M.new is ≡ map output_values (outputs fresh (entries is))
     pub demand : Demand3 (entries is) (outputs fresh (entries is)) (M.frames (state_after M.new is))
-
-  pub same_out : (s : M.State) (m : Session) → M.Represents s m → (is : List M.Input) → given_out s is ≡ map output_values (outputs m (entries is))
-  same_out s m h [] = refl
-  same_out s m h (i ∷ is) =
-      let f = M.simulates s m i h in
-      ap₂ (λ (x : Output ℕ) (xs : List (Output ℕ)). x ∷ xs) f.1 (same_out (M.act s i).state (step m (M.entry i)).state f.0 is)
-
-  pub still_represents : (s : M.State) (m : Session) → M.Represents s m → (is : List M.Input) → M.Represents (state_after s is) (session_after m (entries is))
-  still_represents s m h [] = h
-  still_represents s m h (i ∷ is) = still_represents (M.act s i).state (step m (M.entry i)).state (M.simulates s m i h).0 is
-
-  pub same-given : (is : List M.Input) → given_out M.new is ≡ map output_values (outputs fresh (entries is))
-  same-given is = same_out M.new fresh M.begins is
-
-  pub same-counts : (is : List M.Input) → M.frames (state_after M.new is) ≡ (session_after fresh (entries is)).books.counts
-  same-counts is = M.counts (state_after M.new is) (session_after fresh (entries is)) (still_represents M.new fresh M.begins is)
-
-  pub obeys : (is : List M.Input) → Obeys is
-  obeys is = record { same = same-given is; demand = rw (same-counts is) (demand3 (entries is)) }

@@ -1,2 +1,2 @@
-// The crate is its specs: definitions and proofs alone. specs/Demand3.antt has the theorem.
+// The crate is its specs and proofs: definitions and theorems alone. proofs/Demand3.antt has the main theorem.
 #![tactic(auto)]

@@ -19,7 +19,7 @@ use Rattle.protocol.specs.Record.{Item, ordered, accepted, one_if, frames, event
 use Rattle.protocol.specs.Laws.{split, by_write, by_read, by_pause, ack_is_ack}
 use Rattle.protocol.specs.Invariant.{due_rest, due_step, due}
 use Rattle.protocol.specs.Runs.{session_at, LeadsTo, lines_from}
-use Rattle.protocol.specs.RunLaws.{sending_cases, reading_cases, waiting_cases, cancelling_cases, rejecting_cases, draining_cases, call_lines}
+use Rattle.protocol.proofs.RunLaws.{sending_cases, reading_cases, waiting_cases, cancelling_cases, rejecting_cases, draining_cases, call_lines}
 use Rattle.slowest_call.specs.Question.{is_order, NoneLonger, is_slow, most_slow, most_other, Most, MostBegun, MostStarted, MostOf}
 use Rattle.protocol.specs.Names.{opening_read_time, reset_pause_time}
 

@@ -8,7 +8,8 @@ use Rattle.protocol.specs.Calls.{Call}
 use Rattle.protocol.specs.Session as Spec
 use Rattle.protocol.specs.Session.{fresh, buffer_need, orders}
 use Rattle.protocol.specs.Record.{Item, events, idle_reads}
-use Rattle.protocol.specs.Machine.{entries, state_after, given_out, still_represents}
+use Rattle.protocol.specs.Machine.{entries, state_after, given_out}
+use Rattle.protocol.proofs.Machine.{still_represents}
 use Rattle.protocol.specs.Runs.{EventAndRoom, call_entries}
 use Rattle.engine.specs.Inputs.{Input}
 use Rattle.engine.specs.Refinement.{engine}

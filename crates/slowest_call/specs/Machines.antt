@@ -8,7 +8,8 @@ use Rattle.protocol.specs.Scripts.{Byte}
 use Rattle.protocol.specs.Calls.{Call}
 use Rattle.protocol.specs.Session.{Session, Running, idle, busy, Books, fresh, call, Output, orders, answers, rejects, buffer_need, step, outputs, session_after}
 use Rattle.protocol.specs.Record.{Item, ordered, accepted, Record, Note, observed, lines_of, seen_item, events, idle_reads, note, add_call, observe, line}
-use Rattle.protocol.specs.Machine.{output_values, Machine, given_out, state_after, entries, same_out, still_represents}
+use Rattle.protocol.specs.Machine.{output_values, Machine, given_out, state_after, entries}
+use Rattle.protocol.proofs.Machine.{same_out, still_represents}
 use Rattle.protocol.specs.Runs.{EventAndRoom, event_entry, call_entries, lines_from}
 use Rattle.slowest_call.specs.Question.{is_order, ends_at_last, roomy, events_of}
 use Rattle.slowest_call.specs.Kinds.{Kind, kind_of, most, start, slowest}

@@ -8,9 +8,10 @@ use Rattle.protocol.specs.Scripts.{Byte}
 use Rattle.protocol.specs.Session.{Session, call, Output, orders, answers, rejects, buffer_need, step, outputs, session_after}
 use Rattle.protocol.specs.Record.{events, idle_reads}
 use Rattle.protocol.specs.Runs.{event_with, event_entry, call_entries, lines_from}
-use Rattle.protocol.specs.RunLaws.{outputs-append}
+use Rattle.protocol.proofs.RunLaws.{outputs-append}
 use Rattle.protocol.specs.Chatter.{waits}
-use Rattle.protocol.specs.ChatterPairs.{acks, bare_acks, any-length, further_orders}
+use Rattle.protocol.specs.ChatterPairs.{acks}
+use Rattle.protocol.proofs.ChatterPairs.{bare_acks, any-length, further_orders}
 use Rattle.slowest_call.specs.Question.{is_order, ends_at_last, Slow, roomy, with_acks, IsRun}
 
 -- ---- the test

@@ -21,7 +21,7 @@ use Rattle.protocol.specs.Starts.{Start, refuses, limited, row_start}
 use Rattle.protocol.specs.Blocks.{by_check}
 use Rattle.protocol.specs.Device.{device_new}
 use Rattle.protocol.specs.Names.{version_need}
-use Rattle.protocol.specs.Sound.{holds}
+use Rattle.protocol.proofs.Sound.{holds}
 use Rattle.slowest_call.specs.Question.{is_slow, Most, MostStarted, MostOf, NoneLonger}
 use Rattle.slowest_call.specs.Kinds.{Kind, opening_kind, request_kind, device_kind, kind_of, most}
 use Rattle.slowest_call.specs.Bound.{none_longer}

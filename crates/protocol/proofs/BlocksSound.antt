@@ -1,7 +1,7 @@
 -- The scripts of Read and Write Without Encryption are sound: one frame, and each byte of a read's answer at its place.
 use Rattle.std.specs.Prelude.{◌≡◌, refl, List, [], ◌∷◌, ℕ, ◌*◌, drop}
 use Rattle.std.proofs.Common.{arith, length-drop}
-use Rattle.felica.specs.Accepted.{good_read}
+use Rattle.felica.proofs.Accepted.{good_read}
 use Rattle.felica.specs.Checks.{read_check}
 use Rattle.felica.specs.Names.{block_size}
 use Rattle.felica.specs.declared.check.Checked.{Checked}
@@ -9,7 +9,8 @@ use Rattle.felica.specs.declared.check.Checked.TheVariants.{Good, Faulty}
 use Rattle.protocol.specs.Scripts.{Script, finish, done}
 use Rattle.protocol.specs.Blocks.{by_check, block_bytes, response_blocks_offset}
 use Rattle.protocol.specs.Own.{only_cards}
-use Rattle.protocol.specs.Sound.{Within, Correct, part_placed, cards_part, no_bytes}
+use Rattle.protocol.specs.Sound.{Within, Correct, no_bytes}
+use Rattle.protocol.proofs.Sound.{part_placed, cards_part}
 
 pub within_check : (s : Script) (c : Checked) (n : ℕ) → Within s n → Within (by_check s c) n
 within_check s Good n h = h

@@ -15,7 +15,7 @@ use Rattle.protocol.specs.Session.{CallResult, start_script, after_exchange, pro
 use Rattle.protocol.specs.Record.{Item, ordered, accepted, Record, lines_of, one_if, frames, events, pending_order, idle_under, allowed, line}
 use Rattle.protocol.specs.Own.{form_of}
 use Rattle.protocol.specs.Sound.{response_in, OfExchange}
-use Rattle.protocol.specs.RunLaws.{sending_cases, reading_cases, waiting_cases, cancelling_cases, rejecting_cases, draining_cases}
+use Rattle.protocol.proofs.RunLaws.{sending_cases, reading_cases, waiting_cases, cancelling_cases, rejecting_cases, draining_cases}
 use Rattle.protocol.specs.Laws.{split, of_exchange, by_write, by_read, by_pause, lines_own}
 use Rattle.protocol.specs.Invariant.{due_step, step-due, due, phase_due, RestSound, PhaseSound, Asked, At, Invariant, Preserved}
 use Rattle.protocol.specs.Invariant.{later_sourced, asked-later, closed, script-started, bare, Brought, sourced_more, nothing_brought, brought}

@@ -10,9 +10,10 @@ use Rattle.protocol.specs.Session.{Effect, effect, event_effect, after_effect, g
 use Rattle.protocol.specs.Record.{accepted, Record, Note, Observed, observed, add_call, add_event, add}
 use Rattle.protocol.specs.Laws.{split}
 use Rattle.protocol.specs.Runs.{session_at, idle_with, busy_in, EventAndRoom, event_entry, call_entries, seen_behind, watching, seen_of, lines_from, HoldsIn, cons_if, answer_of, write_of, answers_in, writes_in, Trace, trace, next, replay}
-use Rattle.protocol.specs.RunLaws.{event_cases, call_cases, kept_along, same-picked}
+use Rattle.protocol.proofs.RunLaws.{event_cases, call_cases, kept_along, same-picked}
 use Rattle.protocol.specs.Chatter.{waits, is_further, events_but, Alike, SameFor}
-use Rattle.protocol.specs.ChatterLaws.{NoWait, Placed, PlacedBy, Proper, proper_begin, result-placed, and_left, and_right, read_books, event_placed, placed-waits, waits_again}
+use Rattle.protocol.specs.ChatterLaws.{NoWait, Placed, PlacedBy, Proper}
+use Rattle.protocol.proofs.ChatterLaws.{proper_begin, result-placed, and_left, and_right, read_books, event_placed, placed-waits, waits_again}
 
 -- ---- a run and its replay: from the trace t, in this mode
 

@@ -3,9 +3,9 @@ use Rattle.std.specs.Prelude.{List}
 use Rattle.protocol.specs.Session.{Entry, fresh, outputs, session_after}
 use Rattle.protocol.specs.Record.{record_of, as_seen}
 use Rattle.protocol.specs.Claim.{Demand3}
-use Rattle.protocol.specs.Theorem.{all_claims}
-use Rattle.protocol.specs.Once.{once}
-use Rattle.protocol.specs.Count.{eight_counts, counts_right}
+use Rattle.protocol.proofs.Theorem.{all_claims}
+use Rattle.protocol.proofs.Once.{once}
+use Rattle.protocol.proofs.Count.{eight_counts, counts_right}
 
 pub demand3 : (es : List Entry) → Demand3 es (outputs fresh es) (session_after fresh es).books.counts
 demand3 es = record {
