@@ -1,29 +1,28 @@
 -- What the arm for all other ends, or for all other decisions, knows.
-use Rattle.std.specs.Prelude.{◌≡◌, ℕ, List, [], ◌∷◌}
+use Rattle.std.specs.Prelude.{◌≡◌, ℕ, List, []}
 use mathlib.Core.Path.{refl}
 use native.Mathlib.Omega.{arith}
-use denote.Enum.Declared.{tag_of}
-use types.Run.{OneOf, miss}
 use Rattle.errors.specs.declared.Fault.{Fault}
 use Rattle.exchange.specs.Packets.{response, failed}
 use Rattle.stages.specs.Decided.{DecisionRefines}
 use Rattle.stages.specs.declared.Decision.{Decision}
+use Rattle.stages.specs.declared.Layout.{Layout}
+use Rattle.stages.specs.declared.Head.{Head}
 use Rattle.stages.specs.declared.Decision.TheVariants.{Send, Keep, Next, Put, Pause, Done, Part, Type1, UidAndAts, Nothing, Refused, RefusedAfter}
 use Rattle.engine.specs.Core.{Arrays, reply_decision}
 use Rattle.engine.specs.Ends.{reply_in, end_reply, GoesOn, Checked}
 use Rattle.engine.specs.declared.call.End.{End}
 use Rattle.engine.specs.declared.call.End.TheVariants.{ResetDone, Arrived, Failed}
 use Rattle.engine.specs.declared.running.Core.{Core}
-use Rattle.engine.specs.contracts.call.End.{the_type}
 
 -- no packet is in
-pub no_packet : (code : ℕ) (packet bytes : List ℕ) (e to : End) → OneOf (0 ∷ 2 ∷ []) (tag_of the_type e) → to ≡ e → bytes ≡ [] → Checked code packet bytes e to
-no_packet code packet bytes e to tag t z = record { few = rw z (omega arith); reply = rw (t, z) (by e tag) }
+pub no_packet : (code : ℕ) (packet bytes : List ℕ) (e to : End) → (e ≡ Arrived → ⊥) → to ≡ e → bytes ≡ [] → Checked code packet bytes e to
+no_packet code packet bytes e to other t z = record { few = rw z (omega arith); reply = rw (t, z) (by e other) }
   where
-    by : (e : End) → OneOf (0 ∷ 2 ∷ []) (tag_of the_type e) → end_reply [] e ≡ reply_in code packet e
-    by ResetDone tag = refl
-    by Arrived tag = absurd (miss (0 ∷ 2 ∷ []) 1 tt tag)
-    by (Failed r) tag = refl
+    by : (e : End) → (e ≡ Arrived → ⊥) → end_reply [] e ≡ reply_in code packet e
+    by ResetDone other = refl
+    by Arrived other = absurd (other refl)
+    by (Failed r) other = refl
 
 -- what is decided upon a fault, and upon a response
 module _ (s : Core) (f : Arrays) (found bytes : List ℕ) (d r : Decision) (to : End) (same : d ≡ r) where
@@ -31,40 +30,43 @@ module _ (s : Core) (f : Arrays) (found bytes : List ℕ) (d r : Decision) (to :
       → DecisionRefines found bytes d (reply_decision s f (end_reply bytes to))
   refines_fault fault t h = rw (same, t) h
 
-  pub refines_response : OneOf (0 ∷ 1 ∷ []) (tag_of the_type to) → DecisionRefines found bytes r (reply_decision s f (response bytes))
+  pub refines_response : ((fault : Fault) → to ≡ Failed fault → ⊥) → DecisionRefines found bytes r (reply_decision s f (response bytes))
       → DecisionRefines found bytes d (reply_decision s f (end_reply bytes to))
-  refines_response tag h = rw same (by to tag)
+  refines_response other h = rw same (by to other)
     where
-      by : (to : End) → OneOf (0 ∷ 1 ∷ []) (tag_of the_type to) → DecisionRefines found bytes r (reply_decision s f (end_reply bytes to))
-      by ResetDone tag = h
-      by Arrived tag = h
-      by (Failed fault) tag = absurd (miss (0 ∷ 1 ∷ []) 2 tt tag)
+      by : (to : End) → ((fault : Fault) → to ≡ Failed fault → ⊥) → DecisionRefines found bytes r (reply_decision s f (end_reply bytes to))
+      by ResetDone other = h
+      by Arrived other = h
+      by (Failed fault) other = absurd (other fault refl)
 
 -- the call goes on, and it ends
-pub goes_on : (d : Decision) → OneOf (0 ∷ 1 ∷ 2 ∷ 3 ∷ 4 ∷ []) (tag_of Rattle.stages.specs.contracts.Decision.the_type d) → GoesOn d
-goes_on (Send n) h = tt
-goes_on (Keep n l) h = tt
-goes_on (Next n c l) h = tt
-goes_on (Put n x) h = tt
-goes_on (Pause us n) h = tt
-goes_on (Done l) h = absurd (miss (0 ∷ 1 ∷ 2 ∷ 3 ∷ 4 ∷ []) 5 tt h)
-goes_on (Part s n) h = absurd (miss (0 ∷ 1 ∷ 2 ∷ 3 ∷ 4 ∷ []) 6 tt h)
-goes_on (Type1 l) h = absurd (miss (0 ∷ 1 ∷ 2 ∷ 3 ∷ 4 ∷ []) 7 tt h)
-goes_on (UidAndAts l uid ats) h = absurd (miss (0 ∷ 1 ∷ 2 ∷ 3 ∷ 4 ∷ []) 8 tt h)
-goes_on Nothing h = absurd (miss (0 ∷ 1 ∷ 2 ∷ 3 ∷ 4 ∷ []) 9 tt h)
-goes_on (Refused r) h = absurd (miss (0 ∷ 1 ∷ 2 ∷ 3 ∷ 4 ∷ []) 10 tt h)
-goes_on (RefusedAfter r n) h = absurd (miss (0 ∷ 1 ∷ 2 ∷ 3 ∷ 4 ∷ []) 11 tt h)
+pub goes_on : (d : Decision) → ((l : Layout) → d ≡ Done l → ⊥) → ((start n : ℕ) → d ≡ Part start n → ⊥) → ((l : Layout) → d ≡ Type1 l → ⊥)
+    → ((l : Layout) (uid ats : ℕ) → d ≡ UidAndAts l uid ats → ⊥) → (d ≡ Nothing → ⊥) → ((r : Fault) → d ≡ Refused r → ⊥)
+    → ((r : Fault) (n : ℕ) → d ≡ RefusedAfter r n → ⊥) → GoesOn d
+goes_on (Send n) h1 h2 h3 h4 h5 h6 h7 = tt
+goes_on (Keep n l) h1 h2 h3 h4 h5 h6 h7 = tt
+goes_on (Next n c l) h1 h2 h3 h4 h5 h6 h7 = tt
+goes_on (Put n x) h1 h2 h3 h4 h5 h6 h7 = tt
+goes_on (Pause us n) h1 h2 h3 h4 h5 h6 h7 = tt
+goes_on (Done l) h1 h2 h3 h4 h5 h6 h7 = absurd (h1 l refl)
+goes_on (Part s n) h1 h2 h3 h4 h5 h6 h7 = absurd (h2 s n refl)
+goes_on (Type1 l) h1 h2 h3 h4 h5 h6 h7 = absurd (h3 l refl)
+goes_on (UidAndAts l uid ats) h1 h2 h3 h4 h5 h6 h7 = absurd (h4 l uid ats refl)
+goes_on Nothing h1 h2 h3 h4 h5 h6 h7 = absurd (h5 refl)
+goes_on (Refused r) h1 h2 h3 h4 h5 h6 h7 = absurd (h6 r refl)
+goes_on (RefusedAfter r n) h1 h2 h3 h4 h5 h6 h7 = absurd (h7 r n refl)
 
-pub does_not_go_on : {A : Type 0} (d : Decision) → OneOf (5 ∷ 6 ∷ 7 ∷ 8 ∷ 9 ∷ 10 ∷ 11 ∷ []) (tag_of Rattle.stages.specs.contracts.Decision.the_type d) → GoesOn d → A
-does_not_go_on (Send n) h g = absurd (miss (5 ∷ 6 ∷ 7 ∷ 8 ∷ 9 ∷ 10 ∷ 11 ∷ []) 0 tt h)
-does_not_go_on (Keep n l) h g = absurd (miss (5 ∷ 6 ∷ 7 ∷ 8 ∷ 9 ∷ 10 ∷ 11 ∷ []) 1 tt h)
-does_not_go_on (Next n c l) h g = absurd (miss (5 ∷ 6 ∷ 7 ∷ 8 ∷ 9 ∷ 10 ∷ 11 ∷ []) 2 tt h)
-does_not_go_on (Put n x) h g = absurd (miss (5 ∷ 6 ∷ 7 ∷ 8 ∷ 9 ∷ 10 ∷ 11 ∷ []) 3 tt h)
-does_not_go_on (Pause us n) h g = absurd (miss (5 ∷ 6 ∷ 7 ∷ 8 ∷ 9 ∷ 10 ∷ 11 ∷ []) 4 tt h)
-does_not_go_on (Done l) h g = absurd g
-does_not_go_on (Part s n) h g = absurd g
-does_not_go_on (Type1 l) h g = absurd g
-does_not_go_on (UidAndAts l uid ats) h g = absurd g
-does_not_go_on Nothing h g = absurd g
-does_not_go_on (Refused r) h g = absurd g
-does_not_go_on (RefusedAfter r n) h g = absurd g
+pub does_not_go_on : {A : Type 0} (d : Decision) → ((n : ℕ) → d ≡ Send n → ⊥) → ((n : ℕ) (l : Layout) → d ≡ Keep n l → ⊥)
+    → ((n c : ℕ) (l : Layout) → d ≡ Next n c l → ⊥) → ((n : ℕ) (x : Head) → d ≡ Put n x → ⊥) → ((us n : ℕ) → d ≡ Pause us n → ⊥) → GoesOn d → A
+does_not_go_on (Send n) h1 h2 h3 h4 h5 g = absurd (h1 n refl)
+does_not_go_on (Keep n l) h1 h2 h3 h4 h5 g = absurd (h2 n l refl)
+does_not_go_on (Next n c l) h1 h2 h3 h4 h5 g = absurd (h3 n c l refl)
+does_not_go_on (Put n x) h1 h2 h3 h4 h5 g = absurd (h4 n x refl)
+does_not_go_on (Pause us n) h1 h2 h3 h4 h5 g = absurd (h5 us n refl)
+does_not_go_on (Done l) h1 h2 h3 h4 h5 g = absurd g
+does_not_go_on (Part s n) h1 h2 h3 h4 h5 g = absurd g
+does_not_go_on (Type1 l) h1 h2 h3 h4 h5 g = absurd g
+does_not_go_on (UidAndAts l uid ats) h1 h2 h3 h4 h5 g = absurd g
+does_not_go_on Nothing h1 h2 h3 h4 h5 g = absurd g
+does_not_go_on (Refused r) h1 h2 h3 h4 h5 g = absurd g
+does_not_go_on (RefusedAfter r n) h1 h2 h3 h4 h5 g = absurd g

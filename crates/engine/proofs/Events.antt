@@ -1,9 +1,7 @@
 -- What an event does to the running call, by the transition that it makes: the ways of `Core::event`.
-use Rattle.std.specs.Prelude.{◌≡◌, ℕ, ◌<◌, ◌≤◌, Bool, true, false, List, [], ◌∷◌, length}
+use Rattle.std.specs.Prelude.{◌≡◌, ℕ, ◌<◌, ◌≤◌, Bool, true, false, List, length}
 use mathlib.Core.Path.{refl, sym, ap, ◌∙◌, subst}
 use native.Mathlib.Omega.{arith}
-use denote.Enum.Declared.{tag_of}
-use types.Run.{OneOf, miss}
 use borrow.Author.Tests.{eq-eqb, ne_eqb, lt-ltb, le-ltb, ltb-false}
 use Rattle.errors.specs.Choice.{pick}
 use Rattle.errors.specs.declared.Refusal.TheVariants.{OutOfTurn, ShortBuffer, OverLong}
@@ -16,11 +14,10 @@ use Rattle.engine.specs.declared.call.End.{End}
 use Rattle.engine.specs.declared.call.Transition.{Transition}
 use Rattle.engine.specs.declared.call.Transition.TheVariants.{Unfit, Orders, Sends, Ends}
 use Rattle.engine.specs.declared.running.Core.{Core}
-use Rattle.engine.specs.contracts.call.Transition.{the_type}
 
 -- all but `Unfit` fit
-does_fit : (code : ℕ) (p : List ℕ) (t : Transition) → OneOf (1 ∷ 2 ∷ 3 ∷ []) (tag_of the_type t) → fits (transition_in code p t) ≡ true
-does_fit code p Unfit h = absurd (miss (1 ∷ 2 ∷ 3 ∷ []) 0 tt h)
+does_fit : (code : ℕ) (p : List ℕ) (t : Transition) → (t ≡ Unfit → ⊥) → fits (transition_in code p t) ≡ true
+does_fit code p Unfit h = absurd (h refl)
 does_fit code p (Orders o c x) h = refl
 does_fit code p (Sends c) h = refl
 does_fit code p (Ends e) h = end_fits code p e
@@ -39,7 +36,7 @@ module _ (s : Core) (f : Arrays) (e : Event) (p b : List ℕ) (t : Transition) (
   unfolding admitted_of pick
   does_not_fit u h = admitted (rw u h)
 
-  module _ (tag : OneOf (1 ∷ 2 ∷ 3 ∷ []) (tag_of the_type t)) where
+  module _ (tag : t ≡ Unfit → ⊥) where
     pub buffer_short : length b < buffer_need → x ≡ unchanged s f ShortBuffer b → x ≡ event_core s f e b
     unfolding admitted_of pick
     buffer_short n h = admitted (rw (does_fit s.exchange.code p t tag, lt-ltb (length b) buffer_need n) h)
@@ -54,7 +51,7 @@ module _ (s : Core) (f : Arrays) (e : Event) (p b : List ℕ) (t : Transition) (
       goes_through u q k h =
           admitted (rw (does_fit s.exchange.code p t tag, le-ltb (length b) buffer_need room, ← known, q) (h ∙ ap (λ v. transitioned_of s f (transition_in s.exchange.code p v) b) (sym k)))
 
--- a response within a packet that is not over_long_lem
+-- a response within a packet that is not over-long
 pub response_short : (s : Core) (e : Event) (p : List ℕ) (t : Transition) (l : Bool) (end : End)
     → transition_in s.exchange.code p t ≡ transition_of s.call s.exchange e → l ≡ is_long_of e → l ≡ false → t ≡ Ends end
     → reply_length (end_transition s.exchange.code p end) ≤ packet_limit

@@ -1,9 +1,7 @@
 -- Events by their numbers.
-use Rattle.std.specs.Prelude.{◌≡◌, ℕ, List, [], ◌∷◌}
+use Rattle.std.specs.Prelude.{◌≡◌, ℕ, List}
 use mathlib.Core.Path.{refl}
 use mathlib.Core.Option.{Option, none}
-use denote.Enum.Declared.{tag_of}
-use types.Run.{OneOf, miss}
 use Rattle.errors.specs.declared.Refusal.TheVariants.{OutOfTurn}
 use Rattle.exchange.specs.Exchange as exchange
 use Rattle.exchange.specs.Steps.{event_of}
@@ -13,15 +11,14 @@ use Rattle.engine.specs.SessionSteps.{State, event_after}
 use Rattle.engine.specs.Numbers.{known_in, after_event_number}
 use Rattle.engine.specs.declared.by_number.Known.{Known}
 use Rattle.engine.specs.declared.by_number.Known.TheVariants.{Is, Not}
-use Rattle.engine.specs.contracts.by_number.Known.{the_type}
 
-no_event : (k : Known) (p : List ℕ) → OneOf (1 ∷ []) (tag_of the_type k) → known_in k p ≡ none
+no_event : (k : Known) (p : List ℕ) → ((e : Event) → k ≡ Is e → ⊥) → known_in k p ≡ none
 unfolding known_in
-no_event (Is e) p h = absurd (miss (1 ∷ []) 0 tt h)
+no_event (Is e) p h = absurd (h e refl)
 no_event Not p h = refl
 
 pub not_known : (s : State) (f : Arrays) (r : After State) (k : Known) (e : Option exchange.Event) (p b : List ℕ)
-    → OneOf (1 ∷ []) (tag_of the_type k) → known_in k p ≡ e → r ≡ unchanged s f OutOfTurn b → r ≡ after_event_number s f e b
+    → ((e : Event) → k ≡ Is e → ⊥) → known_in k p ≡ e → r ≡ unchanged s f OutOfTurn b → r ≡ after_event_number s f e b
 not_known s f r k e p b t q h = rw (← q, no_event k p t) h
 
 pub is_known : (s : State) (f : Arrays) (r : After State) (k : Known) (v : Event) (e : Option exchange.Event) (p b : List ℕ)

@@ -4,7 +4,7 @@
 pub mod books;
 pub mod by_number;
 pub mod call;
-pub mod running;
 mod reply;
+pub mod running;
 pub mod session;
 pub mod state;

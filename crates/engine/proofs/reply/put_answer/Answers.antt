@@ -12,4 +12,4 @@ pub returns : goal.returns
 returns c = let a = c.args in
     let h = c.append.ensures.puts _ _ (omega (arith, length-take a.layout.kept a.found.now, c.requires.1)) (puts_none _) in
     let r = c.lay.ensures a.found.now a.target.now record { count = sym (length-take-le a.layout.kept a.found.now c.requires.0.kept); is = h.is } in
-    (r.count, r.is)
+    record { value = r.count; target_after = r.is }

@@ -1,7 +1,6 @@
 use mathlib.Core.Path.{sym, ap, ◌∙◌}
 use borrow.Author.Tests.{lt-ltb, le-ltb}
 use Rattle.errors.specs.Rules.{at_true, at_false}
-use Rattle.stages.specs.Starts.{starts_fit}
 use Rattle.engine.specs.SessionSteps.{with_books, start_after, booked_after_of}
 use Rattle.engine.specs.Laws.{booked_after}
 use Rattle.engine.specs.Numbers.{reader_input, opening_input}

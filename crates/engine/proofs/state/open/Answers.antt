@@ -34,7 +34,7 @@ returns-else-mode-gt-PADDED_MODE c = λ f.
     (at_false _ _ _ _ (le-ltb _ _ c.if-buffer-lt-BUFFER_NEED.false)
     (at_false _ _ _ _ (le-ltb _ _ c.if-caller-gt-LAST_CALLER.false)
     (at_false _ _ _ _ (le-ltb _ _ c.if-mode-gt-PADDED_MODE.false)
-    (booked_after _ _ _ _ _ _ c.book.ensures f _ ∙ ap₂ (booked_after_of _ true) c.begin.ensures (c.before.before.before.before.before.before.before.before.«open».ensures f)))))
+    (booked_after _ _ _ _ _ _ c.book.ensures f _ ∙ ap₂ (booked_after_of _ true) c.begin.ensures (c.open-progress.ensures f)))))
 
 pub returns-else-is_free : goal.returns-else-is_free
 unfolding open_after

@@ -53,4 +53,4 @@ returns-in-Pause c = λ _.
     (c.at-next.ensures ∙ ap (λ k. at k 5) c.to_stage-in-Pause.ensures))
 
 pub returns-in_default : goal.returns-in_default
-returns-in_default c = λ on. does_not_go_on c.args.decision c.in_default.keys6 on
+returns-in_default c = λ on. does_not_go_on c.args.decision c.in_default.not-Send c.in_default.not-Keep c.in_default.not-Next c.in_default.not-Put c.in_default.not-Pause on

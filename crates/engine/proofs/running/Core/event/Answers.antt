@@ -20,6 +20,20 @@ pub returns-then-is_long : goal.returns-then-is_long
 unfolding transitioned_of
 returns-then-is_long c = search (packet_long, c.refused-then-is_long.ensures, rules)
 
+pub send-next-requires : goal.send-next-requires
+send-next-requires c = search (valid_command, rules)
+
+pub replied-requires : goal.replied-requires
+replied-requires c = search (response_short, valid-found, valid_command, rules)
+
+pub returns-in-Orders : goal.returns-in-Orders
+unfolding transitioned_of
+returns-in-Orders c = search (goes_through, c.ordered.ensures, rules)
+
+pub returns-in-Sends : goal.returns-in-Sends
+unfolding transitioned_of
+returns-in-Sends c = search (goes_through, c.send-next.ensures, rules)
+
 pub returns-in-Ends : goal.returns-in-Ends
 unfolding transitioned_of
 returns-in-Ends c = search (goes_through, rules)

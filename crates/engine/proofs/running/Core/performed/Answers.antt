@@ -3,7 +3,7 @@ use native.Mathlib.Omega.{arith}
 use Rattle.std.specs.Prelude.{take}
 use Rattle.stages.specs.Decided.{layout_bytes, DecisionFits}
 use Rattle.engine.specs.Core.{performs_of}
-use Rattle.engine.specs.Laws.{part_copied, done_copied, type1_copied, lengths_copied, found_within, found_taken, answer-fits}
+use Rattle.engine.specs.Laws.{part_copied, done_copied, type1_copied, lengths_copied}
 use Rattle.engine.proofs.Ends.{goes_on}
 use Rattle.engine.proofs.running.Core.performed.Goals as goal
 
@@ -27,9 +27,8 @@ unfolding performs_of
 returns-in-Part c =
     let a = c.args in
     let p = c.requires in
-    let d = c.decision-1.given in
-    let n = subst (DecisionFits (take a.self.found a.found.now) a.response.now) d.1 p.1 in
-    rw d.1 (part_copied a.self _ a.response.now a.buffer.now _ _ _ d.0.0 d.0.1.0 n p.0 p.2.4 c.append-len.ensures (c.ended.ensures _ _))
+    let n = subst (DecisionFits (take a.self.found a.found.now) a.response.now) c.in-Part.is p.1 in
+    rw c.in-Part.is (part_copied a.self _ a.response.now a.buffer.now _ _ _ c.in-Part.start c.in-Part.len n p.0 p.2.4 c.append-len.ensures (c.ended.ensures _ _))
 
 pub returns-in-Done : goal.returns-in-Done
 unfolding performs_of
@@ -65,4 +64,4 @@ unfolding performs_of
 returns-in-RefusedAfter c = rw c.in-RefusedAfter.is (c.ended-in-RefusedAfter.ensures _ _)
 
 pub returns-in_default : goal.returns-in_default
-returns-in_default c = c.continued-next.ensures (goes_on c.args.decision c.in_default.keys8)
+returns-in_default c = c.continued-next.ensures (goes_on c.args.decision c.in_default.not-Done c.in_default.not-Part c.in_default.not-Type1 c.in_default.not-UidAndAts c.in_default.not-Nothing c.in_default.not-Refused c.in_default.not-RefusedAfter)

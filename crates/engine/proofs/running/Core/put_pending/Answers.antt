@@ -14,4 +14,4 @@ send-requires c = (subst (λ (s : Core). s.command ≤ data_limit) (sym c.with_c
 
 pub returns : goal.returns
 unfolding performs_of
-returns c = λ f. let a = c.args in let e = c.copy.ensures in c.send.ensures f ∙ (λ i. stage_of (c.with_command.ensures i) (arrays (copied_start (head_bytes a.bytes) a.command.now _ e.1 i) f) (c.to_stage.ensures i) a.buffer.now)
+returns c = λ f. let a = c.args in let e = c.copy.ensures in c.send.ensures f ∙ (λ i. stage_of (c.with_command.ensures i) (arrays (copied_start (head_bytes a.bytes) a.command.now _ e.after i) f) (c.to_stage.ensures i) a.buffer.now)

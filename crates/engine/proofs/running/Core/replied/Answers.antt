@@ -1,4 +1,3 @@
-use mathlib.Core.Logic.{⊎_elim}
 use mathlib.Core.Path.{sym, ap, ◌∙◌}
 use native.Mathlib.Omega.{arith}
 use Rattle.std.specs.Prelude.{take}
@@ -8,6 +7,7 @@ use Rattle.stages.specs.Decided.{DecisionRefines}
 use Rattle.engine.specs.Core.{arrays, performs_of, reply_decision}
 use Rattle.engine.specs.Ends.{end_reply, Checked, without_response, with_response, end_performs}
 use Rattle.engine.proofs.Ends.{no_packet, refines_fault, refines_response}
+use Rattle.engine.proofs.running.Core.replied.Goals.{in-Arrived+then-payload-eq0, in-Arrived+else-payload-eq0, in_default, in-Failed, in_default-end}
 use Rattle.engine.proofs.running.Core.replied.Goals as goal
 
 pub slice_bounds-pending-end-2 : goal.slice_bounds-pending-end-2
@@ -29,18 +29,17 @@ performed-requires c =
     let to = c.match-end.end in
     let response = c.match-end.response.now in
     let checked : Checked a.self.exchange.code a.packet.now response a.end to
-    = ⊎_elim
-    (λ w. without_response _ _ _ _ _ _ w.3.ensures w.1.given.1 _ w.4.taken w.5.ensures w.6 (ap (λ x. x.now) w.7))
-    (⊎_elim
-    (λ w. with_response _ _ _ _ _ _ w.3.ensures w.1.given.1 w.4.left p.0 w.6 (ap (λ x. x.now) w.7))
-    (λ w. no_packet _ _ _ _ _ w.0.keys2 w.1 (ap (λ x. x.now) w.2)))
-    c.match-end.branch in
+    = elim c.match-end.branch [
+      | in-Arrived+then-payload-eq0 w ↦ without_response _ _ _ _ _ _ w.response_payload-payload.ensures w.in-Arrived.is _ w.if-payload-eq0.true w.fault.ensures w.end-is (ap (λ x. x.now) w.response-is)
+      | in-Arrived+else-payload-eq0 w ↦ with_response _ _ _ _ _ _ w.response_payload-payload.ensures w.in-Arrived.is w.if-payload-eq0.false p.0 w.end-is (ap (λ x. x.now) w.response-is)
+      | in_default w ↦ no_packet _ _ _ _ _ w.in_default.not-Arrived w.end-is (ap (λ x. x.now) w.response-is)
+    ] in
     let h = arrays a.command.now a.found.now in
     let refines : DecisionRefines (take a.self.found a.found.now) response c.match-end-2.decision (reply_decision a.self h (end_reply response to))
-    = ⊎_elim
-    (λ w. refines_fault a.self h _ _ _ _ to w.4 _ w.1.given.1 (w.3.ensures _))
-    (λ w. refines_response a.self h _ _ _ _ to w.2 w.0.keys2 w.1.ensures)
-    c.match-end-2.branch in
+    = elim c.match-end-2.branch [
+      | in-Failed w ↦ refines_fault a.self h _ _ _ _ to w.decision-is _ w.in-Failed.is (w.failed-decision.ensures _)
+      | in_default-end w ↦ refines_response a.self h _ _ _ _ to w.decision-is w.in_default-end.not-Failed w.decided-decision.ensures
+    ] in
     (checked.few, refines.fits, p.1)
 
 pub returns : goal.returns
@@ -50,18 +49,23 @@ returns c =
     let to = c.match-end.end in
     let response = c.match-end.response.now in
     let checked : Checked a.self.exchange.code a.packet.now response a.end to
-    = ⊎_elim
-    (λ w. without_response _ _ _ _ _ _ w.3.ensures w.1.given.1 _ w.4.taken w.5.ensures w.6 (ap (λ x. x.now) w.7))
-    (⊎_elim
-    (λ w. with_response _ _ _ _ _ _ w.3.ensures w.1.given.1 w.4.left p.0 w.6 (ap (λ x. x.now) w.7))
-    (λ w. no_packet _ _ _ _ _ w.0.keys2 w.1 (ap (λ x. x.now) w.2)))
-    c.match-end.branch in
+    = elim c.match-end.branch [
+      | in-Arrived+then-payload-eq0 w ↦ without_response _ _ _ _ _ _ w.response_payload-payload.ensures w.in-Arrived.is _ w.if-payload-eq0.true w.fault.ensures w.end-is (ap (λ x. x.now) w.response-is)
+      | in-Arrived+else-payload-eq0 w ↦ with_response _ _ _ _ _ _ w.response_payload-payload.ensures w.in-Arrived.is w.if-payload-eq0.false p.0 w.end-is (ap (λ x. x.now) w.response-is)
+      | in_default w ↦ no_packet _ _ _ _ _ w.in_default.not-Arrived w.end-is (ap (λ x. x.now) w.response-is)
+    ] in
     let h = arrays a.command.now a.found.now in
     let refines : DecisionRefines (take a.self.found a.found.now) response c.match-end-2.decision (reply_decision a.self h (end_reply response to))
-    = ⊎_elim
-    (λ w. refines_fault a.self h _ _ _ _ to w.4 _ w.1.given.1 (w.3.ensures _))
-    (λ w. refines_response a.self h _ _ _ _ to w.2 w.0.keys2 w.1.ensures)
-    c.match-end-2.branch in
+    = elim c.match-end-2.branch [
+      | in-Failed w ↦ refines_fault a.self h _ _ _ _ to w.decision-is _ w.in-Failed.is (w.failed-decision.ensures _)
+      | in_default-end w ↦ refines_response a.self h _ _ _ _ to w.decision-is w.in_default-end.not-Failed w.decided-decision.ensures
+    ] in
     c.performed.ensures
     ∙ ap (λ d. performs_of a.self h d a.buffer.now) (refines.is ∙ ap (reply_decision a.self h) checked.reply)
     ∙ end_performs a.self h a.self.exchange.code a.packet.now a.end a.buffer.now
+
+pub slice_bounds-response-count-else-payload-eq0 : goal.slice_bounds-response-count-else-payload-eq0
+slice_bounds-response-count-else-payload-eq0 c = let r = its_response _ _ _ c.response_payload-payload.ensures c.if-payload-eq0.false in omega (arith, r.long)
+
+pub slice_bounds-response-start-else-payload-eq0 : goal.slice_bounds-response-start-else-payload-eq0
+slice_bounds-response-start-else-payload-eq0 c = let r = its_response _ _ _ c.response_payload-payload.ensures c.if-payload-eq0.false in omega (arith, r.long)
