@@ -1,6 +1,6 @@
 // All frames of payloads of at most 2 bytes, under the six settings in turn, for acceptance tests (document 02, N12): a stepper from
 // one to the next.
-#![tactic(auto)]
+#![tactic(auto, using(errors::specs::Rules::picks), unfolding(errors::specs::Choice::pick, crate::specs::Order::following_at, crate::specs::Order::payload_bytes, crate::specs::Order::payload_number, crate::specs::Order::step_from, crate::specs::Steps::entry_built, framing::specs::Build::build_of, framing::specs::Build::returned))]
 
 pub mod lines;
 

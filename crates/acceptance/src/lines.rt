@@ -1,4 +1,6 @@
 // The list as text: each entry's frame in upper-case hex, with a line feed behind it.
+#![tactic(auto, using(errors::specs::Rules::picks), unfolding(errors::specs::Choice::pick, bench::specs::Hex::digits_of_lem, bench::specs::Texts::over, crate::specs::Steps::frame_at, crate::specs::Steps::text_lines))]
+
 ghost use Rattle.std.specs.Prelude.{◌≡◌, ◌+◌, ◌*◌, ◌/◌, ◌%◌, ◌≤◌, ◌<◌, length};
 ghost use Rattle.bench.specs.Hex.{digits_of_lem};
 ghost use Rattle.bench.specs.Texts.{over, placed, placed_at};
