@@ -1,4 +1,6 @@
 // The arguments of a line: its k-th word, the name being word 0, as a number or as bytes.
+#![tactic(auto, using(errors::specs::Rules::picks), unfolding(errors::specs::Choice::pick, crate::specs::Arguments::byte_arg, crate::specs::Arguments::flag_arg, crate::specs::Arguments::hex_arg, crate::specs::Arguments::hex_or_none, crate::specs::Arguments::is_none, crate::specs::Arguments::ms_arg, crate::specs::Arguments::name_arg, crate::specs::Arguments::present_arg, crate::specs::Arguments::text_arg, crate::specs::Arguments::wait_arg, crate::specs::Arguments::whole_arg, crate::specs::Arguments::word_arg))]
+
 ghost use Rattle.std.specs.Prelude.{◌≡◌, List, ℕ, ◌+◌, ◌*◌, ◌≤◌, ◌<◌, length};
 ghost use Rattle.bench_input.specs.Arguments.{Read, word_at, byte_arg, flag_arg, word_arg, ms_arg, hex_arg, whole_arg, text_arg, is_none, hex_or_none, present_arg, name_arg, wait_arg};
 ghost use Rattle.bench_input.specs.Readings.{byte_in, word_in, ms_in, wait_in, hex_in, Behind};

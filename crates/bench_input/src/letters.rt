@@ -1,4 +1,6 @@
 // The words of a line behind its name, each read by its letter.
+#![tactic(auto, using(errors::specs::Rules::picks), unfolding(errors::specs::Choice::pick, bench::specs::Words::words_of_lem, crate::specs::Letters::arguments_of, crate::specs::Letters::number_arg, crate::specs::Letters::string_arg, crate::specs::Readings::ended_at))]
+
 ghost use Rattle.std.specs.Prelude.{◌≡◌, List, ℕ, ◌+◌, ◌≤◌, ◌<◌, length, drop};
 ghost use Rattle.std.proofs.Math.Option.{some};
 ghost use Rattle.bench.specs.Words.{words_of_lem};

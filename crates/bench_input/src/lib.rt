@@ -1,6 +1,6 @@
 // A line of the program `session`, read: a call or an event. The bytes of its BITRATE and HEX arguments stand one behind the
 // other at the start of a lent buffer, and a call has the places where they end.
-#![tactic(auto)]
+#![tactic(auto, using(errors::specs::Rules::picks), unfolding(errors::specs::Choice::pick, bench::specs::Words::words_of_lem, crate::specs::Readings::texts, crate::specs::Table::input_of, crate::specs::Table::row_for, crate::specs::Table::said))]
 
 mod arguments;
 mod letters;

@@ -1,4 +1,6 @@
 // The table of lines: three words for each, its name, a letter for each word behind the name, and its number as BYTE.
+#![tactic(auto, using(errors::specs::Rules::picks), unfolding(errors::specs::Choice::pick, bench::specs::Words::words_of_lem, crate::specs::Readings::texts, crate::specs::Table::is_for_of, crate::specs::Table::row_for))]
+
 ghost use Rattle.std.specs.Prelude.{◌≡◌, ◌<◌, length};
 ghost use Rattle.bench.specs.Words.{words_of_lem};
 ghost use Rattle.bench_input.specs.Arguments.{word_at};

@@ -7,9 +7,10 @@ use native.Mathlib.Nat.{zero-add}
 use native.Mathlib.Numerals.{add-one}
 use native.Mathlib.Omega.{arith}
 use borrow.Author.Tests.{lt-ltb, le-ltb, lt-leb, le-leb}
+use lib.Dec.{eqb}
 use lib.ListN.{length, take, drop, get_or, replicate, length-take, length-drop, drop_of_length-le}
 use lib.Seq.{drop-cons, take-length, take_all, take_at}
-use Rattle.octets.specs.Bytes.{index_of, slice}
+use Rattle.octets.specs.Bytes.{index_of, index_after, slice}
 use Rattle.errors.specs.Choice.{pick, same}
 use Rattle.errors.specs.declared.Refusal.{Refusal}
 use Rattle.targets.specs.Bitrates.{ascii}
@@ -27,6 +28,20 @@ use Rattle.presence_lines.specs.declared.read.Cards.{Cards}
 use Rattle.presence_lines.specs.declared.read.Cards.TheVariants.{Bytes, Unreadable}
 use Rattle.presence_list.specs.Names.{identifier_limit, last_card_kind, last_bitrate}
 use Rattle.framing.specs.Build.{left}
+
+-- a byte that is looked for is found in the part, or is its end
+index_within : (x : ℕ) (b : List ℕ) → index_of x b ≤ length b
+unfolding index_of index_after
+index_within x [] = omega arith
+index_within x (y ∷ b) = go (eqb y x) (index_within x b)
+  where
+    go : (t : Bool) → index_of x b ≤ length b → index_after t (index_of x b) ≤ suc (length b)
+    go true h = omega arith
+    go false h = omega arith
+
+pub found_within : (x at to n : ℕ) (b : List ℕ) → at ≤ to → to ≤ length b → n ≡ at + index_of x (slice at to b) → n ≤ to
+unfolding slice
+found_within x at to n b h k e = omega (arith, index_within x (drop at (take to b)), length-drop at (take to b), length-take to b)
 
 -- the place of a word among others
 module _ (w : List ℕ) (ws : List (List ℕ)) (i : ℕ) (rest : place_among w ws ≡ i + place_among w (drop i ws)) where

@@ -1,5 +1,5 @@
 // The lines of the program `presence`: a round in; the arrivals, the departures and the list out.
-#![tactic(auto)]
+#![tactic(auto, using(errors::specs::Rules::picks), unfolding(errors::specs::Choice::pick, crate::specs::Lines::answer_of, crate::specs::Lines::line_reply, crate::specs::Lines::text_of))]
 
 mod print;
 mod read;

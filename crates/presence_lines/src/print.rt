@@ -1,4 +1,6 @@
 // What is printed for a round. Each function gives the place behind its text; a text that has no room is not put.
+#![tactic(auto, using(errors::specs::Rules::picks), unfolding(errors::specs::Choice::pick, crate::specs::Lines::card_text, crate::specs::Lines::cards_text, crate::specs::Lines::lists_text, crate::specs::Lines::rate_text, crate::specs::Lines::refused_text, presence_list::specs::Memory::pieces))]
+
 ghost use Rattle.std.specs.Prelude.{◌*◌, ◌≤◌, ◌<◌, length, take, drop};
 ghost use Rattle.bench.specs.Texts.{Appends};
 ghost use Rattle.presence_list.specs.Names.{record_size, card_limit, cards_size};

@@ -1,4 +1,6 @@
 // A line taken apart: `round`, the number, and the cards.
+#![tactic(auto, using(errors::specs::Rules::picks), unfolding(errors::specs::Choice::pick, bench::specs::Hex::is_hex_of, bench::specs::WordLaws::words_behind, bench::specs::Words::words_of_lem, crate::specs::Lines::are_cards, crate::specs::Lines::before_colon, crate::specs::Lines::behind_colon, crate::specs::Lines::identified, crate::specs::Lines::is_card, crate::specs::Lines::place_among, crate::specs::Lines::record_of_word, crate::specs::Lines::record_with, crate::specs::Lines::records_of_words, crate::specs::Lines::said_of))]
+
 ghost use Rattle.std.specs.Prelude.{◌≡◌, Bool, ◌≤◌, length, drop};
 ghost use Rattle.bench.specs.Hex.{is_hex_of};
 ghost use Rattle.bench.specs.Texts.{Appends};

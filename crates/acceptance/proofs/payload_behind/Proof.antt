@@ -1,6 +1,6 @@
 -- `payload_behind` meets its contract.
 use native.Mathlib.Omega.{arith}
-use Rattle.acceptance.specs.OrderLaws.{behind_empty, behind-one, behind-last-one, behind_two, behind-row, behind-last, of_bytes}
+use Rattle.acceptance.proofs.OrderLaws.{behind_empty, behind-one, behind-last-one, behind_two, behind-row, behind-last, of_bytes}
 use borrow.Author.Rules.{rules}
 use Rattle.acceptance.proofs.payload_behind.Statement.{statement}
 use Rattle.acceptance.proofs.payload_behind.Tie as tie

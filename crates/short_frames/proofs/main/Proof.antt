@@ -1,6 +1,7 @@
 -- `main` ends, and comes to each entry: the entries left are those behind the steps taken.
 use Rattle.std.proofs.Common.{◌≡◌, length, sym, arith, length-take-le, rules}
-use Rattle.acceptance.specs.Theorem.{OnWay, on_way_start, few_counted, on_way_more, less_left}
+use Rattle.acceptance.specs.Theorem.{OnWay}
+use Rattle.acceptance.proofs.Theorem.{on_way_start, few_counted, on_way_more, less_left}
 use Rattle.short_frames.proofs.main.Statement.{statement}
 use Rattle.short_frames.proofs.main.Tie as tie
 

@@ -1,7 +1,7 @@
 -- `Entry::next` meets its contract.
 use mathlib.Core.Path.{sym, ◌∙◌}
 use native.Mathlib.Omega.{arith}
-use Rattle.acceptance.specs.OrderLaws.{step_refused, step_within, step-over, step_end}
+use Rattle.acceptance.proofs.OrderLaws.{step_refused, step_within, step-over, step_end}
 use borrow.Author.Rules.{rules}
 use Rattle.acceptance.proofs.Entry.next.Statement.{statement}
 use Rattle.acceptance.proofs.Entry.next.Tie as tie

@@ -5,7 +5,8 @@ use Prim.Native.Nat.{◌+◌, ◌-◌, ◌*◌, ◌≤◌}
 use native.Mathlib.Omega.{arith}
 use lib.ListN.{length}
 use Rattle.acceptance.specs.Steps.{on_entry}
-use Rattle.acceptance.specs.PutLinesLaws.{Filling, filling-start, filling-more, filling-end, len_more, entries_less, entry_or_line, line_short, on_entry_most}
+use Rattle.acceptance.specs.PutLinesLaws.{Filling}
+use Rattle.acceptance.proofs.PutLinesLaws.{filling-start, filling-more, filling-end, len_more, entries_less, entry_or_line, line_short, on_entry_most}
 use Rattle.acceptance.proofs.Tags.{no_entry_lem}
 use borrow.Author.Rules.{rules}
 use Rattle.acceptance.proofs.lines.put_lines.Statement.{statement}
