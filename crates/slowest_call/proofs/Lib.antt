@@ -1,2 +1,3 @@
 mod LineLaws
 mod ScriptLaws
+pub mod FoundLaws
