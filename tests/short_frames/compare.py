@@ -1,7 +1,7 @@
 #!/usr/bin/env python3
 """Compares all that short_frames prints with a list made here, byte by byte, and its summary with the one that the gate holds it to.
 
-    rt check short_frames && python3 tests/short_frames/compare.py
+    tools/program short_frames && python3 tests/short_frames/compare.py
 
 The list is made from document 01's frames alone: six settings, of which the error form plays no part in building. A difference, or a
 run of over a second, ends it with status 1.

@@ -5,5 +5,4 @@ pub mod OrderLaws
 pub mod LineLaws
 pub mod PutLinesLaws
 pub mod OneToOne
-pub mod Runs
 pub mod Theorem

@@ -15,8 +15,8 @@ use Rattle.chip_protocol.specs.Field.{Card, FieldFits, FieldAllowed}
 use Rattle.chip_protocol.specs.Chip.{ChipState, with_found_of, listed_place, partner_place, field_on_after, state_after, step_for, chip_step}
 use Rattle.chip_protocol.specs.Add.{Added as Outcome, added, refuses, new_card, add_card, with_reply, add_reply}
 use Rattle.chip_protocol.specs.Allowed.{card_outcomes, card_exactly}
-use Rattle.chip_protocol.specs.AllowedReplies.{reply_outcomes, reply_exactly, no_card, allowed-fits}
-use Rattle.chip_protocol.specs.Fits.{by_pick}
+use Rattle.chip_protocol.proofs.AllowedReplies.{reply_outcomes, reply_exactly, no_card, allowed-fits}
+use Rattle.chip_protocol.proofs.Fits.{by_pick}
 use Rattle.chip_protocol.specs.declared.Kind.{Kind}
 use Rattle.simulated_chip.specs.Memory.{card_size, sent_size, reply_size, places, chip_state}
 use Rattle.simulated_chip.specs.Range.{in_range}

@@ -20,7 +20,7 @@ use Rattle.engine.specs.Inputs.{step_with}
 use Rattle.chip_protocol.specs.Channel.{Chip, simulated}
 use Rattle.chip_protocol.specs.Alike.{Alike}
 use Rattle.chip_protocol.specs.Claim.{Reached, N10}
-use Rattle.chip_protocol.specs.Theorem.{n10}
+use Rattle.chip_protocol.proofs.Theorem.{n10}
 
 -- D: a chip that does as the definitions' chip, such as its own code (ChipCode.antt)
 module _ (D : Chip) (alike : Alike D simulated) where

@@ -1,13 +1,13 @@
 -- Cards and replies that are added or refused, by computation.
-use Rattle.std.specs.Prelude.{◌≡◌, refl, List, [], ◌∷◌, ℕ, replicate}
+use Rattle.std.specs.Prelude.{◌≡◌, refl, [], ◌∷◌, replicate}
 use Rattle.errors.specs.Choice.{pick, same}
 use Rattle.errors.specs.declared.Refusal.TheVariants.{OverLong, BadArgument}
 use Rattle.crc.specs.Crc.{checks, crc_bytes, crc_of, result, register_after, bits_in, bits, bit_in, polynomial}
 use Rattle.targets.specs.declared.Bitrate.TheVariants.{B106A, B212F, B106B, B212B}
-use Rattle.chip_protocol.specs.Field.{Card, wupb, reply_to}
-use Rattle.chip_protocol.specs.Add.{Added, added, refuses, add_card, with_reply, add_reply_to, add_reply}
+use Rattle.chip_protocol.specs.Field.{wupb, reply_to}
+use Rattle.chip_protocol.specs.Add.{added, refuses, add_card, with_reply, add_reply_to, add_reply}
 use Rattle.chip_protocol.specs.Samples.{tag, card_b, felica, partner}
-use Rattle.chip_protocol.specs.declared.Kind.TheVariants.{TypeA, TypeB, TypeF, Dep}
+use Rattle.chip_protocol.specs.declared.Kind.TheVariants.{TypeB, TypeF, Dep}
 
 -- to unfold this is to unfold all that an addition computes with
 unfoldable additions : Unit {0}

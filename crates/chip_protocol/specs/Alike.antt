@@ -1,7 +1,7 @@
 -- Two chips that do alike, such as a definition and the code that follows it: a reader's run against the one is its run against the other.
 use Rattle.std.specs.Prelude.{◌≡◌, refl, List, ◌++◌, ℕ, zero, suc}
-use Rattle.std.proofs.Common.{ap, ap₂, ◌∙◌}
-use Rattle.exchange.specs.Exchange.{Order, write, read, drain, pause, Event}
+use Rattle.std.proofs.Common.{ap₂, ◌∙◌}
+use Rattle.exchange.specs.Exchange.{write, read, drain, pause, Event}
 use Rattle.protocol.specs.Session.{Output, orders, answers, rejects}
 use Rattle.protocol.specs.Machine.{Machine}
 use Rattle.chip_protocol.specs.Channel.{Chip, Channel, channel, event_for, channel_after, End, end, run, call_run}

@@ -1,26 +1,21 @@
 -- A card is added exactly where the field with it is allowed; 4 is given exactly where an argument is bad, so before 3. AllowedReplies.antt has the same of a reply.
-use Rattle.std.specs.Prelude.{◌≡◌, Bool, List, [], ◌∷◌, ◌++◌, ◌↔◌, ◌⊎◌, ℕ, zero, suc, ◌+◌, ◌-◌, ◌≤◌, ◌<◌, length, take}
+use Rattle.std.specs.Prelude.{◌≡◌, Bool, List, [], ◌∷◌, ◌++◌, ◌↔◌, ◌⊎◌, ℕ, ◌≤◌, ◌<◌, length}
 use Rattle.std.proofs.Math.Path.{refl}
-use Rattle.std.proofs.Common.{sym, ap, ◌∙◌, subst, length-append}
+use Rattle.std.proofs.Common.{ap, length-append}
 use Rattle.std.proofs.Math.Bool.{true, false}
-use Rattle.std.proofs.lemmas.Bool.{false≢true}
 use Rattle.std.proofs.Math.Logic.{inl, inr}
-use Rattle.std.proofs.Math.Option.{Option, none, some}
 use native.Mathlib.Omega.{arith}
 use borrow.Author.Tests.{leb-true, ltb-true, lt-ltb, le-leb}
 use Rattle.std.proofs.Math.Dec.{leb, ltb}
-use Rattle.std.proofs.Math.Seq.{take-append_seam}
-use Rattle.errors.specs.Choice.{pick, same, same_self, same_is, same_not}
+use Rattle.errors.specs.Choice.{pick, same_self}
 use Rattle.errors.specs.declared.Refusal.{Refusal}
 use Rattle.errors.specs.Refusals.{numbered}
 use Rattle.errors.specs.declared.Refusal.TheVariants.{OverLong, BadArgument}
 use Rattle.framing.specs.Lists.{Bytes}
 use Rattle.targets.specs.declared.Bitrate.{Bitrate}
-use Rattle.protocol.specs.Starts.{data_limit}
-use Rattle.chip_protocol.specs.Names.{longest_list_data, longest_reply, most_cards, most_replies}
-use Rattle.chip_protocol.specs.Field.{StatedReply, Card, is_bitrate_of, wupb, reply_to, least_list_data, protocol_fits, is_type2_at, is_type2_card, crc_fits, ReplyFits, RepliesFit, is_stated, wakes_up, CardFits, FieldFits, reply_limit, RepliesAllowed, CardAllowed, CardsAllowed, FieldAllowed}
-use Rattle.chip_protocol.specs.Chip.{card_in}
-use Rattle.chip_protocol.specs.Add.{Added, added, refuses, wake_up_reply, first_replies, new_card, add_card, with_reply, add_reply_to, add_reply}
+use Rattle.chip_protocol.specs.Names.{longest_list_data, longest_reply, most_cards}
+use Rattle.chip_protocol.specs.Field.{Card, is_bitrate_of, wupb, reply_to, least_list_data, protocol_fits, is_type2_at, RepliesFit, wakes_up, reply_limit, RepliesAllowed, CardAllowed, CardsAllowed, FieldAllowed}
+use Rattle.chip_protocol.specs.Add.{Added, added, refuses, wake_up_reply, first_replies, new_card, add_card}
 use Rattle.chip_protocol.specs.declared.Kind.{Kind}
 use Rattle.chip_protocol.specs.declared.Kind.TheVariants.{TypeA, TypeB, TypeF, Dep}
 

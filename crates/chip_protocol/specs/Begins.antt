@@ -1,19 +1,19 @@
 -- What an accepted call of N10 begins with: its bitrate is one of the kind, its data can be sent.
-use Rattle.std.specs.Prelude.{◌≡◌, refl, Bool, true, false, cond, ◌&&◌, List, [], ◌∷◌, ℕ, ◌+◌, ◌≤◌, ◌<◌, eqb, leb, ltb, length, get_or}
-use Rattle.std.proofs.Common.{sym, ap, ◌∙◌, subst, arith, ltb-false, ne_eqb, leb-true}
+use Rattle.std.specs.Prelude.{◌≡◌, refl, Bool, true, false, cond, ◌&&◌, List, ℕ, ◌+◌, ◌≤◌, ◌<◌, eqb, leb, ltb, length}
+use Rattle.std.proofs.Common.{sym, ap, ◌∙◌, arith, ltb-false, ne_eqb, leb-true}
 use Rattle.std.proofs.lemmas.Bool.{false≢true}
 use Rattle.std.proofs.Math.Option.{Option, none, some}
 use Rattle.errors.specs.Choice.{pick}
-use Rattle.errors.specs.declared.Refusal.TheVariants.{OverLong, Bitrate as BadBitrate, BadArgument}
+use Rattle.errors.specs.declared.Refusal.TheVariants.{OverLong, Bitrate as BadBitrate}
 use Rattle.framing.specs.Lists.{both}
-use Rattle.targets.specs.Bitrates.{Choice, choice_of, chosen, by_bitrate, by_code_of}
+use Rattle.targets.specs.Bitrates.{choice_of, chosen}
 use Rattle.targets.specs.declared.Bitrate.{Bitrate}
 use Rattle.targets.specs.declared.Bitrate.TheVariants.{B106A, B212F, B424F, B106B, B212B, B424B, B848B, Other}
 use Rattle.protocol.specs.Scripts.{Script, if_else}
 use Rattle.protocol.specs.Arguments.{atr_req_fits, shortest_atr_req, longest_atr_req}
 use Rattle.protocol.specs.Calls.{reader, device, transceive}
 use Rattle.protocol.specs.Discovery as discovery
-use Rattle.protocol.specs.Starts.{Start, refuses, starts, start_of, code_for, asserted, data_limit, type_a_code, type_b_code, type_f_code, dep_code, is106a, type2_sel_res, clock_of, transceive_start}
+use Rattle.protocol.specs.Starts.{Start, refuses, starts, start_of, code_for, asserted, data_limit, type_a_code, type_b_code, type_f_code, dep_code, is106a, type2_sel_res, clock_of}
 use Rattle.chip_protocol.specs.Field.{is_bitrate_of, br_ty, is_type2_at}
 use Rattle.chip_protocol.specs.declared.Kind.{Kind}
 use Rattle.chip_protocol.specs.declared.Kind.TheVariants.{TypeA, TypeB, TypeF, Dep}

@@ -1,5 +1,5 @@
 -- N10's field of cards, and what is asked of it. `FieldFits` is what N10's sentences need; `FieldAllowed` asks for what the programs ask besides.
-use Rattle.std.specs.Prelude.{◌≡◌, Bool, true, false, List, [], ◌∷◌, ℕ, zero, suc, ◌+◌, ◌/◌, ◌%◌, ◌≤◌, eqb, ltb, length, get_or}
+use Rattle.std.specs.Prelude.{◌≡◌, Bool, true, false, List, [], ◌∷◌, ℕ, ◌+◌, ◌/◌, ◌%◌, ◌≤◌, eqb, ltb, length, get_or}
 use Rattle.std.proofs.Math.Option.{Option, none, some}
 use Rattle.errors.specs.Choice.{pick, same}
 use Rattle.framing.specs.Lists.{Bytes}

@@ -9,14 +9,13 @@ pub mod Channel
 pub mod First
 pub mod Answers
 pub mod Claim
--- the theorems: N10's sentences, a card or a reply added exactly where the field then is allowed; runs by computation
-pub mod Theorem
 pub mod SessionReader
+-- a card added exactly where the field then is allowed; runs by computation
 pub mod Allowed
 pub mod AllowedReplies
 pub mod Samples
 pub mod AddSamples
--- proofs: what a script comes to; a run comes to that; each call's script; the same of a machine, and with another chip
+-- what the theorems in proofs/ are said with, and first laws
 pub mod Script
 pub mod Intact
 pub mod Run
@@ -29,7 +28,4 @@ pub mod Requests
 pub mod Alike
 pub mod Begins
 pub mod Machines
-pub mod Ends
-pub mod CallEnds
 pub mod Exactly
-pub mod Simulated

@@ -1,5 +1,5 @@
 -- A field that fits, runs of reader and chip by computation, and what fails where a condition of N10 is left out.
-use Rattle.std.specs.Prelude.{◌≡◌, refl, Bool, true, false, ◌&&◌, List, [], ◌∷◌, ◌++◌, ℕ, ◌<◌, ltb, replicate}
+use Rattle.std.specs.Prelude.{◌≡◌, refl, Bool, true, false, ◌&&◌, List, [], ◌∷◌, ◌++◌, ℕ, ltb, replicate}
 use Rattle.std.proofs.lemmas.Bool.{false≢true}
 use Rattle.std.proofs.Math.Option.{none}
 use Rattle.std.proofs.Common.{arith, ltb-true}
@@ -12,11 +12,10 @@ use Rattle.framing.specs.Lists.{Bytes}
 use Rattle.targets.specs.Bitrates.{ascii, is_rate, send_length, is_bitrate, send_part_of, code_of, choice_of}
 use Rattle.targets.specs.Form.{all_digits}
 use Rattle.targets.specs.declared.Bitrate.TheVariants.{B106A, B212F, B106B}
-use Rattle.exchange.specs.Exchange.{Event}
 use Rattle.protocol.specs.Scripts.{done, nothing, refused, part, rest}
 use Rattle.protocol.specs.Calls.{Call, opening, reader, request, in_communicate_thru_of, device, detect_type_a_of, detect_type_b_of, detect_type_f_of, detect_dep_of, transceive}
 use Rattle.protocol.specs.Sample.{formats}
-use Rattle.protocol.specs.Session.{Session, Entry, fresh, call, event, Output, answers, rejects}
+use Rattle.protocol.specs.Session.{Session, fresh, call, event, Output, answers, rejects}
 use Rattle.chip_protocol.specs.Packets.{received_in, response_packet}
 use Rattle.chip_protocol.specs.Field.{StatedReply, Card, is_at, wupb, reply_to, crc_fits, FieldFits}
 use Rattle.chip_protocol.specs.Chip.{ChipState, first_from, searched, register_value_of, registers_read, response_to, field_on_after, state_after, chip_step}

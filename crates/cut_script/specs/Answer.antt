@@ -1,4 +1,4 @@
--- The cut of a script, its bytes in: 3 for an over_long_lem script, then 29 for one without a refusal at its end, else where the stretch starts; and the
+-- The cut of a script, its bytes in: 3 for an over-long script, then 29 for one without a refusal at its end, else where the stretch starts; and the
 -- theorem: the stretch is the shortest end of the script, of whole lines, whose last line prints the script's refusal.
 use Rattle.std.specs.Prelude.{◌≡◌, refl, Bool, true, false, ◌||◌, List, [], ◌∷◌, ◌++◌, map, ℕ, zero, suc, ◌-◌, ltb, length, drop, take}
 use Rattle.std.proofs.Common.{ap, ◌∙◌, arith, take-append-drop}
@@ -88,7 +88,7 @@ shortest_stretch s k h =
       shortest = h;
     }
 
--- a script that is not over_long_lem and whose last line prints a refusal is cut to its shortest stretch
+-- a script that is not over-long and whose last line prints a refusal is cut to its shortest stretch
 pub cut_shortest : (s : List ℕ) → is_over_long s ≡ false → Faulty bench (script s) → (p : ℕ) × (cut_of s ≡ from p) × ShortestStretch s (drop p s)
 unfolding cut_of pick
 cut_shortest s e f =

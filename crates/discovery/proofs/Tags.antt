@@ -85,4 +85,3 @@ not_ended f b F G (UidAndAts l uid ats) d h₁ h₂ h₃ k = record { is = ap (o
 not_ended f b F G Nothing d h₁ h₂ h₃ k = record { is = ap (on_end F G) k.is; fits = k.fits }
 not_ended f b F G (Refused r) d h₁ h₂ h₃ k = absurd (h₃ r refl)
 not_ended f b F G (RefusedAfter r n) d h₁ h₂ h₃ k = record { is = ap (on_end F G) k.is; fits = k.fits }
-

@@ -39,7 +39,7 @@ books_in_range opened mode caller = both (nat_le opened 1) (both (nat_le mode 1)
 abbrev pub is_in_range : Books → Bool
 is_in_range b = books_in_range (opened_in b) (mode_in b) (caller_in b)
 
--- how many bytes the mode takes off a packet's start: its extra zeros in the padded one, unless it is over_long_lem
+-- how many bytes the mode takes off a packet's start: its extra zeros in the padded one, unless it is over-long
 unfoldable pub extra_in : ℕ → List ℕ → ℕ
 extra_in mode packet = pick (is_padded_mode mode) (pick (nat_lt packet_limit (length packet)) 0 (extra_zeros_of packet)) 0
 

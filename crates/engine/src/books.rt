@@ -46,7 +46,7 @@ pub fn is_in_range(opened: u8, mode: u8, caller: u8) -> bool
     caller <= LAST_CALLER
 }
 
-// How many bytes the mode takes off a packet's start: its extra zeros, unless it is over_long_lem.
+// How many bytes the mode takes off a packet's start: its extra zeros, unless it is over-long.
 pub fn extra_zeros(mode: u8, packet: &[u8]) -> usize
     ensures { result ≡ extra_in mode packet.now }
 {

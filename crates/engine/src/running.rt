@@ -239,7 +239,7 @@ impl Core {
         Progress { core: self, output }
     }
 
-    // What the host returns for an order: it is refused where it does not fit the order, where the buffer is short or the packet over_long_lem.
+    // What the host returns for an order: it is refused where it does not fit the order, where the buffer is short or the packet over-long.
     pub(crate) fn event(
         self,
         event: Event,

@@ -26,7 +26,7 @@ pub record Beside (n : ℕ) (xs ys : List Item) : Type 0 where
 
 -- ---- further packets
 
--- ACK-led as the mode sees them, none over_long_lem, each with a buffer that is long enough
+-- ACK-led as the mode sees them, none over-long, each with a buffer that is long enough
 abbrev pub Furthers : Bool → List EventAndRoom → Type 0
 Furthers mode [] = Unit {0}
 Furthers mode (e ∷ es) =

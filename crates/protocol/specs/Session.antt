@@ -150,7 +150,7 @@ fresh = record { running = idle; books = no_books false 0 }
 abbrev pub packet_limit : ℕ
 packet_limit = 1024
 
--- an event as the mode sees it: in the padded one a packet, if it is not over_long_lem, is seen without its extra zeros
+-- an event as the mode sees it: in the padded one a packet, if it is not over-long, is seen without its extra zeros
 abbrev pub without_zeros : Event → Event
 without_zeros ok = ok
 without_zeros bad = bad

@@ -32,7 +32,9 @@ pub extern "C" fn rcs956_call(
 ) -> Outcome
     ensures { report session.new result buffer.new ≡ report_for session.old (host_call number numbers first.now second.now third.now fourth.now buffer.old) }
 {
-    session_host::call(session, number, numbers, first, second, third, fourth, buffer)
+    session_host::call(
+        session, number, numbers, first, second, third, fourth, buffer,
+    )
 }
 
 // An event, by its number, with a packet's bytes. What comes out is the same.

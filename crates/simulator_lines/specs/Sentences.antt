@@ -21,9 +21,10 @@ use Rattle.chip_protocol.specs.Chip.{ChipState, card_at, step_for, chip_step}
 use Rattle.chip_protocol.specs.Channel.{simulated, as_is, Channel, channel, channel_after, behind_next, End, run}
 use Rattle.chip_protocol.specs.Answers.{answer_a, answer_b, answer_f, answer_dep, events_a, events_b, events_f, events_dep, most_events, opening_answer, opening_events, sel_res_of, handed_out, transceive_events}
 use Rattle.chip_protocol.specs.Claim.{PacketsFit, Ready, Called, Ends, N10}
-use Rattle.chip_protocol.specs.Exactly.{few_a, few_b, few_f, few_dep}
+use Rattle.chip_protocol.proofs.Exactly.{few_a, few_b, few_f, few_dep}
 use Rattle.chip_protocol.specs.First.{First}
-use Rattle.chip_protocol.specs.SessionReader.{session, session_n10}
+use Rattle.chip_protocol.specs.SessionReader.{session}
+use Rattle.chip_protocol.proofs.SessionReader.{session_n10}
 use Rattle.chip_protocol.specs.declared.Kind.TheVariants.{TypeA, TypeB, TypeF, Dep}
 use Rattle.simulator_lines.specs.Ring.{places_limit, kept_with}
 use Rattle.simulator_lines.specs.Plays.{event_limit, kept_all, limited_after, Playing, playing, answered, played, played_from, end_text}

@@ -127,7 +127,7 @@ no_code a b c d n known byte on-106 on-212 on-424 on-848 =
     suffix : (k u : ℕ) → u < 256 → 256 * rate_number a b c + d ≡ 256 * k + u → d ≡ u
     suffix k u h e = omega arith
 
--- One of the seven texts is a well_formed bitrate, whose send part it is.
+-- One of the seven texts is a well-formed bitrate, whose send part it is.
 module _ (t : List ℕ) where
   by-text : (b : Bool) (u : List ℕ) (x y : Bitrate) → (b ≡ true → t ≡ u) → chosen x ≡ choice_of u → ((y ≡ Other → ⊥) → chosen y ≡ choice_of t)
       → (cond b x y ≡ Other → ⊥) → chosen (cond b x y) ≡ choice_of t

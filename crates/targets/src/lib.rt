@@ -16,7 +16,7 @@ pub enum Parsed {
     Refused(Refusal),
 }
 
-// The send parts that the calls tell apart; any other well_formed one is Other.
+// The send parts that the calls tell apart; any other well-formed one is Other.
 #[derive(Clone, Copy)]
 pub enum Bitrate {
     B106A,
@@ -138,7 +138,7 @@ fn bitrate_code(a: u8, b: u8, c: u8, suffix: u8) -> Bitrate
     }
 }
 
-// The code of the send part. The calls compare texts, so `0106A` is not `106A`. One of the seven texts is well_formed and needs no parse.
+// The code of the send part. The calls compare texts, so `0106A` is not `106A`. One of the seven texts is well-formed and needs no parse.
 #[tactic(auto, using(crate::proofs::Laws::refused_too, crate::proofs::Laws::other_length, crate::proofs::Laws::four_code, crate::proofs::Laws::known_code))]
 pub fn code(text: &[u8]) -> Coded
     ensures { coded result ≡ choice_of text.now }

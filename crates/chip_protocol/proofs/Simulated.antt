@@ -1,5 +1,5 @@
 -- N10's sentences of every machine that simulates the definitions, with the definitions' chip.
-use Rattle.std.specs.Prelude.{◌≡◌, refl, Bool, true, false, List, [], ◌↔◌, ℕ, ◌+◌, ◌-◌, ◌≤◌, ◌<◌, get_or}
+use Rattle.std.specs.Prelude.{◌≡◌, refl, true, false, List, [], ◌↔◌, ℕ, ◌+◌, ◌-◌, ◌≤◌, ◌<◌, get_or}
 use Rattle.std.proofs.Common.{sym, ap, ◌∙◌, subst}
 use Rattle.std.proofs.Math.Option.{Option, none, some}
 use Rattle.errors.specs.declared.Fault.TheVariants.{NoCard}
@@ -7,7 +7,7 @@ use Rattle.framing.specs.Lists.{Bytes}
 use Rattle.targets.specs.Bitrates.{choice_of, chosen}
 use Rattle.targets.specs.declared.Bitrate.{Bitrate}
 use Rattle.exchange.specs.Exchange.{Event}
-use Rattle.protocol.specs.Calls.{Call, opening, reader, device, detect_type_a_of, detect_type_b_of, detect_type_f_of, detect_dep_of, transceive}
+use Rattle.protocol.specs.Calls.{Call, reader, device, detect_type_a_of, detect_type_b_of, detect_type_f_of, detect_dep_of, transceive}
 use Rattle.protocol.specs.Scripts.{Answer, done, nothing, refused}
 use Rattle.protocol.specs.Session.{event, answers}
 use Rattle.protocol.specs.Machine.{Machine}
@@ -15,13 +15,14 @@ use Rattle.chip_protocol.specs.Field.{Card, is_bitrate_of, reply_to, is_type2_ca
 use Rattle.chip_protocol.specs.Chip.{card_at}
 use Rattle.chip_protocol.specs.declared.Kind.{Kind}
 use Rattle.chip_protocol.specs.declared.Kind.TheVariants.{TypeA, TypeB, TypeF, Dep}
-use Rattle.chip_protocol.specs.Channel.{simulated, as_is, Channel, End, call_run}
+use Rattle.chip_protocol.specs.Channel.{simulated, as_is, End, call_run}
 use Rattle.chip_protocol.specs.First.{NoneOf, FirstOf, First}
 use Rattle.chip_protocol.specs.Answers.{answer_a, answer_b, answer_f, answer_dep, events_a, events_b, events_f, events_dep, most_events, sel_res_of, handed_out, transceive_events}
-use Rattle.chip_protocol.specs.Claim.{Reached, Accepted, Ready, EndsWith, Called, CalledFor, field_of, run_of, Ends, N10}
-use Rattle.chip_protocol.specs.Search.{has_first}
-use Rattle.chip_protocol.specs.Exactly.{is_done, exactly, done_a, done_b, done_f, done_dep, few_a, few_b, few_f, few_dep, to_most}
-use Rattle.chip_protocol.specs.CallEnds as calls
+use Rattle.chip_protocol.specs.Claim.{Accepted, Ready, EndsWith, Called, CalledFor, field_of, run_of, Ends, N10}
+use Rattle.chip_protocol.proofs.Search.{has_first}
+use Rattle.chip_protocol.specs.Exactly.{is_done}
+use Rattle.chip_protocol.proofs.Exactly.{exactly, done_a, done_b, done_f, done_dep, few_a, few_b, few_f, few_dep, to_most}
+use Rattle.chip_protocol.proofs.CallEnds as calls
 
 module _ (M : Machine) (room : ℕ) (give : ℕ → Event → M.Input) (gives : (n : ℕ) (e : Event) → M.entry (give n e) ≡ event e room) where
   -- with as many events as any discovery has, and more

@@ -16,15 +16,14 @@ use Rattle.protocol.specs.Device.{device_new}
 use Rattle.protocol.specs.Discovery as discovery
 use Rattle.protocol.specs.Discovery.{sensf_req}
 use Rattle.protocol.specs.Machine.{Machine}
-use Rattle.protocol.specs.Session.{Session, event}
-use Rattle.protocol.specs.Starts.{start_of, starts, clock_of, limited, code_for}
+use Rattle.protocol.specs.Session.{event}
+use Rattle.protocol.specs.Starts.{start_of, starts, clock_of, code_for}
 use Rattle.chip_protocol.specs.Names.{firmware_version}
 use Rattle.chip_protocol.specs.Field.{Card, is_bitrate_of, br_ty, reply_to, is_type2_card, FieldFits}
-use Rattle.chip_protocol.specs.Chip.{ChipState, card_at, first_place_of}
-use Rattle.chip_protocol.specs.declared.Kind.{Kind}
+use Rattle.chip_protocol.specs.Chip.{ChipState, card_at}
 use Rattle.chip_protocol.specs.declared.Kind.TheVariants.{TypeA, TypeB, TypeF, Dep}
 use Rattle.chip_protocol.specs.Channel.{simulated, as_is, Channel, channel, End, call_run}
-use Rattle.chip_protocol.specs.Search.{finds_first}
+use Rattle.chip_protocol.proofs.Search.{finds_first}
 use Rattle.chip_protocol.specs.First.{First}
 use Rattle.chip_protocol.specs.Answers.{answer_a, answer_b, answer_f, answer_dep, events_a, events_b, events_f, events_dep, opening_answer, opening_events, sel_res_of, handed_out, transceive_events, answer_read, answer_write}
 use Rattle.chip_protocol.specs.Claim.{PacketsFit, Reached, Accepted, Ready, EndsWith}
@@ -34,10 +33,11 @@ use Rattle.chip_protocol.specs.Sent.{opening_sends, type_a_sends, type_b_sends, 
 use Rattle.chip_protocol.specs.Requests.{read_bytes_lem, read_short, write_bytes, write_short}
 use Rattle.chip_protocol.specs.Script.{Sends}
 use Rattle.chip_protocol.specs.Begins.{taken_by, taken_of, begins_with, code_byte, asserted_holds, atr_req_short, clock_runs, transceive_script, transceive_short, transceive_begins, transceive_sends}
-use Rattle.chip_protocol.specs.Found.{Comes, first_fits, found_a_lem, found_b_lem, found_f, found_dep}
+use Rattle.chip_protocol.specs.Found.{Comes}
+use Rattle.chip_protocol.proofs.Found.{first_fits, found_a_lem, found_b_lem, found_f, found_dep}
 use Rattle.chip_protocol.specs.Handed.{found_opening, transceive_comes, read_comes, write_comes}
-use Rattle.chip_protocol.specs.Fits.{crc_of_reply}
-use Rattle.chip_protocol.specs.Ends.{ends_call, ends_opening}
+use Rattle.chip_protocol.proofs.Fits.{crc_of_reply}
+use Rattle.chip_protocol.proofs.Ends.{ends_call, ends_opening}
 
 -- the bitrate of an accepted discovery is one of its kind
 module _ (M : Machine) (room : ℕ) (give : ℕ → Event → M.Input) (gives : (n : ℕ) (e : Event) → M.entry (give n e) ≡ event e room)

@@ -1,6 +1,6 @@
 -- N10's sentences hold of every machine that simulates the definitions, with every chip that does as the definitions' chip.
-use Rattle.std.specs.Prelude.{◌≡◌, refl, List, ◌↔◌, ℕ, ◌+◌}
-use Rattle.std.proofs.Common.{sym, ap, ◌∙◌, subst}
+use Rattle.std.specs.Prelude.{◌≡◌, List, ◌↔◌, ℕ, ◌+◌}
+use Rattle.std.proofs.Common.{sym, ap, subst}
 use Rattle.std.proofs.Math.Option.{Option, some}
 use Rattle.exchange.specs.Exchange.{Event}
 use Rattle.protocol.specs.Calls.{Call}
@@ -12,7 +12,7 @@ use Rattle.chip_protocol.specs.Channel.{Chip, simulated, as_is, Channel, End, ca
 use Rattle.chip_protocol.specs.Answers.{most_events, transceive_events}
 use Rattle.chip_protocol.specs.Claim.{Ready, EndsWith, Called, field_of, run_of, Ends, N10}
 use Rattle.chip_protocol.specs.Alike.{Alike, on_channel, on_end, alike_call}
-use Rattle.chip_protocol.specs.Simulated.{simulated_n10}
+use Rattle.chip_protocol.proofs.Simulated.{simulated_n10}
 
 module _ (D : Chip) (alike : Alike D simulated) (M : Machine) (room : ℕ) (give : ℕ → Event → M.Input) where
   abbrev on_called : {c : Call} → Called D alike.state M room give c → Called simulated as_is M room give c

@@ -14,11 +14,13 @@ use Rattle.chip_protocol.specs.Chip.{ChipState, card_at, chip_step, step_for}
 use Rattle.chip_protocol.specs.Channel.{simulated, as_is, Channel, channel, End, call_run}
 use Rattle.chip_protocol.specs.Script.{more, responder, packets_for, state_for, chip_of, Sends, peer_of}
 use Rattle.chip_protocol.specs.Claim.{PacketsFit, Reached, Accepted, EndsWith}
-use Rattle.chip_protocol.specs.Run.{PlayEnd, play_from, reads_and, run_call, run_opening}
+use Rattle.chip_protocol.specs.Run.{PlayEnd, play_from, reads_and}
+use Rattle.chip_protocol.proofs.Run.{run_call, run_opening}
 use Rattle.protocol.specs.Runs.{session_at, run_events}
 use Rattle.chip_protocol.specs.Machines.{reached-session, reached-next, same_call_run, reached-run, machine_accepted, AcceptedIn, opened_of}
 use Rattle.chip_protocol.specs.Alike.{Alike, alike_call}
-use Rattle.chip_protocol.specs.Fits.{chip_fits, HasFitting}
+use Rattle.chip_protocol.specs.Fits.{HasFitting}
+use Rattle.chip_protocol.proofs.Fits.{chip_fits}
 use Rattle.chip_protocol.specs.Found.{Comes}
 
 -- the chip's step is its responses
