@@ -1,5 +1,5 @@
 // The lines of the program `session`: a call or an event in, an order or an answer out.
-#![tactic(auto)]
+#![tactic(auto, using(errors::specs::Rules::picks), unfolding(errors::specs::Choice::pick, crate::specs::Answers::answer_of, crate::specs::Answers::line_reply, crate::specs::Answers::said_step))]
 
 pub mod output;
 

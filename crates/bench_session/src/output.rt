@@ -1,4 +1,6 @@
 // What is printed for an order or an answer.
+#![tactic(auto, using(errors::specs::Rules::picks), unfolding(errors::specs::Choice::pick, bench::specs::Hex::hex_of, bench::specs::Texts::decimal_of, crate::specs::Outputs::done_text, crate::specs::Outputs::lengths_text, crate::specs::Outputs::list_refused_text, crate::specs::Outputs::refused_text, crate::specs::Outputs::text_of, crate::specs::Outputs::type1_text))]
+
 ghost use Rattle.std.specs.Prelude.{◌≡◌, ◌≤◌, ◌++◌, length};
 ghost use Rattle.bench.specs.Texts.{placed, placed_at, decimal_of, Appends};
 ghost use Rattle.bench.specs.Hex.{hex_of};

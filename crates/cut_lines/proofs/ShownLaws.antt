@@ -7,7 +7,7 @@ use types.Run.{OneOf, miss}
 use Rattle.engine.specs.Inputs.{output_of}
 use Rattle.engine.specs.declared.running.Output.{Output}
 use Rattle.engine.specs.declared.running.Output.TheVariants.{Ack, Command, Read, Drain, Pause, Done, Type1, UidAndAts, Nothing, Failed, FailedAfter, Refused}
-use Rattle.engine.specs.contracts.core.Output.{the_type}
+use Rattle.engine.specs.contracts.running.Output.{the_type}
 use Rattle.cut_script.specs.Bench.{refusal_of, is_at_once}
 use Rattle.cut_lines.specs.Shown.{refused_by, at_once_by}
 
