@@ -1,6 +1,4 @@
 // The lines of the program `slowest`: a call's word and a number of idle reads in, the script of its longest run out.
-#![tactic(auto, using(errors::specs::Rules::picks), unfolding(errors::specs::Choice::pick))]
-
 ghost use Rattle.std.specs.Prelude.{◌≡◌, ◌≤◌, length};
 ghost use Rattle.bench.specs.Texts.{placed, placed_at};
 ghost use Rattle.slowest_call.specs.Texts.{script_limit, script_room, refused_text, answer_text, line_text};

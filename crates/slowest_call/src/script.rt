@@ -1,6 +1,4 @@
 // The script of a kind: the number of its events, and its lines.
-#![tactic(auto, using(errors::specs::Rules::picks), unfolding(errors::specs::Choice::pick))]
-
 ghost use Rattle.std.specs.Prelude.{◌≡◌, ◌<◌, ◌^◌};
 ghost use Rattle.framing.specs.Build.{left};
 ghost use Rattle.bench.specs.Texts.{returned, Appends};

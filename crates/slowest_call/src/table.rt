@@ -1,7 +1,5 @@
 // The runs, four fields for each kind: its name, its most events, its lines up to the wait of its last command, and those behind that
 // wait. The last field of all has the lines that open the reader. Each field ends with `|`.
-#![tactic(auto, using(errors::specs::Rules::picks), unfolding(errors::specs::Choice::pick))]
-
 ghost use Rattle.std.specs.Prelude.{◌≡◌, [], ◌≤◌, length, get_or, drop};
 ghost use Rattle.slowest_call.specs.Fields.{fields_of};
 ghost use Rattle.slowest_call.specs.Kinds.{kinds};

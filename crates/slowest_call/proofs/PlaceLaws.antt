@@ -1,5 +1,6 @@
--- A byte that is looked for is found in the part, or is its end.
-use Rattle.std.proofs.Common.{◌≡◌, ◌+◌, ◌≤◌, ℕ, suc, Bool, true, false, List, [], ◌∷◌, eqb, length, take, drop, arith, length-take, length-drop}
+-- What is looked for in a part stands within it, or at its end.
+use Rattle.std.proofs.Common.{◌≡◌, ◌+◌, ◌≤◌, ℕ, suc, List, [], ◌∷◌, Bool, true, false, eqb, length, take, drop, arith, length-drop}
+use Rattle.std.proofs.lemmas.List.{length-take}
 use Rattle.octets.specs.Bytes.{index_of, index_after, slice}
 
 index_within : (x : ℕ) (b : List ℕ) → index_of x b ≤ length b
