@@ -1,4 +1,6 @@
 // The packets that the chip sent and that are not yet read: a ring of places, each with room for a packet.
+#![tactic(auto, using(errors::specs::Rules::picks), unfolding(errors::specs::Choice::pick, crate::specs::Ring::kept_with, crate::specs::Ring::packet_at))]
+
 ghost use Rattle.std.specs.Prelude.{◌≡◌, ℕ, ◌%◌, List, length, take};
 ghost use Rattle.chip_protocol.specs.Channel.{simulated, behind_next};
 ghost use Rattle.chip_protocol.specs.Names.{longest_packet};

@@ -1,5 +1,5 @@
 // The lines of the program `simulator`: a reader, and a chip with its field of cards at its other end.
-#![tactic(auto)]
+#![tactic(auto, using(errors::specs::Rules::picks), unfolding(errors::specs::Choice::pick))]
 
 mod channel;
 mod play;

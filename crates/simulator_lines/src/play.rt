@@ -1,4 +1,6 @@
 // A call played to its end against the chip: a write succeeds, a read or a drain gets the next packet or times out, a pause is over.
+#![tactic(auto, using(errors::specs::Rules::picks), unfolding(errors::specs::Choice::pick, crate::specs::Represents::next_event_of))]
+
 ghost use Rattle.std.specs.Prelude.{◌≡◌};
 ghost use Rattle.exchange.specs.Exchange as Ordered;
 ghost use Rattle.chip_protocol.specs.Channel.{simulated, Channel};

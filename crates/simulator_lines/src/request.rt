@@ -1,4 +1,6 @@
 // A line of the program, read.
+#![tactic(auto, using(errors::specs::Rules::picks), unfolding(errors::specs::Choice::pick, crate::specs::Requests::asked_of, crate::specs::Requests::is_field_name_of))]
+
 ghost use Rattle.std.specs.Prelude.{◌≡◌};
 ghost use Rattle.simulator_lines.specs.Requests.{is_field_name_of, asked_of, asked_in};
 
