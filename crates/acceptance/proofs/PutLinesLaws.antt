@@ -72,7 +72,6 @@ filling-start s b = record {
   inside = omega arith;
   counted = λ k h. absurd (omega arith);
   spent = omega (arith, on_entry_most s);
-
 }
 
 module _ (s : Reached) (b out : List ℕ) (len count : ℕ) (step : Reached) (now : Filling s b out len count step) (e : Entry) (on : step ≡ At e)
@@ -129,5 +128,4 @@ filling-end s b out r f full = record {
   inside = f.inside;
   counted = f.counted;
   full = full;
-
 }

@@ -211,7 +211,6 @@ whole_list = record {
   end = ended;
   settings = settings_frames_lem 6 (omega arith);
   total = ap length (settings_frames_lem 6 (omega arith)) ∙ settings_count 6 (omega arith);
-
 }
 
 -- ---- what is printed

@@ -12,11 +12,12 @@ use Rattle.bench_input.specs.Table.{Said, unreadable}
 use Rattle.bench.specs.Texts.{placed, placed_at, put_at}
 use Rattle.cut_script.specs.LineSession.{prints}
 use Rattle.cut_script.specs.First.{never}
-use Rattle.cut_script.specs.Answer.{CutAnswer, refused, from, line_count_limit, script_limit, over_long_number, no_refusal_number, is_over_long, ending_from, cut_of, written_for, cut_long, cut_none, lines_said}
+use Rattle.cut_script.specs.Answer.{CutAnswer, refused, from, line_count_limit, script_limit, over_long_number, no_refusal_number, is_over_long, ending_from, cut_of, written_for}
+use Rattle.cut_script.proofs.Answer.{cut_long, cut_none, lines_said}
 use Rattle.cut_script.specs.Bench.{bench, is_some, is_feed, script_lines, line_says, script}
 use Rattle.cut_script.specs.BenchLaws.{lawful}
 use Rattle.cut_script.specs.Cut.{refuses, Faulty, Shortest, shortest_count}
-use Rattle.cut_script.specs.Shortest.{shortest_unique, count_shortest}
+use Rattle.cut_script.proofs.Shortest.{shortest_unique, count_shortest}
 use Rattle.cut_script.specs.ScriptLines.{place}
 use Rattle.errors.specs.Choice.{pick}
 use Rattle.cut_lines.specs.Readings.{entry_at, AllRead, EntriesOf}

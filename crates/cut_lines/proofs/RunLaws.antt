@@ -26,7 +26,8 @@ use Rattle.bench_session.specs.Sessions.{line_step, Follows, line_follows}
 use Rattle.cut_script.specs.LineSession.{next}
 use Rattle.cut_script.specs.First.{never}
 use Rattle.cut_script.specs.Bench.{is_opening, refusal_of, is_at_once, bench}
-use Rattle.cut_script.specs.Run.{reached, run-starts, run_goes_on, run_ends}
+use Rattle.cut_script.specs.Run.{reached}
+use Rattle.cut_script.proofs.Run.{run-starts, run_goes_on, run_ends}
 use Rattle.cut_lines.specs.Readings.{entry_at}
 use Rattle.cut_lines.specs.Shown.{shown_in, refused_by}
 use Rattle.cut_lines.specs.Runs.{StepAgrees, Acts, Skips, Overtakes, line_at, Holds, shown_by_of, RunShows, ran, overtaken}

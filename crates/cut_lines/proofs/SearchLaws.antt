@@ -12,8 +12,9 @@ use Rattle.cut_script.specs.First.{never}
 use Rattle.cut_script.specs.Bench.{is_opening, refusal_of, is_some, same_refusal, bench}
 use Rattle.cut_script.specs.BenchLaws.{refusal_itself, lawful}
 use Rattle.cut_script.specs.Cut.{shows, same_out_of, refuses, begins, Shortest}
-use Rattle.cut_script.specs.Loop.{NoneFrom, loop_start, loop_tried, loop_stops, loop_skips}
-use Rattle.cut_script.specs.Run.{loop_overtaken}
+use Rattle.cut_script.specs.Loop.{NoneFrom}
+use Rattle.cut_script.proofs.Loop.{loop_start, loop_tried, loop_stops, loop_skips}
+use Rattle.cut_script.proofs.Run.{loop_overtaken}
 use Rattle.cut_lines.specs.Readings.{entry_at}
 use Rattle.cut_lines.specs.Shown.{shown_in}
 use Rattle.cut_lines.specs.Runs.{line_at, Holds, shown_by_of, last_shown, RunShows, ran, overtaken, StretchTried}

@@ -1,7 +1,6 @@
 pub mod LineSession
 pub mod First
 pub mod Cut
-pub mod Shortest
 pub mod Fast
 pub mod Loop
 pub mod Run

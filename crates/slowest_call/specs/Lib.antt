@@ -2,11 +2,11 @@
 pub mod Question
 pub mod Kinds
 pub mod Texts
--- the theorem; the same of a machine, of the engine and the host's entries
+-- definitions: the slowest run; the same of a machine and of the host's entries
 pub mod Theorem
 pub mod Machines
 pub mod Hosts
--- proofs
+-- what the theorems in proofs/ are said with, and first laws
 pub mod Readings
 pub mod Fields
 pub mod Tables

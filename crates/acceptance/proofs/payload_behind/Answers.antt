@@ -1,6 +1,6 @@
 use Rattle.std.proofs.Common.{rules}
 use native.Mathlib.Omega.{arith}
-use Rattle.acceptance.specs.OrderLaws.{behind_empty, behind-one, behind-last-one, behind_two, behind-row, behind-last, of_bytes}
+use Rattle.acceptance.proofs.OrderLaws.{behind_empty, behind-one, behind-last-one, behind_two, behind-row, behind-last, of_bytes}
 use Rattle.acceptance.proofs.payload_behind.Goals as goal
 
 pub returns-then-byte-lt255 : goal.returns-then-byte-lt255

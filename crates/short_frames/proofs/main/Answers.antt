@@ -1,5 +1,5 @@
 use Rattle.std.proofs.Common.{rules, arith}
-use Rattle.acceptance.specs.Theorem.{on_way_start, few_counted, on_way_more, less_left}
+use Rattle.acceptance.proofs.Theorem.{on_way_start, few_counted, on_way_more, less_left}
 use Rattle.short_frames.proofs.main.Goals as goal
 
 pub loop-left-init : goal.loop-left-init

@@ -1,6 +1,6 @@
 use mathlib.Core.Path.{sym, ◌∙◌}
 use native.Mathlib.Omega.{arith}
-use Rattle.acceptance.specs.OrderLaws.{step_within, step-over, step_end}
+use Rattle.acceptance.proofs.OrderLaws.{step_within, step-over, step_end}
 use Rattle.acceptance.proofs.Entry.next.Goals as goal
 
 pub returns-then-setting : goal.returns-then-setting

@@ -2,7 +2,7 @@ use Rattle.std.proofs.Common.{rules}
 use Prim.Native.Nat.{◌+◌, ◌≤◌}
 use native.Mathlib.Omega.{arith}
 use lib.ListN.{length}
-use Rattle.acceptance.specs.PutLinesLaws.{filling-start, filling-more, filling-end, len_more, entries_less, entry_or_line, line_short, on_entry_most}
+use Rattle.acceptance.proofs.PutLinesLaws.{filling-start, filling-more, filling-end, len_more, entries_less, entry_or_line, line_short, on_entry_most}
 use Rattle.acceptance.proofs.Tags.{no_entry_lem}
 use Rattle.acceptance.proofs.lines.put_lines.Goals as goal
 

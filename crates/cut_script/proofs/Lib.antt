@@ -1,0 +1,4 @@
+pub mod Shortest
+pub mod Answer
+pub mod Loop
+pub mod Run
