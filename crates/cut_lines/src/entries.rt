@@ -1,4 +1,6 @@
 // The lines of a script, each read once.
+#![tactic(auto, using(errors::specs::Rules::picks), unfolding(errors::specs::Choice::pick, bench::specs::Texts::put_at, bench_input::specs::Table::input_of, crate::specs::Readings::behind_feed))]
+
 ghost use Rattle.std.specs.Prelude.{◌≡◌, ℕ, ◌+◌, ◌≤◌, length, take};
 ghost use Rattle.std.proofs.Math.Seq.{slice};
 ghost use Rattle.bench_input.specs.Arguments.{bytes_room};

@@ -1,5 +1,5 @@
 // Document 02, N14: a fault script, cut down to its shortest end that still shows its fault.
-#![tactic(auto)]
+#![tactic(auto, using(errors::specs::Rules::picks), unfolding(errors::specs::Choice::pick, cut_script::specs::Answer::cut_of))]
 
 mod entries;
 mod program;

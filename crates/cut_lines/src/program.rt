@@ -1,4 +1,6 @@
 // The program `cut`: a script on standard input, the stretch or a refusal on standard output.
+#![tactic(auto, using(errors::specs::Rules::picks), unfolding(errors::specs::Choice::pick, cut_script::specs::Answer::cut_of, cut_script::specs::Answer::written_for))]
+
 ghost use Rattle.std.specs.Prelude.{◌≡◌, ◌≤◌, length};
 ghost use Rattle.bench.specs.Texts.{placed, placed_at};
 ghost use Rattle.cut_script.specs.Answer.{script_limit, cut_of, written_for};

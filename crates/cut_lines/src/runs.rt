@@ -1,4 +1,6 @@
 // Stretches of a script, run from a fresh session.
+#![tactic(auto, using(errors::specs::Rules::picks), unfolding(errors::specs::Choice::pick))]
+
 ghost use Rattle.std.specs.Prelude.{◌≡◌, ℕ, ◌-◌, ◌<◌, ◌≤◌, true, List, length};
 ghost use Rattle.std.proofs.Math.Option.{some};
 ghost use Rattle.std.proofs.Math.Seq.{slice};

@@ -1,4 +1,6 @@
 // What the last line of a list prints, as far as a fault is told by it.
+#![tactic(auto, using(errors::specs::Rules::picks), unfolding(errors::specs::Choice::pick, cut_script::specs::Bench::same_numbered))]
+
 ghost use Rattle.std.specs.Prelude.{◌≡◌};
 ghost use Rattle.std.proofs.Math.Option.{some};
 ghost use Rattle.cut_script.specs.Bench.{same_numbered, same_refusal};

@@ -136,5 +136,4 @@ printed-run k idle = record {
       ∙ ap₂ (λ (x y : List (List ℕ)). x ++ y) (ap (λ n. words_of_lem (decimal_of n)) (sym (slowest-run k idle).run.length)) (lines_words (script_lines k idle));
   start = start_read k;
   run = run_read k idle;
-
 }
