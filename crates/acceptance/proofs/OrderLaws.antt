@@ -1,5 +1,5 @@
 -- The order's laws: numbers and payloads belong to each other one by one, and a greater number is a later payload.
-use Rattle.std.specs.Prelude.{◌≡◌, Bool, true, false, ltb}
+use Rattle.std.specs.Prelude.{◌≡◌, Bool, true, false, ltb, Option, Some, None}
 use Rattle.std.proofs.Math.Path.{refl, ap}
 use Rattle.std.proofs.Common.{sym, ap₂, ◌∙◌}
 use Prim.Native.Nat.{ℕ, suc, ◌+◌, ◌-◌, ◌*◌, ◌/◌, ◌%◌, ◌≤◌, ◌<◌}
@@ -7,12 +7,10 @@ use native.Mathlib.Omega.{arith}
 use borrow.Author.Tests.{lt-ltb, le-ltb, ltb-true, ltb-false}
 use Rattle.errors.specs.Choice.{pick}
 use Rattle.errors.specs.declared.Refusal.TheVariants.{OutOfTurn}
-use Rattle.acceptance.specs.Order.{payload_bytes, payloads, entry_count, payload_number_in, payload_number, payload_at, entry_with, place_in_list, entry_at, following_at, step_at, step_from}
+use Rattle.acceptance.specs.Order.{payload_bytes, payloads, entry_count, payload_number_in, payload_number, payload_at, entry_with, place_in_list, entry_at, following_at, step_at, step_from, At, End, Refused}
 use Rattle.acceptance.specs.declared.Payload.{Payload}
 use Rattle.acceptance.specs.declared.Payload.TheVariants.{Empty, One, Two}
 use Rattle.acceptance.specs.declared.Entry.{Entry}
-use Rattle.acceptance.specs.declared.Following.TheVariants.{Next, Nothing}
-use Rattle.acceptance.specs.declared.Reached.TheVariants.{At, End, Refused}
 use Rattle.acceptance.specs.OrderLaws.{OfBytes}
 
 -- the payload of a number, by the payload's length
@@ -67,41 +65,41 @@ bytes_at n h = go (ltb n 1) (ltb n 257) refl refl
     go false false a b = (omega arith, omega arith)
 
 -- `payload_behind`, by the payload
-next-at : (n : ℕ) (p : Payload) → n < payloads → payload_at n ≡ p → Next p ≡ following_at n
+next-at : (n : ℕ) (p : Payload) → n < payloads → payload_at n ≡ p → Some p ≡ following_at n
 unfolding following_at pick
 next-at n p h e = rw (lt-ltb n payloads h, e)
 
-pub behind_empty : (p : Payload) → p ≡ Empty → Next (One 0) ≡ following_at (suc (payload_number p))
+pub behind_empty : (p : Payload) → p ≡ Empty → Some (One 0) ≡ following_at (suc (payload_number p))
 unfolding payload_number payload_number_in payload_bytes
 behind_empty p e = next-at 1 (One 0) (omega arith) (at_one 1 0 refl (omega arith)) ∙ ap (λ q. following_at (suc (payload_number q))) (sym e)
 
 module _ (p : Payload) (a : ℕ) (e : p ≡ One a) where
-  pub behind-one : a < 255 → Next (One (a + 1)) ≡ following_at (suc (payload_number p))
+  pub behind-one : a < 255 → Some (One (a + 1)) ≡ following_at (suc (payload_number p))
   unfolding payload_number payload_number_in payload_bytes
   behind-one h =
       next-at (suc (1 + a)) (One (a + 1)) (omega arith) (at_one (suc (1 + a)) (a + 1) (omega arith) (omega arith))
       ∙ ap (λ q. following_at (suc (payload_number q))) (sym e)
 
-  pub behind-last-one : a ≡ 255 → Next (Two 0 0) ≡ following_at (suc (payload_number p))
+  pub behind-last-one : a ≡ 255 → Some (Two 0 0) ≡ following_at (suc (payload_number p))
   unfolding payload_number payload_number_in payload_bytes
   behind-last-one h =
       next-at (suc (1 + a)) (Two 0 0) (omega arith) (at_two (suc (1 + a)) 0 0 (omega arith) (omega arith))
       ∙ ap (λ q. following_at (suc (payload_number q))) (sym e)
 
 module _ (p : Payload) (a b : ℕ) (e : p ≡ Two a b) where
-  pub behind_two : a < 256 → b < 255 → Next (Two a (b + 1)) ≡ following_at (suc (payload_number p))
+  pub behind_two : a < 256 → b < 255 → Some (Two a (b + 1)) ≡ following_at (suc (payload_number p))
   unfolding payload_number payload_number_in payload_bytes
   behind_two k h =
       next-at (suc (257 + (256 * a + b))) (Two a (b + 1)) (omega arith) (at_two (suc (257 + (256 * a + b))) a (b + 1) (omega arith) (omega arith))
       ∙ ap (λ q. following_at (suc (payload_number q))) (sym e)
 
-  pub behind-row : a < 255 → b ≡ 255 → Next (Two (a + 1) 0) ≡ following_at (suc (payload_number p))
+  pub behind-row : a < 255 → b ≡ 255 → Some (Two (a + 1) 0) ≡ following_at (suc (payload_number p))
   unfolding payload_number payload_number_in payload_bytes
   behind-row k h =
       next-at (suc (257 + (256 * a + b))) (Two (a + 1) 0) (omega arith) (at_two (suc (257 + (256 * a + b))) (a + 1) 0 (omega arith) (omega arith))
       ∙ ap (λ q. following_at (suc (payload_number q))) (sym e)
 
-  pub behind-last : a ≡ 255 → b ≡ 255 → Nothing ≡ following_at (suc (payload_number p))
+  pub behind-last : a ≡ 255 → b ≡ 255 → ◌≡◌ {A = Option Payload} None (following_at (suc (payload_number p)))
   unfolding payload_number payload_number_in payload_bytes following_at pick
   behind-last k h = rw (e, le-ltb (suc (257 + (256 * a + b))) payloads (omega arith))
 
@@ -115,19 +113,19 @@ pub entry_at_lem : (n s m : ℕ) → n ≡ payloads * s + m → m < payloads →
 unfolding entry_at
 entry_at_lem n s m e h = ap₂ (λ k j. entry_with k (payload_at j)) (omega arith) (omega arith)
 
-followed : (n : ℕ) (p : Payload) → Next p ≡ following_at n → (n < payloads) × (p ≡ payload_at n)
+followed : (n : ℕ) (p : Payload) → Some p ≡ following_at n → (n < payloads) × (p ≡ payload_at n)
 unfolding following_at pick
 followed n p = go (ltb n payloads) refl
   where
-    go : (t : Bool) → ltb n payloads ≡ t → Next p ≡ pick t (Next (payload_at n)) Nothing → (n < payloads) × (p ≡ payload_at n)
+    go : (t : Bool) → ltb n payloads ≡ t → Some p ≡ pick t (Some (payload_at n)) None → (n < payloads) × (p ≡ payload_at n)
     go true l e = (ltb-true n payloads l, cc)
     go false l e = let z : ◌≡◌ {A = ℕ} 0 1 = cc in absurd (omega arith)
 
-none_followed : (n : ℕ) → Nothing ≡ following_at n → payloads ≤ n
+none_followed : (n : ℕ) → ◌≡◌ {A = Option Payload} None (following_at n) → payloads ≤ n
 unfolding following_at pick
 none_followed n = go (ltb n payloads) refl
   where
-    go : (t : Bool) → ltb n payloads ≡ t → Nothing ≡ pick t (Next (payload_at n)) Nothing → payloads ≤ n
+    go : (t : Bool) → ltb n payloads ≡ t → None ≡ pick t (Some (payload_at n)) None → payloads ≤ n
     go true l e = let z : ◌≡◌ {A = ℕ} 0 1 = cc in absurd (omega arith)
     go false l e = ltb-false n payloads l
 
@@ -141,7 +139,7 @@ module _ (e : Entry) where
   unfolding step_from pick
   step-to n h k = rw (lt-ltb e.setting 6 h, k)
 
-  pub step_within : (p : Payload) → e.setting < 6 → Next p ≡ following_at (suc (payload_number e.payload)) → At (entry_with e.setting p) ≡ step_from e
+  pub step_within : (p : Payload) → e.setting < 6 → Some p ≡ following_at (suc (payload_number e.payload)) → At (entry_with e.setting p) ≡ step_from e
   unfolding step_at place_in_list pick
   step_within p h f =
       let n : ℕ = payloads * e.setting + suc (payload_number e.payload) in
@@ -150,7 +148,7 @@ module _ (e : Entry) where
       ap (λ q. At (entry_with e.setting q)) m.1 ∙ ap At (sym (entry_at_lem n e.setting (suc (payload_number e.payload)) refl m.0))
       ∙ rw (lt-ltb n entry_count inside) at (step-to n h (omega arith))
 
-  module _ (bound : payload_number e.payload < payloads) (last : Nothing ≡ following_at (suc (payload_number e.payload))) where
+  module _ (bound : payload_number e.payload < payloads) (last : None ≡ following_at (suc (payload_number e.payload))) where
     pub step-over : e.setting < 5 → At (entry_with (e.setting + 1) Empty) ≡ step_from e
     unfolding step_at place_in_list pick
     step-over h =

@@ -1,5 +1,5 @@
 -- Laws of `put_lines`: what holds of the buffer at each turn of its loop.
-use Rattle.std.specs.Prelude.{◌≡◌, Bool, true, false, ℕ, suc, ◌+◌, ◌*◌, ◌≤◌, ◌<◌, ltb}
+use Rattle.std.specs.Prelude.{◌≡◌, Bool, true, false, ℕ, suc, ◌+◌, ◌*◌, ◌≤◌, ◌<◌, ltb, Some, None, Ok, Err}
 use Rattle.std.proofs.Math.Path.{refl, ap}
 use Rattle.std.proofs.Common.{sym, ap₂, ◌∙◌, zero-add, add-one, arith, length-append, ltb-true, ltb-false}
 use mathlib.Core.List.{List, [], ◌∷◌, ◌++◌, append_assoc}
@@ -12,14 +12,12 @@ use Rattle.bench.specs.Hex.{digits_of_lem}
 use Rattle.bench.specs.HexLaws.{length_digits}
 use Rattle.bench.specs.Texts.{over, placed, placed_at}
 use Rattle.bench.specs.TextLaws.{over-over}
-use Rattle.acceptance.specs.Order.{payload_bytes, step_from}
+use Rattle.acceptance.specs.Order.{payload_bytes, step_from, At, Reached}
 use Rattle.acceptance.proofs.OrderLaws.{step_refused}
 use Rattle.acceptance.specs.Steps.{run_from, stepped_on, by_setting, frame_at, frame_in, frames_from, text_lines, on_entry, longest_line, Filled}
 use Rattle.acceptance.specs.LineLaws.{by_number, of_six, short_payload, short_frame, placed_none}
 use Rattle.acceptance.specs.declared.Entry.{Entry}
 use Rattle.acceptance.specs.declared.lines.Block.{Block}
-use Rattle.acceptance.specs.declared.Reached.{Reached}
-use Rattle.acceptance.specs.declared.Reached.TheVariants.{At, End, Refused}
 use Rattle.bench.specs.Lines.{feed}
 use Rattle.acceptance.specs.PutLinesLaws.{Filling}
 
@@ -31,9 +29,9 @@ lines_append (x ∷ f) g = ap (λ l. digits_of_lem x ++ (feed ∷ l)) (lines_app
 -- ---- an entry's line
 
 pub on_entry_most : (s : Reached) → on_entry s ≤ 1
-on_entry_most (At x) = omega arith
-on_entry_most End = omega arith
-on_entry_most (Refused r) = omega arith
+on_entry_most (Ok (Some x)) = omega arith
+on_entry_most (Ok None) = omega arith
+on_entry_most (Err r) = omega arith
 
 line-length : (f : List ℕ) → length (text_lines (f ∷ [])) ≡ 2 * length f + 1
 unfolding text_lines

@@ -12,11 +12,9 @@ use Rattle.std.proofs.Math.Seq.{get_or_at}
 use borrow.Author.Tests.{lt-ltb, le-ltb, ltb-true, ltb-false}
 use Rattle.errors.specs.Choice.{pick}
 use Rattle.acceptance.specs.Claim.{start}
-use Rattle.acceptance.specs.Order.{payloads, entry_count, payload_number, payload_at, entry_with, place_in_list, entry_at, first_entry, step_at, step_from}
+use Rattle.acceptance.specs.Order.{payloads, entry_count, payload_number, payload_at, entry_with, place_in_list, entry_at, first_entry, step_at, step_from, At, End, Reached}
 use Rattle.acceptance.proofs.OrderLaws.{number_at, entry_at_lem}
 use Rattle.acceptance.specs.Steps.{stepped_on, run_from, frame_in, frames_from, on_entry}
-use Rattle.acceptance.specs.declared.Reached.{Reached}
-use Rattle.acceptance.specs.declared.Reached.TheVariants.{At, End}
 
 -- the step from the n-th entry
 step-on : (n : ℕ) → n < entry_count → step_from (entry_at n) ≡ step_at (suc n)

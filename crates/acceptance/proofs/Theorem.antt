@@ -1,5 +1,5 @@
 -- The theorems about the list: all short frames of each setting, in order, none twice; the whole list; what is printed.
-use Rattle.std.specs.Prelude.{◌≡◌, Bool, true, false, List, [], ◌∷◌, ◌++◌, ℕ, zero, suc, ◌+◌, ◌-◌, ◌*◌, ◌≤◌, ◌<◌, ltb, length, get_or}
+use Rattle.std.specs.Prelude.{◌≡◌, Bool, true, false, List, [], ◌∷◌, ◌++◌, ℕ, zero, suc, ◌+◌, ◌-◌, ◌*◌, ◌≤◌, ◌<◌, ltb, length, get_or, Some, None}
 use Rattle.std.proofs.Math.Path.{refl, ap, ap₂}
 use Rattle.std.proofs.Common.{sym, subst, ◌∙◌, append_assoc, append-nil, inl, inr, add-zero, arith, length-append, ne_eqb, ltb-true, ltb-false}
 use Rattle.std.proofs.Math.ListN.{take}
@@ -12,13 +12,12 @@ use Rattle.framing.specs.Settings.{format_of, setting_of}
 use Rattle.framing.specs.declared.ErrorDetection.{ErrorDetection}
 use Rattle.framing.specs.declared.FrameFormat.{FrameFormat}
 use Rattle.framing.specs.declared.LengthEncoding.{LengthEncoding}
-use Rattle.framing.specs.declared.settings.Setting.TheVariants.{Format, Nothing}
 use Rattle.bench.specs.Texts.{over}
 use Rattle.acceptance.specs.Claim.{Short, InOrder, start, setting_frames, Listed, AllShortFrames, settings_frames, WholeList, Prints, nothing, block}
 use Rattle.acceptance.proofs.PutLinesLaws.{lines_append}
 use Rattle.acceptance.specs.LineLaws.{by_number, of_six, short_payload, short_built}
 use Rattle.acceptance.specs.OneToOne.{one_to_one}
-use Rattle.acceptance.specs.Order.{payload_bytes, BytesBefore, Before, payloads, entry_count, payload_number_in, payload_number, payload_at, first_entry}
+use Rattle.acceptance.specs.Order.{payload_bytes, BytesBefore, Before, payloads, entry_count, payload_number_in, payload_number, payload_at, first_entry, At, Reached}
 use Rattle.acceptance.specs.OrderLaws.{OfBytes}
 use Rattle.acceptance.proofs.OrderLaws.{payload_of_number, number_below, number_at, bytes_at}
 use Rattle.acceptance.proofs.Runs.{reached, ended, run-add, frames-add, frames-count, frame-nth, first-reached, setting_run, beyond}
@@ -26,8 +25,6 @@ use Rattle.acceptance.specs.Steps.{run_from, by_setting, frame_at, frame_in, fra
 use Rattle.acceptance.specs.declared.lines.Block.{Block}
 use Rattle.acceptance.specs.declared.Payload.{Payload}
 use Rattle.acceptance.specs.declared.Payload.TheVariants.{Empty, One, Two}
-use Rattle.acceptance.specs.declared.Reached.{Reached}
-use Rattle.acceptance.specs.declared.Reached.TheVariants.{At}
 use Rattle.acceptance.specs.Theorem.{payload_in, OnWay}
 
 number_in : (p : List ℕ) → payload_number (payload_in p) ≡ payload_number_in p
@@ -112,31 +109,31 @@ in_order_of_numbers p q h k = (in_order p q h k, by_order p q h k)
 
 -- ---- a setting
 
-no_setting : (s : ℕ) (f : FrameFormat) → 6 ≤ s → setting_of s ≡ Format f → ⊥
+no_setting : (s : ℕ) (f : FrameFormat) → 6 ≤ s → setting_of s ≡ Some f → ⊥
 unfolding setting_of pick
 no_setting s f h e =
     let z : ◌≡◌ {A = ℕ} 0 1 = cc (rw (ne_eqb s 0 (λ x. omega arith), ne_eqb s 1 (λ x. omega arith), ne_eqb s 2 (λ x. omega arith), ne_eqb s 3 (λ x. omega arith), ne_eqb s 4 (λ x. omega arith), ne_eqb s 5 (λ x. omega arith)) at e) in
     omega arith
 
-below_six : (s : ℕ) (f : FrameFormat) → setting_of s ≡ Format f → s < 6
+below_six : (s : ℕ) (f : FrameFormat) → setting_of s ≡ Some f → s < 6
 below_six s f h = go (ltb s 6) refl
   where
     go : (t : Bool) → ltb s 6 ≡ t → s < 6
     go true x = ltb-true s 6 x
     go false x = absurd (no_setting s f (ltb-false s 6 x) h)
 
-built : (s : ℕ) (f : FrameFormat) → setting_of s ≡ Format f → (p : List ℕ) → length p ≤ 2 → (b : List ℕ) → build_of f p b ≡ put_frame (frame_of f.length p) b
-built s f h p short b = by_number (λ x. x ≡ Format f → build_of f p b ≡ put_frame (frame_of f.length p) b) some none s h
+built : (s : ℕ) (f : FrameFormat) → setting_of s ≡ Some f → (p : List ℕ) → length p ≤ 2 → (b : List ℕ) → build_of f p b ≡ put_frame (frame_of f.length p) b
+built s f h p short b = by_number (λ x. x ≡ Some f → build_of f p b ≡ put_frame (frame_of f.length p) b) some none s h
   where
-    some : (e : LengthEncoding) (d : ErrorDetection) → Format (format_of e d) ≡ Format f → build_of f p b ≡ put_frame (frame_of f.length p) b
+    some : (e : LengthEncoding) (d : ErrorDetection) → Some (format_of e d) ≡ Some f → build_of f p b ≡ put_frame (frame_of f.length p) b
     some e d x =
         let same : format_of e d ≡ f = cc in
         subst (λ g. build_of g p b ≡ put_frame (frame_of g.length p) b) same (short_built e d p short b)
 
-    none : Nothing ≡ Format f → build_of f p b ≡ put_frame (frame_of f.length p) b
+    none : None ≡ Some f → build_of f p b ≡ put_frame (frame_of f.length p) b
     none x = let z : ◌≡◌ {A = ℕ} 0 1 = cc in absurd (omega arith)
 
-module _ (s : ℕ) (f : FrameFormat) (h : setting_of s ≡ Format f) where
+module _ (s : ℕ) (f : FrameFormat) (h : setting_of s ≡ Some f) where
   -- the frame of the payload whose number is n
   abbrev frame_of_number : ℕ → List ℕ
   frame_of_number n = frame_of f.length (payload_bytes (payload_at n))

@@ -4,11 +4,9 @@ use Rattle.framing.specs.Build.{build_of, put_frame}
 use Rattle.framing.specs.Frames.{frame_of}
 use Rattle.framing.specs.Lists.{Bytes}
 use Rattle.framing.specs.declared.FrameFormat.{FrameFormat}
-use Rattle.acceptance.specs.Order.{Before, payloads, entry_count, payload_number_in, payload_at, entry_with, entry_at, first_entry}
+use Rattle.acceptance.specs.Order.{Before, payloads, entry_count, payload_number_in, payload_at, entry_with, entry_at, first_entry, At, End, Reached}
 use Rattle.acceptance.specs.Steps.{run_from, frames_from, on_entry, Filled}
 use Rattle.acceptance.specs.declared.lines.Block.{Block}
-use Rattle.acceptance.specs.declared.Reached.{Reached}
-use Rattle.acceptance.specs.declared.Reached.TheVariants.{At, End}
 
 -- the payloads that are meant: 0, 1 or 2 bytes
 abbrev pub Short : List ℕ → Type 0

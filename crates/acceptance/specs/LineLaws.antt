@@ -1,28 +1,24 @@
 -- Laws of an entry's frame, and of its line: the frame's digits and the line feed.
 use Rattle.std.proofs.Math.Path.{◌≡◌, ap}
-use Rattle.std.specs.Prelude.{refl, Bool, true, false, eqb, length, take, drop, get_or, set}
+use Rattle.std.specs.Prelude.{refl, Bool, true, false, eqb, length, take, drop, get_or, set, Option, Some, None, Result, Ok, Err}
 use Rattle.std.proofs.Common.{sym, ap₂, ◌∙◌, zero-add, add-zero, add-one, length-append, take-append-drop, take_at, le-ltb}
 use mathlib.Core.List.{List, [], ◌∷◌, ◌++◌}
 use Prim.Native.Nat.{ℕ, zero, suc, ◌+◌, ◌*◌, ◌≤◌, ◌<◌, min}
 use native.Mathlib.Omega.{arith}
 use Rattle.std.proofs.lemmas.List.{set_split}
 use Rattle.std.proofs.lemmas.Bool.{eqb-false}
-use Rattle.errors.specs.Refusals.{answered, refused, plain}
+use Rattle.errors.specs.Refusals.{answered, refused, returned, plain}
 use Rattle.errors.specs.declared.Refusal.{Refusal}
 use Rattle.errors.specs.Choice.{pick}
-use Rattle.framing.specs.Build.{Left, returned, left, limit_of, put_frame, build_of}
+use Rattle.framing.specs.Build.{left, limit_of, put_frame, build_of}
 use Rattle.framing.specs.Enclose.{length-frame, start-most}
 use Rattle.framing.specs.Frames.{longest, frame_of}
 use Rattle.framing.specs.Settings.{format_of, setting_of}
-use Rattle.framing.specs.declared.Built.{Built}
-use Rattle.framing.specs.declared.Built.TheVariants.{Frame, Refused}
 use Rattle.framing.specs.declared.ErrorDetection.{ErrorDetection}
 use Rattle.framing.specs.declared.ErrorDetection.TheVariants.{ErrorFrame, StatusByte}
 use Rattle.framing.specs.declared.FrameFormat.{FrameFormat}
 use Rattle.framing.specs.declared.LengthEncoding.{LengthEncoding}
 use Rattle.framing.specs.declared.LengthEncoding.TheVariants.{Normal, ExtendedLittleEndian, NormalOrExtendedBigEndian}
-use Rattle.framing.specs.declared.settings.Setting.{Setting}
-use Rattle.framing.specs.declared.settings.Setting.TheVariants.{Format, Nothing}
 use Rattle.bench.specs.Hex.{digit_of, digits_of_lem}
 use Rattle.bench.specs.HexLaws.{length_digits}
 use Rattle.bench.specs.Texts.{over, placed, placed_at}
@@ -34,13 +30,13 @@ use Rattle.acceptance.specs.declared.Payload.{Payload}
 use Rattle.acceptance.specs.declared.Payload.TheVariants.{Empty, One, Two}
 use Rattle.bench.specs.Lines.{feed}
 
-by_test : (P : Setting → Type 0) (t : Bool) (x y : Setting) → P x → (t ≡ false → P y) → P (pick t x y)
+by_test : (P : Option FrameFormat → Type 0) (t : Bool) (x y : Option FrameFormat) → P x → (t ≡ false → P y) → P (pick t x y)
 unfolding pick
 by_test P true x y h k = h
 by_test P false x y h k = k refl
 
 -- a fact of each setting, and of none where the number is not below 6
-by_numbers : (P : Setting → Type 0) → ((e : LengthEncoding) (d : ErrorDetection) → P (Format (format_of e d))) → (n : ℕ) → (6 ≤ n → P Nothing) → P (setting_of n)
+by_numbers : (P : Option FrameFormat → Type 0) → ((e : LengthEncoding) (d : ErrorDetection) → P (Some (format_of e d))) → (n : ℕ) → (6 ≤ n → P None) → P (setting_of n)
 unfolding setting_of
 by_numbers P some n none =
     by_test P (eqb n 0) _ _ (some Normal ErrorFrame) (λ a.
@@ -55,11 +51,11 @@ by_numbers P some n none =
     beyond a b c d e f = omega arith
 
 -- a fact of each setting and of none is a fact of every number
-pub by_number : (P : Setting → Type 0) → ((e : LengthEncoding) (d : ErrorDetection) → P (Format (format_of e d))) → P Nothing → (n : ℕ) → P (setting_of n)
+pub by_number : (P : Option FrameFormat → Type 0) → ((e : LengthEncoding) (d : ErrorDetection) → P (Some (format_of e d))) → P None → (n : ℕ) → P (setting_of n)
 by_number P some none n = by_numbers P some n (λ h. none)
 
 -- a fact of each setting is one of every number below 6
-pub of_six : (P : Setting → Type 0) → ((e : LengthEncoding) (d : ErrorDetection) → P (Format (format_of e d))) → (n : ℕ) → n < 6 → P (setting_of n)
+pub of_six : (P : Option FrameFormat → Type 0) → ((e : LengthEncoding) (d : ErrorDetection) → P (Some (format_of e d))) → (n : ℕ) → n < 6 → P (setting_of n)
 of_six P some n h = by_numbers P some n (λ k. absurd (omega arith))
 
 pub short_payload : (p : Payload) → length (payload_bytes p) ≤ 2
@@ -94,16 +90,6 @@ module _ (e : LengthEncoding) (d : ErrorDetection) (p : List ℕ) (short : lengt
   unfolding put_frame pick
   short_put b room = short_built b ∙ rw (le-ltb (length b) (length (frame_of e p)) (omega (arith, short_frame)))
 
--- the answers of `frame`, by the setting
-module _ (e : Entry) (b : List ℕ) where
-  pub built_format : (f : FrameFormat) (x : Left) → Format f ≡ setting_of e.setting → x ≡ build_of f (payload_bytes e.payload) b → x ≡ entry_built e b
-  unfolding entry_built
-  built_format f x s h = h ∙ ap (by_setting (λ g. build_of g (payload_bytes e.payload) b) (left (refused (plain 1)) b)) s
-
-  pub built_none : Nothing ≡ setting_of e.setting → left (refused (plain 1)) b ≡ entry_built e b
-  unfolding entry_built
-  built_none s = ap (by_setting (λ g. build_of g (payload_bytes e.payload) b) (left (refused (plain 1)) b)) s
-
 -- what `frame` answered and left in a buffer of 12 bytes: the entry's frame at its start, or the entry has none
 pub record Framed (fs : List (List ℕ)) (n : ℕ) (fr : List ℕ) : Type 0 where
   pub frame : fs ≡ take n fr ∷ []
@@ -111,21 +97,21 @@ pub record Framed (fs : List (List ℕ)) (n : ℕ) (fr : List ℕ) : Type 0 wher
   pub fits : n ≤ 12
   pub whole : length (take n fr) ≡ n
 
-module _ (p : List ℕ) (short : length p ≤ 2) (b fr : List ℕ) (twelve : length b ≡ 12) (r : Built) where
-  abbrev Builds : Setting → Type 0
+module _ (p : List ℕ) (short : length p ≤ 2) (b fr : List ℕ) (twelve : length b ≡ 12) (r : Result ℕ Refusal) where
+  abbrev Builds : Option FrameFormat → Type 0
   Builds s = left (returned r) fr ≡ by_setting (λ f. build_of f p b) (left (refused (plain 1)) b) s
 
-  abbrev frames : Setting → List (List ℕ)
+  abbrev frames : Option FrameFormat → List (List ℕ)
   frames s = by_setting (λ f. frame_of f.length p ∷ []) [] s
 
-  known-frame : (n : ℕ) → r ≡ Frame n → (k : ℕ) → Builds (setting_of k) → Framed (frames (setting_of k)) n fr
+  known-frame : (n : ℕ) → r ≡ Ok n → (k : ℕ) → Builds (setting_of k) → Framed (frames (setting_of k)) n fr
   unfolding returned
   known-frame n q = by_number (λ s. Builds s → Framed (frames s) n fr) some none
     where
-      none : Builds Nothing → Framed (frames Nothing) n fr
+      none : Builds None → Framed (frames None) n fr
       none t = let z : ◌≡◌ {A = ℕ} 0 1 = cc (ap (λ l. l.result) t, ap returned q) in absurd (omega arith)
 
-      some : (e : LengthEncoding) (d : ErrorDetection) → Builds (Format (format_of e d)) → Framed (frames (Format (format_of e d))) n fr
+      some : (e : LengthEncoding) (d : ErrorDetection) → Builds (Some (format_of e d)) → Framed (frames (Some (format_of e d))) n fr
       some e d t =
           let put = t ∙ short_put e d p short b (omega arith) in
           let len : n ≡ length (frame_of e p) = cc (ap (λ l. l.result) put, ap returned q) in
@@ -137,22 +123,22 @@ module _ (p : List ℕ) (short : length p ≤ 2) (b fr : List ℕ) (twelve : len
             whole = ap length at ∙ sym len;
           }
 
-  known-none : (x : Refusal) → r ≡ Refused x → (k : ℕ) → Builds (setting_of k) → frames (setting_of k) ≡ []
+  known-none : (x : Refusal) → r ≡ Err x → (k : ℕ) → Builds (setting_of k) → frames (setting_of k) ≡ []
   unfolding returned
   known-none x q = by_number (λ s. Builds s → frames s ≡ []) some (λ t. refl)
     where
-      some : (e : LengthEncoding) (d : ErrorDetection) → Builds (Format (format_of e d)) → frames (Format (format_of e d)) ≡ []
+      some : (e : LengthEncoding) (d : ErrorDetection) → Builds (Some (format_of e d)) → frames (Some (format_of e d)) ≡ []
       some e d t =
           let put = t ∙ short_put e d p short b (omega arith) in
           let z : ◌≡◌ {A = ℕ} 0 1 = cc (ap (λ l. l.result) put, ap returned q) in
           absurd (omega arith)
 
-module _ (e : Entry) (b fr : List ℕ) (r : Built) (twelve : length b ≡ 12) (known : left (returned r) fr ≡ entry_built e b) where
-  pub framed : (n : ℕ) → r ≡ Frame n → Framed (frame_at e) n fr
+module _ (e : Entry) (b fr : List ℕ) (r : Result ℕ Refusal) (twelve : length b ≡ 12) (known : left (returned r) fr ≡ entry_built e b) where
+  pub framed : (n : ℕ) → r ≡ Ok n → Framed (frame_at e) n fr
   unfolding frame_at entry_built
   framed n q = known-frame (payload_bytes e.payload) (short_payload e.payload) b fr twelve r n q e.setting known
 
-  pub unframed : (x : Refusal) → r ≡ Refused x → frame_at e ≡ []
+  pub unframed : (x : Refusal) → r ≡ Err x → frame_at e ≡ []
   unfolding frame_at entry_built
   unframed x q = known-none (payload_bytes e.payload) (short_payload e.payload) b fr twelve r x q e.setting known
 

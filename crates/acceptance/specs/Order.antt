@@ -1,15 +1,25 @@
 -- The order of the short payloads: shortest first, then by their bytes, first byte foremost. The entries: all of them under a setting, the
 -- settings in document 01's order.
-use Rattle.std.specs.Prelude.{List, [], ◌∷◌, ◌⊎◌, ◌≡◌, ℕ, suc, ◌+◌, ◌-◌, ◌*◌, ◌/◌, ◌%◌, ◌<◌, ltb, length}
+use Rattle.std.specs.Prelude.{List, [], ◌∷◌, ◌⊎◌, ◌≡◌, ℕ, suc, ◌+◌, ◌-◌, ◌*◌, ◌/◌, ◌%◌, ◌<◌, ltb, length, Option, Some, None, Result, Ok, Err}
 use Rattle.errors.specs.Choice.{pick}
+use Rattle.errors.specs.declared.Refusal.{Refusal}
 use Rattle.errors.specs.declared.Refusal.TheVariants.{OutOfTurn}
 use Rattle.acceptance.specs.declared.Payload.{Payload}
 use Rattle.acceptance.specs.declared.Payload.TheVariants.{Empty, One, Two}
 use Rattle.acceptance.specs.declared.Entry.{Entry}
-use Rattle.acceptance.specs.declared.Following.{Following}
-use Rattle.acceptance.specs.declared.Following.TheVariants.{Next, Nothing}
-use Rattle.acceptance.specs.declared.Reached.{Reached}
-use Rattle.acceptance.specs.declared.Reached.TheVariants.{At, End, Refused}
+
+-- where a step leads: to an entry or to the end, or it is refused
+abbrev pub Reached : Type 0
+Reached = Result (Option Entry) Refusal
+
+abbrev pub At : Entry → Reached
+At e = Ok (Some e)
+
+abbrev pub End : Reached
+End = Ok None
+
+abbrev pub Refused : Refusal → Reached
+Refused r = Err r
 
 unfoldable pub payload_bytes : Payload → List ℕ
 payload_bytes Empty = []
@@ -61,8 +71,8 @@ abbrev pub first_entry : ℕ → Entry
 first_entry s = entry_with s Empty
 
 -- the payload whose number is n, where there is one
-unfoldable pub following_at : ℕ → Following
-following_at n = pick (ltb n payloads) (Next (payload_at n)) Nothing
+unfoldable pub following_at : ℕ → Option Payload
+following_at n = pick (ltb n payloads) (Some (payload_at n)) None
 
 -- the entry at the place n; behind the last one the end
 unfoldable pub step_at : ℕ → Reached

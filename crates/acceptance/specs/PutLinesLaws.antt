@@ -1,10 +1,10 @@
 -- Laws of `put_lines`: what holds of the buffer at each turn of its loop.
+use Rattle.acceptance.specs.Order.{Reached}
 use Rattle.std.specs.Prelude.{◌≡◌, ℕ, ◌+◌, ◌≤◌, ◌<◌}
 use mathlib.Core.List.{List}
 use Rattle.std.proofs.Math.ListN.{length}
 use Rattle.bench.specs.Texts.{over}
 use Rattle.acceptance.specs.Steps.{run_from, frames_from, text_lines, on_entry}
-use Rattle.acceptance.specs.declared.Reached.{Reached}
 
 -- ---- the loop
 

@@ -1,26 +1,22 @@
 -- Runs of the stepper, and the frames that they come by.
-use Rattle.std.specs.Prelude.{List, [], ◌∷◌, ◌++◌, ◌≡◌, ℕ, zero, suc, ◌+◌, ◌≤◌, ◌<◌, length}
+use Rattle.std.specs.Prelude.{List, [], ◌∷◌, ◌++◌, ◌≡◌, ℕ, zero, suc, ◌+◌, ◌≤◌, ◌<◌, length, Option, Some, None, Ok, Err}
 use Rattle.errors.specs.Refusals.{refused, plain}
 use Rattle.framing.specs.Build.{Left, left, build_of}
 use Rattle.framing.specs.Frames.{frame_of}
 use Rattle.framing.specs.Settings.{setting_of}
 use Rattle.framing.specs.declared.FrameFormat.{FrameFormat}
-use Rattle.framing.specs.declared.settings.Setting.{Setting}
-use Rattle.framing.specs.declared.settings.Setting.TheVariants.{Format, Nothing}
 use Rattle.bench.specs.Hex.{digits_of_lem}
 use Rattle.bench.specs.Texts.{over}
-use Rattle.acceptance.specs.Order.{payload_bytes, step_from}
+use Rattle.acceptance.specs.Order.{payload_bytes, step_from, End, Reached, Refused}
 use Rattle.acceptance.specs.declared.Entry.{Entry}
 use Rattle.acceptance.specs.declared.lines.Block.{Block}
-use Rattle.acceptance.specs.declared.Reached.{Reached}
-use Rattle.acceptance.specs.declared.Reached.TheVariants.{At, End, Refused}
 use Rattle.bench.specs.Lines.{feed}
 
 -- a step more; an end stays the end
 unfoldable pub stepped_on : Reached → Reached
-stepped_on (At e) = step_from e
-stepped_on End = End
-stepped_on (Refused r) = Refused r
+stepped_on (Ok (Some e)) = step_from e
+stepped_on (Ok None) = End
+stepped_on (Err r) = Refused r
 
 -- n steps
 unfoldable pub run_from : ℕ → Reached → Reached
@@ -28,9 +24,9 @@ run_from zero s = s
 run_from (suc n) s = stepped_on (run_from n s)
 
 -- a setting, or what is said of none
-abbrev pub by_setting : {A : Type 0} → (FrameFormat → A) → A → Setting → A
-by_setting f a (Format x) = f x
-by_setting f a Nothing = a
+abbrev pub by_setting : {A : Type 0} → (FrameFormat → A) → A → Option FrameFormat → A
+by_setting f a (Some x) = f x
+by_setting f a None = a
 
 -- what building an entry's frame answers and leaves in the buffer
 unfoldable pub entry_built : Entry → List ℕ → Left
@@ -41,9 +37,9 @@ unfoldable pub frame_at : Entry → List (List ℕ)
 frame_at e = by_setting (λ f. frame_of f.length (payload_bytes e.payload) ∷ []) [] (setting_of e.setting)
 
 unfoldable pub frame_in : Reached → List (List ℕ)
-frame_in (At e) = frame_at e
-frame_in End = []
-frame_in (Refused r) = []
+frame_in (Ok (Some e)) = frame_at e
+frame_in (Ok None) = []
+frame_in (Err r) = []
 
 -- the frames that a run of n steps comes by, the n-th step's own not among them
 unfoldable pub frames_from : ℕ → Reached → List (List ℕ)
@@ -57,9 +53,9 @@ text_lines (f ∷ fs) = digits_of_lem f ++ (feed ∷ text_lines fs)
 
 -- whether a step leads to an entry: 1, or 0
 abbrev pub on_entry : Reached → ℕ
-on_entry (At e) = 1
-on_entry End = 0
-on_entry (Refused r) = 0
+on_entry (Ok (Some e)) = 1
+on_entry (Ok None) = 0
+on_entry (Err r) = 0
 
 -- no line of a short payload is longer: 12 bytes in hex, and a line feed
 abbrev pub longest_line : ℕ

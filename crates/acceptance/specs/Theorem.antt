@@ -1,11 +1,10 @@
 -- The theorems about the list: all short frames of each setting, in order, none twice; the whole list; what is printed.
 use Rattle.std.specs.Prelude.{◌≡◌, List, [], ◌∷◌, ℕ, ◌-◌, ◌≤◌}
 use Rattle.acceptance.specs.Claim.{start}
-use Rattle.acceptance.specs.Order.{entry_count}
+use Rattle.acceptance.specs.Order.{entry_count, Reached}
 use Rattle.acceptance.specs.Steps.{run_from}
 use Rattle.acceptance.specs.declared.Payload.{Payload}
 use Rattle.acceptance.specs.declared.Payload.TheVariants.{Empty, One, Two}
-use Rattle.acceptance.specs.declared.Reached.{Reached}
 
 -- ---- short payloads as lists of bytes
 

@@ -1,20 +1,20 @@
 // All frames of payloads of at most 2 bytes, under the six settings in turn, for acceptance tests (document 02, N12): a stepper from
 // one to the next.
-#![tactic(auto, using(errors::specs::Rules::picks), unfolding(errors::specs::Choice::pick, crate::specs::Order::following_at, crate::specs::Order::payload_bytes, crate::specs::Order::payload_number, crate::specs::Order::step_from, crate::specs::Steps::entry_built, framing::specs::Build::build_of, framing::specs::Build::returned))]
+#![tactic(auto, using(errors::specs::Rules::picks), unfolding(errors::specs::Choice::pick, crate::specs::Order::following_at, crate::specs::Order::payload_bytes, crate::specs::Order::payload_number, crate::specs::Order::step_from, crate::specs::Steps::entry_built, errors::specs::Refusals::returned, framing::specs::Build::build_of))]
 
 pub mod lines;
 
 ghost use Rattle.std.specs.Prelude.{◌≡◌, suc, ◌<◌};
-ghost use Rattle.framing.specs.Build.{returned, left, build_of};
+ghost use Rattle.errors.specs.Refusals.{returned};
+ghost use Rattle.framing.specs.Build.{left, build_of};
 ghost use Rattle.acceptance.specs.Order.{payload_bytes, payloads, payload_number, first_entry, following_at, step_from};
 ghost use Rattle.acceptance.specs.Steps.{entry_built};
 
 use errors::Refusal;
-use framing::settings::Setting;
-use framing::{Built, FrameFormat, settings};
+use framing::{FrameFormat, settings};
 
 // A payload of at most 2 bytes.
-#[derive(Clone, Copy)]
+#[derive(Clone, Copy, Debug, PartialEq, Eq)]
 pub enum Payload {
     Empty,
     One(u8),
@@ -22,54 +22,40 @@ pub enum Payload {
 }
 
 // An entry of the list: a setting by its number, 0 to 5, and a payload.
-#[derive(Clone, Copy)]
+#[derive(Clone, Copy, Debug, PartialEq, Eq)]
 pub struct Entry {
     pub setting: u8,
     pub payload: Payload,
 }
 
-// Where a step leads.
-#[derive(Clone, Copy)]
-pub enum Reached {
-    At(Entry),
-    End,
-    Refused(Refusal),
-}
-
 const SETTINGS: u8 = 6;
 
 // The payload behind another one, if there is one.
-#[derive(Clone, Copy)]
-enum Following {
-    Next(Payload),
-    Nothing,
-}
-
-fn payload_behind(payload: Payload) -> Following
+fn payload_behind(payload: Payload) -> Option<Payload>
     ensures { (result ≡ following_at (suc (payload_number payload))) × (payload_number payload < payloads) }
 {
     match payload {
-        Payload::Empty => Following::Next(Payload::One(0)),
+        Payload::Empty => Some(Payload::One(0)),
         Payload::One(byte) => {
             if byte < 255 {
-                return Following::Next(Payload::One(byte + 1));
+                return Some(Payload::One(byte + 1));
             }
-            Following::Next(Payload::Two(0, 0))
+            Some(Payload::Two(0, 0))
         }
         Payload::Two(first, second) => {
             if second < 255 {
-                return Following::Next(Payload::Two(first, second + 1));
+                return Some(Payload::Two(first, second + 1));
             }
             if first < 255 {
-                return Following::Next(Payload::Two(first + 1, 0));
+                return Some(Payload::Two(first + 1, 0));
             }
-            Following::Nothing
+            None
         }
     }
 }
 
 // Writes the payload's frame at the buffer's start.
-fn build(format: FrameFormat, payload: Payload, buffer: &mut [u8]) -> Built
+fn build(format: FrameFormat, payload: Payload, buffer: &mut [u8]) -> Result<usize, Refusal>
     ensures { left (returned result) buffer.new ≡ build_of format (payload_bytes payload) buffer.old }
 {
     match payload {
@@ -90,37 +76,28 @@ impl Entry {
         }
     }
 
-    // The entry behind this one. Behind a setting's last one stands the next setting's first.
-    pub fn next(self) -> Reached
+    // The entry behind this one, if there is one. Behind a setting's last one stands the next setting's first.
+    pub fn next(self) -> Result<Option<Entry>, Refusal>
         ensures { result ≡ step_from self }
     {
-        let setting = self.setting;
-        let payload = self.payload;
-        if SETTINGS <= setting {
-            return Reached::Refused(Refusal::OutOfTurn);
+        if SETTINGS <= self.setting {
+            return Err(Refusal::OutOfTurn);
         }
-        match payload_behind(payload) {
-            Following::Next(payload) => Reached::At(Entry { setting, payload }),
-            Following::Nothing => {
-                if SETTINGS - 1 <= setting {
-                    return Reached::End;
-                }
-                Reached::At(Entry {
-                    setting: setting + 1,
-                    payload: Payload::Empty,
-                })
-            }
+        match payload_behind(self.payload) {
+            Some(payload) => Ok(Some(Entry { payload, ..self })),
+            None if SETTINGS - 1 <= self.setting => Ok(None),
+            None => Ok(Some(Entry {
+                setting: self.setting + 1,
+                payload: Payload::Empty,
+            })),
         }
     }
 
     // Writes the entry's frame at the buffer's start; the rest of the buffer keeps its bytes.
-    pub fn frame(self, buffer: &mut [u8]) -> Built
+    pub fn frame(self, buffer: &mut [u8]) -> Result<usize, Refusal>
         ensures { left (returned result) buffer.new ≡ entry_built self buffer.old }
     {
-        let payload = self.payload;
-        match settings::by_number(self.setting) {
-            Setting::Format(format) => build(format, payload, buffer),
-            Setting::Nothing => Built::Refused(Refusal::OutOfTurn),
-        }
+        let format = settings::by_number(self.setting).ok_or(Refusal::OutOfTurn)?;
+        build(format, self.payload, buffer)
     }
 }

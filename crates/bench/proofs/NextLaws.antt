@@ -6,29 +6,30 @@ use native.Mathlib.Omega.{arith}
 use lib.ListN.{length, take, drop}
 use lib.Seq.{slice, take_all, length-take-le, length-slice}
 use Rattle.octets.specs.Bytes.{index_of}
-use Rattle.bench.specs.Lines.{before_feed, NoFeed, Begun, line_of, last_of, unread_of, unread_in, next_of, unread_line, NextLine}
+use Rattle.std.specs.Prelude.{Option, Some}
+use Rattle.bench.specs.Lines.{counted_line, before_feed, NoFeed, Begun, line_of, last_of, unread_of, unread_in, next_of, unread_line, NextLine}
 use Rattle.bench.specs.LineLaws.{none_before, none_both, begun_none, line_begun, ended, input_ended, unread_inside, unread_nothing, unread_behind, part_slice}
 use Rattle.bench.specs.declared.lines.Given.{Given}
 use Rattle.bench.specs.declared.lines.Unread.{Unread}
 use Rattle.bench.specs.declared.lines.Line.{Line}
 
 -- Behind the text t all that came was put, and has no line feed.
-pub record Sofar (t l : List ℕ) (n : ℕ) (m : List ℕ) : Type 0 where
+pub record Sofar (t l : List ℕ) (n : Option ℕ) (m : List ℕ) : Type 0 where
   pub came : List ℕ
   pub none : NoFeed (t ++ came)
   pub begun : Begun (t ++ came) l n m
 
-pub sofar_none : (t l m : List ℕ) (n : ℕ) → NoFeed t → Begun t l n m → Sofar t l n m
+pub sofar_none : (t l m : List ℕ) (n : Option ℕ) → NoFeed t → Begun t l n m → Sofar t l n m
 sofar_none t l m n none b = record { came = []; none = rw (append-nil t) none; begun = rw (append-nil t) b }
 
-module _ (t l m : List ℕ) (n : ℕ) (s : Sofar t l n m) where
+module _ (t l m : List ℕ) (n : Option ℕ) (s : Sofar t l n m) where
   -- nothing more came
-  pub sofar_last : (g : Given) (b : List ℕ) → g ≡ last_of n m → NextLine t l g.line m (unread_in g.unread b)
+  pub sofar_last : (g : Given) (b : List ℕ) → g ≡ last_of n → NextLine t l g.line m (unread_in g.unread b)
   sofar_last g b e =
       input_ended t s.came l m (unread_in g.unread b) n g.line s.none s.begun (ap (λ x. x.line) e) (ap (λ x. unread_in x.unread b) e ∙ unread_nothing b)
 
   -- `to` bytes came into the buffer b, and k of them were added
-  module _ (b o : List ℕ) (to k r : ℕ) (inside : to ≤ length b) (is : k ≡ before_feed (take to b))
+  module _ (b o : List ℕ) (to k : ℕ) (r : Option ℕ) (inside : to ≤ length b) (is : k ≡ before_feed (take to b))
       (added : (t l : List ℕ) → Begun t l n m → Begun (t ++ take k (take to b)) l r o) where
     long : length (take to b) ≡ to
     long = length-take-le to b inside
@@ -43,14 +44,14 @@ module _ (t l m : List ℕ) (n : ℕ) (s : Sofar t l n m) where
           begun = rw (← f) (added (t ++ s.came) l s.begun);
         }
 
-    pub sofar_fed : k < to → (u : Line) → u ≡ line_of r o → NextLine t l u o (unread_in (record { from = k + 1; to = to }) b)
+    pub sofar_fed : k < to → (u : Line) → u ≡ counted_line r → NextLine t l u o (unread_in (record { from = k + 1; to = to }) b)
     sofar_fed h u known =
         ended t (s.came ++ take to b) (t ++ s.came) (take to b) l o (unread_in (record { from = k + 1; to = to }) b) k r u
         (sym (append_assoc t s.came (take to b))) s.none is (omega (arith, long)) (added (t ++ s.came) l s.begun) known
         (unread_behind b (k + 1) 0 to k (omega arith) (omega arith) inside)
 
 -- the unread bytes of the buffer b, of which the first k were put into l
-module _ (h r : Unread) (b l m : List ℕ) (k n : ℕ) (there : r ≡ unread_of h (length b)) where
+module _ (h r : Unread) (b l m : List ℕ) (k : ℕ) (n : Option ℕ) (there : r ≡ unread_of h (length b)) where
   abbrev part : List ℕ
   part = take (r.to - r.from) (drop r.from b)
 
@@ -58,12 +59,12 @@ module _ (h r : Unread) (b l m : List ℕ) (k n : ℕ) (there : r ≡ unread_of 
   unfolding unread_in
   part-unread = part_slice b r.from r.to ∙ ap (λ x. slice x.from x.to b) there
 
-  module _ (is : k ≡ before_feed part) (added : (t l₁ : List ℕ) → Begun t l₁ 0 l → Begun (t ++ take k part) l₁ n m) where
+  module _ (is : k ≡ before_feed part) (added : (t l₁ : List ℕ) → Begun t l₁ (Some 0) l → Begun (t ++ take k part) l₁ n m) where
     put : Begun (take k part) l n m
     put = added [] l (begun_none l)
 
     -- they end with a line feed
-    module _ (u : Line) (f : ℕ) (less : k < length part) (known : u ≡ line_of n m) (behind : f ≡ r.from + k + 1) where
+    module _ (u : Line) (f : ℕ) (less : k < length part) (known : u ≡ counted_line n) (behind : f ≡ r.from + k + 1) where
       pub unread_fed : NextLine (unread_in h b) l u m (unread_in (record { from = f; to = r.to }) b)
       unfolding index_of
       unread_fed =

@@ -1,21 +1,20 @@
 -- Laws of HEX: the pairs of a word and the digits of bytes, place by place.
 use Rattle.std.proofs.Math.Path.{◌≡◌, refl, ap}
-use Rattle.std.proofs.Common.{sym, ap₂, ◌∙◌, add_assoc, add-one, drop_of_length-le, drop-cons}
-use Rattle.std.specs.Prelude.{Bool, List, [], ◌∷◌, ℕ, zero, suc, ◌+◌, ◌-◌, ◌*◌, ◌/◌, ◌%◌, ◌≤◌, ◌<◌, ltb, eqb, get_or, set, drop}
+use Rattle.std.proofs.Common.{sym, ap₂, ◌∙◌, add_assoc}
+use Rattle.std.specs.Prelude.{◌&&◌, nat_lt, Result, Ok, Err, Bool, List, [], ◌∷◌, ℕ, zero, suc, ◌+◌, ◌-◌, ◌*◌, ◌/◌, ◌%◌, ◌≤◌, ◌<◌, ltb, eqb, get_or, set}
 use Rattle.std.proofs.Math.Bool.{true, false}
 use Rattle.std.proofs.lemmas.Bool.{false≢true}
 use native.Mathlib.Omega.{arith}
-use borrow.Author.Tests.{lt-ltb, le-ltb, ltb-true, le-leb, lt-leb}
+use borrow.Author.Tests.{le-ltb, ltb-true, le-leb, lt-leb}
 use Rattle.std.proofs.Math.ListN.{length}
 use Rattle.std.proofs.Math.Seq.{paste}
-use Rattle.errors.specs.Refusals.{answered, refused, plain}
+use Rattle.std.specs.List.{list_all}
+use Rattle.errors.specs.Refusals.{returned, answered, refused, plain}
 use Rattle.errors.specs.Choice.{pick, same_not, in_range}
 use Rattle.errors.specs.declared.Refusal.{Refusal}
 use Rattle.framing.specs.Lists.{both}
-use Rattle.bench.specs.Texts.{returned, over, put_of, Placed, placed, put_at}
+use Rattle.bench.specs.Texts.{over, put_of, Placed, placed, put_at}
 use Rattle.bench.specs.TextLaws.{paste_step, paste_all, put_short, put-done, put_none, put_there}
-use Rattle.bench.specs.declared.Put.{Put}
-use Rattle.bench.specs.declared.Put.TheVariants.{Bytes, Refused}
 use Rattle.bench.specs.Hex.{value_of, dash, all_hex_digits, is_hex_of, pairs_of, read_of, digit_of, digits_of_lem, hex_of}
 use Rattle.framing.specs.Build.{left}
 
@@ -86,21 +85,15 @@ unfolding hex_of
 hex_some [] e = absurd (e refl)
 hex_some (x ∷ b) e = refl
 
--- the test of the digits from place i on
-module _ (w : List ℕ) (i r : ℕ) (left : all_hex_digits w ≡ all_hex_digits (drop i w)) (value : r ≡ value_of (get_or w i 0)) (inside : i < length w) where
-  digits-split : all_hex_digits w ≡ both (ltb r 16) (all_hex_digits (drop (suc i) w))
-  unfolding all_hex_digits
-  digits-split = left ∙ rw (drop-cons w i 0 inside, ← value)
-
-  pub digits_more : r < 16 → all_hex_digits w ≡ all_hex_digits (drop (i + 1) w)
-  digits_more h = digits-split ∙ rw (lt-ltb r 16 h, add-one)
-
-  pub digits_stop : 16 ≤ r → false ≡ all_hex_digits w
-  digits_stop h = sym (digits-split ∙ rw (le-ltb r 16 h))
-
-pub digits_end : (w : List ℕ) (i : ℕ) → all_hex_digits w ≡ all_hex_digits (drop i w) → length w ≤ i → true ≡ all_hex_digits w
+-- the test of every digit, in the library's words
+pub digits_all : (w : List ℕ) → all_hex_digits w ≡ list_all (λ d. nat_lt (value_of d) 16) w
 unfolding all_hex_digits
-digits_end w i left h = sym (left ∙ ap all_hex_digits (drop_of_length-le w {i = i} h))
+digits_all [] = refl
+digits_all (d ∷ w) = go (nat_lt (value_of d) 16) (digits_all w)
+  where
+    go : (t : Bool) → all_hex_digits w ≡ list_all (λ x. nat_lt (value_of x) 16) w → both t (all_hex_digits w) ≡ (t && list_all (λ x. nat_lt (value_of x) 16) w)
+    go true h = h
+    go false h = refl
 
 -- two turns' worth of digits: the i-th byte's
 pub digits_turn : (d b o : List ℕ) (at i x y : ℕ) → o ≡ paste d at (digits_of_lem b) (2 * i) → i < length b → at + 2 * length b ≤ length d
@@ -189,13 +182,13 @@ hex_short [] = omega arith
 hex_short (x ∷ b) = omega (arith, length_digits (x ∷ b))
 
 -- a word that was read into a buffer with room for its bytes
-module _ (w b o : List ℕ) (r : Put) (room : length w / 2 ≤ length b) (known : left (returned r) o ≡ read_of w b) where
+module _ (w b o : List ℕ) (r : Result ℕ Refusal) (room : length w / 2 ≤ length b) (known : left (returned r) o ≡ read_of w b) where
   read_by : (t : Bool) → is_hex_of w ≡ t → left (returned r) o ≡ pick t (left (answered (length (pairs_of w))) (over 0 (pairs_of w) b)) (left (refused (plain 4)) b)
   unfolding read_of put_of pick
   read_by true h = known ∙ rw (h, le-ltb (length b) (length (pairs_of w)) (omega (arith, length_pairs w)))
   read_by false h = known ∙ rw h
 
-  module _ (n : ℕ) (q : r ≡ Bytes n) where
+  module _ (n : ℕ) (q : r ≡ Ok n) where
     pub was_read : is_hex_of w ≡ true
     unfolding returned pick
     was_read = go (is_hex_of w) refl
@@ -214,7 +207,7 @@ module _ (w b o : List ℕ) (r : Put) (room : length w / 2 ≤ length b) (known 
     unfolding pick
     read_into = ap (λ l. l.buffer) (read_by true was_read)
 
-  pub not_read : (e : Refusal) → r ≡ Refused e → is_hex_of w ≡ false
+  pub not_read : (e : Refusal) → r ≡ Err e → is_hex_of w ≡ false
   unfolding returned pick
   not_read e q = go (is_hex_of w) refl
     where

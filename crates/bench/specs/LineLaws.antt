@@ -1,12 +1,11 @@
 -- Laws of a line that is put together from parts: its first line feed, its buffer, the line that is given and what is unread.
-use Rattle.std.specs.Prelude.{◌≡◌, Bool, ℕ, zero, suc, ◌+◌, ◌-◌, ◌≤◌, ◌<◌, eqb, take, drop}
-use Rattle.std.proofs.Math.Path.{refl}
-use Rattle.std.proofs.Common.{sym, ap, ap₂, ◌∙◌, inl, zero-add, length-append, length-take, length-drop, take_all, length-take-le, drop-drop}
+use Rattle.std.specs.Prelude.{◌≡◌, Option, Some, None, Bool, ℕ, zero, suc, ◌+◌, ◌-◌, ◌≤◌, ◌<◌, eqb, take, drop}
+use Rattle.std.proofs.Math.Path.{refl, subst}
+use Rattle.std.proofs.Common.{sym, ap, ap₂, ◌∙◌, zero-add, length-append, length-take, length-drop, take_all, length-take-le, drop-drop}
 use Rattle.std.proofs.Math.Bool.{true, false}
 use mathlib.Core.List.{List, [], ◌∷◌, ◌++◌, append_assoc, append-nil}
-use Rattle.std.proofs.Math.Logic.{inr}
 use native.Mathlib.Omega.{arith}
-use borrow.Author.Tests.{lt-ltb, le-ltb, ltb-false, eq-eqb, ne_eqb, eqb-true}
+use borrow.Author.Tests.{lt-ltb, le-ltb, ltb-false, ne_eqb, eqb-true}
 use Rattle.std.proofs.Math.Dec.{ltb}
 use Rattle.std.proofs.Math.ListN.{length, drop_of_length-le}
 use Rattle.std.proofs.Math.Seq.{slice, take-nil, take-length, take-append-add}
@@ -14,11 +13,9 @@ use Rattle.std.proofs.lemmas.List.{take-append-le}
 use Rattle.errors.specs.Choice.{pick}
 use Rattle.octets.specs.Bytes.{index_of, index_after}
 use Rattle.octets.specs.Bytes as bytes
-use Rattle.bench.specs.Lines.{feed, before_feed, NoFeed, with_text, Counted, Begun, line_of, end_of, unread_of, unread_in, nothing, NextLine, last_of}
-use Rattle.bench.specs.declared.lines.Given.{Given}
+use Rattle.bench.specs.Lines.{feed, before_feed, NoFeed, with_text, Counted, Begun, line_of, end_of, counted_line, last_line, unread_of, unread_in, nothing, NextLine}
 use Rattle.bench.specs.declared.lines.Unread.{Unread}
 use Rattle.bench.specs.declared.lines.Line.{Line}
-use Rattle.bench.specs.declared.lines.Line.TheVariants.{End}
 use Rattle.bench.specs.Texts.{over, placed, placed_at, put_at}
 use Rattle.bench.specs.TextLaws.{over-over, put_there}
 
@@ -29,15 +26,6 @@ whole_slice b = take-length b
 
 pub found-feed : (b : List ℕ) (r : ℕ) → r ≡ 0 + index_of feed (bytes.slice 0 (length b) b) → r ≡ before_feed b
 found-feed b r e = e ∙ rw (zero-add, whole_slice b)
-
-pub feed_within : (b : List ℕ) → before_feed b ≤ length b
-unfolding index_of index_after
-feed_within [] = omega arith
-feed_within (x ∷ b) = go (eqb x feed) (feed_within b)
-  where
-    go : (t : Bool) → before_feed b ≤ length b → index_after t (before_feed b) ≤ suc (length b)
-    go true h = omega arith
-    go false h = omega arith
 
 pub none_before : (b : List ℕ) → NoFeed (take (before_feed b) b)
 unfolding index_of index_after
@@ -89,96 +77,76 @@ begin_cut t p l h k =
     ap₂ (λ x y. x ++ y) (take_all (length l) (t ++ take n p) j ∙ sym (take-append-add t p n) ∙ ap (λ k. take k (t ++ p)) (sym same))
     (drop_of_length-le l i ∙ sym (drop_of_length-le l f))
 
-pub begun_none : (l : List ℕ) → Begun [] l 0 l
+pub begun_none : (l : List ℕ) → Begun [] l (Some 0) l
 unfolding with_text
-begun_none l = record { count = inl (refl, omega arith); put = rw (take-nil {A = ℕ} (length l)) }
+begun_none l = record { count = (refl, omega arith); put = rw (take-nil {A = ℕ} (length l)) }
 
 pub room_counts : (p : List ℕ) (k : ℕ) → k ≤ length p → k ≡ length (take k p)
 room_counts p k h = sym (length-take-le k p h)
 
--- a part behind the text
-module _ (t l p m : List ℕ) (n : ℕ) (b : Begun t l n m) where
-  same-room : length m ≡ length l
-  same-room = ap length b.put ∙ length-begin t l
+same-room : (t l m : List ℕ) (n : Option ℕ) → Begun t l n m → length m ≡ length l
+same-room t l m n b = ap length b.put ∙ length-begin t l
 
-  pub add_none : length m < n → Begun (t ++ p) l n m
-  unfolding with_text
-  add_none h = go b.count
-    where
-      go : Counted n (length t) (length l) → Begun (t ++ p) l n m
-      go (inl e) = absurd (omega (arith, same-room))
-      go (inr e) =
-          let k : length l < length (t ++ p) = rw (length-append t p) (omega arith) in
-          let i : length l ≤ length t = omega arith in
-          let j : length l ≤ length (t ++ p) = omega arith in
-          record { count = inr (e.0, k); put = b.put ∙ rw (take-append-le (length l) t p, drop_of_length-le l i, drop_of_length-le l j) }
+-- a part behind a text that the buffer does not take
+pub add_none : (t l p m : List ℕ) (n r : Option ℕ) → n ≡ None → r ≡ None → Begun t l n m → Begun (t ++ p) l r m
+unfolding with_text
+add_none t l p m n r e f b =
+    let over : length l < length t = subst (λ (x : Option ℕ). Counted x (length t) (length l)) e b.count in
+    let k : length l < length (t ++ p) = rw (length-append t p) (omega arith) in
+    let i : length l ≤ length t = omega arith in
+    let j : length l ≤ length (t ++ p) = omega arith in
+    record { count = rw f k; put = b.put ∙ rw (take-append-le (length l) t p, drop_of_length-le l i, drop_of_length-le l j) }
 
-  fitting : n ≤ length m → (n ≡ length t) × (length t ≤ length l)
-  fitting h = go b.count
-    where
-      go : Counted n (length t) (length l) → (n ≡ length t) × (length t ≤ length l)
-      go (inl e) = e
-      go (inr e) = absurd (omega (arith, same-room))
+-- a part behind a text of n bytes
+module _ (t l p m : List ℕ) (n : ℕ) (b : Begun t l (Some n) m) where
+  fitting : (n ≡ length t) × (length t ≤ length l)
+  fitting = b.count
 
-  put-part : (q : List ℕ) → n ≤ length m → n + length q ≤ length m → over n q m ≡ with_text (t ++ q) l
-  put-part q h k =
-      let e : (n ≡ length t) × (length t ≤ length l) = fitting h in
-      let room : 0 + length t + length q ≤ length l = omega (arith, same-room) in
+  pub no_more : length m < n → ⊥
+  no_more h = omega (arith, fitting, same-room t l m (Some n) b)
+
+  put-part : (q : List ℕ) → n + length q ≤ length m → over n q m ≡ with_text (t ++ q) l
+  put-part q k =
+      let e : (n ≡ length t) × (length t ≤ length l) = fitting in
+      let room : 0 + length t + length q ≤ length l = omega (arith, same-room t l m (Some n) b) in
       let all : length (t ++ q) ≤ length l = rw (length-append t q) (omega arith) in
       ap₂ (λ i x. over i q x) (e.0 ∙ sym (zero-add (length t))) (b.put ∙ begin-fits t l e.1) ∙ over-over l t q 0 room ∙ sym (begin-fits (t ++ q) l all)
 
-  pub add_cut : (r : ℕ) (o : List ℕ) → n ≤ length m → length m - n < length p → placed r o ≡ put_at n (take (length m - n) p) m
-      → Begun (t ++ p) l (length o + 1) o
-  add_cut r o h k e =
-      let f : (n ≡ length t) × (length t ≤ length l) = fitting h in
-      let room : length m - n ≡ length l - length t = omega (arith, same-room) in
-      let q : List ℕ = take (length m - n) p in
-      let all : length q ≡ length m - n = length-take-le (length m - n) p (omega arith) in
-      let cut : with_text (t ++ q) l ≡ with_text (t ++ p) l = ap (λ k. with_text (t ++ take k p) l) room ∙ begin_cut t p l f.1 (omega arith) in
-      let there : placed r o ≡ placed_at n q m = e ∙ sym (put_there q m n (omega arith)) in
-      let done : o ≡ with_text (t ++ p) l = ap (λ x. x.buffer) there ∙ put-part q h (omega arith) ∙ cut in
-      let long : length o ≡ length l = ap length done ∙ length-begin (t ++ p) l in
-      record { count = inr (ap (λ k. k + 1) long, rw (length-append t p) (omega (arith, same-room))); put = done }
+  -- in the room that is left
+  module _ (left : ℕ) (is : left + n ≡ length m) where
+    pub add_cut : (r : ℕ) (o : List ℕ) → left < length p → placed r o ≡ put_at n (take left p) m → Begun (t ++ p) l None o
+    add_cut r o k e =
+        let f : (n ≡ length t) × (length t ≤ length l) = fitting in
+        let room : left ≡ length l - length t = omega (arith, same-room t l m (Some n) b) in
+        let q : List ℕ = take left p in
+        let all : length q ≡ left = length-take-le left p (omega arith) in
+        let cut : with_text (t ++ q) l ≡ with_text (t ++ p) l = ap (λ k. with_text (t ++ take k p) l) room ∙ begin_cut t p l f.1 (omega arith) in
+        let there : placed r o ≡ placed_at n q m = e ∙ sym (put_there q m n (omega arith)) in
+        record { count = rw (length-append t p) (omega (arith, same-room t l m (Some n) b)); put = ap (λ x. x.buffer) there ∙ put-part q (omega arith) ∙ cut }
 
-  pub add_whole : (r : ℕ) (o : List ℕ) → n ≤ length m → length p ≤ length m - n → placed r o ≡ put_at n p m → Begun (t ++ p) l r o
-  add_whole r o h k e =
-      let f : (n ≡ length t) × (length t ≤ length l) = fitting h in
-      let there : placed r o ≡ placed_at n p m = e ∙ sym (put_there p m n (omega arith)) in
-      record {
-        count = inl (ap (λ x. x.next) there ∙ rw (length-append t p) (omega arith), rw (length-append t p) (omega (arith, same-room)));
-        put = ap (λ x. x.buffer) there ∙ put-part p h (omega arith);
-      }
+    pub add_whole : (r : ℕ) (o : List ℕ) → length p ≤ left → placed r o ≡ put_at n p m → Begun (t ++ p) l (Some r) o
+    add_whole r o k e =
+        let f : (n ≡ length t) × (length t ≤ length l) = fitting in
+        let there : placed r o ≡ placed_at n p m = e ∙ sym (put_there p m n (omega arith)) in
+        record {
+          count = (ap (λ x. x.next) there ∙ rw (length-append t p) (omega arith), rw (length-append t p) (omega (arith, same-room t l m (Some n) b)));
+          put = ap (λ x. x.buffer) there ∙ put-part p (omega arith);
+        }
 
 -- the line that is given
-module _ (t l m : List ℕ) (n : ℕ) (b : Begun t l n m) where
-  pub line_begun : line_of n m ≡ line_of (length t) l
-  unfolding line_of pick
-  line_begun = go b.count
-    where
-      go : Counted n (length t) (length l) → line_of n m ≡ line_of (length t) l
-      go (inl e) = rw (same-room t l [] m n b, e.0)
-      go (inr e) = rw (same-room t l [] m n b, lt-ltb (length l) n (omega arith), lt-ltb (length l) (length t) e.1)
+pub line_begun : (t l m : List ℕ) (n : Option ℕ) → Begun t l n m → counted_line n ≡ line_of (length t) l
+unfolding line_of pick
+line_begun t l m (Some n) b = rw (le-ltb (length l) (length t) b.count.1, b.count.0)
+line_begun t l m None b = rw (lt-ltb (length l) (length t) b.count)
 
-  pub end_begun : end_of n m ≡ end_of (length t) l
-  unfolding end_of pick
-  end_begun = go b.count
-    where
-      go : Counted n (length t) (length l) → end_of n m ≡ end_of (length t) l
-      go (inl e) = rw (line_begun, e.0)
-      go (inr e) = rw (line_begun, ne_eqb n 0 (λ z. omega arith), ne_eqb (length t) 0 (λ z. omega arith))
-
--- the answers of `last`
-pub last_none : (l : List ℕ) (n : ℕ) (h : Unread) → n ≡ 0 → h ≡ nothing → ◌≡◌ {A = Given} (record { line = End; unread = h }) (last_of n l)
-unfolding end_of pick
-last_none l n h e f = rw (eq-eqb n 0 e, f)
-
-pub last_some : (l : List ℕ) (n : ℕ) (h : Unread) (t : Line) → (n ≡ 0 → ⊥) → h ≡ nothing → t ≡ line_of n l → ◌≡◌ {A = Given} (record { line = t; unread = h }) (last_of n l)
-unfolding end_of pick
-last_some l n h t e f g = rw (ne_eqb n 0 e, f, g)
+pub end_begun : (t l m : List ℕ) (n : Option ℕ) → Begun t l n m → last_line n ≡ end_of (length t) l
+unfolding last_line end_of line_of pick
+end_begun t l m (Some n) b = rw (le-ltb (length l) (length t) b.count.1, b.count.0)
+end_begun t l m None b = rw (lt-ltb (length l) (length t) b.count, ne_eqb (length t) 0 (λ z. omega (arith, b.count)))
 
 -- a line feed ended the line: the bytes were those of x, which has none, and of the part
-pub ended : (h came x part l m after : List ℕ) (k n : ℕ) (t : Line) → h ++ came ≡ x ++ part → NoFeed x → k ≡ before_feed part → k < length part
-    → Begun (x ++ take k part) l n m → t ≡ line_of n m → after ≡ drop (suc k) part → NextLine h l t m after
+pub ended : (h came x part l m after : List ℕ) (k : ℕ) (n : Option ℕ) (t : Line) → h ++ came ≡ x ++ part → NoFeed x → k ≡ before_feed part → k < length part
+    → Begun (x ++ take k part) l n m → t ≡ counted_line n → after ≡ drop (suc k) part → NextLine h l t m after
 unfolding pick
 ended h came x part l m after k n t e none is less b known rest =
     let f : part ≡ take k part ++ (feed ∷ after) = rw (rest, is) (split_feed part (omega arith)) in
@@ -194,7 +162,7 @@ ended h came x part l m after k n t e none is less b known rest =
     }
 
 -- the input ended
-pub input_ended : (h came l m after : List ℕ) (n : ℕ) (t : Line) → NoFeed (h ++ came) → Begun (h ++ came) l n m → t ≡ end_of n m → after ≡ [] → NextLine h l t m after
+pub input_ended : (h came l m after : List ℕ) (n : Option ℕ) (t : Line) → NoFeed (h ++ came) → Begun (h ++ came) l n m → t ≡ last_line n → after ≡ [] → NextLine h l t m after
 unfolding pick
 input_ended h came l m after n t none b known rest =
     record {

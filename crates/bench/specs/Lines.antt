@@ -1,5 +1,5 @@
 -- A line that is put together from the parts in which it is read.
-use Rattle.std.specs.Prelude.{◌≡◌, Bool, false, List, [], ◌∷◌, ◌++◌, ◌⊎◌, ℕ, ◌+◌, ◌≤◌, ◌<◌, eqb, ltb, length, take, drop}
+use Rattle.std.specs.Prelude.{◌≡◌, Option, Some, None, Bool, false, List, [], ◌∷◌, ◌++◌, ℕ, ◌+◌, ◌≤◌, ◌<◌, eqb, ltb, length, take, drop}
 use Rattle.std.proofs.Math.Seq.{slice}
 use Rattle.errors.specs.Choice.{pick}
 use Rattle.octets.specs.Bytes.{index_of}
@@ -22,12 +22,13 @@ NoFeed b = before_feed b ≡ length b
 unfoldable pub with_text : List ℕ → List ℕ → List ℕ
 with_text text l = take (length l) text ++ drop (length text) l
 
--- n counts k bytes for a buffer of r: it is k, or r + 1 where the buffer does not take them
-abbrev pub Counted : ℕ → ℕ → ℕ → Type 0
-Counted n k r = ((n ≡ k) × (k ≤ r)) ⊎ ((n ≡ r + 1) × (r < k))
+-- n counts k bytes for a buffer of r: it is k, or nothing where the buffer does not take them
+abbrev pub Counted : Option ℕ → ℕ → ℕ → Type 0
+Counted (Some n) k r = (n ≡ k) × (k ≤ r)
+Counted None k r = r < k
 
 -- the text was put into a line's buffer l, which became m, and n counts it
-pub record Begun (text l : List ℕ) (n : ℕ) (m : List ℕ) : Type 0 where
+pub record Begun (text l : List ℕ) (n : Option ℕ) (m : List ℕ) : Type 0 where
   pub count : Counted n (length text) (length l)
   pub put : m ≡ with_text text l
 
@@ -42,8 +43,18 @@ end_of n l = pick (eqb n 0) End (line_of n l)
 abbrev pub nothing : Unread
 nothing = record { from = 0; to = 0 }
 
-abbrev pub last_of : ℕ → List ℕ → Given
-last_of n l = record { line = end_of n l; unread = nothing }
+-- the line that was counted
+abbrev pub counted_line : Option ℕ → Line
+counted_line (Some n) = Text n
+counted_line None = OverLong
+
+-- the last one of the input
+unfoldable pub last_line : Option ℕ → Line
+last_line (Some n) = pick (eqb n 0) End (Text n)
+last_line None = OverLong
+
+abbrev pub last_of : Option ℕ → Given
+last_of n = record { line = last_line n; unread = nothing }
 
 -- what is unread of a buffer of n bytes: nothing where the places are none of the buffer's
 unfoldable pub unread_of : Unread → ℕ → Unread

@@ -1,10 +1,7 @@
 -- A number in decimal digits: one or more, and at most 4294967295.
-use Rattle.std.specs.Prelude.{Bool, true, List, [], ◌∷◌, ℕ, ◌+◌, ◌-◌, ◌*◌, ltb, leb, length}
-use Rattle.std.proofs.Math.Option.{Option, none, some}
+use Rattle.std.specs.Prelude.{Option, Some, None, Bool, true, List, [], ◌∷◌, ℕ, ◌+◌, ◌-◌, ◌*◌, ltb, leb, length}
 use Rattle.errors.specs.Choice.{pick, in_range}
 use Rattle.framing.specs.Lists.{both}
-use Rattle.bench.specs.declared.number.Number.{Number}
-use Rattle.bench.specs.declared.number.Number.TheVariants.{Value, Unreadable}
 
 -- the value of a decimal digit; 10 for any other byte
 unfoldable pub digit_value_of : ℕ → ℕ
@@ -26,9 +23,4 @@ unfoldable pub is_number : List ℕ → Bool
 is_number w = both (ltb 0 (length w)) (both (all_decimal w) (leb (number_from 0 w) number_limit))
 
 unfoldable pub number_of : List ℕ → Option ℕ
-number_of w = pick (is_number w) (some (number_from 0 w)) none
-
--- what was read
-abbrev pub number_in : Number → Option ℕ
-number_in (Value n) = some n
-number_in Unreadable = none
+number_of w = pick (is_number w) (Some (number_from 0 w)) None

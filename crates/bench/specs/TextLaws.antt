@@ -1,11 +1,12 @@
 -- Laws of a text in a buffer: put there byte by byte, or as a copy, and one text behind another.
-use Rattle.std.specs.Prelude.{◌≡◌, refl, Bool, true, false, List, [], ◌++◌, ℕ, ◌+◌, ◌-◌, ◌≤◌, ◌<◌, take, drop, get_or, set}
+use Rattle.std.specs.Prelude.{◌≡◌, refl, Bool, true, false, List, [], ◌∷◌, ◌++◌, ℕ, ◌+◌, ◌-◌, ◌≤◌, ◌<◌, take, drop, get_or, set}
 use Rattle.std.proofs.Common.{sym, ap₂, ◌∙◌, append_assoc, append-nil, add_assoc, add-one, arith, length-append, length-take, length-drop, length-take-le, take_at, drop-drop, lt-ltb, le-ltb}
 use Rattle.std.proofs.Math.Path.{ap}
 use Rattle.std.proofs.Math.Nat.{zero-add}
 use Rattle.std.proofs.Math.ListN.{length}
 use Rattle.std.proofs.Math.Seq.{take-length, paste, paste-zero, paste-suc, drop-append-add}
 use borrow.Rule.Slice.PartMut.{put_mid}
+use Rattle.std.proofs.lemmas.List.{set_split}
 use Rattle.errors.specs.Refusals.{answered, refused, plain}
 use Rattle.errors.specs.Choice.{pick}
 use Rattle.framing.specs.Copied.{copied}
@@ -75,6 +76,13 @@ pub put_copied : (b t part : List ℕ) (at : ℕ) → at ≤ length b → length
     → part ≡ take (length t) t ++ drop (length t) (take (length b - at) (drop at b))
     → placed (at + length t) (put_mid at (length b - at) b part) ≡ put_at at t b
 put_copied b t part at h k e = ap (placed (at + length t)) (over_copied b t part at (omega arith) e) ∙ put_there t b at (omega arith)
+
+-- one byte put
+pub byte_put : (x : ℕ) (o o' : List ℕ) (at r : ℕ) → placed r o' ≡ put_at at (x ∷ []) o → at < length o → (r ≡ at + 1) × (o' ≡ set o at x)
+unfolding over
+byte_put x o o' at r e h =
+    let f : placed r o' ≡ placed_at at (x ∷ []) o = e ∙ sym (put_there (x ∷ []) o at (omega arith)) in
+    (ap (λ p. p.next) f, ap (λ p. p.buffer) f ∙ rw (add-one at) (sym (set_split o at x h)))
 
 -- the same text
 pub put_same : (t u b : List ℕ) (at : ℕ) (x : Placed) → x ≡ put_at at t b → t ≡ u → x ≡ put_at at u b

@@ -1,15 +1,8 @@
 -- A text put into a buffer, and a number as text. A text is the list of its bytes.
 use Rattle.std.specs.Prelude.{◌≡◌, List, [], ◌∷◌, ◌++◌, ℕ, zero, suc, ◌+◌, ◌%◌, ◌/◌, ◌≤◌, ltb, length, take, drop}
-use Rattle.errors.specs.Refusals.{Returned, answered, refused, plain, numbered}
+use Rattle.errors.specs.Refusals.{answered, refused, plain}
 use Rattle.errors.specs.Choice.{pick}
-use Rattle.bench.specs.declared.Put.{Put}
-use Rattle.bench.specs.declared.Put.TheVariants.{Bytes, Refused}
 use Rattle.framing.specs.Build.{Left, left}
-
--- document 01's number, or how many bytes were put
-unfoldable pub returned : Put → Returned
-returned (Bytes n) = answered n
-returned (Refused e) = refused (numbered e)
 
 -- the buffer b with the text t from place `at` on
 unfoldable pub over : ℕ → List ℕ → List ℕ → List ℕ

@@ -1,7 +1,8 @@
 -- Laws of the words of a line: what the scans of `words` find, place by place.
-use Rattle.std.specs.Prelude.{◌≡◌, refl, Bool, true, false, List, [], ◌∷◌, ◌++◌, ℕ, zero, suc, ◌+◌, ◌-◌, ◌≤◌, ◌<◌, eqb, length, get_or, take, drop}
-use Rattle.std.proofs.Common.{sym, ap, ◌∙◌, append_assoc, append-nil, add-one, arith, drop_of_length-le, length-drop, drop-cons, take-suc, get_or-drop, drop-drop}
-use borrow.Author.Tests.{eq-eqb, ne_eqb}
+use Rattle.std.specs.Prelude.{◌≡◌, refl, Bool, true, false, cond, Option, Some, None, unwrap_or, option_map, slice_get, ◌==◌, List, [], ◌∷◌, ℕ, zero, suc, ◌+◌, ◌-◌, ◌≤◌, ◌<◌, eqb, length, get_or, take, drop}
+use Rattle.std.proofs.Common.{sym, ap, ◌∙◌, arith, drop_of_length-le, drop-cons, drop-drop}
+use denote.Ref.{Bor}
+use Rattle.std.specs.List.{slice_split, onto_first}
 use Rattle.std.proofs.Math.Seq.{take-length}
 use Rattle.octets.specs.Bytes.{index_of, index_after, slice}
 use Rattle.errors.specs.Choice.{pick}
@@ -22,86 +23,40 @@ unfolding ahead
 later-ahead b k [] = refl
 later-ahead b k (w ∷ ws) = refl
 
--- a line has a first word
-some_word : (l : List ℕ) → 0 < length (words_of_lem l)
+ahead-onto : (b : ℕ) (ws : List (List ℕ)) → ahead b ws ≡ onto_first b ws
+unfolding ahead
+ahead-onto b [] = refl
+ahead-onto b (w ∷ ws) = refl
+
+-- the words are the parts that `split` gives at the spaces
+pub words_split : (l : List ℕ) → words_of_lem l ≡ slice_split (λ b. b == 32) l
 unfolding words_of_lem pick
-some_word [] = omega arith
-some_word (b ∷ l) = go (some_word l) (eqb b 32)
+words_split [] = refl
+words_split (b ∷ l) = go (b == 32) (words_split l)
   where
-    go : 0 < length (words_of_lem l) → (t : Bool) → 0 < length (pick t ([] ∷ words_of_lem l) (ahead b (words_of_lem l)))
-    go h true = omega arith
-    go h false = omega (arith, length-ahead b (words_of_lem l) h)
+    go : (t : Bool) → words_of_lem l ≡ slice_split (λ x. x == 32) l
+        → pick t ([] ∷ words_of_lem l) (ahead b (words_of_lem l)) ≡ cond t ([] ∷ slice_split (λ x. x == 32) l) (onto_first b (slice_split (λ x. x == 32) l))
+    go true h = ap (λ ws. [] ∷ ws) h
+    go false h = ahead-onto b (words_of_lem l) ∙ ap (onto_first b) h
 
-module _ (l : List ℕ) (i : ℕ) where
-  at-space : i < length l → get_or l i 0 ≡ 32 → words_of_lem (drop i l) ≡ [] ∷ words_of_lem (drop (i + 1) l)
-  unfolding words_of_lem pick
-  at-space h e = rw (drop-cons l i 0 h, eq-eqb (get_or l i 0) 32 e, add-one)
+pub counted : (l : List ℕ) → length (words_of_lem l) ≡ length (slice_split (λ b. b == 32) l)
+counted l = ap length (words_split l)
 
-  at_other : i < length l → (get_or l i 0 ≡ 32 → ⊥) → words_of_lem (drop i l) ≡ ahead (get_or l i 0) (words_of_lem (drop (i + 1) l))
-  unfolding words_of_lem pick
-  at_other h e = rw (drop-cons l i 0 h, ne_eqb (get_or l i 0) 32 e, add-one)
+got_or : (ws : List (List ℕ)) (k : ℕ) → unwrap_or (slice_get ws k) [] ≡ get_or ws k []
+got_or [] zero = refl
+got_or [] (suc k) = refl
+got_or (w ∷ ws) zero = refl
+got_or (w ∷ ws) (suc k) = got_or ws k
 
-  at-end : length l ≤ i → words_of_lem (drop i l) ≡ [] ∷ []
-  unfolding words_of_lem
-  at-end h = rw (drop_of_length-le l {i = i} h)
+now_or : (r : Option (Bor (List ℕ))) (none : Bor (List ℕ)) → none.now ≡ [] → (unwrap_or r none).now ≡ unwrap_or (option_map (λ w. w.now) r) []
+now_or None none e = e
+now_or (Some w) none e = refl
 
-  -- n words were passed before place i
-  module _ (n : ℕ) (passed : n + length (words_of_lem (drop i l)) ≡ length (words_of_lem l) + 1) where
-    pub count_space : (m : ℕ) → i < length l → get_or l i 0 ≡ 32 → m ≡ n + 1 → m + length (words_of_lem (drop (i + 1) l)) ≡ length (words_of_lem l) + 1
-    count_space m h e g = let f = ap length (at-space h e) in omega arith
-
-    pub count-other : (m : ℕ) → i < length l → (get_or l i 0 ≡ 32 → ⊥) → m ≡ n → m + length (words_of_lem (drop (i + 1) l)) ≡ length (words_of_lem l) + 1
-    count-other m h e g =
-        let f = ap length (at_other h e) ∙ length-ahead (get_or l i 0) (words_of_lem (drop (i + 1) l)) (some_word (drop (i + 1) l)) in
-        omega arith
-
-    pub count-end : length l ≤ i → n ≡ length (words_of_lem l)
-    count-end h = let f = ap length (at-end h) in omega arith
-
-  -- `left` words more are to be passed to come to the word w
-  module _ (left : ℕ) (w : List ℕ) (is_IsWord : get_or (words_of_lem (drop i l)) left [] ≡ w) where
-    pub start_space : (m : ℕ) → i < length l → (left ≡ 0 → ⊥) → get_or l i 0 ≡ 32 → m ≡ left - 1 → get_or (words_of_lem (drop (i + 1) l)) m [] ≡ w
-    start_space m h some e g = rw g (go left some (sym (ap (λ x. get_or x left []) (at-space h e)) ∙ is_IsWord))
-      where
-        go : (k : ℕ) → (k ≡ 0 → ⊥) → get_or ([] ∷ words_of_lem (drop (i + 1) l)) k [] ≡ w → get_or (words_of_lem (drop (i + 1) l)) (k - 1) [] ≡ w
-        go zero n f = absurd (n refl)
-        go (suc k) n f = let m : suc k - 1 ≡ k = omega arith in rw m f
-
-    pub start-other : (m : ℕ) → i < length l → (left ≡ 0 → ⊥) → (get_or l i 0 ≡ 32 → ⊥) → m ≡ left → get_or (words_of_lem (drop (i + 1) l)) m [] ≡ w
-    start-other m h some e g = rw g (go left some (sym (ap (λ x. get_or x left []) (at_other h e)) ∙ is_IsWord))
-      where
-        go : (k : ℕ) → (k ≡ 0 → ⊥) → get_or (ahead (get_or l i 0) (words_of_lem (drop (i + 1) l))) k [] ≡ w → get_or (words_of_lem (drop (i + 1) l)) k [] ≡ w
-        go zero n f = absurd (n refl)
-        go (suc k) n f = sym (later-ahead (get_or l i 0) k (words_of_lem (drop (i + 1) l))) ∙ f
-
-    pub start_here : left ≡ 0 → get_or (words_of_lem (drop i l)) 0 [] ≡ w
-    start_here e = ap (λ k. get_or (words_of_lem (drop i l)) k []) (sym e) ∙ is_IsWord
-
-    pub start-end : length l ≤ i → get_or (words_of_lem (drop i l)) 0 [] ≡ w
-    start-end h = ap (λ x. get_or x 0 []) (at-end h) ∙ go left ∙ sym (ap (λ x. get_or x left []) (at-end h)) ∙ is_IsWord
-      where
-        go : (k : ℕ) → get_or {A = List ℕ} ([] ∷ []) 0 [] ≡ get_or ([] ∷ []) k []
-        go zero = refl
-        go (suc k) = refl
-
-  -- the word w starts at place s, and no space stands before place i
-  module _ (s : ℕ) (w : List ℕ) (from : s ≤ i) (begun : take (i - s) (drop s l) ++ get_or (words_of_lem (drop i l)) 0 [] ≡ w) where
-    pub end_space : i < length l → get_or l i 0 ≡ 32 → take (i - s) (drop s l) ≡ w
-    end_space h e = sym (append-nil (take (i - s) (drop s l))) ∙ ap (λ x. take (i - s) (drop s l) ++ get_or x 0 []) (sym (at-space h e)) ∙ begun
-
-    pub end-end : length l ≤ i → take (i - s) (drop s l) ≡ w
-    end-end h = sym (append-nil (take (i - s) (drop s l))) ∙ ap (λ x. take (i - s) (drop s l) ++ get_or x 0 []) (sym (at-end h)) ∙ begun
-
-    pub end-other : i < length l → (get_or l i 0 ≡ 32 → ⊥) → take (i + 1 - s) (drop s l) ++ get_or (words_of_lem (drop (i + 1) l)) 0 [] ≡ w
-    end-other h e =
-        let m : i + 1 - s ≡ suc (i - s) = omega arith in
-        let k : i - s < length (drop s l) = rw (length-drop s l) (omega arith) in
-        let g : s + (i - s) ≡ i = omega arith in
-        rw (m, take-suc (drop s l) (i - s) 0 k, get_or-drop s l (i - s) 0, g, append_assoc)
-        (ap (λ x. take (i - s) (drop s l) ++ x) (sym (first-ahead (get_or l i 0) (words_of_lem (drop (i + 1) l))) ∙ sym (ap (λ x. get_or x 0 []) (at_other h e))) ∙ begun)
-
-pub end-begin : (l : List ℕ) (s : ℕ) → take (s - s) (drop s l) ++ get_or (words_of_lem (drop s l)) 0 [] ≡ get_or (words_of_lem (drop s l)) 0 []
-end-begin l s = let z : s - s ≡ 0 = omega arith in rw z
+-- the k-th part, lent; none where there are fewer
+pub word_got : (l : List ℕ) (k : ℕ) (r : Option (Bor (List ℕ))) (none : Bor (List ℕ)) → none.now ≡ [] → option_map (λ w. w.now) r ≡ slice_get (slice_split (λ b. b == 32) l) k
+    → (unwrap_or r none).now ≡ get_or (words_of_lem l) k []
+word_got l k r none e f =
+    now_or r none e ∙ ap (λ w. unwrap_or w []) f ∙ got_or (slice_split (λ b. b == 32) l) k ∙ ap (λ ws. get_or ws k []) (sym (words_split l))
 
 -- a word is no longer than its line
 pub word_short : (l : List ℕ) (k : ℕ) → length (get_or (words_of_lem l) k []) ≤ length l

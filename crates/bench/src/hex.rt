@@ -1,14 +1,16 @@
 // HEX: pairs of hex digits of either case, printed in upper case. `-` stands for no bytes.
-#![tactic(auto, using(framing::specs::Rules::steps), unfolding(errors::specs::Choice::pick, errors::specs::Choice::in_range, crate::specs::Hex::value_of, crate::specs::Hex::digit_of, crate::specs::Hex::is_hex_of, crate::specs::Texts::returned))]
+#![tactic(auto, using(framing::specs::Rules::steps, errors::specs::Rules::equals), unfolding(errors::specs::Choice::pick, errors::specs::Choice::in_range, crate::specs::Hex::value_of, crate::specs::Hex::digit_of, crate::specs::Hex::is_hex_of, errors::specs::Refusals::returned))]
 
 ghost use Rattle.std.specs.Prelude.{◌≡◌, Bool, ◌+◌, ◌*◌, ◌/◌, ◌≤◌, ◌<◌, length};
-ghost use Rattle.bench.specs.Texts.{returned, over, placed, put_at};
+ghost use Rattle.errors.specs.Refusals.{returned};
+ghost use Rattle.bench.specs.Texts.{over, placed, put_at};
 ghost use Rattle.bench.specs.Hex.{value_of, all_hex_digits, is_hex_of, pairs_of, read_of, digit_of, digits_of_lem, hex_of};
 ghost use Rattle.framing.specs.Build.{left};
 
-use super::{Put, text};
+use super::text;
 use errors::Refusal;
 
+// Kept: 16 and no Option, since `decode` reads digits that were tested, and would have to say what none is worth.
 // The value of a hex digit; 16 where the byte is none.
 fn value(digit: u8) -> u8
     ensures { (result ≡ value_of digit) × (result ≤ 16) }
@@ -24,29 +26,14 @@ fn value(digit: u8) -> u8
 fn all_digits(word: &[u8]) -> bool
     ensures { result ≡ all_hex_digits word.now }
 {
-    let mut i = 0;
-    while i < word.len() {
-        if value(word[i]) >= 16 {
-            return false;
-        }
-        i += 1;
-    }
-    true
+    word.iter().all(|digit| value(*digit) < 16)
 }
 
 // Whether the word can be read as HEX.
 pub fn is_hex(word: &[u8]) -> bool
     ensures { result ≡ is_hex_of word.now }
 {
-    if framing::is_exactly(word, b"-") {
-        return true;
-    }
-    if 0 < word.len() {
-        if word.len() % 2 == 0 {
-            return all_digits(word);
-        }
-    }
-    false
+    word == b"-".as_slice() || !word.is_empty() && word.len() % 2 == 0 && all_digits(word)
 }
 
 // Puts the bytes of the pairs at the buffer's start.
@@ -54,27 +41,24 @@ fn decode(word: &[u8], out: &mut [u8])
     requires { (is_hex_of word.now ≡ Bool.true) × (length word.now / 2 ≤ length out.old) }
     ensures { out.new ≡ over 0 (pairs_of word.now) out.old }
 {
-    let n = word.len() / 2;
-    let mut i = 0;
-    while i < n {
+    for i in 0..word.len() / 2 {
         out[i] = value(word[2 * i]) * 16 + value(word[2 * i + 1]);
-        i += 1;
     }
 }
 
 // The bytes that the word stands for. A word that is no HEX is refused with 4, a short buffer with 2.
-pub fn read(word: &[u8], out: &mut [u8]) -> Put
+pub fn read(word: &[u8], out: &mut [u8]) -> Result<usize, Refusal>
     ensures { left (returned result) out.new ≡ read_of word.now out.old }
 {
     if is_hex(word) {
         let n = word.len() / 2;
         if out.len() < n {
-            return Put::Refused(Refusal::ShortBuffer);
+            return Err(Refusal::ShortBuffer);
         }
         decode(word, out);
-        Put::Bytes(n)
+        Ok(n)
     } else {
-        Put::Refused(Refusal::BadArgument)
+        Err(Refusal::BadArgument)
     }
 }
 
@@ -95,12 +79,9 @@ fn put_digits(bytes: &[u8], out: &mut [u8], at: usize)
     requires { at + 2 * length bytes.now ≤ length out.old }
     ensures { out.new ≡ over at (digits_of_lem bytes.now) out.old }
 {
-    let mut i = 0;
-    while i < bytes.len() {
-        let byte = bytes[i];
+    for (i, byte) in bytes.iter().enumerate() {
         out[at + 2 * i] = digit(byte / 16);
         out[at + 2 * i + 1] = digit(byte % 16);
-        i += 1;
     }
 }
 

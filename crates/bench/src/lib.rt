@@ -9,18 +9,9 @@ pub mod words;
 
 ghost use Rattle.std.specs.Prelude.{◌≡◌, take};
 
-use errors::Refusal;
-
-// How many bytes stand at a lent buffer's start now, or a refusal.
-#[derive(Clone, Copy)]
-pub enum Put {
-    Bytes(usize),
-    Refused(Refusal),
-}
-
 // The first n bytes; all of them where there are fewer.
 pub fn prefix(n: usize, bytes: &[u8]) -> &[u8]
     ensures { result.now ≡ take n bytes.now }
 {
-    if n < bytes.len() { &bytes[..n] } else { bytes }
+    &bytes[..n.min(bytes.len())]
 }

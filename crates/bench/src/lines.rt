@@ -1,22 +1,24 @@
 // The lines of the input, one after the other, and what is written for each.
-#![tactic(auto, using(framing::specs::Rules::steps), unfolding(errors::specs::Choice::pick, crate::specs::Lines::line_of, crate::specs::Lines::unread_of))]
+#![tactic(auto, using(framing::specs::Rules::steps), unfolding(errors::specs::Choice::pick, crate::specs::Lines::last_line, crate::specs::Lines::unread_of))]
 
-ghost use Rattle.std.specs.Prelude.{◌≡◌, Bool, List, ◌++◌, ℕ, ◌≤◌, ◌<◌, length};
+ghost use Rattle.std.specs.Prelude.{◌≡◌, Bool, List, [], ◌∷◌, ◌++◌, ℕ, ◌+◌, slice_set, ◌≤◌, ◌<◌, length};
 ghost use Rattle.io.specs.Counts.{IsPrefixLen};
-ghost use Rattle.bench.specs.Lines.{Begun, NoFeed, before_feed, NextLine, next_of, unread_line, unread_in, line_of, unread_of, last_of, nothing as nothing_unread};
+ghost use Rattle.bench.specs.Texts.{Appends};
+ghost use Rattle.bench.specs.Lines.{feed, Begun, NoFeed, before_feed, NextLine, next_of, unread_line, unread_in, counted_line, unread_of, last_of, nothing as nothing_unread};
 
 use super::text;
 use std::io::Read;
 
 // What of the lent buffer was read and is no part of a line yet.
-#[derive(Clone, Copy)]
+#[derive(Clone, Copy, Debug, PartialEq, Eq)]
 pub struct Unread {
     pub from: usize,
     pub to: usize,
 }
 
 // The length of a line that stands at the start of the lent buffer; or that the buffer is too short for it; or that there is none.
-#[derive(Clone, Copy)]
+// Kept: a program answers each of the three ways by itself, and an Option of a Result would hide their names.
+#[derive(Clone, Copy, Debug, PartialEq, Eq)]
 pub enum Line {
     Text(usize),
     OverLong,
@@ -24,10 +26,29 @@ pub enum Line {
 }
 
 // A line, and what is still unread.
-#[derive(Clone, Copy)]
+#[derive(Clone, Copy, Debug, PartialEq, Eq)]
 pub struct Given {
     pub line: Line,
     pub unread: Unread,
+}
+
+// What a program goes on with after a line, and the length of the text that it put for the line.
+#[derive(Clone, Copy, Debug, PartialEq, Eq)]
+pub struct Answered<S> {
+    pub state: S,
+    pub len: usize,
+}
+
+impl<S> Answered<S> {
+    // A line feed behind the text.
+    pub fn fed(self, out: &mut [u8]) -> Answered<S>
+        ensures state { result.state ≡ self.state }
+        ensures text { Appends self.len (feed ∷ []) out.old result.len out.new }
+        ensures byte { self.len < length out.old → (result.len ≡ self.len + 1) × (out.new ≡ slice_set out.old self.len feed) }
+    {
+        let len = text::put(b"\n", out, self.len);
+        Answered { len, ..self }
+    }
 }
 
 impl Unread {
@@ -39,20 +60,17 @@ impl Unread {
     }
 }
 
-// Adds a part behind the `len` bytes of a line, as much of it as the buffer takes. A line that the buffer does not hold has a
-// length above the buffer's.
-fn add(part: &[u8], line: &mut [u8], len: usize) -> usize
+// Adds a part behind the `len` bytes of a line, as much of it as the buffer takes. A line that the buffer does not hold has no length.
+fn add(part: &[u8], line: &mut [u8], len: Option<usize>) -> Option<usize>
     ensures { (t l : List ℕ) → Begun t l len line.old → Begun (t ++ part.now) l result line.new }
 {
-    if line.len() < len {
-        return len;
-    }
-    let room = line.len() - len;
+    let len = len?;
+    let room = line.len().checked_sub(len)?;
     if room < part.len() {
         text::put(&part[..room], line, len);
-        return line.len() + 1;
+        return None;
     }
-    text::put(part, line, len)
+    Some(text::put(part, line, len))
 }
 
 // How many bytes stand before the first line feed: all of them where there is none.
@@ -62,13 +80,12 @@ fn before_feed(part: &[u8]) -> usize
     octets::scan::find(part, 0, part.len(), b'\n')
 }
 
-fn line_of(len: usize, line: &[u8]) -> Line
-    ensures { result ≡ line_of len line.now }
+fn line_of(len: Option<usize>) -> Line
+    ensures { result ≡ counted_line len }
 {
-    if line.len() < len {
-        Line::OverLong
-    } else {
-        Line::Text(len)
+    match len {
+        Some(n) => Line::Text(n),
+        None => Line::OverLong,
     }
 }
 
@@ -76,10 +93,7 @@ fn line_of(len: usize, line: &[u8]) -> Line
 fn fill<R: Read>(input: &mut R, buffer: &mut [u8]) -> usize
     ensures { IsPrefixLen result buffer.new }
 {
-    match input.read(buffer) {
-        Ok(n) => n,
-        Err(_) => 0,
-    }
+    input.read(buffer).unwrap_or(0)
 }
 
 // Reads until the buffer is full or no more bytes come, and gives how many stand at its start.
@@ -87,6 +101,7 @@ pub fn read_full<R: Read>(input: &mut R, buffer: &mut [u8]) -> usize
     ensures { IsPrefixLen result buffer.new }
 {
     let mut done = 0;
+    // Kept: counts the bytes that came, of which a read may bring any number.
     while done < buffer.len() {
         let n = fill(input, &mut buffer[done..]);
         if n == 0 {
@@ -101,27 +116,22 @@ pub fn read_full<R: Read>(input: &mut R, buffer: &mut [u8]) -> usize
 fn within(unread: Unread, n: usize) -> Unread
     ensures { result ≡ unread_of unread n }
 {
-    if n < unread.to {
-        return Unread::nothing();
+    if unread.from <= unread.to && unread.to <= n {
+        unread
+    } else {
+        Unread::nothing()
     }
-    if unread.to < unread.from {
-        return Unread::nothing();
-    }
-    unread
 }
 
 // The last line, if it has any byte.
-fn last(len: usize, line: &[u8]) -> Given
-    ensures { result ≡ last_of len line.now }
+fn last(len: Option<usize>) -> Given
+    ensures { result ≡ last_of len }
 {
-    if len == 0 {
-        return Given {
-            line: Line::End,
-            unread: Unread::nothing(),
-        };
-    }
     Given {
-        line: line_of(len, line),
+        line: match len {
+            Some(0) => Line::End,
+            _ => line_of(len),
+        },
         unread: Unread::nothing(),
     }
 }
@@ -129,28 +139,35 @@ fn last(len: usize, line: &[u8]) -> Given
 // Reads on until a line feed or the end of the input, behind the `start` bytes of a line.
 // A loop has to end, and nothing says that the input does: it counts its turns up to a number that no run comes to. Were it
 // come to, the line would be given as far as it was read.
-fn read_on<R: Read>(input: &mut R, start: usize, buffer: &mut [u8], line: &mut [u8]) -> Given
+fn read_on<R: Read>(
+    input: &mut R,
+    start: Option<usize>,
+    buffer: &mut [u8],
+    line: &mut [u8],
+) -> Given
     ensures { (t l : List ℕ) → NoFeed t → Begun t l start line.old → NextLine t l result.line line.new (unread_in result.unread buffer.new) }
 {
     let mut len = start;
+    // Kept: reads until a line feed or the end comes.
     for _ in 0..u64::MAX {
         let to = fill(input, buffer);
         if to == 0 {
-            return last(len, line);
+            return last(len);
         }
         let part = &buffer[..to];
         let stop = before_feed(part);
         len = add(&part[..stop], line, len);
         if stop < to {
             return Given {
-                line: line_of(len, line),
+                line: line_of(len),
                 unread: Unread { from: stop + 1, to },
             };
         }
     }
-    last(len, line)
+    last(len)
 }
 
+// Kept: a struct of the input, its buffer and what is unread of it would own a buffer of one size; lent one by one, the buffer has any.
 // Puts the next line, without its line feed, at the start of `line`. The last line may lack its line feed.
 // The input is read only where the unread bytes have no line feed. No contract can say what comes then: what is given is fixed by it, and
 // the bytes of `buffer` that are not among the unread ones afterwards are free.
@@ -159,17 +176,15 @@ pub fn next<R: Read>(input: &mut R, unread: Unread, buffer: &mut [u8], line: &mu
     ensures next_line { NextLine (unread_in unread buffer.old) line.old result.line line.new (unread_in result.unread buffer.new) }
 {
     let rest = within(unread, buffer.len());
-    let from = rest.from;
-    let to = rest.to;
-    let part = &buffer[from..to];
+    let part = &buffer[rest.from..rest.to];
     let stop = before_feed(part);
-    let len = add(&part[..stop], line, 0);
+    let len = add(&part[..stop], line, Some(0));
     if stop < part.len() {
         return Given {
-            line: line_of(len, line),
+            line: line_of(len),
             unread: Unread {
-                from: from + stop + 1,
-                to,
+                from: rest.from + stop + 1,
+                ..rest
             },
         };
     }
@@ -180,11 +195,27 @@ pub fn next<R: Read>(input: &mut R, unread: Unread, buffer: &mut [u8], line: &mu
 pub fn write(rt: &impl Print, out: &[u8], n: usize) -> bool
     ensures { result ≡ Bool.true → (0 < n) × (n ≤ length out.now) }
 {
-    if n == 0 {
-        return false;
+    0 < n && n <= out.len() && rt.write_all(&out[..n]).is_ok()
+}
+
+// Hands the lines of standard input to `answer`, one after the other, until it gives false; each stands at the start of `line`.
+// `next` has the contract of a line, by the bytes that come; free is what the operating system reads.
+pub fn for_each<R: std::io::Input, F: FnMut(Line, &[u8]) -> bool>(
+    rt: &R,
+    line: &mut [u8],
+    mut answer: F,
+)
+    requires { F.IsAlwaysCallable answer }
+{
+    let mut input = rt.reader();
+    let mut buffer = io::large_buffer();
+    let mut unread = Unread::nothing();
+    // Kept: the one loop over the lines, for all programs.
+    for _ in 0..u64::MAX {
+        let given = next(&mut input, unread, &mut buffer, line);
+        unread = given.unread;
+        if !answer(given.line, line) {
+            return;
+        }
     }
-    if out.len() < n {
-        return false;
-    }
-    rt.write_all(&out[..n]).is_ok()
 }

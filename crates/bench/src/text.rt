@@ -2,6 +2,7 @@
 ghost use Rattle.std.specs.Prelude.{◌≡◌};
 ghost use Rattle.bench.specs.Texts.{placed, put_at, decimal_of};
 
+// Kept: a struct that held the buffer with its place would have every function that puts a text promise that it holds the same one still.
 pub fn put(text: &[u8], out: &mut [u8], at: usize) -> usize
     ensures { placed result out.new ≡ put_at at text.now out.old }
 {
@@ -16,6 +17,7 @@ pub fn put(text: &[u8], out: &mut [u8], at: usize) -> usize
 }
 
 // A number in decimal digits.
+// Kept: as `put`.
 pub fn put_decimal(number: u64, out: &mut [u8], at: usize) -> usize
     ensures { placed result out.new ≡ put_at at (decimal_of number) out.old }
 {

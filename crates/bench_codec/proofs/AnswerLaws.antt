@@ -10,15 +10,14 @@ use lib.ListN.{length, take, drop, get_or, length-append, length-take, length-dr
 use Rattle.errors.specs.Refusals.{Returned, answered, refused}
 use Rattle.framing.specs.Build.{limit_of}
 use Rattle.framing.specs.Frames.{frame_of, checksum_of}
+use Rattle.std.specs.Prelude.{Option, Some, None}
 use Rattle.errors.specs.Choice.{pick, same}
 use Rattle.framing.specs.Padded.{parse_padded_of}
 use Rattle.framing.specs.Parse.{parse_of, payload_of}
 use Rattle.framing.specs.declared.FrameFormat.{FrameFormat}
 use Rattle.framing.specs.declared.FrameType.{FrameType}
-use Rattle.framing.specs.declared.FrameType.TheVariants.{Ack, Error, Data, Nothing}
+use Rattle.framing.specs.declared.FrameType.TheVariants.{Ack, Error, Data}
 use Rattle.framing.specs.declared.padded.Padded.{Padded}
-use Rattle.framing.specs.declared.settings.Setting.{Setting}
-use Rattle.framing.specs.declared.settings.Setting.TheVariants.{Format, Nothing as NoSetting}
 use Rattle.crc.specs.Crc.{CrcKind, type_a, type_b, checks, crc_bytes}
 use Rattle.crc.specs.Laws.{crc_length}
 use Rattle.targets.specs.Bitrates.{ascii, send_part_of}
@@ -31,6 +30,8 @@ use Rattle.bench.specs.declared.lines.Line.TheVariants.{Text, OverLong, End}
 use Rattle.felica.specs.Fields.{idm_in, service_in, count_in, list_in, block_data_in, numbers_in, is_request_of, reads, writes, no_request, request_of}
 use Rattle.felica.specs.Packets.{read_code, write_code}
 use Rattle.felica.specs.Taken.{request_few}
+use Rattle.bench_codec.specs.declared.blocks.PacketKind.{PacketKind}
+use Rattle.bench_codec.specs.declared.blocks.PacketKind.TheVariants.{ReadRequest, WriteRequest, ReadReply, WriteReply}
 use Rattle.bench_codec.proofs.BlockLaws.{packet_short, word_short as block_word_short}
 use Rattle.bench_codec.proofs.FrameLaws.{length-frame, longest_65535}
 use Rattle.bench.specs.DecimalLaws.{decimal_short}
@@ -100,7 +101,7 @@ request-fits p h = go (is_request_of read_code 0 p) (is_request_of write_code 16
         omega (arith, length-append w (word_text (block_data_in (count_in p) p)), asked (ascii "write") (omega arith) (few_numbered write_code 16 p f), block_word_short (block_data_in (count_in p) p), length-drop (14 + 2 * count_in p) p)
     go false false e f = omega arith
 
-block_fits_lem : (kind x y : ℕ) (idm blocks bytes : List ℕ) → Fits (block_text kind idm x y blocks bytes)
+block_fits_lem : (kind : PacketKind) (x y : ℕ) (idm blocks bytes : List ℕ) → Fits (block_text kind idm x y blocks bytes)
 unfolding block_text pick
 block_fits_lem kind x y idm blocks bytes = go (block_fits kind idm x blocks bytes) refl
   where
@@ -108,7 +109,7 @@ block_fits_lem kind x y idm blocks bytes = go (block_fits kind idm x blocks byte
     go true h = omega (arith, packet_short kind x y idm blocks bytes h, hex_short (block_packet kind idm x y blocks bytes))
     go false h = unreadable-fits
 
-line-fits : (kind : ℕ) (i s b d : List ℕ) → Fits (block_line kind i s b d)
+line-fits : (kind : PacketKind) (i s b d : List ℕ) → Fits (block_line kind i s b d)
 unfolding with_service
 line-fits kind i s b d =
     pick-fits (is_hex_of i) _ unreadable
@@ -141,14 +142,14 @@ data_short n q h =
     rw (length-append (ascii "data " ++ decimal_of n ++ ascii " ") (hex_of q), length-append (ascii "data " ++ decimal_of n) (ascii " "), length-append (ascii "data ") (decimal_of n))
     (omega (arith, decimal_short n, hex_short q))
 
-found_short : (r : FrameType) (p : List ℕ) → length p ≤ bytes_room → length (found_text r p) ≤ 262171
+found_short : (r : Option FrameType) (p : List ℕ) → length p ≤ bytes_room → length (found_text r p) ≤ 262171
 unfolding found_text payload_of
-found_short (Ack n) p h = rw (length-append (ascii "ack ") (decimal_of n)) (omega (arith, decimal_short n))
-found_short (Error n) p h = rw (length-append (ascii "error ") (decimal_of n)) (omega (arith, decimal_short n))
-found_short (Data s len n) p h = data_short n _ (omega (arith, length-take len (drop s p), length-drop s p))
-found_short Nothing p h = omega arith
+found_short (Some (Ack n)) p h = rw (length-append (ascii "ack ") (decimal_of n)) (omega (arith, decimal_short n))
+found_short (Some (Error n)) p h = rw (length-append (ascii "error ") (decimal_of n)) (omega (arith, decimal_short n))
+found_short (Some (Data s len n)) p h = data_short n _ (omega (arith, length-take len (drop s p), length-drop s p))
+found_short None p h = omega arith
 
-found-fits : (r : FrameType) (p : List ℕ) → length p ≤ bytes_room → Fits (found_text r p)
+found-fits : (r : Option FrameType) (p : List ℕ) → length p ≤ bytes_room → Fits (found_text r p)
 found-fits r p h = omega (arith, found_short r p h)
 
 padded-fits : (a : Padded) (p : List ℕ) → length p ≤ bytes_room → Fits (with_zeros a p)
@@ -174,20 +175,20 @@ two_fit name w h =
     pick-fits (same (ascii "bitrate") name) _ _ (word-rate-fits w h)
     (pick-fits (is_hex_of w) _ unreadable (bytes_fit name (pairs_of w) (pairs_fit w h)) unreadable-fits)
 
-setting_fits : (s : Setting) (name w : List ℕ) → length w ≤ line_limit → Fits (on_setting s name w)
+setting_fits : (s : Option FrameFormat) (name w : List ℕ) → length w ≤ line_limit → Fits (on_setting s name w)
 unfolding on_setting
-setting_fits (Format f) name w h = pick-fits (is_hex_of w) _ unreadable (format_fits name (pairs_of w) f (pairs_fit w h)) unreadable-fits
-setting_fits NoSetting name w h = unreadable-fits
+setting_fits (Some f) name w h = pick-fits (is_hex_of w) _ unreadable (format_fits name (pairs_of w) f (pairs_fit w h)) unreadable-fits
+setting_fits None name w h = unreadable-fits
 
 words_fit : (ws : List (List ℕ)) → ((k : ℕ) → length (get_or ws k []) ≤ line_limit) → Fits (on_words ws)
 unfolding on_words
 words_fit [] h = unreadable-fits
 words_fit (a ∷ []) h = unreadable-fits
 words_fit (a ∷ b ∷ []) h = two_fit a b (h 1)
-words_fit (a ∷ b ∷ c ∷ []) h = pick-fits (same (ascii "write_reply") a) _ _ (line-fits 3 b c dash dash) (setting_fits (setting_named b) a c (h 2))
+words_fit (a ∷ b ∷ c ∷ []) h = pick-fits (same (ascii "write_reply") a) _ _ (line-fits WriteReply b c dash dash) (setting_fits (setting_named b) a c (h 2))
 words_fit (a ∷ b ∷ c ∷ d ∷ []) h =
-    pick-fits (same (ascii "read_request") a) _ _ (line-fits 0 b c d dash) (pick-fits (same (ascii "read_reply") a) _ unreadable (line-fits 2 b c d dash) unreadable-fits)
-words_fit (a ∷ b ∷ c ∷ d ∷ e ∷ []) h = pick-fits (same (ascii "write_request") a) _ unreadable (line-fits 1 b c d e) unreadable-fits
+    pick-fits (same (ascii "read_request") a) _ _ (line-fits ReadRequest b c d dash) (pick-fits (same (ascii "read_reply") a) _ unreadable (line-fits ReadReply b c d dash) unreadable-fits)
+words_fit (a ∷ b ∷ c ∷ d ∷ e ∷ []) h = pick-fits (same (ascii "write_request") a) _ unreadable (line-fits WriteRequest b c d e) unreadable-fits
 words_fit (a ∷ b ∷ c ∷ d ∷ e ∷ f ∷ ws) h = unreadable-fits
 
 pub answer-fits : (l : List ℕ) → length (answer_of l) ≤ 262192
@@ -230,15 +231,3 @@ module _ (t : Line) (l b : List ℕ) where
   pub reply-end : t ≡ End → placed 0 b ≡ placed_at 0 (line_reply t l) b
   unfolding line_reply over
   reply-end h = rw h
-
--- the buffer keeps its length
-pub reply_room : (t : Line) (l b o : List ℕ) (r : ℕ) → placed r o ≡ placed_at 0 (line_reply t l) b → length b ≡ answer_room → length o ≡ answer_room
-unfolding line_reply
-reply_room t l b o r e room =
-    let size : length o ≡ length (over 0 (line_reply t l) b) = ap (λ (x : Placed). length x.buffer) e in
-    omega (arith, size, long_over (line_reply t l) b, short t)
-  where
-    short : (t : Line) → length (line_reply t l) ≤ 262193
-    short (Text n) = omega (arith, length-append (answer_of (take n l)) (feed ∷ []), answer-fits (take n l))
-    short OverLong = omega arith
-    short End = omega arith

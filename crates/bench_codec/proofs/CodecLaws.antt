@@ -1,37 +1,38 @@
 -- Laws of the words of a line: their number, the bytes of a word, and the setting of a word.
 use mathlib.Core.Path.{◌≡◌, refl, sym, ap, ◌∙◌}
-use mathlib.Core.Bool.{true}
+use mathlib.Core.Bool.{true, false}
 use mathlib.Core.List.{List, [], ◌∷◌, ◌++◌}
 use Prim.Native.Nat.{ℕ, ◌/◌, ◌≤◌}
 use native.Mathlib.Nat.{zero-add}
 use native.Mathlib.Omega.{arith}
 use lib.ListN.{length, take, drop, get_or, length-take}
+use Rattle.std.specs.Prelude.{Option, Some, None, Result, Ok, Err}
 use Rattle.errors.specs.Choice.{pick}
+use Rattle.errors.specs.Refusals.{returned}
 use Rattle.errors.specs.declared.Refusal.{Refusal}
 use Rattle.framing.specs.declared.FrameFormat.{FrameFormat}
-use Rattle.framing.specs.declared.settings.Setting.{Setting}
-use Rattle.framing.specs.declared.settings.Setting.TheVariants.{Format, Nothing as NoSetting}
 use Rattle.bench.specs.Hex.{is_hex_of, pairs_of, read_of}
 use Rattle.bench.specs.HexLaws.{length_pairs, was_read, read_count, read_into, not_read}
-use Rattle.bench.specs.Texts.{returned, over, Appends}
+use Rattle.bench.specs.Texts.{over, Appends}
 use Rattle.bench.specs.WordLaws.{words_from, words_are}
-use Rattle.bench.specs.declared.Put.{Put}
-use Rattle.bench.specs.declared.Put.TheVariants.{Bytes, Refused}
-use Rattle.bench_codec.specs.Codec.{line_limit, bytes_room, frame_room, unreadable, setting_named, on_bytes, on_format, on_setting, two_words, three_words, four_words, five_words, on_words, block_text, with_bytes, with_blocks, with_service, block_line}
+use Rattle.bench_codec.specs.Codec.{line_limit, bytes_room, frame_room, unreadable, setting_named, on_bytes, on_format, on_setting, two_words, three_words, four_words, five_words, on_words}
 use Rattle.bench_codec.proofs.FrameLaws.{whole_text, whole_fits, whole_part}
 use Rattle.framing.specs.Build.{left}
 
 -- the bytes of a word
-module _ (w b o : List ℕ) (r : Put) (known : left (returned r) o ≡ read_of w b) (short : length w ≤ line_limit) (room : length b ≡ frame_room) where
+module _ (w b o : List ℕ) (r : Result ℕ Refusal) (known : left (returned r) o ≡ read_of w b) (short : length w ≤ line_limit) (room : length b ≡ frame_room) where
   enough : length w / 2 ≤ length b
   enough = omega arith
 
-  pub read_refused : (e : Refusal) (y out z : List ℕ) (m : ℕ) → r ≡ Refused e → Appends 0 unreadable out m z → Appends 0 (pick (is_hex_of w) y unreadable) out m z
+  pub not_hex : (e : Refusal) → r ≡ Err e → is_hex_of w ≡ false
+  not_hex e q = not_read w b o r enough known e q
+
+  pub read_refused : (e : Refusal) (y out z : List ℕ) (m : ℕ) → r ≡ Err e → Appends 0 unreadable out m z → Appends 0 (pick (is_hex_of w) y unreadable) out m z
   unfolding pick
   read_refused e y out z m q d = rw (not_read w b o r enough known e q) d
 
-  module _ (n : ℕ) (q : r ≡ Bytes n) where
-    hex : is_hex_of w ≡ true
+  module _ (n : ℕ) (q : r ≡ Ok n) where
+    pub hex : is_hex_of w ≡ true
     hex = was_read w b o r enough known n q
 
     counted : n ≡ length (pairs_of w)
@@ -44,7 +45,7 @@ module _ (w b o : List ℕ) (r : Put) (known : left (returned r) o ≡ read_of w
     fits : length (pairs_of w) ≤ length b
     fits = omega (arith, length_pairs w)
 
-    bytes : take n o ≡ pairs_of w
+    pub bytes : take n o ≡ pairs_of w
     bytes = whole_text (pairs_of w) b o n counted filled fits
 
     pub read_fits : n ≤ length o
@@ -65,25 +66,13 @@ module _ (w b o : List ℕ) (r : Put) (known : left (returned r) o ≡ read_of w
       unfolding pick
       read_format name f e = rw hex (rw bytes at e)
 
-      pub then_print : (kind x y : ℕ) (idm blocks : List ℕ) → Appends 0 (block_text kind idm x y blocks (take n o)) out m z → Appends 0 (with_bytes kind idm x y blocks w) out m z
-      unfolding pick
-      then_print kind x y idm blocks e = rw hex (rw bytes at e)
-
-      pub then_bytes : (kind x y : ℕ) (idm d : List ℕ) → Appends 0 (with_bytes kind idm x y (take n o) d) out m z → Appends 0 (with_blocks kind idm x y w d) out m z
-      unfolding pick
-      then_bytes kind x y idm d e = rw hex (rw bytes at e)
-
-      pub then_service : (kind : ℕ) (s c d : List ℕ) → Appends 0 (with_service kind (take n o) s c d) out m z → Appends 0 (block_line kind w s c d) out m z
-      unfolding pick
-      then_service kind s c d e = rw hex (rw bytes at e)
-
 -- the setting of a word
-module _ (v name w b z : List ℕ) (m : ℕ) (s : Setting) (known : s ≡ setting_named v) where
-  pub no_setting : s ≡ NoSetting → Appends 0 unreadable b m z → Appends 0 (on_setting (setting_named v) name w) b m z
+module _ (v name w b z : List ℕ) (m : ℕ) (s : Option FrameFormat) (known : s ≡ setting_named v) where
+  pub no_setting : s ≡ None → Appends 0 unreadable b m z → Appends 0 (on_setting (setting_named v) name w) b m z
   unfolding on_setting
   no_setting q e = rw (sym known ∙ q) e
 
-  pub some_setting : (f : FrameFormat) → s ≡ Format f → Appends 0 (pick (is_hex_of w) (on_format name f (pairs_of w)) unreadable) b m z → Appends 0 (on_setting (setting_named v) name w) b m z
+  pub some_setting : (f : FrameFormat) → s ≡ Some f → Appends 0 (pick (is_hex_of w) (on_format name f (pairs_of w)) unreadable) b m z → Appends 0 (on_setting (setting_named v) name w) b m z
   unfolding on_setting
   some_setting f q e = rw (sym known ∙ q) e
 

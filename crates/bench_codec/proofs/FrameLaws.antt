@@ -8,30 +8,25 @@ use borrow.Author.Tests.{le-ltb, ltb-false}
 use lib.Dec.{ltb, eqb}
 use lib.ListN.{length, take, drop, length-append, length-drop}
 use lib.Seq.{take_at, length-take-le}
+use Rattle.std.specs.Prelude.{Option, Some, Result, Ok, Err}
 use Rattle.errors.specs.Choice.{pick}
-use Rattle.errors.specs.Refusals.{Returned, answered, refused, plain}
+use Rattle.errors.specs.Refusals.{Returned, answered, refused, returned, plain}
 use Rattle.errors.specs.declared.Refusal.{Refusal}
-use Rattle.framing.specs.Build.{returned as built, left, limit_of, put_frame, build_of}
+use Rattle.framing.specs.Build.{left, limit_of, put_frame, build_of}
 use Rattle.framing.specs.Enclose.{length-head}
 use Rattle.framing.specs.Frames.{frame_of, checksum_of, data_start_of, head_of, ending, longest}
 use Rattle.framing.specs.Padded.{parse_padded_of}
 use Rattle.framing.specs.Parse.{parse_of, payload_of}
-use Rattle.framing.specs.declared.Built.{Built}
-use Rattle.framing.specs.declared.Built.TheVariants.{Frame, Refused as NotBuilt}
 use Rattle.framing.specs.declared.FrameFormat.{FrameFormat}
 use Rattle.framing.specs.declared.FrameType.{FrameType}
 use Rattle.framing.specs.declared.FrameType.TheVariants.{Data}
 use Rattle.framing.specs.declared.LengthEncoding.{LengthEncoding}
 use Rattle.framing.specs.declared.LengthEncoding.TheVariants.{Normal, ExtendedLittleEndian, NormalOrExtendedBigEndian}
 use Rattle.framing.specs.declared.padded.Padded.{Padded}
-use Rattle.crc.specs.Answers.{returned as appended, added}
+use Rattle.crc.specs.Answers.{added}
 use Rattle.crc.specs.Crc.{CrcKind, crc_bytes}
 use Rattle.crc.specs.Laws.{crc_length}
-use Rattle.crc.specs.declared.Added.{Added}
-use Rattle.crc.specs.declared.Added.TheVariants.{Bytes as AddedBytes, Refused as NotAdded}
-use Rattle.targets.specs.Bitrates.{ascii, parsed, send_part_of, send_length, is_bitrate}
-use Rattle.targets.specs.declared.Parsed.{Parsed}
-use Rattle.targets.specs.declared.Parsed.TheVariants.{Send, Refused as NotSent}
+use Rattle.targets.specs.Bitrates.{ascii, send_part_of, send_length, is_bitrate}
 use Rattle.bench.specs.Hex.{hex_of}
 use Rattle.bench.specs.TextLaws.{appended as put, then_put, both-put}
 use Rattle.bench.specs.Texts.{placed, put_at, decimal_of, Appends}
@@ -53,14 +48,14 @@ unfolding data_text
 data_done q b o o₁ o₂ n r r₁ r₂ kind space hex = then_put _ _ _ _ _ _ _ _ (then_put _ _ _ _ _ _ _ _ kind space) hex
 
 -- what was found of a packet
-pub found-done : (p b o : List ℕ) (n : ℕ) (f k : FrameType) → f ≡ k → Appends 0 (found_text k p) b n o → Appends 0 (found_text f p) b n o
+pub found-done : (p b o : List ℕ) (n : ℕ) (f k : Option FrameType) → f ≡ k → Appends 0 (found_text k p) b n o → Appends 0 (found_text f p) b n o
 found-done p b o n f k q e = rw q e
 
-pub found_data : (p q b o : List ℕ) (s len k n : ℕ) (f : FrameType) → f ≡ Data s len k → q ≡ payload_of (Data s len k) p → Appends 0 (data_text k q) b n o → Appends 0 (found_text f p) b n o
+pub found_data : (p q b o : List ℕ) (s len k n : ℕ) (f : Option FrameType) → f ≡ Some (Data s len k) → q ≡ payload_of (Some (Data s len k)) p → Appends 0 (data_text k q) b n o → Appends 0 (found_text f p) b n o
 unfolding found_text
 found_data p q b o s len k n f is payload e = rw is (rw payload at e)
 
-pub parse_done : (f : FrameFormat) (p b o : List ℕ) (n : ℕ) (t : FrameType) → t ≡ parse_of f p → Appends 0 (found_text t p) b n o → Appends 0 (parse_text f p) b n o
+pub parse_done : (f : FrameFormat) (p b o : List ℕ) (n : ℕ) (t : Option FrameType) → t ≡ parse_of f p → Appends 0 (found_text t p) b n o → Appends 0 (parse_text f p) b n o
 unfolding parse_text
 parse_done f p b o n t h e = rw h at e
 
@@ -93,22 +88,24 @@ module _ (t b o : List ℕ) (n : ℕ) (counted : n ≡ length t) (is : o ≡ t +
   whole_part = sym (length-take-le n o whole_fits)
 
 -- a CRC behind s, in a buffer that has the room
-module _ (k : CrcKind) (s b o : List ℕ) (r : Added) (known : ◌≡◌ {A = Returned × List ℕ} (appended r, o) (added k s b)) (short : length s ≤ bytes_room) (room : length b ≡ frame_room) where
+module _ (k : CrcKind) (s b o : List ℕ) (r : Result ℕ Refusal) (known : ◌≡◌ {A = Returned × List ℕ} (returned r, o) (added k s b)) (short : length s ≤ bytes_room) (room : length b ≡ frame_room) where
   long : length (s ++ crc_bytes k s) ≡ length s + 2
   long = length-append s (crc_bytes k s) ∙ ap (λ j. length s + j) (crc_length k s)
 
-  whole : ◌≡◌ {A = Returned × List ℕ} (appended r, o) (answered (length s + 2), s ++ crc_bytes k s ++ drop (length s + 2) b)
+  whole : ◌≡◌ {A = Returned × List ℕ} (returned r, o) (answered (length s + 2), s ++ crc_bytes k s ++ drop (length s + 2) b)
   unfolding added pick
   whole = known ∙ rw (le-ltb (length b) (length s + 2) (omega arith))
 
-  pub append_refused : (e : Refusal) (t out z : List ℕ) (m : ℕ) → r ≡ NotAdded e → Appends 0 t out m z
+  pub append_refused : (e : Refusal) (t out z : List ℕ) (m : ℕ) → r ≡ Err e → Appends 0 t out m z
+  unfolding returned
   append_refused e t out z m q =
-      let z : ◌≡◌ {A = ℕ} 0 1 = cc (ap (λ p. p.0) whole, ap appended q) in
+      let z : ◌≡◌ {A = ℕ} 0 1 = cc (ap (λ p. p.0) whole, ap returned q) in
       absurd (omega arith)
 
-  module _ (n : ℕ) (q : r ≡ AddedBytes n) where
+  module _ (n : ℕ) (q : r ≡ Ok n) where
     count : n ≡ length (s ++ crc_bytes k s)
-    count = cc (ap (λ p. p.0) whole, ap appended q, long)
+    unfolding returned
+    count = cc (ap (λ p. p.0) whole, ap returned q, long)
 
     filled : o ≡ s ++ crc_bytes k s ++ drop (length (s ++ crc_bytes k s)) b
     filled = ap (λ p. p.1) whole ∙ ap (λ j. s ++ crc_bytes k s ++ drop j b) (sym long)
@@ -142,8 +139,8 @@ length-frame e p =
     rw (length-append (head_of e (length p) ++ p) (ending p), length-append (head_of e (length p)) p, length-head e (length p))
     (omega (arith, start_8 e (length p)))
 
-module _ (f : FrameFormat) (p b o : List ℕ) (r : Built) (known : left (built r) o ≡ build_of f p b) (room : length b ≡ frame_room) where
-  over-limit : ltb (limit_of f) (length p) ≡ true → left (built r) o ≡ left (refused (plain 3)) b
+module _ (f : FrameFormat) (p b o : List ℕ) (r : Result ℕ Refusal) (known : left (returned r) o ≡ build_of f p b) (room : length b ≡ frame_room) where
+  over-limit : ltb (limit_of f) (length p) ≡ true → left (returned r) o ≡ left (refused (plain 3)) b
   unfolding build_of pick
   over-limit h = known ∙ rw h
 
@@ -152,34 +149,34 @@ module _ (f : FrameFormat) (p b o : List ℕ) (r : Built) (known : left (built r
   frame-short h = omega (arith, ltb-false (limit_of f) (length p) h, longest_65535 f.length, length-frame f.length p)
 
   in-limit : ltb (limit_of f) (length p) ≡ false
-      → left (built r) o ≡ left (answered (length (frame_of f.length p))) (frame_of f.length p ++ drop (length (frame_of f.length p)) b)
+      → left (returned r) o ≡ left (answered (length (frame_of f.length p))) (frame_of f.length p ++ drop (length (frame_of f.length p)) b)
   unfolding build_of put_frame pick
   in-limit h = known ∙ rw (h, le-ltb (length b) (length (frame_of f.length p)) (omega (arith, frame-short h)))
 
-  pub built_refused : (e : Refusal) (out z : List ℕ) (m : ℕ) → r ≡ NotBuilt e → placed m z ≡ put_at 0 (ascii "refused 3") out → Appends 0 (build_text f p) out m z
-  unfolding build_text built pick
+  pub built_refused : (e : Refusal) (out z : List ℕ) (m : ℕ) → r ≡ Err e → placed m z ≡ put_at 0 (ascii "refused 3") out → Appends 0 (build_text f p) out m z
+  unfolding build_text returned pick
   built_refused e out z m q d = go (ltb (limit_of f) (length p)) refl
     where
       go : (t : Bool) → ltb (limit_of f) (length p) ≡ t → Appends 0 (pick t (ascii "refused 3") (hex_of (frame_of f.length p))) out m z
       go true h = put (ascii "refused 3") out z 0 m d
       go false h =
-          let z : ◌≡◌ {A = ℕ} 0 1 = cc (ap (λ l. l.result) (in-limit h), ap built q) in
+          let z : ◌≡◌ {A = ℕ} 0 1 = cc (ap (λ l. l.result) (in-limit h), ap returned q) in
           absurd (omega arith)
 
-  module _ (n : ℕ) (q : r ≡ Frame n) where
+  module _ (n : ℕ) (q : r ≡ Ok n) where
     within : ltb (limit_of f) (length p) ≡ false
-    unfolding built
+    unfolding returned
     within = go (ltb (limit_of f) (length p)) refl
       where
         go : (t : Bool) → ltb (limit_of f) (length p) ≡ t → t ≡ false
         go true h =
-            let z : ◌≡◌ {A = ℕ} 0 1 = cc (ap (λ l. l.result) (over-limit h), ap built q) in
+            let z : ◌≡◌ {A = ℕ} 0 1 = cc (ap (λ l. l.result) (over-limit h), ap returned q) in
             absurd (omega arith)
         go false h = refl
 
     frame-count : n ≡ length (frame_of f.length p)
-    unfolding built
-    frame-count = cc (ap (λ l. l.result) (in-limit within), ap built q)
+    unfolding returned
+    frame-count = cc (ap (λ l. l.result) (in-limit within), ap returned q)
 
     frame-put : o ≡ frame_of f.length p ++ drop (length (frame_of f.length p)) b
     frame-put = ap (λ l. l.buffer) (in-limit within)
@@ -204,15 +201,15 @@ send_within (x ∷ t) = go (send_within t) (eqb x 47)
     go h true = omega arith
     go h false = omega arith
 
-module _ (t b : List ℕ) (r : Parsed) (known : parsed r ≡ send_part_of t) where
-  pub not_sent : (e : Refusal) (o : List ℕ) (m : ℕ) → r ≡ NotSent e → placed m o ≡ put_at 0 (ascii "refused 5") b → Appends 0 (bitrate_text t) b m o
-  unfolding bitrate_text send_text
-  not_sent e o m q d = rw (sym known ∙ ap parsed q) (put (ascii "refused 5") b o 0 m d)
+module _ (t b : List ℕ) (r : Result ℕ Refusal) (known : returned r ≡ send_part_of t) where
+  pub not_sent : (e : Refusal) (o : List ℕ) (m : ℕ) → r ≡ Err e → placed m o ≡ put_at 0 (ascii "refused 5") b → Appends 0 (bitrate_text t) b m o
+  unfolding bitrate_text send_text returned
+  not_sent e o m q d = rw (sym known ∙ ap returned q) (put (ascii "refused 5") b o 0 m d)
 
-  module _ (n : ℕ) (q : r ≡ Send n) where
+  module _ (n : ℕ) (q : r ≡ Ok n) where
     sent-fits : n ≤ length t
-    unfolding send_part_of
-    sent-fits = go (is_bitrate t) (sym (ap parsed q) ∙ known)
+    unfolding send_part_of returned
+    sent-fits = go (is_bitrate t) (sym (ap returned q) ∙ known)
       where
         go : (e : Bool) → ◌≡◌ {A = Returned} (answered n) (mathlib.Core.Bool.cond e (answered (send_length t)) (refused (plain 5))) → n ≤ length t
         go true h = let s : n ≡ send_length t = cc in omega (arith, send_within t)
@@ -222,5 +219,5 @@ module _ (t b : List ℕ) (r : Parsed) (known : parsed r ≡ send_part_of t) whe
     sent_part = sym (length-take-le n t sent-fits)
 
     pub sent_done : (o o₁ : List ℕ) (m m₁ : ℕ) → placed m o ≡ put_at 0 (ascii "ok ") b → placed m₁ o₁ ≡ put_at m (take n t) o → Appends 0 (bitrate_text t) b m₁ o₁
-    unfolding bitrate_text send_text
-    sent_done o o₁ m m₁ ok part = rw (sym known ∙ ap parsed q) (both-put _ _ _ _ _ _ _ _ ok part)
+    unfolding bitrate_text send_text returned
+    sent_done o o₁ m m₁ ok part = rw (sym known ∙ ap returned q) (both-put _ _ _ _ _ _ _ _ ok part)

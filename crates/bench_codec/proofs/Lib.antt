@@ -2,3 +2,4 @@ mod AnswerLaws
 mod BlockLaws
 mod CodecLaws
 mod FrameLaws
+pub mod Branches

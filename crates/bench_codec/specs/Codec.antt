@@ -1,6 +1,7 @@
 -- The lines of the program `codec`, and the text that is printed for each. A line that cannot be read gives `refused 4`.
-use Rattle.std.specs.Prelude.{Bool, true, false, List, [], ◌∷◌, ◌++◌, ℕ, ◌+◌, ◌*◌, ◌-◌, ◌/◌, ◌%◌, eqb, ltb, length, take, get_or}
+use Rattle.std.specs.Prelude.{Bool, true, false, List, [], ◌∷◌, ◌++◌, ℕ, ◌+◌, ◌*◌, ◌-◌, ◌/◌, ◌%◌, eqb, ltb, length, take, get_or, Option, Some, None, Result, Ok, Err, ◌≡◌, ◌≤◌}
 use Rattle.errors.specs.Refusals.{Returned, answered, refused}
+use Rattle.errors.specs.declared.Refusal.{Refusal}
 use Rattle.framing.specs.Build.{limit_of}
 use Rattle.framing.specs.Frames.{frame_of, checksum_of}
 use Rattle.errors.specs.Choice.{pick, same}
@@ -9,10 +10,8 @@ use Rattle.framing.specs.Parse.{parse_of, payload_of}
 use Rattle.framing.specs.Settings.{setting_of}
 use Rattle.framing.specs.declared.FrameFormat.{FrameFormat}
 use Rattle.framing.specs.declared.FrameType.{FrameType}
-use Rattle.framing.specs.declared.FrameType.TheVariants.{Ack, Error, Data, Nothing}
+use Rattle.framing.specs.declared.FrameType.TheVariants.{Ack, Error, Data}
 use Rattle.framing.specs.declared.padded.Padded.{Padded}
-use Rattle.framing.specs.declared.settings.Setting.{Setting}
-use Rattle.framing.specs.declared.settings.Setting.TheVariants.{Format, Nothing as NoSetting}
 use Rattle.felica.specs.Fields.{RequestFields, reads, writes, no_request, request_of}
 use Rattle.felica.specs.Packets.{read_request_of, write_request_of, read_reply_of, write_reply_of, request_fits, write_fits_of, read_reply_fits, idm_fits}
 use Rattle.crc.specs.Crc.{CrcKind, type_a, type_b, checks, crc_bytes}
@@ -23,6 +22,8 @@ use Rattle.bench.specs.Words.{words_of_lem}
 use Rattle.bench.specs.declared.lines.Line.{Line}
 use Rattle.bench.specs.declared.lines.Line.TheVariants.{Text, OverLong, End}
 use Rattle.bench.specs.Lines.{feed}
+use Rattle.bench_codec.specs.declared.blocks.PacketKind.{PacketKind}
+use Rattle.bench_codec.specs.declared.blocks.PacketKind.TheVariants.{ReadRequest, WriteRequest, ReadReply, WriteReply}
 
 -- the longest line, without its line feed; room for its bytes, for a frame or those bytes with their CRC, and for any answer
 abbrev pub line_limit : ℕ
@@ -44,8 +45,8 @@ unreadable = ascii "refused 4"
 abbrev pub zero_digit : ℕ
 zero_digit = 48
 
-unfoldable pub setting_named : List ℕ → Setting
-setting_named w = pick (eqb (length w) 1) (pick (ltb (get_or w 0 0) zero_digit) NoSetting (setting_of (get_or w 0 0 - zero_digit))) NoSetting
+unfoldable pub setting_named : List ℕ → Option FrameFormat
+setting_named w = pick (eqb (length w) 1) (pick (ltb (get_or w 0 0) zero_digit) None (setting_of (get_or w 0 0 - zero_digit))) None
 
 -- `build`: the frame, or refusal 3 above the format's limit
 unfoldable pub build_text : FrameFormat → List ℕ → List ℕ
@@ -55,21 +56,19 @@ build_text f p = pick (ltb (limit_of f) (length p)) (ascii "refused 3") (hex_of 
 unfoldable pub data_text : ℕ → List ℕ → List ℕ
 data_text n payload = ascii "data " ++ decimal_of n ++ ascii " " ++ hex_of payload
 
-unfoldable pub found_text : FrameType → List ℕ → List ℕ
-found_text (Ack n) p = ascii "ack " ++ decimal_of n
-found_text (Error n) p = ascii "error " ++ decimal_of n
-found_text (Data start len n) p = data_text n (payload_of (Data start len n) p)
-found_text Nothing p = ascii "none"
+unfoldable pub found_text : Option FrameType → List ℕ → List ℕ
+found_text (Some (Ack n)) p = ascii "ack " ++ decimal_of n
+found_text (Some (Error n)) p = ascii "error " ++ decimal_of n
+found_text (Some (Data start len n)) p = data_text n (payload_of (Some (Data start len n)) p)
+found_text None p = ascii "none"
 
 unfoldable pub parse_text : FrameFormat → List ℕ → List ℕ
 parse_text f p = found_text (parse_of f p) p
 
 -- `parse_padded`: the same with the padded mode on, and behind a frame the number of extra zeros
-abbrev pub is_frame : FrameType → Bool
-is_frame (Ack n) = true
-is_frame (Error n) = true
-is_frame (Data start len n) = true
-is_frame Nothing = false
+abbrev pub is_frame : Option FrameType → Bool
+is_frame (Some t) = true
+is_frame None = false
 
 unfoldable pub with_zeros : Padded → List ℕ → List ℕ
 with_zeros a p = pick (is_frame a.found) (found_text a.found p ++ ascii " " ++ decimal_of a.zeros) (found_text a.found p)
@@ -103,50 +102,46 @@ bitrate_word w = pick (eqb (length w) 0) unreadable (pick (same dash w) (bitrate
 
 -- ---- FeliCa blocks
 
--- the kinds of packets that are built
-abbrev pub read_request_packet : ℕ
-read_request_packet = 0
-
-abbrev pub write_request_packet : ℕ
-write_request_packet = 1
-
-abbrev pub read_reply_packet : ℕ
-read_reply_packet = 2
-
-abbrev pub write_reply_packet : ℕ
-write_reply_packet = 3
+-- room for a packet
+abbrev pub packet_room : ℕ
+packet_room = 128
 
 -- the packet of a kind, and whether there is one: IDm, two bytes that are the service code, high byte first, or both flags, block numbers or
 -- a reply's block data, block data
-unfoldable pub block_fits : ℕ → List ℕ → ℕ → List ℕ → List ℕ → Bool
-block_fits kind idm x blocks bytes =
-    pick (eqb kind read_request_packet) (request_fits idm blocks)
-    (pick (eqb kind write_request_packet) (write_fits_of idm blocks bytes)
-    (pick (eqb kind read_reply_packet) (read_reply_fits idm x blocks) (idm_fits idm)))
+unfoldable pub block_fits : PacketKind → List ℕ → ℕ → List ℕ → List ℕ → Bool
+block_fits ReadRequest idm x blocks bytes = request_fits idm blocks
+block_fits WriteRequest idm x blocks bytes = write_fits_of idm blocks bytes
+block_fits ReadReply idm x blocks bytes = read_reply_fits idm x blocks
+block_fits WriteReply idm x blocks bytes = idm_fits idm
 
-unfoldable pub block_packet : ℕ → List ℕ → ℕ → ℕ → List ℕ → List ℕ → List ℕ
-block_packet kind idm x y blocks bytes =
-    pick (eqb kind read_request_packet) (read_request_of idm (256 * x + y) blocks)
-    (pick (eqb kind write_request_packet) (write_request_of idm (256 * x + y) blocks bytes)
-    (pick (eqb kind read_reply_packet) (read_reply_of idm x y blocks) (write_reply_of idm x y)))
+unfoldable pub block_packet : PacketKind → List ℕ → ℕ → ℕ → List ℕ → List ℕ → List ℕ
+block_packet ReadRequest idm x y blocks bytes = read_request_of idm (256 * x + y) blocks
+block_packet WriteRequest idm x y blocks bytes = write_request_of idm (256 * x + y) blocks bytes
+block_packet ReadReply idm x y blocks bytes = read_reply_of idm x y blocks
+block_packet WriteReply idm x y blocks bytes = write_reply_of idm x y
 
 -- its text, or refusal 4
-unfoldable pub block_text : ℕ → List ℕ → ℕ → ℕ → List ℕ → List ℕ → List ℕ
+unfoldable pub block_text : PacketKind → List ℕ → ℕ → ℕ → List ℕ → List ℕ → List ℕ
 block_text kind idm x y blocks bytes = pick (block_fits kind idm x blocks bytes) (hex_of (block_packet kind idm x y blocks bytes)) unreadable
 
 -- the words of its line, from the last on
-abbrev pub with_bytes : ℕ → List ℕ → ℕ → ℕ → List ℕ → List ℕ → List ℕ
+abbrev pub with_bytes : PacketKind → List ℕ → ℕ → ℕ → List ℕ → List ℕ → List ℕ
 with_bytes kind idm x y blocks d = pick (is_hex_of d) (block_text kind idm x y blocks (pairs_of d)) unreadable
 
-abbrev pub with_blocks : ℕ → List ℕ → ℕ → ℕ → List ℕ → List ℕ → List ℕ
+abbrev pub with_blocks : PacketKind → List ℕ → ℕ → ℕ → List ℕ → List ℕ → List ℕ
 with_blocks kind idm x y b d = pick (is_hex_of b) (with_bytes kind idm x y (pairs_of b) d) unreadable
 
-unfoldable pub with_service : ℕ → List ℕ → List ℕ → List ℕ → List ℕ → List ℕ
+unfoldable pub with_service : PacketKind → List ℕ → List ℕ → List ℕ → List ℕ → List ℕ
 with_service kind idm s b d =
     pick (eqb (length s) 4) (pick (is_hex_of s) (with_blocks kind idm (get_or (pairs_of s) 0 0) (get_or (pairs_of s) 1 0) b d) unreadable) unreadable
 
-abbrev pub block_line : ℕ → List ℕ → List ℕ → List ℕ → List ℕ → List ℕ
+abbrev pub block_line : PacketKind → List ℕ → List ℕ → List ℕ → List ℕ → List ℕ
 block_line kind i s b d = pick (is_hex_of i) (with_service kind (pairs_of i) s b d) unreadable
+
+-- a packet at the start of a buffer, and what is printed for it
+abbrev pub PacketText : Result ℕ Refusal → List ℕ → List ℕ → Type 0
+PacketText (Ok n) o t = (n ≤ length o) × (t ≡ hex_of (take n o))
+PacketText (Err e) o t = t ≡ unreadable
 
 -- `request`: a request's fields, each behind a space, or `none`
 unfoldable pub word_text : List ℕ → List ℕ
@@ -185,20 +180,20 @@ two_words name w =
     pick (same (ascii "bitrate") name) (bitrate_word w)
     (pick (is_hex_of w) (on_bytes name (pairs_of w)) unreadable)
 
-unfoldable pub on_setting : Setting → List ℕ → List ℕ → List ℕ
-on_setting (Format f) name w = pick (is_hex_of w) (on_format name f (pairs_of w)) unreadable
-on_setting NoSetting name w = unreadable
+unfoldable pub on_setting : Option FrameFormat → List ℕ → List ℕ → List ℕ
+on_setting (Some f) name w = pick (is_hex_of w) (on_format name f (pairs_of w)) unreadable
+on_setting None name w = unreadable
 
 abbrev pub three_words : List ℕ → List ℕ → List ℕ → List ℕ
-three_words name number w = pick (same (ascii "write_reply") name) (block_line write_reply_packet number w dash dash) (on_setting (setting_named number) name w)
+three_words name number w = pick (same (ascii "write_reply") name) (block_line WriteReply number w dash dash) (on_setting (setting_named number) name w)
 
 abbrev pub four_words : List ℕ → List ℕ → List ℕ → List ℕ → List ℕ
 four_words name i s b =
-    pick (same (ascii "read_request") name) (block_line read_request_packet i s b dash)
-    (pick (same (ascii "read_reply") name) (block_line read_reply_packet i s b dash) unreadable)
+    pick (same (ascii "read_request") name) (block_line ReadRequest i s b dash)
+    (pick (same (ascii "read_reply") name) (block_line ReadReply i s b dash) unreadable)
 
 abbrev pub five_words : List ℕ → List ℕ → List ℕ → List ℕ → List ℕ → List ℕ
-five_words name i s b d = pick (same (ascii "write_request") name) (block_line write_request_packet i s b d) unreadable
+five_words name i s b d = pick (same (ascii "write_request") name) (block_line WriteRequest i s b d) unreadable
 
 unfoldable pub on_words : List (List ℕ) → List ℕ
 on_words [] = unreadable

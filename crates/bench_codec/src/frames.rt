@@ -1,22 +1,23 @@
 // The lines of frames, CRCs and bitrates. Each function puts its answer at the buffer's start, and gives its length.
+#![tactic(auto, using(crate::proofs::Branches::frame_texts))]
+
 ghost use Rattle.std.specs.Prelude.{◌≡◌, List, ◌++◌, ℕ, ◌≤◌, length};
-ghost use Rattle.errors.specs.Refusals.{Returned};
-ghost use Rattle.crc.specs.Answers.{returned, added as added_to};
+ghost use Rattle.errors.specs.Refusals.{Returned, returned};
+ghost use Rattle.crc.specs.Answers.{added as added_to};
 ghost use Rattle.crc.specs.Crc.{CrcKind, type_a, type_b};
 ghost use Rattle.bench.specs.Texts.{decimal_of, Appends};
-ghost use Rattle.bench_codec.specs.Codec.{bytes_room, frame_room, build_text, data_text, found_text, parse_text, is_frame, padded_text, checksum_text, yes_or_no, append_text, bitrate_text, bitrate_word};
+ghost use Rattle.bench_codec.specs.Codec.{bytes_room, frame_room, build_text, data_text, found_text, parse_text, padded_text, checksum_text, yes_or_no, append_text, bitrate_text, bitrate_word};
 
 use super::{room, unreadable};
 use bench::{hex, text};
-use crc::Added;
-use framing::{Built, FrameFormat, FrameType};
-use targets::Parsed;
+use errors::Refusal;
+use framing::{FrameFormat, FrameType};
 
 pub(crate) fn build(format: FrameFormat, payload: &[u8], out: &mut [u8]) -> usize
     ensures { Appends 0 (build_text format payload.now) out.old result out.new }
 {
     let mut frame = room();
-    let Built::Frame(n) = framing::build(format, payload, &mut frame) else {
+    let Ok(n) = framing::build(format, payload, &mut frame) else {
         return text::put(b"refused 3", out, 0);
     };
     hex::put(&frame[..n], out, 0)
@@ -40,18 +41,19 @@ fn put_data(count: usize, payload: &[u8], out: &mut [u8]) -> usize
 }
 
 // What was found of a packet.
-fn put_found(found: FrameType, packet: &[u8], out: &mut [u8]) -> usize
+#[tactic(auto, using(crate::proofs::Branches::frame_texts), unfolding(crate::specs::Codec::found_text))]
+fn put_found(found: Option<FrameType>, packet: &[u8], out: &mut [u8]) -> usize
     ensures { Appends 0 (found_text found packet.now) out.old result out.new }
 {
     match found {
-        FrameType::Ack(n) => put_kind(b"ack ", n, out),
-        FrameType::Error(n) => put_kind(b"error ", n, out),
-        FrameType::Data {
-            start: _,
-            len: _,
+        Some(FrameType::Ack(n)) => put_kind(b"ack ", n, out),
+        Some(FrameType::Error(n)) => put_kind(b"error ", n, out),
+        Some(FrameType::Data { frame, .. }) => put_data(
             frame,
-        } => put_data(frame, framing::payload(packet, found), out),
-        FrameType::Nothing => text::put(b"none", out, 0),
+            framing::payload(packet, found),
+            out,
+        ),
+        None => text::put(b"none", out, 0),
     }
 }
 
@@ -61,21 +63,6 @@ pub(crate) fn parse(format: FrameFormat, packet: &[u8], out: &mut [u8]) -> usize
     put_found(framing::parse(format, packet), packet, out)
 }
 
-fn is_frame(found: FrameType) -> bool
-    ensures { result ≡ is_frame found }
-{
-    match found {
-        FrameType::Ack(_) => true,
-        FrameType::Error(_) => true,
-        FrameType::Data {
-            start: _,
-            len: _,
-            frame: _,
-        } => true,
-        FrameType::Nothing => false,
-    }
-}
-
 // The same with the padded mode on, and behind a frame the number of extra zeros.
 pub(crate) fn parse_padded(format: FrameFormat, packet: &[u8], out: &mut [u8]) -> usize
     ensures { Appends 0 (padded_text format packet.now) out.old result out.new }
@@ -83,7 +70,7 @@ pub(crate) fn parse_padded(format: FrameFormat, packet: &[u8], out: &mut [u8]) -
     let padded = framing::padded::parse_padded(format, true, packet);
     let found = padded.found;
     let end = put_found(found, packet, out);
-    if is_frame(found) {
+    if found.is_some() {
         let at = text::put(b" ", out, end);
         return text::put_decimal(padded.zeros as u64, out, at);
     }
@@ -108,10 +95,10 @@ pub(crate) fn yes_or_no(yes: bool, out: &mut [u8]) -> usize
 }
 
 // Bytes to which their CRC was added, in a buffer that has the room.
-fn put_added(added: Added, frame: &[u8], out: &mut [u8]) -> usize
+fn put_added(added: Result<usize, Refusal>, frame: &[u8], out: &mut [u8]) -> usize
     ensures { (k : CrcKind) (s b : List ℕ) → ◌≡◌ {A = Returned × List ℕ} (returned added, frame.now) (added_to k s b) → length s ≤ bytes_room → length b ≡ frame_room → Appends 0 (append_text k s) out.old result out.new }
 {
-    let Added::Bytes(n) = added else {
+    let Ok(n) = added else {
         return unreadable(out);
     };
     if frame.len() < n {
@@ -120,6 +107,7 @@ fn put_added(added: Added, frame: &[u8], out: &mut [u8]) -> usize
     hex::put(&frame[..n], out, 0)
 }
 
+// Kept: this and the next differ in the function of `crc` that they call alone; what they share is `put_added`.
 pub(crate) fn crc_a_append(bytes: &[u8], out: &mut [u8]) -> usize
     requires { length bytes.now ≤ bytes_room }
     ensures { Appends 0 (append_text type_a bytes.now) out.old result out.new }
@@ -142,7 +130,7 @@ pub(crate) fn crc_b_append(bytes: &[u8], out: &mut [u8]) -> usize
 fn send_part(rate: &[u8], out: &mut [u8]) -> usize
     ensures { Appends 0 (bitrate_text rate.now) out.old result out.new }
 {
-    let Parsed::Send(n) = targets::parse(rate) else {
+    let Ok(n) = targets::parse(rate) else {
         return text::put(b"refused 5", out, 0);
     };
     let at = text::put(b"ok ", out, 0);

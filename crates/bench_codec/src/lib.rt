@@ -1,5 +1,5 @@
 // The lines of the program `codec`: one line in, one line out.
-#![tactic(auto)]
+#![tactic(auto, using(crate::proofs::Branches::branches))]
 
 mod blocks;
 mod frames;
@@ -10,13 +10,10 @@ ghost use Rattle.bench.specs.Words.{words_of_lem};
 ghost use Rattle.bench_codec.specs.Codec.{line_limit, bytes_room, frame_room, answer_room, setting_named, on_bytes as on_bytes_of, on_format as on_format_of, two_words, three_words, four_words, five_words, on_words, answer_of, line_reply};
 ghost use Rattle.bench_codec.specs.Codec.{unreadable as unreadable_text};
 
-use bench::lines::{Line, Unread};
-use bench::{Put, hex, lines, prefix, text, words};
-use blocks::{
-    READ_REPLY_PACKET, READ_REQUEST_PACKET, WRITE_REPLY_PACKET, WRITE_REQUEST_PACKET, block_line,
-};
+use bench::lines::Line;
+use bench::{hex, lines, prefix, text, words};
+use blocks::{PacketKind, PacketLine};
 use framing::FrameFormat;
-use framing::settings::Setting;
 
 // The longest line, without its line feed, and room for the longest answer and a line feed.
 pub const LINE_LIMIT: usize = 262144;
@@ -25,6 +22,9 @@ pub const ANSWER_ROOM: usize = 262208;
 
 // Room for a frame, or for a line's bytes with their CRC.
 const FRAME_ROOM: usize = 131088;
+
+// The word of no bytes.
+const NONE: &[u8] = b"-";
 
 pub(crate) fn room() -> [u8; FRAME_ROOM]
     ensures { length result ≡ frame_room }
@@ -39,20 +39,17 @@ pub(crate) fn unreadable(out: &mut [u8]) -> usize
 }
 
 // The setting of the word: one digit from 0 to 5.
-fn setting(word: &[u8]) -> Setting
+fn setting(word: &[u8]) -> Option<FrameFormat>
     ensures { result ≡ setting_named word.now }
 {
-    if word.len() != 1 {
-        return Setting::Nothing;
+    match word {
+        [digit @ b'0'..] => framing::settings::by_number(*digit - b'0'),
+        _ => None,
     }
-    let digit = word[0];
-    if digit < b'0' {
-        return Setting::Nothing;
-    }
-    framing::settings::by_number(digit - b'0')
 }
 
 // A name and bytes.
+// Kept: the tests one by one. A `match` on the names gives its last arm a case for each byte of each name; tried, and the proof did not close.
 fn on_bytes(name: &[u8], bytes: &[u8], out: &mut [u8]) -> usize
     requires { length bytes.now ≤ bytes_room }
     ensures { Appends 0 (on_bytes_of name.now bytes.now) out.old result out.new }
@@ -79,6 +76,7 @@ fn on_bytes(name: &[u8], bytes: &[u8], out: &mut [u8]) -> usize
 }
 
 // A name, a format and bytes.
+// Kept: the tests one by one, as in `on_bytes`.
 fn on_format(name: &[u8], format: FrameFormat, bytes: &[u8], out: &mut [u8]) -> usize
     ensures { Appends 0 (on_format_of name.now format bytes.now) out.old result out.new }
 {
@@ -94,6 +92,7 @@ fn on_format(name: &[u8], format: FrameFormat, bytes: &[u8], out: &mut [u8]) -> 
     unreadable(out)
 }
 
+// Kept: a word is no longer than its line, and a line may have any length: the fact is of the words, not of a type.
 fn two_words(name: &[u8], word: &[u8], out: &mut [u8]) -> usize
     requires { length word.now ≤ line_limit }
     ensures { Appends 0 (two_words name.now word.now) out.old result out.new }
@@ -102,7 +101,7 @@ fn two_words(name: &[u8], word: &[u8], out: &mut [u8]) -> usize
         return frames::bitrate(word, out);
     }
     let mut bytes = room();
-    let Put::Bytes(n) = hex::read(word, &mut bytes) else {
+    let Ok(n) = hex::read(word, &mut bytes) else {
         return unreadable(out);
     };
     on_bytes(name, &bytes[..n], out)
@@ -113,13 +112,20 @@ fn three_words(name: &[u8], number: &[u8], word: &[u8], out: &mut [u8]) -> usize
     ensures { Appends 0 (three_words name.now number.now word.now) out.old result out.new }
 {
     if framing::is_exactly(name, b"write_reply") {
-        return block_line(WRITE_REPLY_PACKET, number, word, b"-", b"-", out);
+        let line = PacketLine {
+            kind: PacketKind::WriteReply,
+            idm: number,
+            pair: word,
+            blocks: NONE,
+            bytes: NONE,
+        };
+        return line.print(out);
     }
-    let Setting::Format(format) = setting(number) else {
+    let Some(format) = setting(number) else {
         return unreadable(out);
     };
     let mut bytes = room();
-    let Put::Bytes(n) = hex::read(word, &mut bytes) else {
+    let Ok(n) = hex::read(word, &mut bytes) else {
         return unreadable(out);
     };
     on_format(name, format, &bytes[..n], out)
@@ -129,15 +135,24 @@ fn four_words(name: &[u8], idm: &[u8], pair: &[u8], word: &[u8], out: &mut [u8])
     requires { (length idm.now ≤ line_limit) × (length word.now ≤ line_limit) }
     ensures { Appends 0 (four_words name.now idm.now pair.now word.now) out.old result out.new }
 {
+    let line = PacketLine {
+        kind: PacketKind::ReadRequest,
+        idm,
+        pair,
+        blocks: word,
+        bytes: NONE,
+    };
     if framing::is_exactly(name, b"read_request") {
-        return block_line(READ_REQUEST_PACKET, idm, pair, word, b"-", out);
+        return line.print(out);
     }
     if framing::is_exactly(name, b"read_reply") {
-        return block_line(READ_REPLY_PACKET, idm, pair, word, b"-", out);
+        let kind = PacketKind::ReadReply;
+        return PacketLine { kind, ..line }.print(out);
     }
     unreadable(out)
 }
 
+// Kept: the words of a line, as they stand in it.
 fn five_words(
     name: &[u8],
     idm: &[u8],
@@ -150,7 +165,14 @@ fn five_words(
     ensures { Appends 0 (five_words name.now idm.now pair.now word.now last.now) out.old result out.new }
 {
     if framing::is_exactly(name, b"write_request") {
-        return block_line(WRITE_REQUEST_PACKET, idm, pair, word, last, out);
+        let line = PacketLine {
+            kind: PacketKind::WriteRequest,
+            idm,
+            pair,
+            blocks: word,
+            bytes: last,
+        };
+        return line.print(out);
     }
     unreadable(out)
 }
@@ -159,24 +181,17 @@ fn by_words(line: &[u8], out: &mut [u8]) -> usize
     requires { length line.now ≤ line_limit }
     ensures { Appends 0 (on_words (words_of_lem line.now)) out.old result out.new }
 {
-    let n = words::count(line);
     let name = words::word(line, 0);
     let second = words::word(line, 1);
     let third = words::word(line, 2);
     let fourth = words::word(line, 3);
-    if n == 2 {
-        return two_words(name, second, out);
+    match words::count(line) {
+        2 => two_words(name, second, out),
+        3 => three_words(name, second, third, out),
+        4 => four_words(name, second, third, fourth, out),
+        5 => five_words(name, second, third, fourth, words::word(line, 4), out),
+        _ => unreadable(out),
     }
-    if n == 3 {
-        return three_words(name, second, third, out);
-    }
-    if n == 4 {
-        return four_words(name, second, third, fourth, out);
-    }
-    if n == 5 {
-        return five_words(name, second, third, fourth, words::word(line, 4), out);
-    }
-    unreadable(out)
 }
 
 // Puts the text printed for the line at the buffer's start, and gives its length.
@@ -208,19 +223,12 @@ pub fn reply(next: Line, line: &[u8], out: &mut [u8; ANSWER_ROOM]) -> usize
 
 // Answers standard input line by line on standard output. `lines::next` has the contract of a line, by the bytes that come, and `reply`
 // that of the text for it; free is what the operating system reads and writes.
+// Kept: each program hands its own state and its own step to `for_each`.
 pub fn run<R: Input + Print>(rt: &R) {
-    let mut input = rt.reader();
-    let mut buffer = io::large_buffer();
     let mut line = [0u8; LINE_LIMIT];
     let mut out = [0u8; ANSWER_ROOM];
-    let mut unread = Unread::nothing();
-    for _ in 0..u64::MAX {
-        let given = lines::next(&mut input, unread, &mut buffer, &mut line);
-        unread = given.unread;
-        let next = given.line;
-        let n = reply(next, &line, &mut out);
-        if !lines::write(rt, &out, n) {
-            return;
-        }
-    }
+    lines::for_each(rt, &mut line, |next, line| {
+        let n = reply(next, line, &mut out);
+        lines::write(rt, &out, n)
+    });
 }

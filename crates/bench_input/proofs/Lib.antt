@@ -1,6 +1,4 @@
-mod ArgumentLaws
 mod ReadLaws
 mod WordsLaws
-mod PartLaws
 mod EndLaws
 mod TableLaws

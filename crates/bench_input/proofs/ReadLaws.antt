@@ -1,12 +1,13 @@
 -- Laws of reading a word: as HEX or BITRATE into a buffer, as a number of pairs, and as MS.
 use mathlib.Core.Path.{◌≡◌, refl, sym, ap, ◌∙◌}
-use mathlib.Core.Bool.{Bool, true, false}
-use mathlib.Core.List.{List, [], ◌++◌, append_assoc, append-nil}
-use mathlib.Core.Option.{Option, none, some}
+use mathlib.Core.Bool.{Bool, true, false, true≢false}
+use mathlib.Core.List.{List, [], ◌∷◌, ◌++◌, append_assoc, append-nil}
+use mathlib.Core.Option.{none}
+use Rattle.std.specs.Prelude.{Option, Some, None, Result, Ok, Err}
 use Prim.Native.Nat.{ℕ, ◌+◌, ◌-◌, ◌*◌, ◌/◌, ◌%◌, ◌≤◌}
 use native.Mathlib.Nat.{zero-add}
 use native.Mathlib.Omega.{arith}
-use borrow.Author.Tests.{eq-eqb, ne_eqb}
+use borrow.Author.Tests.{eq-eqb, ne_eqb, eqb-true}
 use lib.Dec.{eqb}
 use borrow.Rule.Slice.PartMut.{put_mid, post_of, take_put}
 use lib.ListN.{length, take, drop, length-append, length-take, length-drop, drop_of_length-le}
@@ -15,41 +16,35 @@ use Rattle.errors.specs.Choice.{pick, same}
 use Rattle.errors.specs.declared.Refusal.{Refusal}
 use Rattle.framing.specs.Copied.{copied}
 use Rattle.bench.specs.Hex.{dash, pairs_of, read_of}
-use Rattle.bench.specs.Numbers.{number_from, is_number, number_of, number_in}
-use Rattle.bench.specs.declared.number.Number.{Number}
-use Rattle.bench.specs.declared.number.Number.TheVariants.{Value as MsValue, Unreadable as NoMs}
+use Rattle.bench.specs.Numbers.{number_from, is_number, number_of}
 use Rattle.bench.specs.HexLaws.{length_pairs, was_read, read_count, read_into, not_read}
-use Rattle.bench.specs.Texts.{returned, over}
-use Rattle.bench.specs.declared.Put.{Put}
-use Rattle.bench.specs.declared.Put.TheVariants.{Bytes, Refused}
+use Rattle.errors.specs.Refusals.{returned}
+use Rattle.bench.specs.Texts.{over}
 use Rattle.bench_input.specs.Arguments.{Read, hex_arg, pairs_arg, text_arg, ms_arg}
-use Rattle.bench_input.specs.Readings.{ms_in, PutBetween}
+use Rattle.bench_input.specs.Readings.{given, PutBetween}
 use Rattle.framing.specs.Build.{left}
 
 -- a word of another length than m pairs
-pub pairs_other : (w u : List ℕ) (m : ℕ) → w ≡ u → (length w ≡ 2 * m → ⊥) → (f : List ℕ → Read) → none ≡ pairs_arg m u f
+pub pairs_other : (w : List ℕ) (m : ℕ) → (length w ≡ 2 * m → ⊥) → (f : List ℕ → Read) → none ≡ pairs_arg m w f
 unfolding pairs_arg pick
-pairs_other w u m is other f = rw (ne_eqb (length u) (2 * m) (λ h. other (ap length is ∙ h)))
+pairs_other w m other f = rw (ne_eqb (length w) (2 * m) other)
 
 -- a buffer that the word's m bytes fill
-module _ (w u p part : List ℕ) (q : Put) (m : ℕ) (is : w ≡ u) (size : length w ≡ 2 * m) (filled : length p ≡ m) (read : left (returned q) part ≡ read_of w p) where
-  known : left (returned q) part ≡ read_of u p
-  known = read ∙ ap (λ z. read_of z p) is
-
+module _ (u p part : List ℕ) (q : Result ℕ Refusal) (m : ℕ) (size : length u ≡ 2 * m) (filled : length p ≡ m) (known : left (returned q) part ≡ read_of u p) where
   pairs-room : length u / 2 ≤ length p
-  pairs-room = omega (arith, ap length is)
+  pairs-room = omega arith
 
   pairs-size : eqb (length u) (2 * m) ≡ true
-  pairs-size = eq-eqb (length u) (2 * m) (sym (ap length is) ∙ size)
+  pairs-size = eq-eqb (length u) (2 * m) size
 
-  pub pairs_read : (n : ℕ) → q ≡ Bytes n → (f : List ℕ → Read) → f part ≡ pairs_arg m u f
+  pub pairs_read : (n : ℕ) → q ≡ Ok n → (f : List ℕ → Read) → f part ≡ pairs_arg m u f
   unfolding pairs_arg hex_arg pick over
   pairs_read n given f =
-      let k : length p ≤ 0 + length (pairs_of u) = omega (arith, ap length is, length_pairs u) in
+      let k : length p ≤ 0 + length (pairs_of u) = omega (arith, length_pairs u) in
       let e : part ≡ pairs_of u = read_into u p part q pairs-room known n given ∙ rw (drop_of_length-le p {i = 0 + length (pairs_of u)} k, append-nil) in
       rw (pairs-size, was_read u p part q pairs-room known n given) (ap f e)
 
-  pub pairs_unread : (e : Refusal) → q ≡ Refused e → (f : List ℕ → Read) → none ≡ pairs_arg m u f
+  pub pairs_unread : (e : Refusal) → q ≡ Err e → (f : List ℕ → Read) → none ≡ pairs_arg m u f
   unfolding pairs_arg hex_arg pick
   pairs_unread e given f = rw (pairs-size, not_read u p part q pairs-room known e given)
 
@@ -70,19 +65,16 @@ copied_kept b t at room part e =
     rw (copied b t at room part e, ← append_assoc (take at b) t z) (drop_at (take at b ++ t) z (at + length t) l)
 
 -- a word that was read from place `at` on, through the part of the buffer b from there
-module _ (w u b part : List ℕ) (at : ℕ) (q : Put) (is : w ≡ u) (room : at + length u ≤ length b) (read : left (returned q) part ≡ read_of w (take (length b - at) (drop at b))) where
-  known' : left (returned q) part ≡ read_of u (take (length b - at) (drop at b))
-  known' = read ∙ ap (λ z. read_of z (take (length b - at) (drop at b))) is
-
+module _ (u b part : List ℕ) (at : ℕ) (q : Result ℕ Refusal) (room : at + length u ≤ length b) (known : left (returned q) part ≡ read_of u (take (length b - at) (drop at b))) where
   behind-room : length u / 2 ≤ length (take (length b - at) (drop at b))
   behind-room = simp (length-take, length-drop) (omega arith)
 
   before-kept : take at (put_mid at (length b - at) b part) ≡ take at b
   before-kept = take_put at (length b - at) b part (omega arith)
 
-  module _ (n : ℕ) (given : q ≡ Bytes n) where
+  module _ (n : ℕ) (given : q ≡ Ok n) where
     count-is : n ≡ length u / 2
-    count-is = read_count u (take (length b - at) (drop at b)) part q behind-room known' n given ∙ length_pairs u
+    count-is = read_count u (take (length b - at) (drop at b)) part q behind-room known n given ∙ length_pairs u
 
     pub hex_read : (f : List ℕ → Read) → f (slice at (at + n) (put_mid at (length b - at) b part)) ≡ hex_arg u f
     unfolding hex_arg pick over
@@ -90,9 +82,9 @@ module _ (w u b part : List ℕ) (at : ℕ) (q : Put) (is : w ≡ u) (room : at 
         let p : List ℕ = take (length b - at) (drop at b) in
         let d : List ℕ = drop (0 + length (pairs_of u)) p in
         let z : List ℕ = post_of at (length b - at) b in
-        let e : part ++ z ≡ pairs_of u ++ (d ++ z) = ap (λ y. y ++ z) (read_into u p part q behind-room known' n given) ∙ append_assoc (pairs_of u) d z in
+        let e : part ++ z ≡ pairs_of u ++ (d ++ z) = ap (λ y. y ++ z) (read_into u p part q behind-room known n given) ∙ append_assoc (pairs_of u) d z in
         let l : length (take at b) ≡ at = length-take-le at b (omega arith) in
-        rw (was_read u p part q behind-room known' n given)
+        rw (was_read u p part q behind-room known n given)
         (ap f (ap (λ y. slice at (at + n) (take at b ++ y)) e ∙ placed_here (take at b) (pairs_of u) (d ++ z) at n l (count-is ∙ sym (length_pairs u))))
 
     behind-kept : drop (at + n) (put_mid at (length b - at) b part) ≡ drop (at + n) b
@@ -100,7 +92,7 @@ module _ (w u b part : List ℕ) (at : ℕ) (q : Put) (is : w ≡ u) (room : at 
     behind-kept =
         let t : List ℕ = pairs_of u in
         let p : List ℕ = take (length b - at) (drop at b) in
-        let e : part ≡ take (length t) t ++ drop (length t) p = read_into u p part q behind-room known' n given ∙ rw (take-length t, zero-add (length t)) in
+        let e : part ≡ take (length t) t ++ drop (length t) p = read_into u p part q behind-room known n given ∙ rw (take-length t, zero-add (length t)) in
         let size : n ≡ length t = count-is ∙ sym (length_pairs u) in
         rw size (copied_kept b t at (omega (arith, length_pairs u)) part e)
 
@@ -110,59 +102,55 @@ module _ (w u b part : List ℕ) (at : ℕ) (q : Put) (is : w ≡ u) (room : at 
     pub hex_within : at + n ≤ length b
     hex_within = omega (arith, count-is)
 
-  module _ (e : Refusal) (given : q ≡ Refused e) where
+  module _ (e : Refusal) (given : q ≡ Err e) where
     pub hex_unread : (f : List ℕ → Read) → none ≡ hex_arg u f
     unfolding hex_arg pick
-    hex_unread f = rw (not_read u (take (length b - at) (drop at b)) part q behind-room known' e given)
+    hex_unread f = rw (not_read u (take (length b - at) (drop at b)) part q behind-room known e given)
 
 -- MS, by the number that was read of the word
-given : (ℕ → Read) → Option ℕ → Read
-given f none = none
-given f (some n) = f n
-
-ms_in_lem : (r : Number) (f : ℕ → Read) → ms_in r f ≡ given f (number_in r)
-unfolding given
-ms_in_lem (MsValue n) f = refl
-ms_in_lem NoMs f = refl
-
-ms_arg_lem : (w : List ℕ) (f : ℕ → Read) → given f (number_of w) ≡ ms_arg w f
-unfolding given number_of ms_arg pick
-ms_arg_lem w f = go (is_number w)
+pub ms_read : (w : List ℕ) (r : Option ℕ) → r ≡ number_of w → (f : ℕ → Read) → given r f ≡ ms_arg w f
+unfolding number_of ms_arg pick
+ms_read w r known f = ap (λ q. given q f) known ∙ go (is_number w)
   where
-    go : (t : Bool) → given f (pick t (some (number_from 0 w)) none) ≡ pick t (f (number_from 0 w)) none
+    go : (t : Bool) → given (pick t (Some (number_from 0 w)) None) f ≡ pick t (f (number_from 0 w)) none
     go true = refl
     go false = refl
 
-pub ms_read : (w u : List ℕ) (r : Number) → w ≡ u → number_in r ≡ number_of w → (f : ℕ → Read) → ms_in r f ≡ ms_arg u f
-ms_read w u r is known f = ms_in_lem r f ∙ ap (given f) known ∙ ms_arg_lem w f ∙ ap (λ x. ms_arg x f) is
+-- whether a word is empty
+pub empty_word : (w : List ℕ) → true ≡ eqb (length w) 0 → length w ≡ 0
+empty_word w e = eqb-true (length w) 0 (sym e)
+
+pub some_word : (w : List ℕ) → false ≡ eqb (length w) 0 → length w ≡ 0 → ⊥
+some_word [] e h = true≢false (sym e)
+some_word (x ∷ w) e h = omega arith
 
 -- a BITRATE that was copied into the buffer b, or was not
-module _ (w u : List ℕ) (is : w ≡ u) where
-  pub text_empty : (f : List ℕ → Read) → length w ≡ 0 → none ≡ text_arg u f
+module _ (w : List ℕ) where
+  pub text_empty : (f : List ℕ → Read) → length w ≡ 0 → none ≡ text_arg w f
   unfolding text_arg pick
-  text_empty f h = rw (← is, eq-eqb (length w) 0 h)
+  text_empty f h = rw (eq-eqb (length w) 0 h)
 
-  pub text_dash : (f : List ℕ → Read) → (length w ≡ 0 → ⊥) → same dash w ≡ true → f [] ≡ text_arg u f
+  pub text_dash : (f : List ℕ → Read) → (length w ≡ 0 → ⊥) → same dash w ≡ true → f [] ≡ text_arg w f
   unfolding text_arg pick
-  text_dash f more h = rw (← is, ne_eqb (length w) 0 more, h)
+  text_dash f more h = rw (ne_eqb (length w) 0 more, h)
 
-  pub text_room : (b : List ℕ) (at : ℕ) → at + length u ≤ length b → length w ≤ length (take (length b - at) (drop at b))
-  text_room b at room = simp (length-take, length-drop) (omega (arith, ap length is))
+  pub text_room : (b : List ℕ) (at : ℕ) → at + length w ≤ length b → length w ≤ length (take (length b - at) (drop at b))
+  text_room b at room = simp (length-take, length-drop) (omega arith)
 
-  module _ (b part : List ℕ) (at : ℕ) (room : at + length u ≤ length b) (e : part ≡ take (length w) w ++ drop (length w) (take (length b - at) (drop at b))) where
+  module _ (b part : List ℕ) (at : ℕ) (room : at + length w ≤ length b) (e : part ≡ take (length w) w ++ drop (length w) (take (length b - at) (drop at b))) where
     text-inside : at + length w ≤ length b
-    text-inside = omega (arith, ap length is)
+    text-inside = omega arith
 
-    pub text_read : (f : List ℕ → Read) → (length w ≡ 0 → ⊥) → same dash w ≡ false → f (slice at (at + length w) (put_mid at (length b - at) b part)) ≡ text_arg u f
+    pub text_read : (f : List ℕ → Read) → (length w ≡ 0 → ⊥) → same dash w ≡ false → f (slice at (at + length w) (put_mid at (length b - at) b part)) ≡ text_arg w f
     unfolding text_arg pick
     text_read f more h =
         let l : length (take at b) ≡ at = length-take-le at b (omega arith) in
         let here : slice at (at + length w) (put_mid at (length b - at) b part) ≡ w
         = ap (slice at (at + length w)) (copied b w at text-inside part e) ∙ placed_here (take at b) w (drop (at + length w) b) at (length w) l refl in
-        rw (← is, ne_eqb (length w) 0 more, h) (ap f here)
+        rw (ne_eqb (length w) 0 more, h) (ap f here)
 
-    pub text_between : PutBetween at (at + length w) (length u) b (put_mid at (length b - at) b part)
-    text_between = record { from = omega arith; short = omega (arith, ap length is); kept = take_put at (length b - at) b part (omega arith); behind = copied_kept b w at text-inside part e }
+    pub text_between : PutBetween at (at + length w) (length w) b (put_mid at (length b - at) b part)
+    text_between = record { from = omega arith; short = omega arith; kept = take_put at (length b - at) b part (omega arith); behind = copied_kept b w at text-inside part e }
 
 -- an absent argument has no bytes
 pub slice_none : (i j : ℕ) (b : List ℕ) → j ≤ i → slice i j b ≡ []

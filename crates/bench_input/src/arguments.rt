@@ -1,190 +1,154 @@
-// The arguments of a line: its k-th word, the name being word 0, as a number or as bytes.
-#![tactic(auto, using(errors::specs::Rules::picks), unfolding(errors::specs::Choice::pick, crate::specs::Arguments::byte_arg, crate::specs::Arguments::flag_arg, crate::specs::Arguments::hex_arg, crate::specs::Arguments::hex_or_none, crate::specs::Arguments::is_none, crate::specs::Arguments::ms_arg, crate::specs::Arguments::name_arg, crate::specs::Arguments::present_arg, crate::specs::Arguments::text_arg, crate::specs::Arguments::wait_arg, crate::specs::Arguments::whole_arg, crate::specs::Arguments::word_arg))]
+// The arguments of a line: a word, as a number or as bytes.
+#![tactic(auto, using(errors::specs::Rules::equals), unfolding(errors::specs::Choice::pick, crate::specs::Arguments::byte_arg, crate::specs::Arguments::flag_arg, crate::specs::Arguments::hex_arg, crate::specs::Arguments::hex_or_none, crate::specs::Arguments::is_none, crate::specs::Arguments::ms_arg, crate::specs::Arguments::name_arg, crate::specs::Arguments::present_arg, crate::specs::Arguments::text_arg, crate::specs::Arguments::wait_arg, crate::specs::Arguments::whole_arg, crate::specs::Arguments::word_arg))]
 
 ghost use Rattle.std.specs.Prelude.{◌≡◌, List, ℕ, ◌+◌, ◌*◌, ◌≤◌, ◌<◌, length};
-ghost use Rattle.bench_input.specs.Arguments.{Read, word_at, byte_arg, flag_arg, word_arg, ms_arg, hex_arg, whole_arg, text_arg, is_none, hex_or_none, present_arg, name_arg, wait_arg};
-ghost use Rattle.bench_input.specs.Readings.{byte_in, word_in, ms_in, wait_in, hex_in, Behind};
+ghost use Rattle.bench_input.specs.Arguments.{Read, pairs_arg, byte_arg, flag_arg, word_arg, ms_arg, hex_arg, whole_arg, text_arg, is_none, hex_or_none, present_arg, name_arg, wait_arg};
+ghost use Rattle.bench_input.specs.Readings.{given, wait_in, hex_in, Behind};
 
-use bench::number::Number;
-use bench::{Put, hex, number, words};
-use errors::Refusal;
+use bench::{hex, number};
 
-// What a word says as BYTE and as WORD; as MS it is a `Number`.
-#[derive(Clone, Copy)]
-pub enum Byte {
-    Value(u8),
-    Unreadable,
+// So many pairs.
+fn read_pairs<const N: usize>(word: &[u8]) -> Option<[u8; N]>
+    requires { N ≤ 2 }
+    ensures { (f : List ℕ → Read) → given result f ≡ pairs_arg N word.now f }
+{
+    if word.len() != 2 * N {
+        return None;
+    }
+    let mut pairs = [0u8; N];
+    let Ok(_) = hex::read(word, &mut pairs) else {
+        return None;
+    };
+    Some(pairs)
 }
-
-#[derive(Clone, Copy)]
-pub enum Word {
-    Value(u16),
-    Unreadable,
-}
-
-// A time-out that may be absent: whether it is given, and its ms.
-#[derive(Clone, Copy)]
-pub enum Wait {
-    Value(u8, u16),
-    Unreadable,
-}
-
-const WAIT_LIMIT: u32 = 65535;
 
 // BYTE: one pair.
-pub(crate) fn read_byte(line: &[u8], k: usize) -> Byte
-    ensures { (f : ℕ → Read) → byte_in result f ≡ byte_arg (word_at line.now k) f }
+pub(crate) fn read_byte(word: &[u8]) -> Option<u8>
+    ensures { (f : ℕ → Read) → given result f ≡ byte_arg word.now f }
 {
-    let word = words::word(line, k);
-    if word.len() == 2 {
-        let mut pair = [0u8; 1];
-        let Put::Bytes(_) = hex::read(word, &mut pair) else {
-            return Byte::Unreadable;
-        };
-        return Byte::Value(pair[0]);
-    }
-    Byte::Unreadable
-}
-
-fn joined(high: u8, low: u8) -> u16
-    ensures { result ≡ high * 256 + low }
-{
-    high as u16 * 256 + low as u16
+    let [byte] = read_pairs::<1>(word)?;
+    Some(byte)
 }
 
 // WORD: two pairs, high byte first.
-pub(crate) fn read_word(line: &[u8], k: usize) -> Word
-    ensures { (f : ℕ → Read) → word_in result f ≡ word_arg (word_at line.now k) f }
+pub(crate) fn read_word(word: &[u8]) -> Option<u16>
+    ensures { (f : ℕ → Read) → given result f ≡ word_arg word.now f }
 {
-    let word = words::word(line, k);
-    if word.len() == 4 {
-        let mut pairs = [0u8; 2];
-        let Put::Bytes(_) = hex::read(word, &mut pairs) else {
-            return Word::Unreadable;
-        };
-        return Word::Value(joined(pairs[0], pairs[1]));
-    }
-    Word::Unreadable
+    let pairs = read_pairs::<2>(word)?;
+    Some(u16::from_be_bytes(pairs))
 }
 
 // MS: a number.
-pub(crate) fn read_ms(line: &[u8], k: usize) -> Number
-    ensures { (f : ℕ → Read) → ms_in result f ≡ ms_arg (word_at line.now k) f }
+pub(crate) fn read_ms(word: &[u8]) -> Option<u32>
+    ensures { (f : ℕ → Read) → given result f ≡ ms_arg word.now f }
 {
-    number::read(words::word(line, k))
+    number::read(word)
 }
 
 // HEX: puts its bytes into the buffer from a place on, and gives the place behind them.
-pub(crate) fn read_hex(line: &[u8], k: usize, bytes: &mut [u8], at: usize) -> Put
-    requires { at + length (word_at line.now k) ≤ length bytes.old }
-    ensures by_index { (f : List ℕ → Read) → hex_in at result bytes.new f ≡ hex_arg (word_at line.now k) f }
-    ensures behind { Behind at result (length (word_at line.now k)) bytes.old bytes.new }
+// Kept: the room is of the word and the buffer's place together: a slice from the place on would lose what stands before it.
+pub(crate) fn read_hex(word: &[u8], bytes: &mut [u8], at: usize) -> Option<usize>
+    requires { at + length word.now ≤ length bytes.old }
+    ensures by_index { (f : List ℕ → Read) → hex_in at result bytes.new f ≡ hex_arg word.now f }
+    ensures behind { Behind at result (length word.now) bytes.old bytes.new }
 {
-    let Put::Bytes(n) = hex::read(words::word(line, k), &mut bytes[at..]) else {
-        return Put::Refused(Refusal::BadArgument);
+    let Ok(n) = hex::read(word, &mut bytes[at..]) else {
+        return None;
     };
-    Put::Bytes(at + n)
+    Some(at + n)
 }
 
 // HEX of whole groups of so many bytes, from a place on.
-pub(crate) fn read_whole(line: &[u8], k: usize, bytes: &mut [u8], at: usize, size: usize) -> Put
-    requires { (0 < size) × (at + length (word_at line.now k) ≤ length bytes.old) }
-    ensures by_index { (f : List ℕ → Read) → hex_in at result bytes.new f ≡ whole_arg size (word_at line.now k) f }
-    ensures behind { Behind at result (length (word_at line.now k)) bytes.old bytes.new }
+pub(crate) fn read_whole(word: &[u8], bytes: &mut [u8], at: usize, size: usize) -> Option<usize>
+    requires { (0 < size) × (at + length word.now ≤ length bytes.old) }
+    ensures by_index { (f : List ℕ → Read) → hex_in at result bytes.new f ≡ whole_arg size word.now f }
+    ensures behind { Behind at result (length word.now) bytes.old bytes.new }
 {
-    let Put::Bytes(end) = read_hex(line, k, bytes, at) else {
-        return Put::Refused(Refusal::BadArgument);
-    };
+    let end = read_hex(word, bytes, at)?;
     if (end - at) % size == 0 {
-        return Put::Bytes(end);
+        return Some(end);
     }
-    Put::Refused(Refusal::BadArgument)
+    None
 }
 
 // BITRATE, from a place on.
-pub(crate) fn read_text(line: &[u8], k: usize, bytes: &mut [u8], at: usize) -> Put
-    requires { at + length (word_at line.now k) ≤ length bytes.old }
-    ensures by_index { (f : List ℕ → Read) → hex_in at result bytes.new f ≡ text_arg (word_at line.now k) f }
-    ensures behind { Behind at result (length (word_at line.now k)) bytes.old bytes.new }
+pub(crate) fn read_text(word: &[u8], bytes: &mut [u8], at: usize) -> Option<usize>
+    requires { at + length word.now ≤ length bytes.old }
+    ensures by_index { (f : List ℕ → Read) → hex_in at result bytes.new f ≡ text_arg word.now f }
+    ensures behind { Behind at result (length word.now) bytes.old bytes.new }
 {
-    let word = words::word(line, k);
-    if word.len() == 0 {
-        return Put::Refused(Refusal::BadArgument);
+    if word.is_empty() {
+        return None;
     }
-    if framing::is_exactly(word, b"-") {
-        return Put::Bytes(at);
+    if word == b"-".as_slice() {
+        return Some(at);
     }
     octets::copy(word, &mut bytes[at..]);
-    Put::Bytes(at + word.len())
+    Some(at + word.len())
 }
 
 // Whether the argument is absent.
-fn is_none(line: &[u8], k: usize) -> bool
-    ensures { result ≡ is_none (word_at line.now k) }
+fn is_none(word: &[u8]) -> bool
+    ensures { result ≡ is_none word.now }
 {
-    framing::is_exactly(words::word(line, k), b"none")
+    word == b"none".as_slice()
 }
 
 // HEX, or `none` for no bytes, from a place on.
-pub(crate) fn read_hex_or_none(line: &[u8], k: usize, bytes: &mut [u8], at: usize) -> Put
-    requires { at + length (word_at line.now k) ≤ length bytes.old }
-    ensures by_index { (f : List ℕ → Read) → hex_in at result bytes.new f ≡ hex_or_none (word_at line.now k) f }
-    ensures behind { Behind at result (length (word_at line.now k)) bytes.old bytes.new }
+pub(crate) fn read_hex_or_none(word: &[u8], bytes: &mut [u8], at: usize) -> Option<usize>
+    requires { at + length word.now ≤ length bytes.old }
+    ensures by_index { (f : List ℕ → Read) → hex_in at result bytes.new f ≡ hex_or_none word.now f }
+    ensures behind { Behind at result (length word.now) bytes.old bytes.new }
 {
-    if is_none(line, k) {
-        return Put::Bytes(at);
+    if is_none(word) {
+        return Some(at);
     }
-    read_hex(line, k, bytes, at)
+    read_hex(word, bytes, at)
 }
 
 // 00 or 01.
-pub(crate) fn read_flag(line: &[u8], k: usize) -> Byte
-    ensures { (f : ℕ → Read) → byte_in result f ≡ flag_arg (word_at line.now k) f }
+pub(crate) fn read_flag(word: &[u8]) -> Option<u8>
+    ensures { (f : ℕ → Read) → given result f ≡ flag_arg word.now f }
 {
-    let Byte::Value(flag) = read_byte(line, k) else {
-        return Byte::Unreadable;
-    };
+    let flag = read_byte(word)?;
     if 1 < flag {
-        return Byte::Unreadable;
+        return None;
     }
-    Byte::Value(flag)
+    Some(flag)
 }
 
 // This word: 1.
-pub(crate) fn read_name(line: &[u8], k: usize, name: &[u8]) -> Byte
-    ensures { (f : ℕ → Read) → byte_in result f ≡ name_arg name.now (word_at line.now k) f }
+pub(crate) fn read_name(word: &[u8], name: &[u8]) -> Option<u8>
+    ensures { (f : ℕ → Read) → given result f ≡ name_arg name.now word.now f }
 {
-    if framing::is_exactly(words::word(line, k), name) {
-        return Byte::Value(1);
+    if word == name {
+        return Some(1);
     }
-    Byte::Unreadable
+    None
 }
 
 // Whether a HEX is present: 1 or 0.
-pub(crate) fn read_presence(line: &[u8], k: usize) -> Byte
-    ensures { (f : ℕ → Read) → byte_in result f ≡ present_arg (word_at line.now k) f }
+pub(crate) fn read_presence(word: &[u8]) -> Option<u8>
+    ensures { (f : ℕ → Read) → given result f ≡ present_arg word.now f }
 {
-    if is_none(line, k) {
-        return Byte::Value(0);
+    if is_none(word) {
+        return Some(0);
     }
-    if hex::is_hex(words::word(line, k)) {
-        return Byte::Value(1);
+    if hex::is_hex(word) {
+        return Some(1);
     }
-    Byte::Unreadable
+    None
 }
 
 // MS of at most 65535, or `none`.
-pub(crate) fn read_wait(line: &[u8], k: usize) -> Wait
-    ensures { (f : ℕ → ℕ → Read) → wait_in result f ≡ wait_arg (word_at line.now k) f }
+pub(crate) fn read_wait(word: &[u8]) -> Option<Option<u16>>
+    ensures { (f : ℕ → ℕ → Read) → wait_in result f ≡ wait_arg word.now f }
 {
-    if is_none(line, k) {
-        return Wait::Value(0, 0);
+    if is_none(word) {
+        return Some(None);
     }
-    let Number::Value(ms) = read_ms(line, k) else {
-        return Wait::Unreadable;
+    let Ok(ms) = u16::try_from(read_ms(word)?) else {
+        return None;
     };
-    if WAIT_LIMIT < ms {
-        return Wait::Unreadable;
-    }
-    Wait::Value(1, ms as u16)
+    Some(Some(ms))
 }

@@ -1,5 +1,5 @@
 -- Laws of an answer: what was read, the engine's step, and the text with its line feed.
-use Rattle.std.specs.Prelude.{◌≡◌, ℕ, ◌+◌, List, length, take, set}
+use Rattle.std.specs.Prelude.{◌≡◌, Option, Some, None, ℕ, ◌+◌, List, length, take, set}
 use mathlib.Core.Path.{refl, sym, ap, ap₂, ◌∙◌}
 use native.Mathlib.Nat.{zero-add}
 use Rattle.exchange.specs.Steps.{event_of}
@@ -10,8 +10,6 @@ use Rattle.engine.specs.SessionSteps.{Stepped, stepped}
 use Rattle.errors.specs.declared.Refusal.TheVariants.{BadArgument}
 use Rattle.engine.specs.declared.running.Output.{Output}
 use Rattle.engine.specs.declared.running.Output.TheVariants.{Refused}
-use Rattle.engine.specs.declared.by_number.Known.{Known}
-use Rattle.engine.specs.declared.by_number.Known.TheVariants.{Is, Not}
 use Rattle.engine.specs.declared.session.Session.{Session}
 use Rattle.engine.specs.declared.session.Step.{Step}
 use Rattle.bench.specs.Texts.{over, Placed, placed, placed_at}
@@ -26,12 +24,12 @@ pub unchanged_is : (s : Session) (r : Step) (b : List ℕ) → r.session ≡ s �
 unchanged_is s r b p q = ap₂ (λ (x : Session) (y : Output). record { session = x; output = y; buffer = b }) p q
 
 -- an event by its number, which has none or one
-module _ (s : Session) (number : ℕ) (r : Known) (p b : List ℕ) (known : (packet : List ℕ) → known_in r packet ≡ event_by_of number packet) where
-  pub event_none : r ≡ Not → unread_step s b ≡ said_step s (happens number p) b
+module _ (s : Session) (number : ℕ) (r : Option Event) (p b : List ℕ) (known : (packet : List ℕ) → known_in r packet ≡ event_by_of number packet) where
+  pub event_none : r ≡ None → unread_step s b ≡ said_step s (happens number p) b
   unfolding said_step known_in
   event_none h = ap (λ e. event_step s e b) (ap (λ q. known_in q p) (sym h) ∙ known p)
 
-  pub event_some : (e : Event) (t : Stepped) → r ≡ Is e → t ≡ step_with s (gives (event_of e p) b) → t ≡ said_step s (happens number p) b
+  pub event_some : (e : Event) (t : Stepped) → r ≡ Some e → t ≡ step_with s (gives (event_of e p) b) → t ≡ said_step s (happens number p) b
   unfolding said_step known_in
   event_some e t h g = g ∙ ap (λ e. event_step s e b) (ap (λ q. known_in q p) (sym h) ∙ known p)
 

@@ -3,19 +3,17 @@
 
 pub mod output;
 
-ghost use Rattle.std.specs.Prelude.{◌≡◌, ◌+◌, ◌≤◌, length, slice_set};
+ghost use Rattle.std.specs.Prelude.{◌≡◌, ◌≤◌, length, Some};
 ghost use Rattle.engine.specs.SessionSteps.{stepped};
 ghost use Rattle.bench_input.specs.Readings.{input_in};
 ghost use Rattle.bench_session.specs.Outputs.{out_room, text_limit};
 ghost use Rattle.bench_session.specs.Answers.{said_step, after_line, answer_of, line_reply};
-ghost use Rattle.bench.specs.Lines.{feed};
 
-use bench::lines::{Line, Unread};
+use bench::lines::{Answered, Line};
 use bench::{lines, prefix};
 use bench_input::{BYTES_ROOM, Ends, Input, LINE_LIMIT, slice};
 use calls::start::Numbers;
 use engine::by_number;
-use engine::by_number::Known;
 use engine::running::Output;
 use engine::session::{Session, Step};
 use errors::Refusal;
@@ -24,13 +22,6 @@ use errors::Refusal;
 pub const BUFFER_SIZE: usize = 1024;
 
 pub const OUT_ROOM: usize = 2112;
-
-// The session after a line, and the length of the text printed for it.
-#[derive(Clone, Copy)]
-pub struct Answered {
-    pub session: Session,
-    pub len: usize,
-}
 
 // A line that cannot be read: the session stays as it was.
 fn unreadable(session: Session) -> Step
@@ -43,6 +34,7 @@ fn unreadable(session: Session) -> Step
 }
 
 // What the engine does with a call, whose byte strings stand one behind the other.
+// Kept: the arguments of a call, as `Session::call` takes them.
 fn called(
     session: Session,
     number: u8,
@@ -51,43 +43,41 @@ fn called(
     bytes: &[u8],
     buffer: &mut [u8],
 ) -> Step
-    ensures { stepped result buffer.new ≡ said_step session (input_in bytes.now (Input.Call number numbers ends)) buffer.old }
+    ensures { stepped result buffer.new ≡ said_step session (input_in bytes.now (Some (Input.Call number numbers ends))) buffer.old }
 {
-    let first = slice(bytes, 0, ends.first);
-    let second = slice(bytes, ends.first, ends.second);
-    let third = slice(bytes, ends.second, ends.third);
-    let fourth = slice(bytes, ends.third, ends.fourth);
-    session.call(number, numbers, first, second, third, fourth, buffer)
+    let [first, second, third, fourth] = ends;
+    session.call(
+        number,
+        numbers,
+        slice(bytes, 0, first),
+        slice(bytes, first, second),
+        slice(bytes, second, third),
+        slice(bytes, third, fourth),
+        buffer,
+    )
 }
 
 // What the engine does with an event, whose packet has n bytes.
 fn on_event(session: Session, number: u8, n: usize, bytes: &[u8], buffer: &mut [u8]) -> Step
-    ensures { stepped result buffer.new ≡ said_step session (input_in bytes.now (Input.Event number n)) buffer.old }
+    ensures { stepped result buffer.new ≡ said_step session (input_in bytes.now (Some (Input.Event number n))) buffer.old }
 {
-    let Known::Is(event) = by_number::event_by(number) else {
+    let Some(event) = by_number::event_by(number) else {
         return unreadable(session);
     };
     session.event(event, slice(bytes, 0, n), buffer)
 }
 
 // What the engine does with what was read.
-pub fn step(session: Session, input: Input, bytes: &[u8], buffer: &mut [u8]) -> Step
+pub fn step(session: Session, input: Option<Input>, bytes: &[u8], buffer: &mut [u8]) -> Step
     ensures { stepped result buffer.new ≡ said_step session (input_in bytes.now input) buffer.old }
 {
     match input {
-        Input::Call(number, numbers, ends) => {
+        Some(Input::Call(number, numbers, ends)) => {
             called(session, number, numbers, ends, bytes, buffer)
         }
-        Input::Event(number, n) => on_event(session, number, n, bytes, buffer),
-        Input::Unreadable => unreadable(session),
+        Some(Input::Event(number, n)) => on_event(session, number, n, bytes, buffer),
+        None => unreadable(session),
     }
-}
-
-// The same, of what was read into an array.
-fn step_read(session: Session, input: Input, bytes: &[u8; BYTES_ROOM], buffer: &mut [u8]) -> Step
-    ensures { stepped result buffer.new ≡ said_step session (input_in bytes.now input) buffer.old }
-{
-    step(session, input, bytes, buffer)
 }
 
 // Hands a line to the session, and puts the text printed for it at the start of `out`.
@@ -96,17 +86,15 @@ pub fn answer(
     line: &[u8],
     buffer: &mut [u8; BUFFER_SIZE],
     out: &mut [u8; OUT_ROOM],
-) -> Answered
-    ensures { (after_line result.session result.len buffer.new out.new ≡ answer_of session line.now buffer.old out.old) × (result.len ≤ text_limit) × (length out.new ≡ out_room) }
+) -> Answered<Session>
+    ensures { (after_line result.state result.len buffer.new out.new ≡ answer_of session line.now buffer.old out.old) × (result.len ≤ text_limit) × (length out.new ≡ out_room) }
 {
     let mut bytes = [0u8; BYTES_ROOM];
     let input = bench_input::read(line, &mut bytes);
-    let stepped = step_read(session, input, &bytes, buffer);
-    let output = stepped.output;
-    let len = output::print(output, buffer, out);
-    let after = stepped.session;
+    let stepped = step(session, input, &bytes, buffer);
+    let len = output::print(stepped.output, buffer, out);
     Answered {
-        session: after,
+        state: stepped.session,
         len,
     }
 }
@@ -118,56 +106,36 @@ pub fn reply(
     line: &[u8],
     buffer: &mut [u8; BUFFER_SIZE],
     out: &mut [u8; OUT_ROOM],
-) -> Answered
-    ensures { (after_line result.session result.len buffer.new out.new ≡ line_reply session next line.now buffer.old out.old) × (length out.old ≡ out_room → length out.new ≡ out_room) }
+) -> Answered<Session>
+    ensures { (after_line result.state result.len buffer.new out.new ≡ line_reply session next line.now buffer.old out.old) × (length out.old ≡ out_room → length out.new ≡ out_room) }
 {
     match next {
-        Line::Text(n) => {
-            let answered = answer(session, prefix(n, line), buffer, out);
-            fed(answered, out)
-        }
+        Line::Text(n) => answer(session, prefix(n, line), buffer, out).fed(out),
         Line::OverLong => {
             let len = output::print(Output::Refused(Refusal::BadArgument), buffer, out);
-            fed(Answered { session, len }, out)
+            Answered {
+                state: session,
+                len,
+            }
+            .fed(out)
         }
-        Line::End => Answered { session, len: 0 },
-    }
-}
-
-// A line feed behind the text.
-fn fed(answer: Answered, out: &mut [u8; OUT_ROOM]) -> Answered
-    requires { (answer.len ≤ text_limit) × (length out.old ≡ out_room) }
-    ensures { (result.session ≡ answer.session) × (result.len ≡ answer.len + 1) × (out.new ≡ slice_set out.old answer.len feed) × (length out.new ≡ out_room) }
-{
-    let n = answer.len;
-    let session = answer.session;
-    out[n] = b'\n';
-    Answered {
-        session,
-        len: n + 1,
+        Line::End => Answered {
+            state: session,
+            len: 0,
+        },
     }
 }
 
 // Answers standard input line by line on standard output. `lines::next` has the contract of a line, by the bytes that come, and `reply`
 // that of the text for it; free is what the operating system reads and writes.
 pub fn run<R: std::io::Input + Print>(rt: &R) {
-    let mut input = rt.reader();
-    let mut read = io::large_buffer();
     let mut line = [0u8; LINE_LIMIT];
     let mut buffer = [0u8; BUFFER_SIZE];
     let mut out = [0u8; OUT_ROOM];
     let mut session = Session::fresh();
-    let mut unread = Unread::nothing();
-    for _ in 0..u64::MAX {
-        let given = lines::next(&mut input, unread, &mut read, &mut line);
-        unread = given.unread;
-        let next = given.line;
-        let replied = reply(session, next, &line, &mut buffer, &mut out);
-        let n = replied.len;
-        let after = replied.session;
-        session = after;
-        if !lines::write(rt, &out, n) {
-            return;
-        }
-    }
+    lines::for_each(rt, &mut line, |next, line| {
+        let replied = reply(session, next, line, &mut buffer, &mut out);
+        session = replied.state;
+        lines::write(rt, &out, replied.len)
+    });
 }

@@ -12,6 +12,7 @@ use engine::running::Output;
 use errors::{CARD_STATUS_NUMBER, Numbered, STATUS_NUMBER};
 use framing::ACK_SIZE;
 
+// Kept: one puts a text behind a name and the other a number: what they share is `text::put`.
 fn put_named(name: &[u8], bytes: &[u8], out: &mut [u8]) -> usize
     ensures { Appends 0 (name.now ++ hex_of bytes.now) out.old result out.new }
 {
@@ -31,7 +32,7 @@ fn put_number(name: &[u8], number: u64, out: &mut [u8], at: usize) -> usize
 fn put_done(bytes: &[u8], out: &mut [u8]) -> usize
     ensures { Appends 0 (done_text bytes.now) out.old result out.new }
 {
-    if bytes.len() == 0 {
+    if bytes.is_empty() {
         return text::put(b"done", out, 0);
     }
     put_named(b"done ", bytes, out)
@@ -93,9 +94,9 @@ fn put_output(output: Output, bytes: &[u8], out: &mut [u8]) -> usize
         Output::Type1(n) => put_type1(prefix(n, bytes), out),
         Output::UidAndAts(n, uid, ats) => put_lengths(prefix(n, bytes), uid, ats, out),
         Output::Nothing => text::put(b"none", out, 0),
-        Output::Failed(fault) => put_refused(fault.numbered(), out),
-        Output::FailedAfter(fault, n) => put_list_refused(fault.numbered(), n, out),
-        Output::Refused(refusal) => put_refused(refusal.numbered(), out),
+        Output::Failed(fault) => put_refused(Numbered::from(fault), out),
+        Output::FailedAfter(fault, n) => put_list_refused(Numbered::from(fault), n, out),
+        Output::Refused(refusal) => put_refused(Numbered::from(refusal), out),
     }
 }
 

@@ -1,5 +1,5 @@
 -- A read and a write of FeliCa blocks: the response, held against the request, leads to what the script has.
-use Rattle.std.specs.Prelude.{◌≡◌, refl, true, List, [], ℕ, ◌+◌, ◌*◌, ◌≤◌, length, drop}
+use Rattle.std.specs.Prelude.{◌≡◌, refl, true, List, [], ℕ, ◌+◌, ◌*◌, ◌≤◌, length, drop, Result, Ok, Err}
 use Rattle.std.proofs.Common.{sym, ap, ◌∙◌, arith, length-drop, drop_of_length-le, take_all}
 use Rattle.felica.proofs.Accepted.{good_read}
 use Rattle.felica.specs.Checks.{read_check, write_check}
@@ -7,8 +7,7 @@ use Rattle.felica.specs.Laid.{request-length, fits_idm, fits_few, write_idm, wri
 use Rattle.felica.specs.Names.{block_size, blocks_offset}
 use Rattle.felica.specs.Packets.{read_code, write_code, read_request_of, write_request_of, request_fits, write_fits_of}
 use Rattle.felica.specs.Requests.{parts}
-use Rattle.felica.specs.declared.check.Checked.{Checked}
-use Rattle.felica.specs.declared.check.Checked.TheVariants.{Good, Faulty}
+use Rattle.errors.specs.declared.Fault.{Fault}
 use Rattle.protocol.specs.Blocks.{by_check, block_bytes, response_blocks_offset}
 use Rattle.protocol.specs.Rules.{with_status as status_then}
 use Rattle.protocol.specs.Scripts.{done, finish, part}
@@ -29,17 +28,17 @@ write_length idm service blocks bytes h =
 read_by : (idm : List ℕ) (n : ℕ) (bs : List ℕ) → Interprets (by_check (block_bytes n bs) (read_check idm n (drop 1 bs))) (if_good response_blocks_offset bs (read_check idm n (drop 1 bs)))
 read_by idm n bs = go (read_check idm n (drop 1 bs)) refl
   where
-    go : (c : Checked) → read_check idm n (drop 1 bs) ≡ c → Interprets (by_check (block_bytes n bs) c) (if_good response_blocks_offset bs c)
-    go Good e =
+    go : (c : Result (Unit {0}) Fault) → read_check idm n (drop 1 bs) ≡ c → Interprets (by_check (block_bytes n bs) c) (if_good response_blocks_offset bs c)
+    go (Ok v) e =
         let long : length (drop 1 bs) ≡ blocks_offset + block_size * n = (good_read idm n (drop 1 bs) e).long in
         let size : length bs ≡ response_blocks_offset + block_size * n = omega (arith, length-drop 1 bs, long) in
         ends (done (part 0 bs response_blocks_offset (block_size * n)))
         (ap done (part-values 0 bs response_blocks_offset (block_size * n) (omega arith) ∙ take_all (block_size * n) (drop response_blocks_offset bs) (omega (arith, length-drop response_blocks_offset bs))))
-    go (Faulty r) e = refusing r
+    go (Err r) e = refusing r
 
-written_by : (bs : List ℕ) (c : Checked) → Interprets (by_check (finish (done [])) c) (if_good (length bs) bs c)
-written_by bs Good = ends (done []) (ap done (sym (drop_of_length-le bs {i = length bs} (omega arith))))
-written_by bs (Faulty r) = refusing r
+written_by : (bs : List ℕ) (c : Result (Unit {0}) Fault) → Interprets (by_check (finish (done [])) c) (if_good (length bs) bs c)
+written_by bs (Ok v) = ends (done []) (ap done (sym (drop_of_length-le bs {i = length bs} (omega arith))))
+written_by bs (Err r) = refusing r
 
 -- the pending command is the request: its IDm and its number of blocks
 pub interprets_read : (idm : List ℕ) (service : ℕ) (blocks : List ℕ) → request_fits idm blocks ≡ true → (bs : List ℕ)

@@ -2,7 +2,6 @@
 pub mod Kinds
 pub mod Numbers
 pub mod Firsts
-pub mod BlockStarts
 pub mod Tables
 pub mod Refines
 pub mod Single

@@ -1,11 +1,9 @@
 -- The calls by their numbers: which number of the struct, and which list of bytes, is which argument of `reader_calls`.
-use Rattle.std.specs.Prelude.{Bool, true, false, List, [], ◌∷◌, map, ◌≡◌, refl, ℕ, zero, suc, ◌+◌, ◌%◌, ◌≤◌, ◌<◌, length, get_or}
-use Rattle.std.proofs.Math.Option.{some}
-use Rattle.std.proofs.Common.{ap, arith, ltb-false}
+use Rattle.std.specs.Prelude.{List, [], ◌∷◌, map, ◌≡◌, refl, ℕ, zero, suc, ◌+◌, ◌≤◌, length, get_or}
 use Rattle.std.proofs.Math.ListN.{get_or-eq_default}
-use Rattle.protocol.specs.Arguments.{ms_of, is_long_wait, most_ms}
 use Rattle.protocol.specs.Calls.{ReaderCall, Call, opening, reader, unknown, reader_calls}
 use Rattle.calls.specs.declared.start.Numbers.{Numbers}
+use Rattle.calls.specs.declared.start.Arguments.{Arguments}
 
 abbrev pub calls_by : (n : Numbers) (first second third fourth : List ℕ) → List ReaderCall
 calls_by n first second third fourth = reader_calls n.ms n.word n.x n.y first second third fourth
@@ -13,6 +11,9 @@ calls_by n first second third fourth = reader_calls n.ms n.word n.x n.y first se
 -- 0 is the opening, whose mode is x
 unfoldable pub call_of : (number : ℕ) (n : Numbers) (first second third fourth : List ℕ) → Call
 call_of number n first second third fourth = get_or (opening n.x ∷ map reader (calls_by n first second third fourth)) number (reader unknown)
+
+abbrev pub call_in : ℕ → Arguments → Call
+call_in number a = call_of number a.numbers a.first.now a.second.now a.third.now a.fourth.now
 
 -- the first call of an initiator, of a target, of a device and of FeliCa blocks
 abbrev pub initiator_calls : ℕ
@@ -28,21 +29,6 @@ abbrev pub block_calls : ℕ
 block_calls = 26
 
 -- ---- laws
-
--- a number that is none of the keys of a match
-pub beyond : (k n : ℕ) → k ≤ n → (n ≡ k → ⊥) → k + 1 ≤ n
-beyond k n h ne = omega (arith, h, ne)
-
--- a number below an initiator's that is none of 1 to 8
-pub not_among : (n : ℕ) → n < initiator_calls → (n ≡ 1 → ⊥) → (n ≡ 2 → ⊥) → (n ≡ 3 → ⊥) → (n ≡ 4 → ⊥) → (n ≡ 5 → ⊥) → (n ≡ 6 → ⊥) → (n ≡ 7 → ⊥) → (n ≡ 8 → ⊥) → n ≡ 0
-not_among zero h a b c d e f g k = refl
-not_among (suc n) h a b c d e f g k =
-    absurd (omega (arith, beyond 8 (suc n) (beyond 7 (suc n) (beyond 6 (suc n) (beyond 5 (suc n) (beyond 4 (suc n) (beyond 3 (suc n) (beyond 2 (suc n) (beyond 1 (suc n) (omega arith) a) b) c) d) e) f) g) k))
-
--- ms of 16 bits
-pub short_ms : (given : Bool) (ms : ℕ) → is_long_wait given ms ≡ false → ms_of given (ms % suc most_ms) ≡ ms_of given ms
-short_ms true ms h = let few : ms ≤ most_ms = ltb-false most_ms ms h in let e : ms % suc most_ms ≡ ms = omega arith in ap some e
-short_ms false ms h = refl
 
 -- a number behind the last
 pub no_call : (number : ℕ) (n : Numbers) (first second third fourth : List ℕ) → 1 + length (calls_by n first second third fourth) ≤ number → call_of number n first second third fourth ≡ reader unknown

@@ -23,7 +23,7 @@ use Rattle.stages.specs.Decided.{found_limit}
 use Rattle.calls.specs.Tables.{command_of, is_reset_of, decided_of, failed_of}
 use Rattle.calls.specs.Refines.{Refines, refines_keep, refines_next, refines_put, Awaits, refines_if, refines_status, ending, none_found, refusal, by_length, go_on}
 use Rattle.calls.specs.Single.{empty_length}
-use Rattle.protocol.specs.Names.{ciu_rx_mode, in_list_passive_target_clock, register_write_failed, registers_clock, rid_clock, rid_code, sel_res_offset, sens_req, sens_res_offset, target_offset, uid_offset, rx_crc_en, one_target, target_number, rid_data}
+use Rattle.protocol.specs.Names.{ciu_rx_mode, in_list_passive_target_clock, register_write_failed, registers_clock, rid_clock, sel_res_offset, sens_req, sens_res_offset, target_offset, uid_offset, rx_crc_en, one_target, target_number, rid_data}
 use Rattle.protocol.specs.Calls.{in_data_exchange_code, in_list_passive_target_code, read_register_code, write_register_code}
 use Rattle.discovery.specs.Kinds.{type_a_kind, type_a_split_kind, list_stage, fifo_stage, list_type1_stage, rid_stage, read_rx_mode_stage, write_rx_mode_stage}
 

@@ -8,35 +8,34 @@ use native.Mathlib.Omega.{arith}
 use borrow.Author.Tests.{lt-ltb, le-ltb}
 use lib.ListN.{length, take, drop, get_or, length-append, length-drop}
 use lib.Seq.{take_at}
-use Rattle.errors.specs.Choice.{pick}
+use Rattle.std.specs.Prelude.{Option, Some, None, Result, Ok, Err}
+use Rattle.errors.specs.Refusals.{returned}
+use Rattle.errors.specs.Choice.{pick, same}
 use Rattle.errors.specs.declared.Refusal.{Refusal}
 use Rattle.errors.specs.declared.Refusal.TheVariants.{BadArgument}
 use Rattle.framing.specs.Build.{left}
 use Rattle.targets.specs.Bitrates.{ascii}
 use Rattle.targets.specs.declared.Bitrate.{Bitrate}
-use Rattle.bench.specs.Hex.{is_hex_of, pairs_of, read_of}
+use Rattle.bench.specs.Hex.{dash, is_hex_of, pairs_of, read_of}
 use Rattle.bench.specs.HexLaws.{was_read, read_count, read_into, not_read}
 use Rattle.bench.specs.Lines.{feed}
 use Rattle.bench.specs.TextLaws.{both_appended, at-start}
-use Rattle.bench.specs.Texts.{returned, over, Placed, Appends}
+use Rattle.bench.specs.Texts.{over, Placed, Appends}
 use Rattle.bench.specs.WordLaws.{words_from, words_are}
 use Rattle.bench.specs.Words.{words_of_lem}
-use Rattle.bench.specs.declared.Put.{Put}
-use Rattle.bench.specs.declared.Put.TheVariants.{Bytes, Refused}
 use Rattle.bench.specs.declared.lines.Line.{Line}
 use Rattle.bench.specs.declared.lines.Line.TheVariants.{Text, OverLong, End}
 use Rattle.chip_protocol.specs.Names.{longest_packet}
-use Rattle.simulated_chip.specs.Memory.{fresh_numbers}
-use Rattle.simulated_chip.specs.Steps.{after_step, step_in, zeros, step_of}
-use Rattle.simulated_chip.specs.Additions.{after_addition, add_card_in, add_reply_in, add_card_of, add_reply_of}
+use Rattle.simulated_chip.specs.Steps.{Answer, left_by, zeros, step_of}
+use Rattle.simulated_chip.specs.Additions.{Addition, added_by, add_card_of, add_reply_of}
 use Rattle.chip_protocol.specs.declared.Kind.{Kind}
-use Rattle.simulated_chip.specs.declared.add.Addition.{Addition}
-use Rattle.simulated_chip.specs.declared.chip.Answer.{Answer}
-use Rattle.simulated_chip.specs.declared.chip.Chip.{Chip}
+use Rattle.chip_protocol.specs.declared.Kind.TheVariants.{TypeA, TypeF, Dep}
+use Rattle.simulated_chip.specs.Memory.{fresh_numbers}
 use Rattle.simulated_chip.specs.declared.chip.State.{State}
-use Rattle.chip_lines.specs.ChipLines.{line_limit, bytes_room, ChipLine, fresh, card, reply, frame, unreadable, bitrate_named_of, one_word, two_words, three_words, four_words, five_words, on_words, chip_line_of}
+use Rattle.simulated_chip.specs.declared.chip.Chip.{Chip}
+use Rattle.chip_lines.specs.ChipLines.{line_limit, bytes_room, ChipLine, fresh, card, reply, frame, unreadable, bitrate_named_of, kind_named_of, card_line_of, one_word, two_words, three_words, four_words, five_words, on_words, chip_line_of}
 use Rattle.chip_lines.specs.Lines.{text_limit, answer_room, LineAnswer, refused_text, addition_text, sent_text, answer_to, after_line, printed, line_reply}
-use Rattle.chip_lines.specs.Readings.{chip_of, Prints, Answers}
+use Rattle.chip_lines.specs.Readings.{Prints, Answers}
 
 -- ---- a test that decides the line
 module _ (t : Bool) (x y : ChipLine) (c d : Chip) (n : ℕ) (o o' : List ℕ) where
@@ -49,40 +48,35 @@ module _ (t : Bool) (x y : ChipLine) (c d : Chip) (n : ℕ) (o o' : List ℕ) wh
   answer_false h e = rw h e
 
 -- ---- a line that cannot be read, and a fresh chip
-module _ (s x : State) (cards sent replies o o' : List ℕ) (n : ℕ) where
-  pub unread_answers : x ≡ s → Prints (refused_text BadArgument) n o o' → Answers (answer_to (chip_of s cards sent replies) unreadable) (chip_of x cards sent replies) n o o'
-  unread_answers h e = record { chip = ap (λ (y : State). chip_of y cards sent replies) h; text = e }
+module _ (c : Chip) (o o' : List ℕ) (n : ℕ) where
+  pub unread_answers : Prints (refused_text BadArgument) n o o' → Answers (answer_to c unreadable) c n o o'
+  unread_answers e = record { chip = refl; text = e }
 
-  pub fresh_answers : x ≡ fresh_numbers → Prints (ascii "ok") n o o' → Answers (answer_to (chip_of s cards sent replies) fresh) (chip_of x cards sent replies) n o o'
-  fresh_answers h e = record { chip = ap (λ (y : State). chip_of y cards sent replies) h; text = e }
+  pub fresh_answers : (s : State) → s ≡ fresh_numbers → Prints (ascii "ok") n o o' → Answers (answer_to c fresh) (record c { state = s }) n o o'
+  fresh_answers s h e = record { chip = ap (λ (x : State). record c { state = x }) h; text = e }
 
 -- ---- what the chip does
-module _ (s : State) (cards sent replies : List ℕ) (x : State) where
-  module _ (cards' sent' replies' : List ℕ) (a : Addition) (n : ℕ) (o o' : List ℕ) where
-    pub card_answers : (k : Kind) (rate : Bitrate) (l w u p q : List ℕ) → after_addition x cards' sent' replies' a ≡ add_card_in s cards sent replies k rate l w → Prints (addition_text a) n o o'
-        → rate ≡ bitrate_named_of u → l ≡ p → w ≡ q → Answers (answer_to (chip_of s cards sent replies) (card k (bitrate_named_of u) p q)) (chip_of x cards' sent' replies') n o o'
-    unfolding add_card_of
-    card_answers k rate l w u p q h e f g d = rw (← f, ← g, ← d, ← h) (record { chip = refl; text = e })
+module _ (c d : Chip) (n : ℕ) (o o' : List ℕ) where
+  module _ (a : Addition) where
+    pub card_answers : (k : Kind) (rate : Bitrate) (l w u p q : List ℕ) → added_by d a ≡ add_card_of c k rate l w → Prints (addition_text a) n o o'
+        → rate ≡ bitrate_named_of u → l ≡ p → w ≡ q → Answers (answer_to c (card k (bitrate_named_of u) p q)) d n o o'
+    card_answers k rate l w u p q h e f g x = rw (← f, ← g, ← x, ← h) (record { chip = refl; text = e })
 
-    pub reply_answers : (v r p q : List ℕ) → after_addition x cards' sent' replies' a ≡ add_reply_in s cards sent replies v r → Prints (addition_text a) n o o' → v ≡ p → r ≡ q
-        → Answers (answer_to (chip_of s cards sent replies) (reply p q)) (chip_of x cards' sent' replies') n o o'
-    unfolding add_reply_of
-    reply_answers v r p q h e g d = rw (← g, ← d, ← h) (record { chip = refl; text = e })
+    pub reply_answers : (v r p q : List ℕ) → added_by d a ≡ add_reply_of c v r → Prints (addition_text a) n o o' → v ≡ p → r ≡ q → Answers (answer_to c (reply p q)) d n o o'
+    reply_answers v r p q h e g x = rw (← g, ← x, ← h) (record { chip = refl; text = e })
 
-  pub step_answers : (a : Answer) (w b b' : List ℕ) (n : ℕ) (o o' p : List ℕ) → after_step x a b' ≡ step_in s cards sent replies w b → b ≡ zeros longest_packet → Prints (sent_text a b') n o o' → w ≡ p
-      → Answers (answer_to (chip_of s cards sent replies) (frame p)) (chip_of x cards sent replies) n o o'
-  unfolding step_of
-  step_answers a w b b' n o o' p h z e g = rw (← g, ← z, ← h) (record { chip = refl; text = e })
+  pub step_answers : (a : Answer) (w b b' p : List ℕ) → left_by d a b' ≡ step_of c w b → b ≡ zeros longest_packet → Prints (sent_text a b') n o o' → w ≡ p → Answers (answer_to c (frame p)) d n o o'
+  step_answers a w b b' p h z e g = rw (← g, ← z, ← h) (record { chip = refl; text = e })
 
 -- ---- a word that is HEX
-module _ (w b o : List ℕ) (r : Put) (known : left (returned r) o ≡ read_of w b) (room : length b ≡ bytes_room) (short : length w ≤ line_limit) where
+module _ (w b o : List ℕ) (r : Result ℕ Refusal) (known : left (returned r) o ≡ read_of w b) (room : length b ≡ bytes_room) (short : length w ≤ line_limit) where
   enough : length w / 2 ≤ length b
   enough = omega arith
 
-  pub not_hex : (e : Refusal) → r ≡ Refused e → is_hex_of w ≡ false
+  pub not_hex : (e : Refusal) → r ≡ Err e → is_hex_of w ≡ false
   not_hex e q = not_read w b o r enough known e q
 
-  module _ (k : ℕ) (q : r ≡ Bytes k) where
+  module _ (k : ℕ) (q : r ≡ Ok k) where
     pub is_hex : is_hex_of w ≡ true
     is_hex = was_read w b o r enough known k q
 
@@ -129,6 +123,31 @@ module _ (c d : Chip) (ws : List (List ℕ)) (n : ℕ) (counted : n ≡ length w
       go (u ∷ v ∷ w ∷ y ∷ x ∷ []) a f g h i = absurd (i refl)
       go (u ∷ v ∷ w ∷ y ∷ x ∷ p ∷ l) a f g h i = e
 
+-- ---- a card's line of four words, by its kind
+
+module _ (name kind rate w : List ℕ) (r : Option Kind) (named : r ≡ kind_named_of kind) (is_card : same (ascii "card") name ≡ true) where
+  pub four_named : (k : Kind) → r ≡ Some k → four_words name kind rate w ≡ card_line_of k rate w dash
+  unfolding four_words kind_named_of pick
+  four_named k h = rw is_card (go (same (ascii "A") kind) (same (ascii "F") kind) (same (ascii "DEP") kind) (sym named ∙ h))
+    where
+      go : (a f d : Bool) → pick a (Some TypeA) (pick f (Some TypeF) (pick d (Some Dep) None)) ≡ Some k
+          → pick a (card_line_of TypeA rate w dash) (pick f (card_line_of TypeF rate w dash) (pick d (card_line_of Dep rate w dash) unreadable)) ≡ card_line_of k rate w dash
+      go true f d e = ap (λ (x : Kind). card_line_of x rate w dash) (cc)
+      go false true d e = ap (λ (x : Kind). card_line_of x rate w dash) (cc)
+      go false false true e = ap (λ (x : Kind). card_line_of x rate w dash) (cc)
+      go false false false e = absurd (cc)
+
+  pub four_unnamed : r ≡ None → four_words name kind rate w ≡ unreadable
+  unfolding four_words kind_named_of pick
+  four_unnamed h = rw is_card (go (same (ascii "A") kind) (same (ascii "F") kind) (same (ascii "DEP") kind) (sym named ∙ h))
+    where
+      go : (a f d : Bool) → pick a (Some TypeA) (pick f (Some TypeF) (pick d (Some Dep) None)) ≡ None
+          → pick a (card_line_of TypeA rate w dash) (pick f (card_line_of TypeF rate w dash) (pick d (card_line_of Dep rate w dash) unreadable)) ≡ unreadable
+      go true f d e = absurd (cc)
+      go false true d e = absurd (cc)
+      go false false true e = absurd (cc)
+      go false false false e = refl
+
 -- ---- a line of the limit's length at most
 module _ (c d : Chip) (line : List ℕ) (n : ℕ) (o o' : List ℕ) where
   pub answer_long : line_limit < length line → Answers (answer_to c unreadable) d n o o' → Answers (answer_to c (chip_line_of line)) d n o o'
@@ -166,18 +185,14 @@ printed_room a c m r o o₁ o₂ d e room = text_room a.text m r o o₁ o₂ d.t
 pub refused_room : (m r : ℕ) (o o₁ o₂ : List ℕ) → Prints (refused_text BadArgument) m o o₁ → Appends m (feed ∷ []) o₁ r o₂ → length o ≡ answer_room → length o₂ ≡ answer_room
 refused_room m r o o₁ o₂ d e room = text_room (refused_text BadArgument) m r o o₁ o₂ d e room
 
-module _ (s x y : State) (cards sent replies cards' sent' replies' : List ℕ) (t : Line) (line o o₁ o₂ : List ℕ) (m r : ℕ) (room : length o ≡ answer_room) (fed : (x ≡ y) × Appends m (feed ∷ []) o₁ r o₂) where
-  pub reply_text : (n : ℕ) (p : List ℕ) → t ≡ Text n → p ≡ take n line → Answers (answer_to (chip_of s cards sent replies) (chip_line_of p)) (chip_of y cards' sent' replies') m o o₁
-      → after_line (chip_of x cards' sent' replies') r o₂ ≡ line_reply (chip_of s cards sent replies) t line o
+module _ (c d : Chip) (t : Line) (line o o₁ o₂ : List ℕ) (m r : ℕ) (room : length o ≡ answer_room) (fed : Appends m (feed ∷ []) o₁ r o₂) where
+  pub reply_text : (n : ℕ) (p : List ℕ) → t ≡ Text n → p ≡ take n line → Answers (answer_to c (chip_line_of p)) d m o o₁ → after_line d r o₂ ≡ line_reply c t line o
   unfolding line_reply
-  reply_text n p h q d =
-      ap (λ (z : State). after_line (chip_of z cards' sent' replies') r o₂) fed.0 ∙ rw (h, ← q) (printed-done _ (chip_of y cards' sent' replies') m r o o₁ o₂ room d fed.1)
+  reply_text n p h q e = rw (h, ← q) (printed-done _ d m r o o₁ o₂ room e fed)
 
-  pub reply_long : t ≡ OverLong → y ≡ s → Prints (refused_text BadArgument) m o o₁ → after_line (chip_of x cards sent replies) r o₂ ≡ line_reply (chip_of s cards sent replies) t line o
+  pub reply_long : t ≡ OverLong → Prints (refused_text BadArgument) m o o₁ → after_line c r o₂ ≡ line_reply c t line o
   unfolding line_reply
-  reply_long h q d =
-      ap (λ (z : State). after_line (chip_of z cards sent replies) r o₂) fed.0
-      ∙ rw h (printed-done _ (chip_of y cards sent replies) m r o o₁ o₂ room (unread_answers s y cards sent replies o o₁ m q d) fed.1)
+  reply_long h e = rw h (printed-done _ c m r o o₁ o₂ room (unread_answers c o o₁ m e) fed)
 
 pub reply-end : (c : Chip) (t : Line) (line o : List ℕ) → t ≡ End → after_line c 0 o ≡ line_reply c t line o
 unfolding line_reply

@@ -15,10 +15,8 @@ use Rattle.bench.specs.HexLaws.{hex_short}
 use Rattle.bench.specs.TextLaws.{appended, then_put, both-put}
 use Rattle.bench.specs.Texts.{placed, put_at, decimal_of}
 use Rattle.chip_protocol.specs.Names.{longest_packet}
-use Rattle.simulated_chip.specs.declared.add.Addition.{Addition}
-use Rattle.simulated_chip.specs.declared.add.Addition.TheVariants.{Added, Refused}
-use Rattle.simulated_chip.specs.declared.chip.Answer.{Answer}
-use Rattle.simulated_chip.specs.declared.chip.Answer.TheVariants.{Nothing, Packets, Refused as StepRefused}
+use Rattle.simulated_chip.specs.Additions.{Addition}
+use Rattle.std.specs.Prelude.{Option, Some, None, Ok, Err}
 use Rattle.chip_lines.specs.Lines.{refused_text, addition_text, packets_text, sent_text}
 use Rattle.chip_lines.specs.Readings.{Prints}
 
@@ -35,25 +33,21 @@ pub ok_prints : (o o' : List ℕ) (r : ℕ) → placed r o' ≡ put_at 0 (ascii 
 ok_prints o o' r e = record { put = appended _ _ _ _ _ e; short = omega arith }
 
 module _ (x : Addition) (o o' : List ℕ) (r : ℕ) where
-  pub added-prints : x ≡ Added → placed r o' ≡ put_at 0 (ascii "ok") o → Prints (addition_text x) r o o'
+  pub added-prints : (t : Unit {0}) → x ≡ Ok t → placed r o' ≡ put_at 0 (ascii "ok") o → Prints (addition_text x) r o o'
   unfolding addition_text
-  added-prints h e = rw h (ok_prints o o' r e)
+  added-prints t h e = rw h (ok_prints o o' r e)
 
-  pub not_added-prints : (e : Refusal) → x ≡ Refused e → Prints (refused_text e) r o o' → Prints (addition_text x) r o o'
+  pub not_added-prints : (e : Refusal) → x ≡ Err e → Prints (refused_text e) r o o' → Prints (addition_text x) r o o'
   unfolding addition_text
   not_added-prints e h d = rw h d
 
-module _ (a : Answer) (b o : List ℕ) where
-  pub none_prints : (o' : List ℕ) (r : ℕ) → a ≡ Nothing → placed r o' ≡ put_at 0 dash o → Prints (sent_text a b) r o o'
+module _ (a : Option ℕ) (b o : List ℕ) where
+  pub none_prints : (o' : List ℕ) (r : ℕ) → a ≡ None → placed r o' ≡ put_at 0 dash o → Prints (sent_text (Ok a) b) r o o'
   unfolding sent_text packets_text
   none_prints o' r h e = rw h (record { put = appended _ _ _ _ _ e; short = omega arith })
 
-  pub refusal_prints : (o' : List ℕ) (r : ℕ) (e : Refusal) → a ≡ StepRefused e → Prints (refused_text e) r o o' → Prints (sent_text a b) r o o'
-  unfolding sent_text
-  refusal_prints o' r e h d = rw h d
-
-  pub packets_print : (n : ℕ) (p o₁ o₂ o₃ : List ℕ) (r₁ r₂ r₃ : ℕ) → a ≡ Packets n → placed r₁ o₁ ≡ put_at 0 (hex_of ack) o → placed r₂ o₂ ≡ put_at r₁ (ascii " ") o₁
-      → placed r₃ o₃ ≡ put_at r₂ (hex_of p) o₂ → p ≡ take n b → length b ≡ longest_packet → Prints (sent_text a b) r₃ o o₃
+  pub packets_print : (n : ℕ) (p o₁ o₂ o₃ : List ℕ) (r₁ r₂ r₃ : ℕ) → a ≡ Some n → placed r₁ o₁ ≡ put_at 0 (hex_of ack) o → placed r₂ o₂ ≡ put_at r₁ (ascii " ") o₁
+      → placed r₃ o₃ ≡ put_at r₂ (hex_of p) o₂ → p ≡ take n b → length b ≡ longest_packet → Prints (sent_text (Ok a) b) r₃ o o₃
   unfolding sent_text packets_text
   packets_print n p o₁ o₂ o₃ r₁ r₂ r₃ h d e f is room =
       rw (h, ← is)

@@ -1,5 +1,5 @@
 -- The lines of the program `chip`: what each says. A line that cannot be read is `unreadable`.
-use Rattle.std.specs.Prelude.{List, [], ◌∷◌, ℕ, ltb, length}
+use Rattle.std.specs.Prelude.{Option, Some, None, List, [], ◌∷◌, ℕ, ltb, length}
 use Rattle.errors.specs.Choice.{pick, same}
 use Rattle.targets.specs.Bitrates.{ascii}
 use Rattle.targets.specs.declared.Bitrate.{Bitrate}
@@ -35,6 +35,10 @@ bitrate_named_of w =
     (pick (same (ascii "212F") w) B212F
     (pick (same (ascii "424F") w) B424F
     (pick (same (ascii "106B") w) B106B Other)))
+
+-- the kinds of a card that has no reply to WUPB, by their texts
+unfoldable pub kind_named_of : List ℕ → Option Kind
+kind_named_of w = pick (same (ascii "A") w) (Some TypeA) (pick (same (ascii "F") w) (Some TypeF) (pick (same (ascii "DEP") w) (Some Dep) None))
 
 unfoldable pub card_line_of : Kind → List ℕ → List ℕ → List ℕ → ChipLine
 card_line_of k rate w v = hexed w (λ l. hexed v (λ a. card k (bitrate_named_of rate) l a))

@@ -1,5 +1,5 @@
 -- What `chip` prints for a line, with the chip's memory after it.
-use Rattle.std.specs.Prelude.{List, [], ◌∷◌, ◌++◌, ℕ, length, take}
+use Rattle.std.specs.Prelude.{Some, None, Ok, Err, List, [], ◌∷◌, ◌++◌, ℕ, length, take}
 use Rattle.errors.specs.Refusals.{numbered}
 use Rattle.errors.specs.declared.Refusal.{Refusal}
 use Rattle.errors.specs.declared.Refusal.TheVariants.{BadArgument}
@@ -12,13 +12,8 @@ use Rattle.bench.specs.declared.lines.Line.{Line}
 use Rattle.bench.specs.declared.lines.Line.TheVariants.{Text, OverLong, End}
 use Rattle.chip_protocol.specs.Names.{longest_packet}
 use Rattle.simulated_chip.specs.Memory.{fresh_numbers}
-use Rattle.simulated_chip.specs.Steps.{LeftBy, zeros, step_of}
-use Rattle.simulated_chip.specs.Additions.{add_card_of, add_reply_of}
-use Rattle.simulated_chip.specs.declared.add.Addition.{Addition}
-use Rattle.simulated_chip.specs.declared.add.Addition.TheVariants.{Added, Refused}
-use Rattle.simulated_chip.specs.declared.add.ChipAdded.{ChipAdded}
-use Rattle.simulated_chip.specs.declared.chip.Answer.{Answer}
-use Rattle.simulated_chip.specs.declared.chip.Answer.TheVariants.{Nothing, Packets, Refused as StepRefused}
+use Rattle.simulated_chip.specs.Steps.{Answer, LeftBy, zeros, step_of}
+use Rattle.simulated_chip.specs.Additions.{Addition, ChipAdded, add_card_of, add_reply_of}
 use Rattle.simulated_chip.specs.declared.chip.Chip.{Chip}
 use Rattle.chip_lines.specs.ChipLines.{ChipLine, fresh, card, reply, frame, unreadable, chip_line_of}
 
@@ -35,8 +30,8 @@ unfoldable pub refused_text : Refusal → List ℕ
 refused_text e = ascii "refused " ++ decimal_of (numbered e).number
 
 unfoldable pub addition_text : Addition → List ℕ
-addition_text Added = ascii "ok"
-addition_text (Refused e) = refused_text e
+addition_text (Ok t) = ascii "ok"
+addition_text (Err e) = refused_text e
 
 -- packets, one space between; `-` for none
 unfoldable pub packets_text : List (List ℕ) → List ℕ
@@ -46,9 +41,9 @@ packets_text (p ∷ q ∷ ps) = hex_of p ++ ascii " " ++ packets_text (q ∷ ps)
 
 -- what the chip sends; the packet behind ACK stands at the start of b
 unfoldable pub sent_text : Answer → List ℕ → List ℕ
-sent_text Nothing b = packets_text []
-sent_text (Packets n) b = packets_text (ack ∷ take n b ∷ [])
-sent_text (StepRefused e) b = refused_text e
+sent_text (Ok None) b = packets_text []
+sent_text (Ok (Some n)) b = packets_text (ack ∷ take n b ∷ [])
+sent_text (Err e) b = refused_text e
 
 -- ---- the chip's memory after a line, and the text for the line
 

@@ -2,12 +2,7 @@
 use Rattle.std.specs.Prelude.{◌≡◌, List, ℕ, ◌≤◌, length}
 use Rattle.bench.specs.Texts.{Appends}
 use Rattle.simulated_chip.specs.declared.chip.Chip.{Chip}
-use Rattle.simulated_chip.specs.declared.chip.State.{State}
 use Rattle.chip_lines.specs.Lines.{LineAnswer, text_limit}
-
--- the chip with its memory where it lies
-abbrev pub chip_of : State → List ℕ → List ℕ → List ℕ → Chip
-chip_of s cards sent replies = record { cards = cards; sent = sent; replies = replies; state = s }
 
 -- the text was put at the start of o, which became o', up to place n
 pub record Prints (t : List ℕ) (n : ℕ) (o o' : List ℕ) : Type 0 where

@@ -1,10 +1,9 @@
 -- What N10's calls hand out, by document 01's rules, and the exact number of their events.
-use Rattle.std.specs.Prelude.{Bool, true, false, cond, List, [], ◌∷◌, ℕ, ◌-◌, ◌*◌, ltb, length, get_or, take, drop}
+use Rattle.std.specs.Prelude.{Bool, true, false, cond, List, [], ◌∷◌, ℕ, ◌-◌, ◌*◌, ltb, length, get_or, take, drop, Result, Ok, Err}
 use Rattle.std.proofs.Math.Option.{Option, none, some}
 use Rattle.errors.specs.declared.Fault.TheVariants.{NoCard}
 use Rattle.felica.specs.Names.{block_size, blocks_offset}
-use Rattle.felica.specs.declared.check.Checked.{Checked}
-use Rattle.felica.specs.declared.check.Checked.TheVariants.{Good, Faulty}
+use Rattle.errors.specs.declared.Fault.{Fault}
 use Rattle.targets.specs.TypeA.{is_type2}
 use Rattle.protocol.specs.Scripts.{Answer, done, nothing, refused}
 use Rattle.protocol.specs.Device.{name_bytes}
@@ -93,10 +92,10 @@ transceive_events = 3
 
 -- ---- FeliCa blocks (N5): the reply is held against the request; a read hands out 16 bytes a block, a write no bytes
 
-abbrev pub answer_read : ℕ → List ℕ → Checked → Answer ℕ
-answer_read blocks reply Good = done (take (block_size * blocks) (drop blocks_offset reply))
-answer_read blocks reply (Faulty r) = refused r
+abbrev pub answer_read : ℕ → List ℕ → Result (Unit {0}) Fault → Answer ℕ
+answer_read blocks reply (Ok u) = done (take (block_size * blocks) (drop blocks_offset reply))
+answer_read blocks reply (Err r) = refused r
 
-abbrev pub answer_write : Checked → Answer ℕ
-answer_write Good = done []
-answer_write (Faulty r) = refused r
+abbrev pub answer_write : Result (Unit {0}) Fault → Answer ℕ
+answer_write (Ok u) = done []
+answer_write (Err r) = refused r

@@ -1,5 +1,5 @@
 -- What the opening, a transceive to the card found, and a read or write of its blocks come to with the simulated chip.
-use Rattle.std.specs.Prelude.{◌≡◌, Bool, cond, List, [], ◌∷◌, map, ℕ, ◌-◌, ◌*◌}
+use Rattle.std.specs.Prelude.{◌≡◌, Bool, cond, List, [], ◌∷◌, map, ℕ, ◌-◌, ◌*◌, Result, Ok, Err}
 use Rattle.std.proofs.Math.Path.{refl, ap}
 use Rattle.std.proofs.Common.{sym, ◌∙◌, subst}
 use Rattle.std.proofs.Math.Bool.{true, false}
@@ -14,8 +14,7 @@ use Rattle.felica.specs.Names.{block_size}
 use Rattle.felica.specs.Packets.{read_request_of, write_request_of}
 use Rattle.felica.proofs.Accepted.{good_read}
 use Rattle.felica.specs.Checks.{read_check, write_check}
-use Rattle.felica.specs.declared.check.Checked.{Checked}
-use Rattle.felica.specs.declared.check.Checked.TheVariants.{Good, Faulty}
+use Rattle.errors.specs.declared.Fault.{Fault}
 use Rattle.exchange.specs.Packets.{response}
 use Rattle.protocol.specs.Scripts.{value, own, if_else, part, Answer, done, Script, finish}
 use Rattle.protocol.specs.Blocks.{by_check, read_blocks, write_blocks, response_blocks_offset}
@@ -87,9 +86,9 @@ module _ (s : ChipState) (c : Card) (bytes r : List ℕ) (f : card_at s.field s.
 -- ---- FeliCa blocks (N5) of the card found, by a reply that is stated to the request
 
 module _ (s : ChipState) (c : Card) (r idm blocks : List ℕ) (service clock : ℕ) (f : card_at s.field s.found ≡ some c) where
-  checked-write : (t : Checked) → Comes (by_check (finish (done [])) t) s (answer_write t) s 0
-  checked-write Good = record { answer = refl; state = refl; events = λ m. refl }
-  checked-write (Faulty x) = record { answer = refl; state = refl; events = λ m. refl }
+  checked-write : (t : Result (Unit {0}) Fault) → Comes (by_check (finish (done [])) t) s (answer_write t) s 0
+  checked-write (Ok u) = record { answer = refl; state = refl; events = λ m. refl }
+  checked-write (Err x) = record { answer = refl; state = refl; events = λ m. refl }
 
   pub write_comes : (bytes : List ℕ) → reply_to c.replies (write_request_of idm service blocks bytes) ≡ some r
       → Comes (write_blocks idm service blocks bytes clock) s (answer_write (write_check idm r)) s 3
@@ -98,17 +97,17 @@ module _ (s : ChipState) (c : Card) (r idm blocks : List ℕ) (service clock : �
       let g = behind-thru s c (write_request_of idm service blocks bytes) r f e (write_blocks idm service blocks bytes clock) (answer_write (write_check idm r)) (checked-write (write_check idm r)) in
       record { answer = g.answer; state = g.state; events = λ m. ap (more 3) (g.events m) }
 
-  checked-read : (t : Checked) → read_check idm (length blocks) r ≡ t
+  checked-read : (t : Result (Unit {0}) Fault) → read_check idm (length blocks) r ≡ t
       → Comes (by_check (finish (done (part 0 (0 ∷ r) response_blocks_offset (block_size * length blocks)))) t) s (answer_read (length blocks) r t) s 0
-  checked-read Good e =
+  checked-read (Ok u) e =
       let long = (good_read idm (length blocks) r e).long in
       record { answer = ap done (part-values 0 (0 ∷ r) response_blocks_offset (block_size * length blocks) (omega (arith, long))); state = refl; events = λ m. refl }
-  checked-read (Faulty x) e = record { answer = refl; state = refl; events = λ m. refl }
+  checked-read (Err x) e = record { answer = refl; state = refl; events = λ m. refl }
 
   pub read_comes : reply_to c.replies (read_request_of idm service blocks) ≡ some r
       → Comes (read_blocks idm service blocks clock) s (answer_read (length blocks) r (read_check idm (length blocks) r)) s 3
   unfolding responses
   read_comes e =
-      let t : Checked = read_check idm (length blocks) r in
+      let t : Result (Unit {0}) Fault = read_check idm (length blocks) r in
       let g = behind-thru s c (read_request_of idm service blocks) r f e (read_blocks idm service blocks clock) (answer_read (length blocks) r t) (checked-read t refl) in
       record { answer = g.answer; state = g.state; events = λ m. ap (more 3) (g.events m) }

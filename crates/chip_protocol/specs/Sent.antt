@@ -1,13 +1,11 @@
 -- The chip can receive the commands of the opening, the discoveries and transceive, whatever the replies.
-use Rattle.std.specs.Prelude.{◌≡◌, refl, Bool, true, false, List, [], ◌∷◌, ◌++◌, map, ℕ, zero, suc, ◌+◌, ◌/◌, ◌%◌, ◌≤◌, ◌<◌, T, eqb, leb, ltb, length, take, drop}
+use Rattle.std.specs.Prelude.{◌≡◌, refl, Bool, true, false, List, [], ◌∷◌, ◌++◌, map, ℕ, zero, suc, ◌+◌, ◌/◌, ◌%◌, ◌≤◌, ◌<◌, T, eqb, leb, ltb, length, take, drop, Result, Ok, Err}
 use Rattle.std.proofs.Common.{sym, subst, arith, ltb→lt, leb→le, length-append, length-take, length-drop}
 use Rattle.errors.specs.Refusals.{by_status}
 use Rattle.errors.specs.declared.Fault.{Fault}
 use Rattle.errors.specs.declared.Fault.TheVariants.{Transport, TimeOut, FalseStart, BrokenFrame, Length, FrameKind, Identifier, Code, Status, ShortResponse, NoCard, CrcA, Rate, CardStatus, OtherCard, UidLayout}
 use Rattle.exchange.specs.Packets.{Reply, response, failed}
 use Rattle.felica.specs.Packets.{read_request_of, write_request_of}
-use Rattle.felica.specs.declared.check.Checked.{Checked}
-use Rattle.felica.specs.declared.check.Checked.TheVariants.{Good, Faulty}
 use Rattle.protocol.specs.Scripts.{Byte, Answer, done, type1, uid_and_ats, nothing, refused, refused_after, commands_later, Script, finish, command, reset, field_pause, ask, and_then, either, if_else}
 use Rattle.protocol.specs.Rules.{Rule, version, no_bytes_of, all_bytes, registers_written, first_byte_of, listed_target, exchanged_data, thru, jump, status, initiator_command, target_status, rule_script}
 use Rattle.protocol.specs.Blocks.{by_check, read_blocks, write_blocks}
@@ -175,9 +173,9 @@ split_sends code h = search (sends-rules, refl) depth 60
 
 -- ---- FeliCa blocks (N5), where the request is bytes
 
-sends_check : (x : Script) (t : Checked) → Sends x → Sends (by_check x t)
-sends_check x Good h = h
-sends_check x (Faulty r) h = tt
+sends_check : (x : Script) (t : Result (Unit {0}) Fault) → Sends x → Sends (by_check x t)
+sends_check x (Ok u) h = h
+sends_check x (Err r) h = tt
 
 module _ (idm : List ℕ) (service : ℕ) (blocks : List ℕ) (clock : ℕ) (awaits : eqb clock 0 ≡ false) where
   pub read_sends : AllBytes (read_request_of idm service blocks) → length (read_request_of idm service blocks) ≤ data_limit → Sends (read_blocks idm service blocks clock)

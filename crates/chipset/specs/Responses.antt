@@ -1,6 +1,7 @@
 -- What the response to each command comes to.
-use Rattle.std.specs.Prelude.{List, [], ◌∷◌, ◌++◌, ℕ, eqb, ltb, length, take, drop, get_or}
+use Rattle.std.specs.Prelude.{List, [], ◌∷◌, ◌++◌, ℕ, eqb, ltb, length, take, drop, get_or, Result, Ok, Err}
 use Rattle.errors.specs.Choice.{pick}
+use Rattle.errors.specs.declared.Fault.{Fault}
 use Rattle.errors.specs.declared.Fault.TheVariants.{Status, ShortResponse, Rate}
 use Rattle.protocol.specs.Scripts.{Answer, done, nothing, refused}
 use Rattle.stages.specs.Stages.{Decision, ends, refuse}
@@ -14,6 +15,15 @@ with_length bs n a = pick (ltb (length bs) n) (refused ShortResponse) a
 
 unfoldable pub with_status : List ℕ → Answer ℕ → Answer ℕ
 with_status bs a = pick (eqb (status_byte bs) 0) a (refused (Status (status_byte bs)))
+
+-- the status alone
+unfoldable pub status_of : List ℕ → Result (Unit {0}) Fault
+status_of bs = pick (eqb (status_byte bs) 0) (Ok tt) (Err (Status (status_byte bs)))
+
+-- the same of the status in the low six bits
+unfoldable pub with_masked_status : List ℕ → Answer ℕ → Answer ℕ
+with_masked_status bs a =
+    pick (eqb (length bs) 0) (refused (Status no_data)) (pick (eqb (masked_status bs) 0) a (refused (Status (masked_status bs))))
 
 unfoldable pub version_answer : List ℕ → Answer ℕ
 version_answer bs = with_length bs version_need (done (take 3 bs))

@@ -1,16 +1,18 @@
 // get_firmware_version, reset_mode, parameters and RF configuration (chipset.rs): the data that each sends, and its response.
+#![tactic(auto, unfolding(errors::specs::Choice::pick, stages::specs::Starts::asserted, crate::specs::Commands::first_of, crate::specs::Responses::version_answer))]
+
 ghost use Rattle.protocol.specs.Calls.{version, reset_mode_of, set_parameters_of, rf_configuration_of, rf_field_off_of};
 ghost use Rattle.stages.specs.Decided.{AnswerRefines, Commands};
 ghost use Rattle.stages.specs.Starts.{Starts};
 ghost use Rattle.chipset.specs.Commands.{first_of, reset_command};
 ghost use Rattle.chipset.specs.Responses.{version_answer};
 
-use super::response::part;
+use super::response::{part, with_length};
 use super::{NO_BYTES_KIND, RESET_MODE_KIND, VERSION_KIND, clock};
-use errors::Fault;
-use stages::put::{DATA_LIMIT, put_two};
+use errors::Refusal;
+use stages::put::{DATA_LIMIT, put_all};
 use stages::start::Start;
-use stages::{Command, Decision, FIXED_LIMIT, start};
+use stages::{Command, Decision, start};
 
 // The command codes.
 pub const GET_FIRMWARE_VERSION_CODE: u8 = 0x02;
@@ -43,85 +45,76 @@ pub const MAX_RETRIES_ITEM: u8 = 0x05;
 pub const ANALOG_106A_ITEM: u8 = 0x0A;
 
 // The time-outs of ATR_RES and of the exchange, behind their item.
-pub const ATR_RES_TIMEOUTS: [u8; FIXED_LIMIT] = [
-    TIMEOUTS_ITEM,
-    0x0B,
-    0x0B,
-    0x0A,
-    0,
-    0,
-    0,
-    0,
-    0,
-    0,
-    0,
-    0,
-];
+pub const ATR_RES_TIMEOUTS: [u8; 4] = [TIMEOUTS_ITEM, 0x0B, 0x0B, 0x0A];
 
-pub fn get_firmware_version(command: &mut [u8; DATA_LIMIT]) -> Start
+pub fn get_firmware_version(command: &mut [u8; DATA_LIMIT]) -> Result<Start, Refusal>
     ensures { Starts result command.old command.new (first_of version) }
 {
-    let n = put_two(&[], &[], command);
-    start::first_command(
+    start::command(
         VERSION_KIND,
         GET_FIRMWARE_VERSION_CODE,
         clock::COMMAND_CLOCK,
-        n,
+        &[],
+        command,
     )
 }
 
 pub fn get_firmware_version_response(response: &[u8]) -> Decision
     ensures { AnswerRefines response.now result (version_answer response.now) }
 {
-    if response.len() < VERSION_NEED {
-        Decision::Refused(Fault::ShortResponse)
-    } else {
-        part(0, 3)
-    }
+    with_length(response, VERSION_NEED, part(0, 3))
 }
 
 // The reset's command is that of its kind's stage 0; its response is not looked at.
-pub fn reset_mode(command: &mut [u8; DATA_LIMIT]) -> Start
+pub fn reset_mode(command: &mut [u8; DATA_LIMIT]) -> Result<Start, Refusal>
     ensures { Starts result command.old command.new (first_of reset_mode_of) }
 {
-    let n = put_two(&[], &[], command);
+    let n = put_all(&[], command);
     start::staged(RESET_MODE_KIND, n)
 }
 
 pub fn reset_mode_command() -> Command
     ensures { Commands result reset_command }
 {
-    let bytes = [RESET_MODE_DATA, 0, 0, 0, 0, 0, 0, 0, 0, 0, 0, 0];
-    Command::fixed(RESET_MODE_CODE, clock::COMMAND_CLOCK, bytes, 1)
+    Command::fixed(RESET_MODE_CODE, clock::COMMAND_CLOCK, &[RESET_MODE_DATA])
 }
 
-pub fn set_parameters(flags: u8, command: &mut [u8; DATA_LIMIT]) -> Start
+pub fn set_parameters(flags: u8, command: &mut [u8; DATA_LIMIT]) -> Result<Start, Refusal>
     ensures { Starts result command.old command.new (first_of (set_parameters_of flags)) }
 {
-    let n = put_two(&[flags], &[], command);
-    start::first_command(NO_BYTES_KIND, SET_PARAMETERS_CODE, clock::COMMAND_CLOCK, n)
-}
-
-pub fn rf_configuration(item: u8, config: &[u8], command: &mut [u8; DATA_LIMIT]) -> Start
-    ensures { Starts result command.old command.new (first_of (rf_configuration_of item config.now)) }
-{
-    let n = put_two(&[item], config, command);
-    start::first_command(
+    start::command(
         NO_BYTES_KIND,
-        RF_CONFIGURATION_CODE,
+        SET_PARAMETERS_CODE,
         clock::COMMAND_CLOCK,
-        n,
+        &[&[flags]],
+        command,
     )
 }
 
-pub fn rf_field_off(command: &mut [u8; DATA_LIMIT]) -> Start
-    ensures { Starts result command.old command.new (first_of rf_field_off_of) }
+pub fn rf_configuration(
+    item: u8,
+    config: &[u8],
+    command: &mut [u8; DATA_LIMIT],
+) -> Result<Start, Refusal>
+    ensures { Starts result command.old command.new (first_of (rf_configuration_of item config.now)) }
 {
-    let n = put_two(&[RF_FIELD_ITEM, FIELD_OFF], &[], command);
-    start::first_command(
+    start::command(
         NO_BYTES_KIND,
         RF_CONFIGURATION_CODE,
         clock::COMMAND_CLOCK,
-        n,
+        &[&[item], config],
+        command,
+    )
+}
+
+pub fn rf_field_off(command: &mut [u8; DATA_LIMIT]) -> Result<Start, Refusal>
+    ensures { Starts result command.old command.new (first_of rf_field_off_of) }
+{
+    start::command(
+        NO_BYTES_KIND,
+        RF_CONFIGURATION_CODE,
+        clock::COMMAND_CLOCK,
+        &[&[RF_FIELD_ITEM, FIELD_OFF]],
+        command,
     )
 }

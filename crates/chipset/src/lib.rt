@@ -11,6 +11,7 @@ pub mod response;
 pub mod target;
 
 // The kinds of a call of one command, by what its response comes to. That of reset_mode is not looked at.
+// Kept: a kind is a byte of the session, where any byte may stand, and the theorems speak of every number.
 pub const VERSION_KIND: u8 = 2;
 
 pub const RESET_MODE_KIND: u8 = 3;

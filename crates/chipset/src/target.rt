@@ -1,4 +1,6 @@
 // What a target does (chipset.rs): the data that each command sends, and its response.
+#![tactic(auto, unfolding(errors::specs::Choice::pick, stages::specs::Starts::asserted, crate::specs::Commands::first_of, crate::specs::Responses::initiator_answer, crate::specs::Responses::target_answer))]
+
 ghost use Rattle.std.specs.Prelude.{List, [], ◌∷◌, ◌++◌, ◌≡◌, ℕ, ◌≤◌, ◌%◌, eqb, leb, length, get_or};
 ghost use Rattle.framing.specs.Lists.{both};
 ghost use Rattle.protocol.specs.Scripts.{done};
@@ -10,12 +12,12 @@ ghost use Rattle.stages.specs.Starts.{Starts};
 ghost use Rattle.chipset.specs.Commands.{first_of};
 ghost use Rattle.chipset.specs.Responses.{with_status, initiator_answer, target_answer};
 
-use super::response::{from, part};
+use super::response::{from, part, with_status};
 use super::{ALL_BYTES_KIND, INITIATOR_COMMAND_KIND, STATUS_KIND, TARGET_STATUS_KIND, clock, err};
 use errors::{Fault, Refusal};
-use stages::put::{DATA_LIMIT, put_all, put_two};
+use stages::put::DATA_LIMIT;
 use stages::start::Start;
-use stages::{Decision, Layout, Tail, byte_or, start};
+use stages::{Decision, Layout, byte_or, start};
 
 // The command codes.
 const TG_GET_INITIATOR_COMMAND_CODE: u8 = 0x88;
@@ -32,7 +34,7 @@ const TG_SET_GENERAL_BYTES_CODE: u8 = 0x92;
 fn is_mode(mode: u8) -> bool
     ensures { result ≡ both (leb mode 2) (eqb (mode % 2) 0) }
 {
-    if mode <= 2 { mode % 2 == 0 } else { false }
+    mode <= 2 && mode % 2 == 0
 }
 
 // The lengths of what a target is given.
@@ -45,79 +47,82 @@ const NFCID3_SIZE: usize = 10;
 fn init_fits(mode: u8, mifare: &[u8], felica: &[u8], nfcid3t: &[u8]) -> bool
     ensures { result ≡ init_fits mode mifare.now felica.now nfcid3t.now }
 {
-    if is_mode(mode) {
-        if mifare.len() == MIFARE_SIZE {
-            if felica.len() == FELICA_SIZE {
-                nfcid3t.len() == NFCID3_SIZE
-            } else {
-                false
-            }
-        } else {
-            false
-        }
-    } else {
-        false
-    }
+    is_mode(mode)
+        && mifare.len() == MIFARE_SIZE
+        && felica.len() == FELICA_SIZE
+        && nfcid3t.len() == NFCID3_SIZE
 }
 
-pub fn tg_init_target(
+// Kept: these are the parameters of the Rust's function, and only its own call has them together.
+pub fn tg_init_target<'a>(
     mode: u8,
-    mifare: &[u8],
-    felica: &[u8],
-    nfcid3t: &[u8],
-    gt: &[u8],
+    mifare: &'a [u8],
+    felica: &'a [u8],
+    nfcid3t: &'a [u8],
+    gt: &'a [u8],
     ms: u32,
     command: &mut [u8; DATA_LIMIT],
-) -> Start
+) -> Result<Start, Refusal>
     ensures { Starts result command.old command.new (first_of (tg_init_target mode mifare.now felica.now nfcid3t.now gt.now ms)) }
 {
-    if init_fits(mode, mifare, felica, nfcid3t) {
-        let n = put_all(&[mode], mifare, felica, nfcid3t, gt, command);
-        start::first_command(ALL_BYTES_KIND, TG_INIT_TARGET_CODE, ms, n)
-    } else {
-        start::refused(Refusal::BadArgument)
+    if !init_fits(mode, mifare, felica, nfcid3t) {
+        return Err(Refusal::BadArgument);
     }
-}
-
-pub fn tg_set_general_bytes(gb: &[u8], command: &mut [u8; DATA_LIMIT]) -> Start
-    ensures { Starts result command.old command.new (first_of (tg_set_general_bytes gb.now)) }
-{
-    let n = put_two(&[], gb, command);
-    start::first_command(
-        STATUS_KIND,
-        TG_SET_GENERAL_BYTES_CODE,
-        clock::COMMAND_CLOCK,
-        n,
+    start::command(
+        ALL_BYTES_KIND,
+        TG_INIT_TARGET_CODE,
+        ms,
+        &[&[mode], mifare, felica, nfcid3t, gt],
+        command,
     )
 }
 
-pub fn tg_get_initiator_command(ms: u32, command: &mut [u8; DATA_LIMIT]) -> Start
+pub fn tg_set_general_bytes(gb: &[u8], command: &mut [u8; DATA_LIMIT]) -> Result<Start, Refusal>
+    ensures { Starts result command.old command.new (first_of (tg_set_general_bytes gb.now)) }
+{
+    start::command(
+        STATUS_KIND,
+        TG_SET_GENERAL_BYTES_CODE,
+        clock::COMMAND_CLOCK,
+        &[gb],
+        command,
+    )
+}
+
+pub fn tg_get_initiator_command(ms: u32, command: &mut [u8; DATA_LIMIT]) -> Result<Start, Refusal>
     ensures { Starts result command.old command.new (first_of (tg_get_initiator_command ms)) }
 {
-    let n = put_two(&[], &[], command);
-    start::first_command(INITIATOR_COMMAND_KIND, TG_GET_INITIATOR_COMMAND_CODE, ms, n)
+    start::command(
+        INITIATOR_COMMAND_KIND,
+        TG_GET_INITIATOR_COMMAND_CODE,
+        ms,
+        &[],
+        command,
+    )
 }
 
 // None on any other status.
 pub fn tg_get_initiator_command_response(response: &[u8]) -> Decision
     ensures { AnswerRefines response.now result (initiator_answer response.now) }
 {
-    if byte_or(response, 0, err::NO_DATA) == 0 {
-        from(response, 1)
-    } else {
-        Decision::Nothing
+    match byte_or(response, 0, err::NO_DATA) {
+        0 => from(response, 1),
+        _ => Decision::Nothing,
     }
 }
 
-pub fn tg_response_to_initiator(bytes: &[u8], command: &mut [u8; DATA_LIMIT]) -> Start
+pub fn tg_response_to_initiator(
+    bytes: &[u8],
+    command: &mut [u8; DATA_LIMIT],
+) -> Result<Start, Refusal>
     ensures { Starts result command.old command.new (first_of (tg_response_to_initiator bytes.now)) }
 {
-    let n = put_two(&[], bytes, command);
-    start::first_command(
+    start::command(
         STATUS_KIND,
         TG_RESPONSE_TO_INITIATOR_CODE,
         clock::TG_RESPONSE_TO_INITIATOR_CLOCK,
-        n,
+        &[bytes],
+        command,
     )
 }
 
@@ -125,23 +130,18 @@ pub fn tg_response_to_initiator(bytes: &[u8], command: &mut [u8; DATA_LIMIT]) ->
 pub fn status_response(response: &[u8]) -> Decision
     ensures { AnswerRefines response.now result (with_status response.now (done [])) }
 {
-    let status = byte_or(response, 0, err::NO_DATA);
-    if status == 0 {
-        part(0, 0)
-    } else {
-        Decision::Refused(Fault::Status(status))
-    }
+    with_status(response, part(0, 0))
 }
 
-pub fn tg_get_target_status(command: &mut [u8; DATA_LIMIT]) -> Start
+pub fn tg_get_target_status(command: &mut [u8; DATA_LIMIT]) -> Result<Start, Refusal>
     ensures { Starts result command.old command.new (first_of tg_get_target_status) }
 {
-    let n = put_two(&[], &[], command);
-    start::first_command(
+    start::command(
         TARGET_STATUS_KIND,
         TG_GET_TARGET_STATUS_CODE,
         clock::COMMAND_CLOCK,
-        n,
+        &[],
+        command,
     )
 }
 
@@ -149,50 +149,36 @@ pub fn tg_get_target_status(command: &mut [u8; DATA_LIMIT]) -> Start
 fn rate(index: u8) -> u16
     ensures { result ≡ rate_of index }
 {
-    if index == 0 {
-        return 106;
+    match index {
+        0 => 106,
+        1 => 212,
+        _ => 424,
     }
-    if index == 1 { 212 } else { 424 }
 }
 
 // The state and the two rates, high byte first.
 fn with_rates(send: u16, receive: u16) -> Decision
     ensures { (bs : List ℕ) → 1 ≤ length bs → AnswerRefines bs result (done (get_or bs 0 0 ∷ (word send ++ word receive))) }
 {
-    let tail = Tail(
-        (send / 256) as u8,
-        (send % 256) as u8,
-        (receive / 256) as u8,
-        (receive % 256) as u8,
-        0,
-        0,
-        0,
-        0,
-        0,
-        0,
-        0,
-        0,
-    );
-    Decision::Done(Layout::tailed(0, 1, tail, 4))
+    let [send_high, send_low] = send.to_be_bytes();
+    let [receive_high, receive_low] = receive.to_be_bytes();
+    let rates = [send_high, send_low, receive_high, receive_low];
+    Decision::Done(Layout::tailed(0, 1, &rates))
 }
 
 pub fn tg_get_target_status_response(response: &[u8]) -> Decision
     ensures { AnswerRefines response.now result (target_answer response.now) }
 {
-    if response.len() < 2 {
+    let [state, rates, ..] = response else {
         return Decision::Refused(Fault::ShortResponse);
+    };
+    if *state != 1 {
+        return with_rates(0, 0);
     }
-    if response[0] == 1 {
-        let send = response[1] / 16 % 8;
-        let receive = response[1] % 8;
-        if 2 < send {
-            return Decision::Refused(Fault::Rate);
-        }
-        if 2 < receive {
-            return Decision::Refused(Fault::Rate);
-        }
-        with_rates(rate(send), rate(receive))
-    } else {
-        with_rates(0, 0)
+    let send = *rates / 16 % 8;
+    let receive = *rates % 8;
+    if 2 < send || 2 < receive {
+        return Decision::Refused(Fault::Rate);
     }
+    with_rates(rate(send), rate(receive))
 }

@@ -1,5 +1,5 @@
 -- What the C functions answer, and what they leave in the caller's memory. An answer is 0, or document 01's number of a refusal.
-use Rattle.std.specs.Prelude.{true, List, ℕ}
+use Rattle.std.specs.Prelude.{true, List, ℕ, Option, Some, None}
 use Rattle.crc.specs.Answers.{added}
 use Rattle.crc.specs.Crc.{type_b}
 use Rattle.errors.specs.Refusals.{Returned, answered, refused, plain}
@@ -9,8 +9,7 @@ use Rattle.framing.specs.Parse.{parse_of}
 use Rattle.framing.specs.declared.FrameType.{FrameType}
 use Rattle.framing.specs.declared.FrameType.TheVariants.{Ack, Error, Data}
 use Rattle.framing.specs.declared.padded.Padded.{Padded}
-use Rattle.framing.specs.declared.settings.Setting.{Setting}
-use Rattle.framing.specs.declared.settings.Setting.TheVariants.{Format}
+use Rattle.framing.specs.declared.FrameFormat.{FrameFormat}
 use Rattle.codec_c.specs.declared.Found.{Found}
 
 -- the answer, the buffer and the number of bytes written at its start
@@ -28,9 +27,9 @@ written_of (answered n) buffer count = written 0 buffer n
 written_of (refused e) buffer count = written e.number buffer count
 
 -- a frame under a setting; where there is no such setting, refusal 4 and nothing written
-unfoldable pub build_for : Setting → List ℕ → List ℕ → ℕ → Written
-build_for (Format f) payload buffer count = written_of (build_of f payload buffer).result (build_of f payload buffer).buffer count
-build_for Setting.Nothing payload buffer count = written_of (refused (plain 4)) buffer count
+unfoldable pub build_for : Option FrameFormat → List ℕ → List ℕ → ℕ → Written
+build_for (Some f) payload buffer count = written_of (build_of f payload buffer).result (build_of f payload buffer).buffer count
+build_for None payload buffer count = written_of (refused (plain 4)) buffer count
 
 -- bytes with their CRC_B
 unfoldable pub append_b : List ℕ → List ℕ → ℕ → Written
@@ -40,11 +39,11 @@ append_b bytes out count = written_of (added type_b bytes out).0 (added type_b b
 abbrev pub found : ℕ → ℕ → ℕ → ℕ → Found
 found kind start len frame = record { kind = kind; start = start; len = len; frame = frame }
 
-abbrev pub frame_found : FrameType → Found
-frame_found (Ack n) = found 1 0 0 n
-frame_found (Error n) = found 2 0 0 n
-frame_found (Data start len frame) = found 3 start len frame
-frame_found FrameType.Nothing = found 0 0 0 0
+abbrev pub frame_found : Option FrameType → Found
+frame_found (Some (Ack n)) = found 1 0 0 n
+frame_found (Some (Error n)) = found 2 0 0 n
+frame_found (Some (Data start len frame)) = found 3 start len frame
+frame_found None = found 0 0 0 0
 
 -- the answer, and what the four places hold after it
 pub record Parsed : Type 0 where
@@ -55,9 +54,9 @@ abbrev pub parse_answer : ℕ → Found → Parsed
 parse_answer answer places = record { answer = answer; places = places }
 
 -- where there is no such setting, refusal 4 and nothing written
-unfoldable pub parse_for : Setting → List ℕ → Found → Parsed
-parse_for (Format f) packet before = parse_answer 0 (frame_found (parse_of f packet))
-parse_for Setting.Nothing packet before = parse_answer 4 before
+unfoldable pub parse_for : Option FrameFormat → List ℕ → Found → Parsed
+parse_for (Some f) packet before = parse_answer 0 (frame_found (parse_of f packet))
+parse_for None packet before = parse_answer 4 before
 
 -- the padded answer: the same, and the number of extra zeros
 pub record ParsedPadded : Type 0 where
@@ -71,6 +70,6 @@ parsed_padded answer places extra = record { answer = answer; places = places; z
 abbrev pub padded_of : Padded → ParsedPadded
 padded_of a = parsed_padded 0 (frame_found a.found) a.zeros
 
-unfoldable pub padded_for : Setting → List ℕ → Found → ℕ → ParsedPadded
-padded_for (Format f) packet before extra = padded_of (parse_padded_of f true packet)
-padded_for Setting.Nothing packet before extra = parsed_padded 4 before extra
+unfoldable pub padded_for : Option FrameFormat → List ℕ → Found → ℕ → ParsedPadded
+padded_for (Some f) packet before extra = padded_of (parse_padded_of f true packet)
+padded_for None packet before extra = parsed_padded 4 before extra

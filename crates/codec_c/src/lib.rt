@@ -1,20 +1,18 @@
 // The C interface of frames and CRCs, as include/rcs956_codec.h describes it. An answer is 0, or document 01's number of a refusal.
 #![tactic(auto)]
 
-ghost use Rattle.std.specs.Prelude.{◌≡◌};
+ghost use Rattle.std.specs.Prelude.{◌≡◌, List, ℕ};
 ghost use Rattle.crc.specs.Crc.{type_a, type_b, checks};
-ghost use Rattle.errors.specs.Refusals.{numbered};
+ghost use Rattle.errors.specs.Refusals.{numbered, returned};
 ghost use Rattle.framing.specs.Frames.{checksum_of};
 ghost use Rattle.framing.specs.Settings.{setting_of};
-ghost use Rattle.codec_c.specs.Answers.{written, build_for, append_b, found, frame_found, parse_answer, parse_for, parsed_padded, padded_for};
+ghost use Rattle.codec_c.specs.Answers.{written, written_of, build_for, append_b, found, frame_found, parse_answer, parse_for, parsed_padded, padded_for};
 
-use crc::Added;
-use errors::Refusal;
-use framing::settings::Setting;
-use framing::{Built, FrameType};
+use errors::{Numbered, Refusal};
+use framing::{FrameType, settings};
 
-// What a packet was found to be, in numbers.
-#[derive(Clone, Copy)]
+// What a packet was found to be, in numbers. The kind is 0 for no frame, 1 for Ack, 2 for Error, 3 for Data.
+#[derive(Clone, Copy, Debug, PartialEq, Eq)]
 struct Found {
     kind: u8,
     start: usize,
@@ -22,43 +20,71 @@ struct Found {
     frame: usize,
 }
 
+const NO_FRAME: Found = Found {
+    kind: 0,
+    start: 0,
+    len: 0,
+    frame: 0,
+};
+
+impl From<Option<FrameType>> for Found {
+    ghost from_gives = { λ parsed f. f ≡ frame_found parsed };
+
+    fn from(parsed: Option<FrameType>) -> Found {
+        match parsed {
+            Some(FrameType::Ack(frame)) => Found {
+                kind: 1,
+                frame,
+                ..NO_FRAME
+            },
+            Some(FrameType::Error(frame)) => Found {
+                kind: 2,
+                frame,
+                ..NO_FRAME
+            },
+            Some(FrameType::Data { start, len, frame }) => Found {
+                kind: 3,
+                start,
+                len,
+                frame,
+            },
+            None => NO_FRAME,
+        }
+    }
+}
+
+impl Found {
+    // Kept: four places and no struct, as the C interface has them.
+    // Writes the numbers to the caller's places.
+    fn put(self, kind: &mut u8, start: &mut usize, len: &mut usize, frame: &mut usize)
+        ensures { found kind.new start.new len.new frame.new ≡ self }
+    {
+        *kind = self.kind;
+        *start = self.start;
+        *len = self.len;
+        *frame = self.frame;
+    }
+}
+
+// Kept: the C interface answers a number, 0 or the refusal's (include/rcs956_codec.h).
 // The refusal's number in document 01's table.
 fn refusal_number(refusal: Refusal) -> u8
     ensures { result ≡ (numbered refusal).number }
 {
-    let numbered = refusal.numbered();
-    numbered.number
+    Numbered::from(refusal).number
 }
 
-// The kind is 0 for no frame, 1 for Ack, 2 for Error, 3 for Data.
-fn encode(parsed: FrameType) -> Found
-    ensures { result ≡ frame_found parsed }
+// What a function answers that writes so many bytes or refuses; the number of bytes goes to `count`.
+#[tactic(auto, unfolding(crate::specs::Answers::written_of, errors::specs::Refusals::returned))]
+fn counted(done: Result<usize, Refusal>, count: &mut usize) -> u8
+    ensures { (buffer : List ℕ) → written result buffer count.new ≡ written_of (returned done) buffer count.old }
 {
-    match parsed {
-        FrameType::Ack(frame) => Found {
-            kind: 1,
-            start: 0,
-            len: 0,
-            frame,
-        },
-        FrameType::Error(frame) => Found {
-            kind: 2,
-            start: 0,
-            len: 0,
-            frame,
-        },
-        FrameType::Data { start, len, frame } => Found {
-            kind: 3,
-            start,
-            len,
-            frame,
-        },
-        FrameType::Nothing => Found {
-            kind: 0,
-            start: 0,
-            len: 0,
-            frame: 0,
-        },
+    match done {
+        Ok(n) => {
+            *count = n;
+            0
+        }
+        Err(refusal) => refusal_number(refusal),
     }
 }
 
@@ -71,7 +97,7 @@ pub extern "C" fn rcs956_checksum(bytes: &[u8]) -> u8
 }
 
 // Writes the payload's frame to the buffer's start, and its length to `count`. A refusal writes nothing.
-#[tactic(auto, unfolding(crate::specs::Answers::build_for, crate::specs::Answers::written_of, framing::specs::Build::returned))]
+#[tactic(auto, unfolding(crate::specs::Answers::build_for, crate::specs::Answers::written_of))]
 #[unsafe(no_mangle)]
 pub extern "C" fn rcs956_frame_build(
     setting: u8,
@@ -81,19 +107,14 @@ pub extern "C" fn rcs956_frame_build(
 ) -> u8
     ensures { written result buffer.new count.new ≡ build_for (setting_of setting) payload.now buffer.old count.old }
 {
-    let Setting::Format(format) = framing::settings::by_number(setting) else {
+    let Some(format) = settings::by_number(setting) else {
         return refusal_number(Refusal::BadArgument);
     };
-    match framing::build(format, payload, buffer) {
-        Built::Frame(n) => {
-            *count = n;
-            0
-        }
-        Built::Refused(refusal) => refusal_number(refusal),
-    }
+    counted(framing::build(format, payload, buffer), count)
 }
 
 // Says what the packet starts with: its kind, the payload's start and length, the frame's length. A refusal writes nothing.
+// Kept: the parameters of the C interface.
 #[tactic(auto, unfolding(crate::specs::Answers::parse_for))]
 #[unsafe(no_mangle)]
 pub extern "C" fn rcs956_frame_parse(
@@ -106,19 +127,16 @@ pub extern "C" fn rcs956_frame_parse(
 ) -> u8
     ensures { parse_answer result (found kind.new start.new len.new frame.new) ≡ parse_for (setting_of setting) packet.now (found kind.old start.old len.old frame.old) }
 {
-    let Setting::Format(format) = framing::settings::by_number(setting) else {
+    let Some(format) = settings::by_number(setting) else {
         return refusal_number(Refusal::BadArgument);
     };
-    let places = encode(framing::parse(format, packet));
-    *kind = places.kind;
-    *start = places.start;
-    *len = places.len;
-    *frame = places.frame;
+    Found::from(framing::parse(format, packet)).put(kind, start, len, frame);
     0
 }
 
 // The same behind up to 16 extra zeros, with their number. The places are those of the packet as it came; the frame's length counts no
 // extra zeros.
+// Kept: the parameters of the C interface.
 #[tactic(auto, unfolding(crate::specs::Answers::padded_for))]
 #[unsafe(no_mangle)]
 pub extern "C" fn rcs956_frame_parse_padded(
@@ -132,16 +150,11 @@ pub extern "C" fn rcs956_frame_parse_padded(
 ) -> u8
     ensures { parsed_padded result (found kind.new start.new len.new frame.new) zeros.new ≡ padded_for (setting_of setting) packet.now (found kind.old start.old len.old frame.old) zeros.old }
 {
-    let Setting::Format(format) = framing::settings::by_number(setting) else {
+    let Some(format) = settings::by_number(setting) else {
         return refusal_number(Refusal::BadArgument);
     };
     let padded = framing::padded::parse_padded(format, true, packet);
-    let found = padded.found;
-    let at = encode(found);
-    *kind = at.kind;
-    *start = at.start;
-    *len = at.len;
-    *frame = at.frame;
+    Found::from(padded.found).put(kind, start, len, frame);
     *zeros = padded.zeros;
     0
 }
@@ -163,16 +176,10 @@ pub extern "C" fn rcs956_crc_b_check(bytes: &[u8]) -> bool
 }
 
 // Writes the bytes and their CRC_B to the start of `out`, and their number to `count`. A refusal writes nothing.
-#[tactic(auto, unfolding(crate::specs::Answers::append_b, crate::specs::Answers::written_of))]
+#[tactic(auto, unfolding(crate::specs::Answers::append_b))]
 #[unsafe(no_mangle)]
 pub extern "C" fn rcs956_crc_b_append(bytes: &[u8], out: &mut [u8], count: &mut usize) -> u8
     ensures { written result out.new count.new ≡ append_b bytes.now out.old count.old }
 {
-    match crc::add_crc_b(bytes, out) {
-        Added::Bytes(n) => {
-            *count = n;
-            0
-        }
-        Added::Refused(refusal) => refusal_number(refusal),
-    }
+    counted(crc::add_crc_b(bytes, out), count)
 }

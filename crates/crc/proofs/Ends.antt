@@ -1,62 +1,35 @@
--- The two bytes at the end: as the code reads them to check, and as it writes them.
+-- The bytes and their CRC in the buffer, as the code writes them.
 -- Assumes nothing.
-use mathlib.Core.Path.{◌≡◌, ap, ap₂, ◌∙◌}
-use mathlib.Core.Bool.{false, ◌&&◌, and-true}
-use mathlib.Core.List.{List, [], ◌∷◌, ◌++◌}
-use Prim.Native.Nat.{ℕ, suc, ◌+◌, ◌-◌, ◌/◌, ◌%◌, ◌^◌, ◌≤◌, ◌<◌}
-use native.Mathlib.Numerals.{add-one}
-use native.Mathlib.Omega.{arith}
-use lib.Dec.{eqb}
-use lib.ListN.{length, take, drop, get_or, set, length-drop, length-append, drop_of_length-le}
-use lib.Seq.{drop-cons, take-length, take-append_seam, drop-append-add, drop-drop, sets-eq}
-use borrow.Author.Tests.{lt-ltb, le-ltb}
-use Rattle.errors.specs.Refusals.{Returned, answered, refused, plain}
-use Rattle.errors.specs.Choice.{pick, same}
-use Rattle.crc.specs.Crc.{CrcKind, crc_of, crc_bytes, checks}
+use Rattle.std.specs.Prelude.{◌≡◌, List, [], ◌++◌, ℕ, ◌+◌, ◌-◌, ◌≤◌, length, take, drop}
+use Rattle.std.specs.Int.{w16, to_le_bytes}
+use Rattle.std.proofs.Common.{ap, ◌∙◌, arith, le-ltb, take_all, length-drop, length-append, drop_of_length-le, drop-drop, append-nil, append_assoc}
+use Rattle.std.proofs.Math.Seq.{take-append_seam, drop-append_seam, take-length}
+use borrow.Rule.Slice.PartMut.{put_mid}
+use Rattle.errors.specs.Refusals.{Returned, answered}
+use Rattle.errors.specs.Choice.{pick}
+use Rattle.crc.specs.Crc.{CrcKind, crc_of, crc_bytes}
 use Rattle.crc.specs.Answers.{added}
 
-module _ (k : CrcKind) (s : List ℕ) where
-  pub short : length s < 2 → false ≡ checks k s
-  unfolding checks pick
-  short h = rw lt-ltb
+module _ (k : CrcKind) (s out : List ℕ) (room : length s + 2 ≤ length out) where
+  -- o is the buffer with s at its start, t what is behind s with the CRC x at its start
+  module _ (o t : List ℕ) (x : ℕ) (c : o ≡ take (length s) s ++ drop (length s) out) (known : x ≡ crc_of k s)
+      (e : t ≡ take 2 (to_le_bytes w16 x) ++ drop 2 (take (length o - length s) (drop (length s) o))) where
+    front : o ≡ s ++ drop (length s) out
+    front = rw take-length at c
 
-  last-two : 2 ≤ length s → drop (length s - 2) s ≡ get_or s (length s - 2) 0 ∷ get_or s (length s - 2 + 1) 0 ∷ []
-  last-two h =
-      rw add-one
-      (drop-cons s (length s - 2) 0 (omega arith)
-      ∙ ap (◌∷◌ (get_or s (length s - 2) 0))
-      (drop-cons s (suc (length s - 2)) 0 (omega arith)
-      ∙ ap (◌∷◌ (get_or s (suc (length s - 2)) 0)) (drop_of_length-le s {i = suc (suc (length s - 2))} (omega arith))))
+    long : length o ≡ length out
+    long = omega (arith, ap length front, length-append s (drop (length s) out), length-drop (length s) out)
 
-  -- x is the CRC of all bytes but the last two
-  module _ (x : ℕ) (e : x ≡ crc_of k (take (length s - 2) s)) (b : x < 2 ^ 16) (h : 2 ≤ length s) where
-    pub compared : checks k s ≡ (eqb (get_or s (length s - 2) 0) (x % 256) && eqb (get_or s (length s - 2 + 1) 0) (x / 256))
-    unfolding checks pick same crc_bytes
-    compared =
-        let d : x / 256 % 256 ≡ x / 256 = omega arith in
-        rw (le-ltb (length s) 2 h, last-two h, ← e, d, and-true)
+    behind : t ≡ crc_bytes k s ++ drop (length s + 2) out
+    unfolding crc_bytes
+    behind =
+        let r : drop (length s) o ≡ drop (length s) out = ap (drop (length s)) front ∙ drop-append_seam s (drop (length s) out) in
+        let w : take (length o - length s) (drop (length s) out) ≡ drop (length s) out = take_all _ _ (omega (arith, length-drop (length s) out, long)) in
+        rw (r, w, known) at e ∙ ap (λ l. crc_bytes k s ++ l) (drop-drop 2 (length s) out)
 
-module _ (k : CrcKind) (s out : List ℕ) where
-  pub no_room : length out < length s + 2 → ◌≡◌ {A = Returned × List ℕ} (refused (plain 2), out) (added k s out)
-  unfolding added pick
-  no_room h = rw lt-ltb
-
-  -- o is the buffer with s at its start
-  module _ (o : List ℕ) (c : o ≡ take (length s) s ++ drop (length s) out) (h : length s + 2 ≤ length out) where
-    stored : (a b : ℕ) → set (set o (length s) a) (length s + 1) b ≡ s ++ (a ∷ b ∷ []) ++ drop (length s + 2) out
-    stored a b =
-        let d : o ≡ s ++ drop (length s) out = rw take-length at c in
-        let l : length s + 2 ≤ length o = rw d (simp (length-append, length-drop) (omega arith)) in
-        rw add-one
-        (sets-eq (a ∷ b ∷ []) o (length s) l
-        ∙ ap₂ (λ (f r : List ℕ). f ++ (a ∷ b ∷ []) ++ r)
-        (ap (take (length s)) d ∙ take-append_seam s (drop (length s) out))
-        (ap (drop (length s + 2)) d ∙ drop-append-add s (drop (length s) out) 2 ∙ drop-drop 2 (length s) out))
-
-    -- x is the CRC of s
-    pub written : (x : ℕ) → x ≡ crc_of k s → x < 2 ^ 16
-        → ◌≡◌ {A = Returned × List ℕ} (answered (length s + 2), set (set o (length s) (x % 256)) (length s + 1) (x / 256)) (added k s out)
-    unfolding added pick crc_bytes
-    written x e b =
-        let d : x / 256 % 256 ≡ x / 256 = omega arith in
-        rw (le-ltb (length out) (length s + 2) h, ← e, d, stored (x % 256) (x / 256))
+    pub written : ◌≡◌ {A = Returned × List ℕ} (answered (length s + 2), put_mid (length s) (length o - length s) o t) (added k s out)
+    unfolding added pick
+    written =
+        let f : take (length s) o ≡ s = ap (take (length s)) front ∙ take-append_seam s (drop (length s) out) in
+        let z : drop (length o - length s) (drop (length s) o) ≡ [] = drop_of_length-le (drop (length s) o) (omega (arith, length-drop (length s) o)) in
+        rw (le-ltb (length out) (length s + 2) room, f, z, behind, append-nil, append_assoc)

@@ -1,15 +1,9 @@
 -- What adding a CRC answers, by document 01's numbers, and what the buffer holds then.
 -- Assumes nothing.
 use Rattle.std.specs.Prelude.{List, ◌++◌, ℕ, ◌+◌, ltb, length, drop}
-use Rattle.errors.specs.Refusals.{Returned, answered, refused, plain, numbered}
+use Rattle.errors.specs.Refusals.{Returned, answered, refused, plain}
 use Rattle.errors.specs.Choice.{pick}
 use Rattle.crc.specs.Crc.{CrcKind, crc_bytes}
-use Rattle.crc.specs.declared.Added.{Added}
-use Rattle.crc.specs.declared.Added.TheVariants.{Bytes, Refused}
-
-abbrev pub returned : Added → Returned
-returned (Bytes n) = answered n
-returned (Refused e) = refused (numbered e)
 
 -- s and its CRC stand at the buffer's start, and all other bytes keep their values. A buffer that is too short is refused, 2, and left as it is.
 unfoldable pub added : CrcKind → List ℕ → List ℕ → Returned × List ℕ

@@ -2,91 +2,95 @@
 #![tactic(auto)]
 
 ghost use Rattle.std.specs.Prelude.{List, ◌≡◌, ℕ};
-ghost use Rattle.errors.specs.Refusals.{Returned};
+ghost use Rattle.errors.specs.Refusals.{Returned, returned};
 ghost use Rattle.crc.specs.Crc.{crc_kind, type_a, type_b, crc_of, checks};
-ghost use Rattle.crc.specs.Answers.{returned, added};
+ghost use Rattle.crc.specs.Answers.{added};
 
 mod table;
 
 use errors::Refusal;
 use table::CRC_TABLE;
 
-const CRC_A_INIT: u16 = 0x6363;
-
-const CRC_B_INIT: u16 = 0xFFFF;
-
-#[derive(Clone, Copy)]
-pub enum Added {
-    Bytes(usize),
-    Refused(Refusal),
+// What the two kinds differ in: the register's initial value, and whether the result is inverted.
+#[derive(Clone, Copy, Debug, PartialEq, Eq)]
+struct Kind {
+    initial: u16,
+    inverted: bool,
 }
 
-// The CRC of `data`, a byte at a time. `table` is filled once, before the loop: a constant that the loop itself names would be filled at each turn.
-fn calculate_crc(data: &[u8], initial: u16, inverted: bool) -> u16
-    ensures { result ≡ crc_of (crc_kind initial inverted) «data».now }
-{
-    let table = CRC_TABLE;
-    let mut register = initial;
-    let mut i = 0;
-    while i < data.len() {
-        let low = (register ^ (data[i] as u16)) % 256;
-        register = (register >> 8) ^ table[low as usize];
-        i += 1;
-    }
-    if inverted { !register } else { register }
-}
+const CRC_A: Kind = Kind {
+    initial: 0x6363,
+    inverted: false,
+};
 
-#[tactic(auto, using(errors::specs::Rules::picks, crate::proofs::Ends::short, crate::proofs::Ends::compared))]
-fn verify_crc(data: &[u8], initial: u16, inverted: bool) -> bool
-    ensures { result ≡ checks (crc_kind initial inverted) «data».now }
-{
-    if data.len() < 2 {
-        return false;
-    }
-    let n = data.len() - 2;
-    let crc = calculate_crc(&data[..n], initial, inverted);
-    data[n] == (crc % 256) as u8 && data[n + 1] == (crc / 256) as u8
-}
+const CRC_B: Kind = Kind {
+    initial: 0xFFFF,
+    inverted: true,
+};
 
-#[tactic(auto, using(errors::specs::Rules::picks, crate::proofs::Ends::no_room, crate::proofs::Ends::written))]
-fn append_crc(data: &[u8], out: &mut [u8], initial: u16, inverted: bool) -> Added
-    ensures { ◌≡◌ {A = Returned × List ℕ} (returned result, out.new) (added (crc_kind initial inverted) «data».now out.old) }
-{
-    let n = data.len();
-    if out.len() < n + 2 {
-        return Added::Refused(Refusal::ShortBuffer);
+impl Kind {
+    // The CRC of `bytes`, a byte at a time. `table` is filled once, before the loop: a constant that the loop itself names would be filled at each turn.
+    fn of(self, bytes: &[u8]) -> u16
+        ensures { result ≡ crc_of (crc_kind self.initial self.inverted) bytes.now }
+    {
+        let table = CRC_TABLE;
+        let mut register = self.initial;
+        for byte in bytes {
+            let low = (register ^ u16::from(*byte)) % 256;
+            register = (register >> 8) ^ table[usize::from(low)];
+        }
+        if self.inverted { !register } else { register }
     }
-    let crc = calculate_crc(data, initial, inverted);
-    octets::copy(data, out);
-    out[n] = (crc % 256) as u8;
-    out[n + 1] = (crc / 256) as u8;
-    Added::Bytes(n + 2)
+
+    #[tactic(auto, using(errors::specs::Rules::picks, errors::specs::Rules::same_by), unfolding(errors::specs::Choice::pick, crate::specs::Crc::checks, crate::specs::Crc::crc_bytes))]
+    fn checks(self, bytes: &[u8]) -> bool
+        ensures { result ≡ checks (crc_kind self.initial self.inverted) bytes.now }
+    {
+        let Some((message, sent)) = bytes.split_last_chunk::<2>() else {
+            return false;
+        };
+        self.of(message).to_le_bytes() == *sent
+    }
+
+    #[tactic(auto, using(errors::specs::Rules::picks), unfolding(errors::specs::Choice::pick, errors::specs::Refusals::returned, crate::specs::Answers::added))]
+    fn add(self, bytes: &[u8], out: &mut [u8]) -> Result<usize, Refusal>
+        ensures { ◌≡◌ {A = Returned × List ℕ} (returned result, out.new) (added (crc_kind self.initial self.inverted) bytes.now out.old) }
+    {
+        let n = bytes.len();
+        if out.len() < n + 2 {
+            return Err(Refusal::ShortBuffer);
+        }
+        let crc = self.of(bytes);
+        octets::copy(bytes, out);
+        octets::copy(&crc.to_le_bytes(), &mut out[n..]);
+        Ok(n + 2)
+    }
 }
 
 // The last two bytes are the CRC_A of those before them. Under two bytes: no.
 pub fn check_crc_a(data: &[u8]) -> bool
     ensures { result ≡ checks type_a «data».now }
 {
-    verify_crc(data, CRC_A_INIT, false)
+    CRC_A.checks(data)
 }
 
 // The same of CRC_B.
 pub fn check_crc_b(data: &[u8]) -> bool
     ensures { result ≡ checks type_b «data».now }
 {
-    verify_crc(data, CRC_B_INIT, true)
+    CRC_B.checks(data)
 }
 
 // Writes `data` and its CRC_A to the start of `out`, and says how many bytes they are. A buffer that is too short is refused and left as it is.
-pub fn add_crc_a(data: &[u8], out: &mut [u8]) -> Added
+pub fn add_crc_a(data: &[u8], out: &mut [u8]) -> Result<usize, Refusal>
     ensures { ◌≡◌ {A = Returned × List ℕ} (returned result, out.new) (added type_a «data».now out.old) }
 {
-    append_crc(data, out, CRC_A_INIT, false)
+    CRC_A.add(data, out)
 }
 
 // The same with CRC_B.
-pub fn add_crc_b(data: &[u8], out: &mut [u8]) -> Added
+pub fn add_crc_b(data: &[u8], out: &mut [u8]) -> Result<usize, Refusal>
     ensures { ◌≡◌ {A = Returned × List ℕ} (returned result, out.new) (added type_b «data».now out.old) }
 {
-    append_crc(data, out, CRC_B_INIT, true)
+    CRC_B.add(data, out)
 }

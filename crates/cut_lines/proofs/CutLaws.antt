@@ -1,12 +1,13 @@
 -- Laws of the cut: what its entries hold, and each of its answers.
-use Rattle.std.specs.Prelude.{◌≡◌, ℕ, zero, suc, ◌+◌, ◌-◌, ◌<◌, ◌≤◌, Bool, true, false, ◌||◌, ltb, List, [], ◌∷◌, map, length, get_or, drop}
+use Rattle.std.specs.Prelude.{◌≡◌, ℕ, zero, suc, ◌+◌, ◌-◌, ◌<◌, ◌≤◌, Bool, true, false, ◌||◌, ltb, List, [], ◌∷◌, map, length, get_or, take, drop}
 use mathlib.Core.Path.{refl, sym, ap, ◌∙◌}
 use mathlib.Core.Logic.{inl, inr}
 use mathlib.Core.Option.{none, some}
 use native.Mathlib.Omega.{arith}
 use borrow.Author.Tests.{lt-ltb, le-ltb, ltb-true, ltb-false}
 use lib.ListN.{length-drop}
-use lib.Seq.{slice, take-length}
+use lib.Seq.{slice, take-length, length-take-le}
+use Rattle.std.proofs.lemmas.List.{get_or-take}
 use Rattle.errors.specs.declared.Numbered.{Numbered}
 use Rattle.bench_input.specs.Table.{Said, unreadable}
 use Rattle.bench.specs.Texts.{placed, placed_at, put_at}
@@ -20,9 +21,9 @@ use Rattle.cut_script.specs.Cut.{refuses, Faulty, Shortest, shortest_count}
 use Rattle.cut_script.proofs.Shortest.{shortest_unique, count_shortest}
 use Rattle.cut_script.specs.ScriptLines.{place}
 use Rattle.errors.specs.Choice.{pick}
-use Rattle.cut_lines.specs.Readings.{entry_at, AllRead, EntriesOf}
+use Rattle.cut_lines.specs.Readings.{no_entry, entry_at, AllRead}
 use Rattle.cut_lines.specs.Runs.{Holds, last_shown}
-use Rattle.cut_lines.specs.declared.entries.Entries.{Entries}
+use Rattle.cut_lines.specs.declared.entries.Entry.{Entry}
 use Rattle.cut_lines.proofs.SearchLaws.{faulty}
 
 or-true : (t : Bool) → (t || true) ≡ true
@@ -38,52 +39,52 @@ get_said [] k h = absurd (omega arith)
 get_said (l ∷ ls) zero h = refl
 get_said (l ∷ ls) (suc k) h = get_said ls k (omega arith)
 
-module _ (s b : List ℕ) (e : Entries) (read : EntriesOf s b e) where
-  pub cut_many : line_count_limit < e.count → refused over_long_number ≡ cut_of s
-  unfolding is_over_long
-  cut_many h = go read
-    where
-      go : EntriesOf s b e → refused over_long_number ≡ cut_of s
-      go (inl a) = absurd (let f = a.few in omega arith)
-      go (inr a) = sym (cut_long s (rw (lt-ltb line_count_limit (length (script_lines s)) a.1) (or-true (ltb script_limit (length s)))))
+pub cut_many : (s : List ℕ) → line_count_limit < length (script_lines s) → refused over_long_number ≡ cut_of s
+unfolding is_over_long
+cut_many s h = sym (cut_long s (rw (lt-ltb line_count_limit (length (script_lines s)) h) (or-true (ltb script_limit (length s)))))
 
-  module _ (short : length s ≤ script_limit) (few : e.count ≤ line_count_limit) where
-    all_read : AllRead s b e
-    all_read = go read
-      where
-        go : EntriesOf s b e → AllRead s b e
-        go (inl a) = a
-        go (inr a) = absurd (omega (arith, a.0))
+module _ (s b : List ℕ) (es : List Entry) (n : ℕ) (read : AllRead s b es n) where
+  -- the first n entries
+  first_ones : length (take n es) ≡ n
+  first_ones = length-take-le n es (let f = read.few in let z = read.size in omega arith)
 
-    pub holds : Holds e b (script s)
-    holds = record {
-      count = all_read.count ∙ sym (lines_said (script_lines s));
-      says = λ k h. let l = lines_said (script_lines s) in let c = all_read.count in all_read.lines.says k (omega arith) ∙ get_said (script_lines s) k (omega arith);
-    }
+  first_at : (k : ℕ) → k < n → entry_at (take n es) k ≡ entry_at es k
+  first_at k h = get_or-take n es k no_entry h
 
+  pub holds : Holds (take n es) b (script s)
+  holds = record {
+    count = first_ones ∙ read.count ∙ sym (lines_said (script_lines s));
+    says = λ k h.
+        let l = lines_said (script_lines s) in
+        let c = read.count in
+        rw (first_at k (omega arith)) (read.lines.says k (omega arith) ∙ get_said (script_lines s) k (omega arith));
+  }
+
+  module _ (short : length s ≤ script_limit) where
     not_long : is_over_long s ≡ false
     unfolding is_over_long
-    not_long = let c = all_read.count in rw (le-ltb script_limit (length s) short, le-ltb line_count_limit (length (script_lines s)) (omega arith))
+    not_long = let c = read.count in let few = read.few in rw (le-ltb script_limit (length s) short, le-ltb line_count_limit (length (script_lines s)) (omega arith))
 
     no_lines : (xs : List Said) → length xs ≡ 0 → refuses bench (prints bench bench.fresh xs) ≡ false
     no_lines [] h = refl
     no_lines (x ∷ xs) h = absurd (omega arith)
 
-    pub cut_empty : e.count ≡ 0 → refused no_refusal_number ≡ cut_of s
-    cut_empty h = sym (cut_none s not_long (no_lines (script s) (let c = holds.count in omega arith)))
+    pub cut_empty : n ≡ 0 → refused no_refusal_number ≡ cut_of s
+    cut_empty h = sym (cut_none s not_long (no_lines (script s) (let c = read.count in let l = lines_said (script_lines s) in omega arith)))
 
     pub cut_unrefused : none ≡ last_shown (script s) 0 → refused no_refusal_number ≡ cut_of s
     cut_unrefused h = sym (cut_none s not_long (faulty (prints bench bench.fresh (script s)) ∙ ap is_some (sym h)))
 
-    pub cut_from : (fault : Numbered) → some fault ≡ last_shown (script s) 0 → (i : ℕ) → i < e.count → Shortest bench (script s) (length (script s) - i) → from (entry_at e.at i).from ≡ cut_of s
+    pub cut_from : (fault : Numbered) → some fault ≡ last_shown (script s) 0 → (i : ℕ) → i < length (take n es) → Shortest bench (script s) (length (script s) - i) → from (entry_at (take n es) i).from ≡ cut_of s
     unfolding cut_of pick ending_from
     cut_from fault h i inside shortest =
         let f : Faulty bench (script s) = faulty (prints bench bench.fresh (script s)) ∙ ap is_some (sym h) in
         let k : length (script s) - i ≡ shortest_count bench (script s) = shortest_unique bench (script s) (length (script s) - i) (shortest_count bench (script s)) shortest (count_shortest bench lawful (script s) f) in
         let l = lines_said (script_lines s) in
-        let c = holds.count in
+        let c = read.count in
+        let m = first_ones in
         let j : i ≡ length (script_lines s) - shortest_count bench (script s) = omega arith in
-        rw (not_long, f) (ap from (all_read.lines.begins i inside ∙ ap (place is_feed s) j))
+        rw (not_long, f, first_at i (omega arith)) (ap from (read.lines.begins i (omega arith) ∙ ap (place is_feed s) j))
 
 -- ---- what is written
 

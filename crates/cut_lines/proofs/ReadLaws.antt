@@ -1,7 +1,6 @@
 -- Laws of reading a script: a line's byte strings in the array, and the lines read so far.
-use Rattle.std.specs.Prelude.{◌≡◌, ℕ, zero, suc, ◌+◌, ◌-◌, ◌<◌, ◌≤◌, Bool, true, false, eqb, ltb, List, [], ◌∷◌, ◌++◌, length, get_or, take, drop, set}
+use Rattle.std.specs.Prelude.{◌≡◌, ℕ, zero, suc, ◌+◌, ◌-◌, ◌<◌, ◌≤◌, Bool, true, false, eqb, ltb, List, [], ◌∷◌, ◌++◌, length, get_or, take, drop, set, Option as Found, Some, None}
 use mathlib.Core.Path.{refl, sym, ap, ap₂, ◌∙◌, subst}
-use mathlib.Core.Logic.{inl, inr}
 use native.Mathlib.Numerals.{add-one}
 use native.Mathlib.Omega.{arith}
 use borrow.Author.Tests.{le-ltb}
@@ -14,15 +13,15 @@ use Rattle.bench.specs.Lines.{feed, before_feed}
 use Rattle.bench.specs.Texts.{over, placed, put_at, Placed}
 use Rattle.bench.specs.TextLaws.{length_over}
 use Rattle.bench_input.specs.Arguments.{bytes_room}
-use Rattle.bench_input.specs.Readings.{input_in, EndsInOrder, Reads}
+use Rattle.bench_input.specs.Readings.{end_at, input_in, EndsInOrder, Reads}
 use Rattle.bench_input.specs.Table.{input_of}
 use Rattle.bench_input.specs.declared.Input.{Input}
-use Rattle.bench_input.specs.declared.Input.TheVariants.{Call, Event, Unreadable}
+use Rattle.bench_input.specs.declared.Input.TheVariants.{Call, Event}
 use Rattle.cut_script.specs.Answer.{line_count_limit}
 use Rattle.cut_script.specs.First.{decide, equal, apart}
 use Rattle.cut_script.specs.ScriptLines.{place}
 use Rattle.cut_script.specs.Bench.{is_feed, script_lines, line_says}
-use Rattle.cut_lines.specs.Readings.{used_by, behind_feed, entry_at, LinesRead, EntriesOf}
+use Rattle.cut_lines.specs.Readings.{used_by, behind_feed, entry_at, LinesRead, AllRead}
 use Rattle.cut_lines.specs.declared.entries.Entry.{Entry}
 use Rattle.cut_lines.proofs.LineLaws.{line_size, first-line, line-says, text_short, size_bounds, joined-next, behind-add}
 
@@ -34,22 +33,22 @@ take_less i j x y h e = sym (take-take i j x h) ∙ ap (take i) e ∙ take-take 
 slice_same : (f i j : ℕ) (x y : List ℕ) → i ≤ j → take j x ≡ take j y → slice f i x ≡ slice f i y
 slice_same f i j x y h e = ap (drop f) (take_less i j x y h e)
 
-used_short : (k : ℕ) (i : Input) (b o : List ℕ) → EndsInOrder k i b o → (used_by i ≤ k) × (used_by i ≤ bytes_room)
-used_short k (Call number n e) b o h = (h.1.1.1.1.0, h.1.1.1.1.1)
-used_short k (Event number n) b o h = (h.1.0, h.1.1)
-used_short k Unreadable b o h = (omega arith, omega arith)
+used_short : (k : ℕ) (i : Found Input) (b o : List ℕ) → EndsInOrder k i b o → (used_by i ≤ k) × (used_by i ≤ bytes_room)
+used_short k (Some (Call number n e)) b o h = (h.1.1.1.1.0, h.1.1.1.1.1)
+used_short k (Some (Event number n)) b o h = (h.1.0, h.1.1)
+used_short k None b o h = (omega arith, omega arith)
 
 -- what a line says depends on those bytes alone
-same_input : (k : ℕ) (i : Input) (b o x : List ℕ) → EndsInOrder k i b o → take (used_by i) x ≡ take (used_by i) o → input_in x i ≡ input_in o i
-same_input k (Call number n e) b o x h s =
+same_input : (k : ℕ) (i : Found Input) (b o x : List ℕ) → EndsInOrder k i b o → take (used_by i) x ≡ take (used_by i) o → input_in x i ≡ input_in o i
+same_input k (Some (Call number n e)) b o x h s =
     let second = h.1.0 in
     let third = h.1.1.0 in
     let fourth = h.1.1.1.0 in
-    rw (slice_same 0 e.first e.fourth x o (omega arith) s, slice_same e.first e.second e.fourth x o (omega arith) s, slice_same e.second e.third e.fourth x o (omega arith) s, slice_same e.third e.fourth e.fourth x o (omega arith) s)
-same_input k (Event number n) b o x h s = rw (slice_same 0 n n x o (omega arith) s)
-same_input k Unreadable b o x h s = refl
+    rw (slice_same 0 (end_at e 0) (end_at e 3) x o (omega arith) s, slice_same (end_at e 0) (end_at e 1) (end_at e 3) x o (omega arith) s, slice_same (end_at e 1) (end_at e 2) (end_at e 3) x o (omega arith) s, slice_same (end_at e 2) (end_at e 3) (end_at e 3) x o (omega arith) s)
+same_input k (Some (Event number n)) b o x h s = rw (slice_same 0 n n x o (omega arith) s)
+same_input k None b o x h s = refl
 
-module _ (line b b' o₀ o : List ℕ) (at n r : ℕ) (i : Input) (fits : at + length line ≤ length b) (read : Reads (length line) o₀ o i (input_of line)) (used : n ≡ used_by i) (size : length o ≡ bytes_room)
+module _ (line b b' o₀ o : List ℕ) (at n r : ℕ) (i : Found Input) (fits : at + length line ≤ length b) (read : Reads (length line) o₀ o i (input_of line)) (used : n ≡ used_by i) (size : length o ≡ bytes_room)
     (put : placed r b' ≡ put_at at (take n o) b) where
   short : (used_by i ≤ length line) × (used_by i ≤ bytes_room)
   short = used_short (length line) i o₀ o read.in_order_of
@@ -151,12 +150,6 @@ found-line s at stop e = e ∙ rw (take-length s)
 pub line-part : (s : List ℕ) (at stop : ℕ) → stop ≡ at + before_feed (drop at s) → take (stop - at) (drop at s) ≡ take (before_feed (drop at s)) (drop at s)
 line-part s at stop e = let q : stop - at ≡ before_feed (drop at s) = omega arith in ap (λ k. take k (drop at s)) q
 
-pub line-inside : (s : List ℕ) (at stop : ℕ) → stop ≡ at + before_feed (drop at s) → at < length s → stop ≤ length s
-line-inside s at stop e h =
-    let l = length-drop at s in
-    let b = size_bounds (drop at s) (omega arith) in
-    omega (arith, text_short (drop at s))
-
 pub line-fits : (s : List ℕ) (at k n m : ℕ) → length s ≤ n → m ≡ n → at < length s → at + length (take k (drop at s)) ≤ m
 line-fits s at k n m h e l = let p = length-take k (drop at s) in let q = length-drop at s in omega arith
 
@@ -168,7 +161,7 @@ read_further s at stop to h e f = go (ltb stop (length s)) f
     go true g = omega arith
     go false g = omega arith
 
-module _ (s : List ℕ) (room : ℕ) (b b' : List ℕ) (es : List Entry) (n at to stop : ℕ) (i : Input) (line : List ℕ) (h : ReadSoFar s room b es n at) (more : at < length s) (few : n < line_count_limit)
+module _ (s : List ℕ) (room : ℕ) (b b' : List ℕ) (es : List Entry) (n at to stop : ℕ) (i : Found Input) (line : List ℕ) (h : ReadSoFar s room b es n at) (more : at < length s) (few : n < line_count_limit)
     (found : stop ≡ at + before_feed (drop at s)) (behind : to ≡ behind_feed stop (length s)) (is : line ≡ take (before_feed (drop at s)) (drop at s))
     (before : take at b' ≡ take at b) (same_size : length b' ≡ length b) (read : (t : ℕ) → at + length line ≤ t → input_in (slice at t b') i ≡ input_of line) where
   l-length : length (drop at s) ≡ length s - at
@@ -252,15 +245,15 @@ module _ (s : List ℕ) (room : ℕ) (b b' : List ℕ) (es : List Entry) (n at t
   read_more = more_lines n (script_lines s) _ _ line_at
 
 module _ (s : List ℕ) (room : ℕ) (b : List ℕ) (es : List Entry) (n at : ℕ) (h : ReadSoFar s room b es n at) where
-  pub read_ends : length s ≤ at → EntriesOf s b (record { count = n; at = es })
+  pub read_ends : length s ≤ at → AllRead s b es n
   read_ends e =
       let w : length (drop n (script_lines s)) ≡ 0 = ap length (h.left ∙ ap script_lines (drop_of_length-le s {i = at} e)) in
       let c : n ≡ length (script_lines s) = let q = length-drop n (script_lines s) in let u = h.within in omega arith in
       let i : at ≡ length s = let v = h.inside in omega arith in
-      inl (record { few = h.few; count = c; lines = subst (LinesRead s b es n) i h.lines })
+      record { size = h.size; few = h.few; count = c; lines = subst (LinesRead s b es n) i h.lines }
 
-  pub read_too_many : at < length s → n ≡ line_count_limit → EntriesOf s b (record { count = line_count_limit + 1; at = es })
+  pub read_too_many : at < length s → n ≡ line_count_limit → line_count_limit < length (script_lines s)
   read_too_many more e =
       let q = h.left ∙ line_there (drop at s) (let k = length-drop at s in omega arith) in
       let m = more_lines n (script_lines s) _ _ q in
-      inr (omega arith, omega arith)
+      omega arith

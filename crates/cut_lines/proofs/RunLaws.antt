@@ -1,5 +1,5 @@
 -- Laws of a run: a line's step, a line that is skipped, and what the run shows where it ends.
-use Rattle.std.specs.Prelude.{◌≡◌, ℕ, ◌+◌, ◌-◌, ◌<◌, ◌≤◌, true, false, not, eqb, List, length}
+use Rattle.std.specs.Prelude.{◌≡◌, ℕ, ◌+◌, ◌-◌, ◌<◌, ◌≤◌, true, false, not, eqb, List, length, Option as Found, Some, None}
 use mathlib.Core.Path.{refl, sym, ap, ◌∙◌, subst}
 use native.Mathlib.Numerals.{add-one}
 use native.Mathlib.Omega.{arith}
@@ -9,18 +9,16 @@ use Rattle.protocol.specs.Calls.{Call as CallOf}
 use Rattle.protocol.specs.Session.{busy, call, Phase, unchanged, effect_of, after_effect, buffer_need}
 use Rattle.protocol.specs.Session as Spec
 use Rattle.calls.specs.Kinds.{no_call_kind}
-use Rattle.calls.specs.declared.start.Numbers.{Numbers}
 use Rattle.engine.specs.Relation.{Represents, free, runs, SessionRepresents}
 use Rattle.engine.specs.Refinement.{fresh_represents}
 use Rattle.engine.specs.SessionSteps.{stepped, arrays_in, fresh_session}
 use Rattle.engine.specs.declared.running.Core.{Core}
 use Rattle.engine.specs.declared.session.Session.{Session}
 use Rattle.engine.specs.declared.session.Step.{Step}
-use Rattle.bench_input.specs.Readings.{input_in}
+use Rattle.bench_input.specs.Readings.{end_at, input_in}
 use Rattle.bench_input.specs.Table.{Said, calls, unreadable}
-use Rattle.bench_input.specs.declared.Ends.{Ends}
 use Rattle.bench_input.specs.declared.Input.{Input}
-use Rattle.bench_input.specs.declared.Input.TheVariants.{Call}
+use Rattle.bench_input.specs.declared.Input.TheVariants.{Call, Event}
 use Rattle.bench_session.specs.Answers.{said_step}
 use Rattle.bench_session.specs.Sessions.{line_step, Follows, line_follows}
 use Rattle.cut_script.specs.LineSession.{next}
@@ -30,11 +28,9 @@ use Rattle.cut_script.specs.Run.{reached}
 use Rattle.cut_script.proofs.Run.{run-starts, run_goes_on, run_ends}
 use Rattle.cut_lines.specs.Readings.{entry_at}
 use Rattle.cut_lines.specs.Shown.{shown_in, refused_by}
-use Rattle.cut_lines.specs.Runs.{StepAgrees, Acts, Skips, Overtakes, line_at, Holds, shown_by_of, RunShows, ran, overtaken}
-use Rattle.cut_lines.specs.declared.entries.Entries.{Entries}
+use Rattle.cut_lines.specs.Runs.{is_call, StepAgrees, Acts, Skips, Overtakes, line_at, Holds, shown_by_of, RunShows, ran, overtaken}
 use Rattle.cut_lines.specs.declared.entries.Entry.{Entry}
-use Rattle.cut_lines.specs.declared.shown.Shown.{Shown}
-use Rattle.cut_lines.specs.declared.shown.Shown.TheVariants.{Other}
+use Rattle.errors.specs.declared.Numbered.{Numbered}
 use Rattle.cut_lines.proofs.ShownLaws.{refused_given, at_once_given}
 
 pub step_agrees : (s : Session) (l k : Said) (b b' : List ℕ) (r : Step) → length b ≡ buffer_need → l ≡ k → stepped r b' ≡ said_step s l b → Acts s k r
@@ -54,19 +50,21 @@ busy_kept m c d phase k e =
     let u : effect_of m.running m.books (call k d buffer_need) ≡ unchanged OutOfTurn = ap (λ r. effect_of r m.books (call k d buffer_need)) e in
     ap (after_effect m (call k d buffer_need)) u
 
-pub busy_skips : (c : Core) (i : Input) (number : ℕ) (n : Numbers) (e : Ends) → i ≡ Call number n e → not (eqb c.call.kind no_call_kind) ≡ true → Skips c i
+pub busy_skips : (c : Core) (i : Found Input) → is_call i ≡ true → not (eqb c.call.kind no_call_kind) ≡ true → Skips c i
 unfolding line_step
-busy_skips c i number n e is running s m b core h = rw is (go h.call)
+busy_skips c None is running s m b core h = never is
+busy_skips c (Some (Event number n)) is running s m b core h = never is
+busy_skips c (Some (Call number n e)) is running s m b core h = go h.call
   where
     go : Represents s.core (arrays_in s) m.running
-        → next bench m (calls number n (slice 0 e.first b) (slice e.first e.second b) (slice e.second e.third b) (slice e.third e.fourth b)) ≡ m
+        → next bench m (calls number n (slice 0 (end_at e 0) b) (slice (end_at e 0) (end_at e 1) b) (slice (end_at e 1) (end_at e 2) b) (slice (end_at e 2) (end_at e 3) b)) ≡ m
     go (free v p q f) = let z : not (eqb c.call.kind no_call_kind) ≡ false = ap (λ k. not (eqb k no_call_kind)) (ap (λ (z : Core). z.call.kind) (sym core ∙ p)) in never (sym z ∙ running)
     go (runs p w v a q f g) = busy_kept m _ _ _ _ g
 
 -- ---- the run from line i on, at line m
 
-module _ (e : Entries) (b : List ℕ) (xs : List Said) (holds : Holds e b xs) (i m : ℕ) (from : i ≤ m) (s : Session) (here : SessionRepresents s (reached bench xs i m)) where
-  module _ (before : m < e.count - 1) (x : Entry) (is : x ≡ entry_at e.at m) where
+module _ (es : List Entry) (b : List ℕ) (xs : List Said) (holds : Holds es b xs) (i m : ℕ) (from : i ≤ m) (s : Session) (here : SessionRepresents s (reached bench xs i m)) where
+  module _ (before : m < length es - 1) (x : Entry) (is : x ≡ entry_at es m) where
     said : m < length xs → input_in (slice x.from x.to b) x.input ≡ line_at xs m
     said h = ap (λ (z : Entry). input_in (slice z.from z.to b) z.input) is ∙ holds.says m h
 
@@ -85,18 +83,18 @@ module _ (e : Entries) (b : List ℕ) (xs : List Said) (holds : Holds e b xs) (i
       pub run_acts : SessionRepresents r.session (reached bench xs i (m + 1))
       run_acts = subst (SessionRepresents r.session) (sym further) agrees.represents
 
-      pub run_overtaken : (stop : ℕ) → Overtakes stop m x.input r.output → RunShows stop xs i Other
+      pub run_overtaken : (stop : ℕ) → Overtakes stop m x.input r.output → RunShows stop xs i None
       run_overtaken stop o =
           overtaken m refl o.behind from (omega (arith, holds.count))
           (ap is_opening (sym (said (omega (arith, holds.count)))) ∙ o.opening (slice x.from x.to b))
           (sym agrees.at_once ∙ o.taken)
 
-  pub run-shows : m < e.count → e.count - 1 ≤ m → (x : Entry) → x ≡ entry_at e.at (e.count - 1) → (r : Step) → Acts s (input_in (slice x.from x.to b) x.input) r
-      → (stop : ℕ) (w : Shown) → shown_in w ≡ refused_by r.output → RunShows stop xs i w
+  pub run-shows : m < length es → length es - 1 ≤ m → (x : Entry) → x ≡ entry_at es (length es - 1) → (r : Step) → Acts s (input_in (slice x.from x.to b) x.input) r
+      → (stop : ℕ) (w : Found Numbered) → shown_in w ≡ refused_by r.output → RunShows stop xs i w
   run-shows few last x is r acts stop w shown =
-      let at : e.count - 1 ≡ m = omega arith in
+      let at : length es - 1 ≡ m = omega arith in
       let said : input_in (slice x.from x.to b) x.input ≡ line_at xs m
-      = ap (λ (z : Entry). input_in (slice z.from z.to b) z.input) (is ∙ ap (entry_at e.at) at) ∙ holds.says m (omega (arith, holds.count)) in
+      = ap (λ (z : Entry). input_in (slice z.from z.to b) z.input) (is ∙ ap (entry_at es) at) ∙ holds.says m (omega (arith, holds.count)) in
       let agrees : StepAgrees (reached bench xs i m) (line_at xs m) r = subst (λ l. StepAgrees (reached bench xs i m) l r) said (acts (reached bench xs i m) here) in
       ran (shown ∙ agrees.shown ∙ ap shown_by_of (sym (run_ends bench unreadable xs i m from (omega (arith, holds.count)))))
 

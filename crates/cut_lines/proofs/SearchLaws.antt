@@ -1,5 +1,5 @@
 -- Laws of the search: a stretch that is tried, and the shortest one.
-use Rattle.std.specs.Prelude.{◌≡◌, ℕ, zero, suc, ◌+◌, ◌-◌, ◌<◌, Bool, true, false, not, List, [], ◌∷◌, length, drop}
+use Rattle.std.specs.Prelude.{◌≡◌, ℕ, zero, suc, ◌+◌, ◌-◌, ◌<◌, ◌≤◌, Bool, true, false, not, List, [], ◌∷◌, length, drop, Option as Found}
 use mathlib.Core.Path.{refl, sym, ap, ◌∙◌}
 use mathlib.Core.Option.{Option, none, some}
 use native.Mathlib.Omega.{arith}
@@ -18,8 +18,7 @@ use Rattle.cut_script.proofs.Run.{loop_overtaken}
 use Rattle.cut_lines.specs.Readings.{entry_at}
 use Rattle.cut_lines.specs.Shown.{shown_in}
 use Rattle.cut_lines.specs.Runs.{line_at, Holds, shown_by_of, last_shown, RunShows, ran, overtaken, StretchTried}
-use Rattle.cut_lines.specs.declared.entries.Entries.{Entries}
-use Rattle.cut_lines.specs.declared.shown.Shown.{Shown}
+use Rattle.cut_lines.specs.declared.entries.Entry.{Entry}
 use Rattle.cut_lines.proofs.ShownLaws.{not-true}
 
 same_none : (o : Option Numbered) → same_refusal o none ≡ false
@@ -57,7 +56,7 @@ module _ (xs : List Said) (i : ℕ) (fault : Numbered) where
   shows-as f w e = same-shown (prints bench bench.fresh xs) (prints bench bench.fresh (drop i xs)) ∙ rw (f, ← e)
 
   -- it was run
-  pub tried-run : (w : Shown) (r : Bool) → RunShows i xs i w → r ≡ same_refusal (some fault) (shown_in w) → StretchTried xs i fault r
+  pub tried-run : (w : Found Numbered) (r : Bool) → RunShows i xs i w → r ≡ same_refusal (some fault) (shown_in w) → StretchTried xs i fault r
   tried-run w r (ran e) s = record {
     does = λ f t. shows-as f (shown_in w) e ∙ sym s ∙ t;
     does_not = λ f t n. loop_tried bench xs i n (shows-as f (shown_in w) e ∙ sym s ∙ t);
@@ -68,19 +67,19 @@ module _ (xs : List Said) (i : ℕ) (fault : Numbered) where
   }
 
 -- the same by an entry
-pub tried_other : (e : Entries) (b : List ℕ) (xs : List Said) → Holds e b xs → (i : ℕ) (fault : Numbered) → i + 1 < e.count
-    → (t : Bool) → ((p : List ℕ) → is_opening (input_in p (entry_at e.at i).input) ≡ t) → not t ≡ true → StretchTried xs i fault false
-tried_other e b xs h i fault more t opens other =
-    let p : List ℕ = slice (entry_at e.at i).from (entry_at e.at i).to b in
+pub tried_other : (es : List Entry) (b : List ℕ) (xs : List Said) → Holds es b xs → (i : ℕ) (fault : Numbered) → i + 1 < length es
+    → (t : Bool) → ((p : List ℕ) → is_opening (input_in p (entry_at es i).input) ≡ t) → not t ≡ true → StretchTried xs i fault false
+tried_other es b xs h i fault more t opens other =
+    let p : List ℕ = slice (entry_at es i).from (entry_at es i).to b in
     tried_skipped xs i fault (omega (arith, h.count)) (ap is_opening (sym (h.says i (omega (arith, h.count)))) ∙ opens p ∙ not-true t other)
 
 -- the whole script's run does not stop
-pub whole_ran : (xs : List Said) (w : Shown) (n : ℕ) → n ≡ length xs → RunShows n xs 0 w → shown_in w ≡ last_shown xs 0
+pub whole_ran : (xs : List Said) (w : Found Numbered) (n : ℕ) → n ≡ length xs → RunShows n xs 0 w → shown_in w ≡ last_shown xs 0
 whole_ran xs w n e (ran h) = h
 whole_ran xs w n e (overtaken j is a b c o t) = absurd (omega arith)
 
-pub search_begins : (xs : List Said) (n : ℕ) → 0 < n → n ≡ length xs → NoneFrom bench xs (suc (n - 1))
-search_begins xs n h e = let q : suc (n - 1) ≡ length xs = omega arith in rw q (loop_start bench xs)
+pub search_begins : (xs : List Said) (n : ℕ) → n ≡ length xs → NoneFrom bench xs n
+search_begins xs n e = rw e (loop_start bench xs)
 
 module _ (xs : List Said) (i : ℕ) (fault : Numbered) (inside : i < length xs) (f : last_shown xs 0 ≡ some fault) (n : NoneFrom bench xs (suc i)) where
   pub search_stops : StretchTried xs i fault true → Shortest bench xs (length xs - i)
@@ -89,5 +88,7 @@ module _ (xs : List Said) (i : ℕ) (fault : Numbered) (inside : i < length xs) 
   pub search_goes_on : StretchTried xs i fault false → NoneFrom bench xs i
   search_goes_on t = t.does_not f refl n
 
-pub search_ends : (xs : List Said) (fault : Numbered) → 0 < length xs → last_shown xs 0 ≡ some fault → NoneFrom bench xs 1 → Shortest bench xs (length xs - 0)
-search_ends xs fault h f n = loop_stops bench xs 0 n h (whole_shows (prints bench bench.fresh xs) fault f)
+-- none from line i on, the second at most
+pub search_ends : (xs : List Said) (fault : Numbered) → 0 < length xs → last_shown xs 0 ≡ some fault → {i : ℕ} → NoneFrom bench xs i → i ≤ 1 → Shortest bench xs (length xs - 0)
+search_ends xs fault h f n few =
+    loop_stops bench xs 0 (record { none_from = λ j a b. n.none_from j (omega arith) b }) h (whole_shows (prints bench bench.fresh xs) fault f)

@@ -1,5 +1,5 @@
 -- What the functions of runs.rt promise of a session's step, a run and the search, for the lines that the entries hold.
-use Rattle.std.specs.Prelude.{◌≡◌, ℕ, suc, ◌<◌, ◌≤◌, Bool, true, false, List, length, drop, slice_index_or}
+use Rattle.std.specs.Prelude.{◌≡◌, ℕ, suc, ◌<◌, ◌≤◌, Bool, true, false, List, length, drop, slice_index_or, Option as Found, Some, None}
 use Rattle.std.proofs.Math.Option.{Option, none, some}
 use Rattle.std.proofs.Math.Seq.{slice}
 use Rattle.errors.specs.declared.Numbered.{Numbered}
@@ -12,6 +12,7 @@ use Rattle.engine.specs.declared.session.Step.{Step}
 use Rattle.bench_input.specs.Readings.{input_in}
 use Rattle.bench_input.specs.Table.{Said, unreadable}
 use Rattle.bench_input.specs.declared.Input.{Input}
+use Rattle.bench_input.specs.declared.Input.TheVariants.{Call, Event}
 use Rattle.cut_script.specs.LineSession.{next, says, prints}
 use Rattle.cut_script.specs.Bench.{is_opening, refusal_of, is_at_once, bench}
 use Rattle.cut_script.specs.Cut.{shows}
@@ -19,9 +20,7 @@ use Rattle.cut_script.specs.Loop.{NoneFrom}
 use Rattle.cut_script.specs.Run.{reached}
 use Rattle.cut_lines.specs.Shown.{shown_in, refused_by, at_once_by}
 use Rattle.cut_lines.specs.Readings.{entry_at}
-use Rattle.cut_lines.specs.declared.entries.Entries.{Entries}
-use Rattle.cut_lines.specs.declared.shown.Shown.{Shown}
-use Rattle.cut_lines.specs.declared.shown.Shown.TheVariants.{Other}
+use Rattle.cut_lines.specs.declared.entries.Entry.{Entry}
 
 -- ---- one line
 
@@ -34,12 +33,18 @@ pub record StepAgrees (m : Spec.Session) (l : Said) (r : Step) : Type 0 where
 abbrev pub Acts : Session → Said → Step → Type 0
 Acts s l r = (m : Spec.Session) → SessionRepresents s m → StepAgrees m l r
 
+-- a call, by what was read
+abbrev pub is_call : Found Input → Bool
+is_call (Some (Call number n e)) = true
+is_call (Some (Event number n)) = false
+is_call None = false
+
 -- a line that leaves each session with these numbers as it was
-abbrev pub Skips : Core → Input → Type 0
+abbrev pub Skips : Core → Found Input → Type 0
 Skips c i = (s : Session) (m : Spec.Session) (b : List ℕ) → s.core ≡ c → SessionRepresents s m → next bench m (input_in b i) ≡ m
 
 -- an opening behind line `stop` that was taken
-pub record Overtakes (stop m : ℕ) (i : Input) (o : Output) : Type 0 where
+pub record Overtakes (stop m : ℕ) (i : Found Input) (o : Output) : Type 0 where
   pub behind : stop < m
   pub opening : (b : List ℕ) → is_opening (input_in b i) ≡ true
   pub taken : at_once_by o ≡ false
@@ -50,9 +55,9 @@ abbrev pub line_at : List Said → ℕ → Said
 line_at xs k = slice_index_or xs k unreadable
 
 -- the entries, with their bytes b, are those of the lines xs
-pub record Holds (e : Entries) (b : List ℕ) (xs : List Said) : Type 0 where
-  pub count : e.count ≡ length xs
-  pub says : (k : ℕ) → k < length xs → input_in (slice (entry_at e.at k).from (entry_at e.at k).to b) (entry_at e.at k).input ≡ line_at xs k
+pub record Holds (es : List Entry) (b : List ℕ) (xs : List Said) : Type 0 where
+  pub count : length es ≡ length xs
+  pub says : (k : ℕ) → k < length xs → input_in (slice (entry_at es k).from (entry_at es k).to b) (entry_at es k).input ≡ line_at xs k
 
 abbrev pub shown_by_of : Option bench.Out → Option Numbered
 shown_by_of none = none
@@ -63,9 +68,9 @@ abbrev pub last_shown : List Said → ℕ → Option Numbered
 last_shown xs i = shown_by_of (prints bench bench.fresh (drop i xs))
 
 -- what a run shows: that, or nothing where an opening behind line `stop` is taken before the last line
-pub data RunShows (stop : ℕ) (xs : List Said) (i : ℕ) (r : Shown) : Type 0 where
+pub data RunShows (stop : ℕ) (xs : List Said) (i : ℕ) (r : Found Numbered) : Type 0 where
   ran : shown_in r ≡ last_shown xs i → RunShows stop xs i r
-  overtaken : (j : ℕ) → r ≡ Other → stop < j → i ≤ j → suc j < length xs → is_opening (line_at xs j) ≡ true → is_at_once (says bench (reached bench xs i j) (line_at xs j)) ≡ false
+  overtaken : (j : ℕ) → r ≡ None → stop < j → i ≤ j → suc j < length xs → is_opening (line_at xs j) ≡ true → is_at_once (says bench (reached bench xs i j) (line_at xs j)) ≡ false
       → RunShows stop xs i r
 
 -- the stretch from line i on shows the fault, or none from line i on does, if none behind it did

@@ -1,16 +1,14 @@
 -- What a line shows of a fault, by what the engine gave out.
-use Rattle.std.specs.Prelude.{Bool, true, false}
+use Rattle.std.specs.Prelude.{Bool, true, false, Option as Found, Some, None}
 use Rattle.std.proofs.Math.Option.{Option, none, some}
 use Rattle.errors.specs.Refusals.{numbered, fault_numbered}
 use Rattle.errors.specs.declared.Numbered.{Numbered}
 use Rattle.engine.specs.declared.running.Output.{Output}
 use Rattle.engine.specs.declared.running.Output.TheVariants.{Ack, Command, Read, Drain, Pause, Done, Type1, UidAndAts, Nothing, Failed, FailedAfter, Refused}
-use Rattle.cut_lines.specs.declared.shown.Shown.{Shown}
-use Rattle.cut_lines.specs.declared.shown.Shown.TheVariants.{Refusal, Other}
 
-abbrev pub shown_in : Shown → Option Numbered
-shown_in (Refusal n) = some n
-shown_in Other = none
+abbrev pub shown_in : Found Numbered → Option Numbered
+shown_in (Some n) = some n
+shown_in None = none
 
 abbrev pub refused_by : Output → Option Numbered
 refused_by Ack = none

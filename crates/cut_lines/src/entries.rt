@@ -18,40 +18,31 @@ use octets::scan;
 // What a line says, where it begins, and where the next one does. Its byte strings stand from there on in an array beside.
 #[derive(Clone, Copy)]
 pub struct Entry {
-    pub input: Input,
+    pub input: Option<Input>,
     pub from: usize,
     pub to: usize,
 }
 
-// How many lines there are, and the entry of each; more than the limit where there are too many.
-#[derive(Clone, Copy)]
-pub struct Entries {
-    pub count: usize,
-    pub at: [Entry; LINE_COUNT_LIMIT],
-}
-
-fn no_entries() -> Entries
-    ensures { length result.at ≡ line_count_limit }
+// No lines yet.
+pub(crate) fn none() -> [Entry; LINE_COUNT_LIMIT]
+    ensures { length result ≡ line_count_limit }
 {
     let entry = Entry {
-        input: Input::Unreadable,
+        input: None,
         from: 0,
         to: 0,
     };
-    Entries {
-        count: 0,
-        at: [entry; LINE_COUNT_LIMIT],
-    }
+    [entry; LINE_COUNT_LIMIT]
 }
 
 // How many bytes the byte strings of a line take.
-fn used(input: Input) -> usize
+fn used(input: Option<Input>) -> usize
     ensures { result ≡ used_by input }
 {
     match input {
-        Input::Call(_, _, ends) => ends.fourth,
-        Input::Event(_, n) => n,
-        Input::Unreadable => 0,
+        Some(Input::Call(_, _, ends)) => ends[3],
+        Some(Input::Event(_, n)) => n,
+        None => 0,
     }
 }
 
@@ -64,7 +55,7 @@ fn put(n: usize, strings: &[u8; BYTES_ROOM], bytes: &mut [u8], at: usize) -> usi
 }
 
 // Reads a line, and puts its byte strings from a place on, where there is room for as many bytes as the line has.
-fn read_line(line: &[u8], bytes: &mut [u8], at: usize) -> Input
+fn read_line(line: &[u8], bytes: &mut [u8], at: usize) -> Option<Input>
     requires { at + length line.now ≤ length bytes.old }
     ensures bytes_unchanged { (take at bytes.new ≡ take at bytes.old) × (length bytes.new ≡ length bytes.old) }
     ensures by_index { (to : ℕ) → at + length line.now ≤ to → input_in (slice at to bytes.new) result ≡ input_of line.now }
@@ -75,33 +66,34 @@ fn read_line(line: &[u8], bytes: &mut [u8], at: usize) -> Input
     input
 }
 
-// Reads the lines of a script that is not over-long.
-pub(crate) fn read(script: &[u8], bytes: &mut [u8]) -> Entries
-    requires { (length script.now ≤ length bytes.old) × (length script.now ≤ script_limit) }
-    ensures { EntriesOf script.now bytes.new result × (length bytes.new ≡ length bytes.old) }
+// Reads the lines of a script that is not over-long, and says how many they are; nothing where they are too many.
+pub(crate) fn read(
+    script: &[u8],
+    bytes: &mut [u8],
+    entries: &mut [Entry; LINE_COUNT_LIMIT],
+) -> Option<usize>
+    requires { (length script.now ≤ length bytes.old) × (length script.now ≤ script_limit) × (length entries.old ≡ line_count_limit) }
+    ensures { EntriesOf script.now bytes.new entries.new result × (length bytes.new ≡ length bytes.old) }
 {
-    let mut entries = no_entries();
     let mut n = 0;
     let mut at = 0;
+    // Kept: each line begins where the one before it ended; nothing is counted.
     while at < script.len() {
         if n == LINE_COUNT_LIMIT {
-            entries.count = LINE_COUNT_LIMIT + 1;
-            return entries;
+            return None;
         }
         let stop = scan::find(script, at, script.len(), b'\n');
         let input = read_line(&script[at..stop], bytes, at);
         let to = behind(stop, script.len());
-        let entry = Entry {
+        entries[n] = Entry {
             input,
             from: at,
             to,
         };
-        entries.at[n] = entry;
         n += 1;
         at = to;
     }
-    entries.count = n;
-    entries
+    Some(n)
 }
 
 // The place behind the line feed at a place, or the end where there is none.

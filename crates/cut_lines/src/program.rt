@@ -5,7 +5,7 @@ ghost use Rattle.std.specs.Prelude.{◌≡◌, ◌≤◌, length};
 ghost use Rattle.bench.specs.Texts.{placed, placed_at};
 ghost use Rattle.cut_script.specs.Answer.{script_limit, cut_of, written_for};
 
-use super::{Stretch, cut};
+use super::{CutRefusal, cut};
 use bench::{lines, text};
 use bench_input::slice;
 use std::io::Read;
@@ -22,6 +22,7 @@ fn room() -> [u8; INPUT_ROOM]
 // Reads what is left of the input. A loop has to end: it counts its turns up to a number that no run comes to.
 fn read_rest<R: Read>(input: &mut R) {
     let mut rest = io::large_buffer();
+    // Kept: reads of a fixed buffer until none comes, not lines.
     for _ in 0..u64::MAX {
         if lines::read_full(input, &mut rest) == 0 {
             return;
@@ -34,9 +35,9 @@ pub fn put_cut(script: &[u8], out: &mut [u8]) -> usize
     ensures { script_limit ≤ length out.old → placed result out.new ≡ placed_at 0 (written_for script.now (cut_of script.now)) out.old }
 {
     match cut(script) {
-        Stretch::From(place) => text::put(slice(script, place, script.len()), out, 0),
-        Stretch::OverLong => text::put(b"refused 3\n", out, 0),
-        Stretch::NoRefusal => text::put(b"refused 29\n", out, 0),
+        Ok(place) => text::put(slice(script, place, script.len()), out, 0),
+        Err(CutRefusal::OverLong) => text::put(b"refused 3\n", out, 0),
+        Err(CutRefusal::NoRefusal) => text::put(b"refused 29\n", out, 0),
     }
 }
 

@@ -10,11 +10,10 @@ ghost use Rattle.cut_script.specs.Answer.{line_count_limit};
 ghost use Rattle.cut_script.specs.Bench.{is_opening, bench};
 ghost use Rattle.cut_script.specs.Cut.{Shortest};
 ghost use Rattle.cut_lines.specs.Shown.{shown_in};
-ghost use Rattle.cut_lines.specs.Runs.{Acts, Skips, Overtakes, Holds, RunShows, StretchTried, last_shown};
+ghost use Rattle.cut_lines.specs.Runs.{is_call, Acts, Skips, Overtakes, Holds, RunShows, StretchTried, last_shown};
 
-use super::entries::{Entries, Entry};
+use super::entries::Entry;
 use super::shown;
-use super::shown::Shown;
 use bench_input::{Input, slice};
 use bench_session::BUFFER_SIZE;
 use calls::NO_CALL_KIND;
@@ -23,25 +22,26 @@ use engine::running::{Core, Output};
 use engine::session::{Session, Step};
 use errors::Numbered;
 
-fn is_opening(input: Input) -> bool
+fn is_opening(input: Option<Input>) -> bool
     ensures { (b : List ℕ) → is_opening (input_in b input) ≡ result }
 {
-    match input {
-        Input::Call(number, _, _) => number == OPEN_CALL,
-        Input::Event(_, _) => false,
-        Input::Unreadable => false,
-    }
+    matches!(input, Some(Input::Call(OPEN_CALL, _, _)))
+}
+
+fn is_call(input: Option<Input>) -> bool
+    ensures { result ≡ is_call input }
+{
+    matches!(input, Some(Input::Call(_, _, _)))
 }
 
 // A call while another runs is refused at once, and so needs no step.
-fn is_skipped(core: Core, input: Input) -> bool
+fn is_skipped(core: Core, input: Option<Input>) -> bool
     ensures { result ≡ true → Skips core input }
 {
-    let call = core.call;
-    match input {
-        Input::Call(_, _, _) => call.kind != NO_CALL_KIND,
-        Input::Event(_, _) => false,
-        Input::Unreadable => false,
+    if is_call(input) {
+        core.call.kind != NO_CALL_KIND
+    } else {
+        false
     }
 }
 
@@ -50,94 +50,73 @@ fn act(session: Session, entry: Entry, bytes: &[u8]) -> Step
     ensures { Acts session (input_in (slice entry.from entry.to bytes.now) entry.input) result }
 {
     let mut buffer = [0u8; BUFFER_SIZE];
-    let input = entry.input;
     bench_session::step(
         session,
-        input,
+        entry.input,
         slice(bytes, entry.from, entry.to),
         &mut buffer,
     )
 }
 
 // A further opening is taken, behind line `stop`.
-fn is_overtaken(stop: usize, m: usize, input: Input, output: Output) -> bool
+fn is_overtaken(stop: usize, m: usize, input: Option<Input>, output: Output) -> bool
     ensures { result ≡ true → Overtakes stop m input output }
 {
-    if stop < m {
-        if is_opening(input) {
-            return !shown::is_at_once(output);
-        }
-    }
-    false
+    stop < m && is_opening(input) && !shown::is_at_once(output)
 }
 
 // What the last line of the stretch from line `from` on shows. Nothing where an opening behind line `stop` is taken before: the stretch from
 // there on does the same.
-fn run(entries: Entries, from: usize, stop: usize, bytes: &[u8]) -> Shown
-    requires { (from < entries.count) × (entries.count ≤ line_count_limit) }
-    ensures { (xs : List Said) → Holds entries bytes.now xs → RunShows stop xs from result }
+fn run(entries: &[Entry], from: usize, stop: usize, bytes: &[u8]) -> Option<Numbered>
+    requires { from < length entries.now }
+    ensures { (xs : List Said) → Holds entries.now bytes.now xs → RunShows stop xs from result }
 {
-    let last = entries.count - 1;
+    let last = entries.len() - 1;
     let mut session = Session::fresh();
-    let mut m = from;
-    while m < last {
-        let entry = entries.at[m];
-        let input = entry.input;
-        let core = session.core;
-        if is_skipped(core, input) {
-            m += 1;
+    for m in from..last {
+        let entry = entries[m];
+        if is_skipped(session.core, entry.input) {
             continue;
         }
         let step = act(session, entry, bytes);
-        let output = step.output;
-        if is_overtaken(stop, m, input, output) {
-            return Shown::Other;
+        if is_overtaken(stop, m, entry.input, step.output) {
+            return None;
         }
-        let next = step.session;
-        session = next;
-        m += 1;
+        session = step.session;
     }
-    let entry = entries.at[last];
-    let step = act(session, entry, bytes);
-    let output = step.output;
-    Shown::of(output)
+    let step = act(session, entries[last], bytes);
+    shown::refusal_of(step.output)
 }
 
 // What the last line of the whole script shows.
-pub(crate) fn whole(entries: Entries, bytes: &[u8]) -> Shown
-    requires { (0 < entries.count) × (entries.count ≤ line_count_limit) }
-    ensures { (xs : List Said) → Holds entries bytes.now xs → shown_in result ≡ last_shown xs 0 }
+pub(crate) fn whole(entries: &[Entry], bytes: &[u8]) -> Option<Numbered>
+    requires { 0 < length entries.now }
+    ensures { (xs : List Said) → Holds entries.now bytes.now xs → shown_in result ≡ last_shown xs 0 }
 {
-    run(entries, 0, entries.count, bytes)
+    run(entries, 0, entries.len(), bytes)
 }
 
 // The stretch from line i on shows the fault. It need not be run where it begins with no opening and has a line more.
-fn shows(entries: Entries, i: usize, bytes: &[u8], fault: Numbered) -> bool
-    requires { (i < entries.count) × (entries.count ≤ line_count_limit) }
-    ensures { (xs : List Said) → Holds entries bytes.now xs → StretchTried xs i fault result }
+fn shows(entries: &[Entry], i: usize, bytes: &[u8], fault: Numbered) -> bool
+    requires { i < length entries.now }
+    ensures { (xs : List Said) → Holds entries.now bytes.now xs → StretchTried xs i fault result }
 {
-    let entry = entries.at[i];
-    let input = entry.input;
-    if i + 1 < entries.count {
-        if !is_opening(input) {
-            return false;
-        }
+    if i + 1 < entries.len() && !is_opening(entries[i].input) {
+        return false;
     }
-    run(entries, i, i, bytes).is(fault)
+    shown::is(run(entries, i, i, bytes), fault)
 }
 
 // The line at which the shortest stretch starts: the script's last lines are tried one after the other, and its first one is left.
-pub(crate) fn shortest(entries: Entries, bytes: &[u8], fault: Numbered) -> usize
-    requires { (0 < entries.count) × (entries.count ≤ line_count_limit) }
-    ensures upper_bound { result < entries.count }
-    ensures shortest { (xs : List Said) → Holds entries bytes.now xs → last_shown xs 0 ≡ some fault → Shortest bench xs (length xs - result) }
+pub(crate) fn shortest(entries: &[Entry], bytes: &[u8], fault: Numbered) -> usize
+    requires { 0 < length entries.now }
+    ensures upper_bound { result < length entries.now }
+    ensures shortest { (xs : List Said) → Holds entries.now bytes.now xs → last_shown xs 0 ≡ some fault → Shortest bench xs (length xs - result) }
 {
-    let mut i = entries.count - 1;
-    while 0 < i {
+    for i in (1..entries.len()).rev() {
         if shows(entries, i, bytes, fault) {
             return i;
         }
-        i -= 1;
     }
     0
 }

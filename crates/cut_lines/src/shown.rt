@@ -9,37 +9,30 @@ ghost use Rattle.cut_lines.specs.Shown.{shown_in, refused_by, at_once_by};
 use engine::running::Output;
 use errors::{CARD_STATUS_NUMBER, Numbered, STATUS_NUMBER};
 
-// A refusal, a list's without the number of codes finished; or anything else.
-#[derive(Clone, Copy)]
-pub enum Shown {
-    Refusal(Numbered),
-    Other,
+// The refusal that an output is, a list's without the number of codes finished.
+pub(crate) fn refusal_of(output: Output) -> Option<Numbered>
+    ensures { shown_in result ≡ refused_by output }
+{
+    match output {
+        Output::Failed(fault) => Some(Numbered::from(fault)),
+        Output::FailedAfter(fault, _) => Some(Numbered::from(fault)),
+        Output::Refused(refusal) => Some(Numbered::from(refusal)),
+        _ => None,
+    }
 }
 
-impl Shown {
-    pub(crate) fn of(output: Output) -> Shown
-        ensures { shown_in result ≡ refused_by output }
-    {
-        match output {
-            Output::Failed(fault) => Shown::Refusal(fault.numbered()),
-            Output::FailedAfter(fault, _) => Shown::Refusal(fault.numbered()),
-            Output::Refused(refusal) => Shown::Refusal(refusal.numbered()),
-            _ => Shown::Other,
-        }
-    }
-
-    // The same refusal as another.
-    pub(crate) fn is(self, fault: Numbered) -> bool
-        ensures { result ≡ same_refusal (some fault) (shown_in self) }
-    {
-        match self {
-            Shown::Refusal(numbered) => same(fault, numbered),
-            Shown::Other => false,
-        }
+// The same refusal as another.
+pub(crate) fn is(shown: Option<Numbered>, fault: Numbered) -> bool
+    ensures { result ≡ same_refusal (some fault) (shown_in shown) }
+{
+    match shown {
+        Some(numbered) => same(fault, numbered),
+        None => false,
     }
 }
 
 // The same number, of 15 the same status, of 20 the same two flags.
+// Kept: not the derived equality: of a number other than 15 and 20 the status bytes count for nothing.
 fn same(a: Numbered, b: Numbered) -> bool
     ensures { result ≡ same_numbered a b }
 {
@@ -62,8 +55,5 @@ fn same(a: Numbered, b: Numbered) -> bool
 pub(crate) fn is_at_once(output: Output) -> bool
     ensures { result ≡ at_once_by output }
 {
-    match output {
-        Output::Refused(_) => true,
-        _ => false,
-    }
+    matches!(output, Output::Refused(_))
 }

@@ -2,20 +2,13 @@
 // each: where its stretch starts, or the refusal.
 #![tactic(auto)]
 
-ghost use Rattle.std.specs.Prelude.{◌≡◌, ◌≤◌, ◌<◌, length};
+ghost use Rattle.std.specs.Prelude.{◌≡◌, ◌<◌, length};
 
 use bench::lines;
-use cut_lines::{Stretch, cut};
+use cut_lines::cut;
 use std::io::Result;
 
 const INPUT_ROOM: usize = 524288;
-
-// The number on the line that begins at a place, and the place behind the line.
-#[derive(Clone, Copy)]
-struct Header {
-    len: usize,
-    behind: usize,
-}
 
 fn room() -> [u8; INPUT_ROOM]
     ensures { 524288 ≡ length result }
@@ -23,56 +16,41 @@ fn room() -> [u8; INPUT_ROOM]
     [0; INPUT_ROOM]
 }
 
-fn digit(b: u8) -> usize
-    ensures { result ≤ 255 }
-{
-    if b < b'0' { 0 } else { (b - b'0') as usize }
+// The number that the bytes write; one that grows too large stays as it is.
+fn number(digits: &[u8]) -> usize {
+    digits.iter().fold(0, |n, digit| {
+        if n < INPUT_ROOM {
+            n * 10 + usize::from(digit.saturating_sub(b'0'))
+        } else {
+            n
+        }
+    })
 }
 
-// Reads a number up to a line feed; one that grows too large stays as it is.
-fn read_header(input: &[u8], start: usize) -> Header
-    ensures { start < length input.now → start < result.behind }
+// The number on the first line, and what stands behind the line.
+fn split_header(input: &[u8]) -> (usize, &[u8])
+    ensures { 0 < length input.now → length result.1.now < length input.now }
 {
-    let mut len = 0;
-    let mut at = start;
-    while at < input.len() {
-        let b = input[at];
-        if b < b'0' {
-            return Header {
-                len,
-                behind: at + 1,
-            };
-        }
-        if len < INPUT_ROOM {
-            len = len * 10 + digit(b);
-        }
-        at += 1;
-    }
-    Header { len, behind: at }
-}
-
-fn write_stretch(rt: &impl Print, stretch: Stretch) -> Result<()> {
-    match stretch {
-        Stretch::From(place) => rt.println(place),
-        Stretch::OverLong => rt.println("refused 3"),
-        Stretch::NoRefusal => rt.println("refused 29"),
+    match input.iter().position(|b| *b < b'0') {
+        Some(end) => (number(&input[..end]), &input[end + 1..]),
+        None => (number(input), &[]),
     }
 }
 
 fn write_cuts(rt: &impl Print, input: &[u8]) -> Result<()> {
-    let mut at = 0;
-    while at < input.len() {
-        let header = read_header(input, at);
-        let from = header.behind;
-        if input.len() < from {
+    let mut rest = input;
+    // Kept: each script says how long it is; nothing is counted.
+    while !rest.is_empty() {
+        let (len, behind) = split_header(rest);
+        if behind.len() < len {
             return Ok(());
         }
-        if input.len() - from < header.len {
-            return Ok(());
+        let (script, next) = behind.split_at(len);
+        match cut(script) {
+            Ok(place) => rt.println(place)?,
+            Err(refusal) => rt.println(refusal)?,
         }
-        let to = from + header.len;
-        write_stretch(rt, cut(&input[from..to]))?;
-        at = to;
+        rest = next;
     }
     Ok(())
 }

@@ -1,7 +1,7 @@
 -- Read and Write Without Encryption: how each starts, and its answers. The pending command is the request.
 use Rattle.std.proofs.Math.Path.{◌≡◌, refl, ap}
 use Rattle.std.proofs.Common.{sym, arith}
-use Rattle.std.specs.Prelude.{Bool, List, [], ◌++◌, ℕ, ◌+◌, ◌-◌, ◌≤◌}
+use Rattle.std.specs.Prelude.{Bool, List, [], ◌++◌, ℕ, ◌≤◌, Result, Ok, Err}
 use Rattle.std.proofs.Math.Bool.{true, false}
 use borrow.Author.Tests.{le-ltb}
 use Rattle.std.proofs.Math.Dec.{ltb}
@@ -15,8 +15,7 @@ use Rattle.felica.specs.Packets.{read_request_of, write_request_of, read_code, w
 use Rattle.felica.specs.Fields.{idm_in, count_in}
 use Rattle.felica.specs.Checks.{read_check, write_check}
 use Rattle.felica.specs.Laid.{request-length, fits_idm, fits_few, write_idm, write_few as felica_few, write_few_bytes}
-use Rattle.felica.specs.declared.check.Checked.{Checked}
-use Rattle.felica.specs.declared.check.Checked.TheVariants.{Good, Faulty}
+use Rattle.errors.specs.declared.Fault.{Fault}
 use Rattle.protocol.specs.Blocks.{response_blocks_offset}
 use Rattle.protocol.specs.Calls.{in_communicate_thru_code}
 use Rattle.protocol.specs.Scripts.{Answer, done, refused}
@@ -39,9 +38,9 @@ unfoldable pub write_first : List ℕ → ℕ → List ℕ → List ℕ → ℕ 
 write_first idm service blocks bytes ms = thru_if (write_fits_of idm blocks bytes) write_blocks_kind ms (write_request_of idm service blocks bytes)
 
 -- the response from a place on where the reply is good; else its fault
-abbrev pub if_good : ℕ → List ℕ → Checked → Answer ℕ
-if_good start bs Good = done (drop start bs)
-if_good start bs (Faulty r) = refused r
+abbrev pub if_good : ℕ → List ℕ → Result (Unit {0}) Fault → Answer ℕ
+if_good start bs (Ok v) = done (drop start bs)
+if_good start bs (Err r) = refused r
 
 -- the reply stands behind the status byte; a write has no bytes
 unfoldable pub read_answer : List ℕ → List ℕ → Answer ℕ
@@ -58,7 +57,7 @@ returned_number (refused_with y) = y.number
 
 -- a request that was built, or refused
 module _ (c₀ c₁ p : List ℕ) where
-  pub built_sent : (n kind ms : ℕ) (r : code.Start) (fits : Bool) → (fits ≡ true → (length p ≤ data_limit) × (length p ≤ length c₀)) → left (answered n) c₁ ≡ built_of fits p c₀
+  pub built_sent : (n kind ms : ℕ) (r : Result code.Start Refusal) (fits : Bool) → (fits ≡ true → (length p ≤ data_limit) × (length p ≤ length c₀)) → left (answered n) c₁ ≡ built_of fits p c₀
       → ((c d l : List ℕ) → Joins n c d l → Starts r c d (limited kind (cmd in_communicate_thru_code ms l))) → Starts r c₀ c₁ (thru_if fits kind ms p)
   unfolding built_of put_frame asserted pick
   built_sent n kind ms r true few e k =
@@ -70,7 +69,7 @@ module _ (c₀ c₁ p : List ℕ) where
       short_command r c₀ c₁ kind (cmd in_communicate_thru_code ms p) (few refl).0 (k c₀ c₁ p (joins_within n c₀ c₁ p (few refl).0 record { count = m; is = b }))
   built_sent n kind ms r false few e k = absurd (let z : 0 ≡ 4 = ap (λ l. returned_number l.result) e in omega (arith, z))
 
-  pub built_refused : (x : Refusal) (kind ms : ℕ) (r : code.Start) (fits : Bool) → (fits ≡ true → (length p ≤ data_limit) × (length p ≤ length c₀))
+  pub built_refused : (x : Refusal) (kind ms : ℕ) (r : Result code.Start Refusal) (fits : Bool) → (fits ≡ true → (length p ≤ data_limit) × (length p ≤ length c₀))
       → left (refused_with (numbered x)) c₁ ≡ built_of fits p c₀ → ((c : List ℕ) → Starts r c c (refuses x)) → Starts r c₀ c₁ (thru_if fits kind ms p)
   unfolding built_of put_frame asserted pick
   built_refused x kind ms r true few e k =
@@ -92,7 +91,7 @@ module _ (c₀ c₁ p : List ℕ) where
       bad NotSendable h = absurd (omega (arith, h))
 
 -- the clock as a call answered it
-pub thru_clock : (r : code.Start) (c₀ c₁ p : List ℕ) (fits : Bool) (kind ms m : ℕ) → ms ≡ m → Starts r c₀ c₁ (thru_if fits kind ms p) → Starts r c₀ c₁ (thru_if fits kind m p)
+pub thru_clock : (r : Result code.Start Refusal) (c₀ c₁ p : List ℕ) (fits : Bool) (kind ms m : ℕ) → ms ≡ m → Starts r c₀ c₁ (thru_if fits kind ms p) → Starts r c₀ c₁ (thru_if fits kind m p)
 thru_clock r c₀ c₁ p fits kind ms m e h = rw (← e) h
 
 -- a request fits the pending command

@@ -1,5 +1,6 @@
 -- transceive: how it starts, and its answers.
-use Rattle.std.specs.Prelude.{◌≡◌, refl, Bool, true, false, ◌&&◌, List, [], ◌∷◌, ℕ, ◌-◌, ◌/◌, ◌%◌, ◌≤◌, eqb, ltb, length, take, drop, get_or}
+use Rattle.std.specs.Prelude.{◌≡◌, refl, Bool, true, false, ◌&&◌, List, [], ◌∷◌, ℕ, ◌-◌, ◌/◌, ◌%◌, ◌≤◌, eqb, ltb, length, take, drop, get_or, Some, None, Result}
+use Rattle.std.specs.Prelude as given
 use Rattle.std.proofs.Common.{sym, ap, ◌∙◌, arith, length-drop, take_all}
 use Rattle.std.proofs.Math.Option.{Option, none, some}
 use Rattle.errors.specs.Choice.{pick}
@@ -7,25 +8,21 @@ use Rattle.errors.specs.declared.Fault.TheVariants.{Status, CrcA}
 use Rattle.errors.specs.declared.Refusal.TheVariants.{NotSendable, Bitrate as BadBitrate}
 use Rattle.crc.specs.Crc.{type_a as crc_a, checks}
 use Rattle.targets.specs.Bitrates.{choice_of, by_bitrate}
-use Rattle.targets.specs.TypeA.{is_type2}
 use Rattle.targets.specs.declared.Bitrate.{Bitrate}
 use Rattle.protocol.specs.Scripts.{Answer, done, refused}
 use Rattle.protocol.specs.Rules.{masked_status}
 use Rattle.protocol.specs.Starts.{is106a, type2_sel_res, is_sendable}
-use Rattle.stages.specs.Stages.{Command, cmd}
-use Rattle.stages.specs.Starts.{Start, refuses, limited, Starts}
-use Rattle.stages.specs.declared.start.Start as code
+use Rattle.stages.specs.Stages.{cmd}
+use Rattle.stages.specs.Starts.{Start, refuses, limited}
 use Rattle.chipset.specs.Responses.{with_status}
-use Rattle.device.specs.declared.transceive.Timeout.{Timeout}
-use Rattle.device.specs.declared.transceive.Timeout.TheVariants.{Standard, Ms}
 use Rattle.protocol.specs.Calls.{in_communicate_thru_code, in_data_exchange_code}
 use Rattle.protocol.specs.Names.{no_data, target_number}
 use Rattle.chipset.specs.Kinds.{thru_kind}
 use Rattle.device.specs.Kinds.{type2_kind, type1_kind}
 
-abbrev pub timeout_of : Timeout → Option ℕ
-timeout_of Standard = none
-timeout_of (Ms ms) = some ms
+abbrev pub timeout_of : given.Option ℕ → Option ℕ
+timeout_of None = none
+timeout_of (Some ms) = some ms
 
 -- by the kind of target; any other is in_communicate_thru's
 unfoldable pub type1_first : List ℕ → ℕ → Start
@@ -48,33 +45,6 @@ type1_answer bs =
     pick (eqb (length bs) 0) (refused (Status no_data)) (pick (eqb (masked_status bs) 0) (done (drop 1 bs)) (refused (Status (masked_status bs))))
 
 -- ---- laws
-
-pub no_sel_res : (l : List ℕ) → length l ≡ 0 → false ≡ type2_sel_res l
-no_sel_res [] h = refl
-no_sel_res (x ∷ l) h = absurd (omega arith)
-
-pub sel_res : (l : List ℕ) → (r : Bool) → (length l ≡ 0 → ⊥) → r ≡ is_type2 (get_or l 0 0) → r ≡ type2_sel_res l
-sel_res [] r h e = absurd (h refl)
-sel_res (x ∷ l) r h e = e
-
-module _ (r : code.Start) (c₀ c₁ : List ℕ) (c : Command) (t : Bool) where
-  pub kind_type2 : t ≡ true → Starts r c₀ c₁ (limited type2_kind c) → Starts r c₀ c₁ (limited (pick t type2_kind thru_kind) c)
-  unfolding pick
-  kind_type2 h e = rw h e
-
-  pub kind_thru : t ≡ false → Starts r c₀ c₁ (limited thru_kind c) → Starts r c₀ c₁ (limited (pick t type2_kind thru_kind) c)
-  unfolding pick
-  kind_thru h e = rw h e
-
--- the clock as a call answered it
-module _ (r : code.Start) (c₀ c₁ : List ℕ) (rate : Bitrate) (selRes bytes : List ℕ) (ms m : ℕ) (clock : ms ≡ m) where
-  pub as_type1 : (rid : Bool) → rid ≡ true → Starts r c₀ c₁ (type1_first bytes ms) → Starts r c₀ c₁ (pick rid (type1_first bytes m) (thru_first rate selRes bytes m))
-  unfolding pick
-  as_type1 rid h s = rw (h, ← clock) s
-
-  pub as_thru : (rid : Bool) → rid ≡ false → Starts r c₀ c₁ (thru_first rate selRes bytes ms) → Starts r c₀ c₁ (pick rid (type1_first bytes m) (thru_first rate selRes bytes m))
-  unfolding pick
-  as_thru rid h s = rw (h, ← clock) s
 
 -- the check of a reply, which stands behind the status byte
 pub check_known : (bs : List ℕ) (r t : Bool) → r ≡ checks crc_a (take (length bs - 1) (drop 1 bs)) → r ≡ t → checks crc_a (drop 1 bs) ≡ t

@@ -1,26 +1,28 @@
 // The opening (`Device::new` of device.rs): the command of each stage, and what follows each reply. transceive and the FeliCa blocks have files of their own.
-#![tactic(auto)]
+#![tactic(auto, using(errors::specs::Rules::picked), unfolding(errors::specs::Choice::pick, protocol::specs::Device::hex_digit_of, crate::specs::Opening::is_reset_stage, crate::specs::Opening::opening_command, crate::specs::Opening::settings_command, crate::specs::Opening::version_kept, crate::specs::Opening::opening_decision, stages::specs::Stages::with_length))]
 
 pub mod blocks;
 pub mod transceive;
 
-ghost use Rattle.std.specs.Prelude.{List, ◌≡◌, ℕ, ◌≤◌, ◌<◌, take};
+ghost use Rattle.std.specs.Prelude.{List, ◌++◌, ◌≡◌, ℕ, ◌≤◌, ◌<◌, length, take};
 ghost use Rattle.protocol.specs.Names.{command_clock};
 ghost use Rattle.protocol.specs.Calls.{rf_configuration_code};
 ghost use Rattle.stages.specs.Stages.{cmd};
-ghost use Rattle.stages.specs.Decided.{tail_bytes, DecisionRefines, Commands, fixed_limit, tail_limit};
+ghost use Rattle.stages.specs.Decided.{Lays, DecisionRefines, Commands, fixed_limit};
 ghost use Rattle.device.specs.Opening.{opening_command, settings_command, is_reset_stage, version_kept, opening_decision};
-ghost use Rattle.protocol.specs.Device.{hex_digit_of, dotted, name_bytes};
+ghost use Rattle.protocol.specs.Device.{hex_digit_of, name_prefix, name_bytes};
 
 use chipset::{ciu, clock, general, registers};
 use errors::Fault;
 use general::{
     ANALOG_106A_ITEM, ATR_RES_TIMEOUTS, FIELD_OFF, MAX_RETRIES_ITEM, MAX_RTY_COM_ITEM,
-    RF_FIELD_ITEM, VERSION_NEED,
+    RF_FIELD_ITEM,
 };
-use stages::{Command, Decision, FIXED_LIMIT, Layout, Tail};
+use stages::put::append;
+use stages::{Command, Decision, FIXED_LIMIT, Layout};
 
 // The kind of the opening; the other kinds are of chipset and discovery.
+// Kept: a kind is a byte of the session, where any byte may stand, and the theorems speak of every number.
 pub const OPENING_KIND: u8 = 1;
 
 // The RF settings for 106A, behind their item.
@@ -40,6 +42,7 @@ const RF_106A: [u8; FIXED_LIMIT] = [
 ];
 
 // The stages.
+// Kept: a stage is a byte of the session, where any byte may stand, and the theorems speak of every number.
 const RESET_STAGE: u8 = 0;
 
 const VERSION_STAGE: u8 = 1;
@@ -66,16 +69,11 @@ const OPENING_RF_CFG: u8 = 0x59;
 // The parameters that the opening sets.
 const OPENING_PARAMETERS: u8 = 0x08;
 
-// An RF configuration of an item, with the first `len` of the bytes.
-fn configured(bytes: [u8; FIXED_LIMIT], len: usize) -> Command
-    ensures { len ≤ fixed_limit → Commands result (λ pending. cmd rf_configuration_code command_clock (take len bytes)) }
+// An RF configuration of an item, with its bytes.
+fn configured(bytes: &[u8]) -> Command
+    ensures { length bytes.now ≤ fixed_limit → Commands result (λ pending. cmd rf_configuration_code command_clock bytes.now) }
 {
-    Command::fixed(
-        general::RF_CONFIGURATION_CODE,
-        clock::COMMAND_CLOCK,
-        bytes,
-        len,
-    )
+    Command::fixed(general::RF_CONFIGURATION_CODE, clock::COMMAND_CLOCK, bytes)
 }
 
 // The commands of Device::new, one for each stage.
@@ -87,12 +85,11 @@ pub fn command(stage: u8) -> Command
         VERSION_STAGE => Command::fixed(
             general::GET_FIRMWARE_VERSION_CODE,
             clock::COMMAND_CLOCK,
-            [0; FIXED_LIMIT],
-            0,
+            &[],
         ),
-        FIELD_OFF_STAGE => configured([RF_FIELD_ITEM, FIELD_OFF, 0, 0, 0, 0, 0, 0, 0, 0, 0, 0], 2),
-        TIMEOUTS_STAGE => configured(ATR_RES_TIMEOUTS, 4),
-        MAX_RTY_COM_STAGE => configured([MAX_RTY_COM_ITEM, 0x00, 0, 0, 0, 0, 0, 0, 0, 0, 0, 0], 2),
+        FIELD_OFF_STAGE => configured(&[RF_FIELD_ITEM, FIELD_OFF]),
+        TIMEOUTS_STAGE => configured(&ATR_RES_TIMEOUTS),
+        MAX_RTY_COM_STAGE => configured(&[MAX_RTY_COM_ITEM, 0x00]),
         _ => settings(stage),
     }
 }
@@ -102,16 +99,12 @@ fn settings(stage: u8) -> Command
     ensures { Commands result (settings_command stage) }
 {
     match stage {
-        MAX_RETRIES_STAGE => configured(
-            [MAX_RETRIES_ITEM, 0x00, 0x00, 0x01, 0, 0, 0, 0, 0, 0, 0, 0],
-            4,
-        ),
-        ANALOG_STAGE => configured(RF_106A, 12),
+        MAX_RETRIES_STAGE => configured(&[MAX_RETRIES_ITEM, 0x00, 0x00, 0x01]),
+        ANALOG_STAGE => configured(&RF_106A),
         PARAMETERS_STAGE => Command::fixed(
             general::SET_PARAMETERS_CODE,
             clock::COMMAND_CLOCK,
-            [OPENING_PARAMETERS, 0, 0, 0, 0, 0, 0, 0, 0, 0, 0, 0],
-            1,
+            &[OPENING_PARAMETERS],
         ),
         RESET_AGAIN_STAGE => general::reset_mode_command(),
         _ => registers::write_single_register_command(ciu::RF_CFG_RAM07, OPENING_RF_CFG),
@@ -122,14 +115,11 @@ fn settings(stage: u8) -> Command
 pub fn is_reset(stage: u8) -> bool
     ensures { result ≡ is_reset_stage stage }
 {
-    if stage == RESET_STAGE {
-        true
-    } else {
-        stage == RESET_AGAIN_STAGE
-    }
+    matches!(stage, RESET_STAGE | RESET_AGAIN_STAGE)
 }
 
 // A lower-case hex digit.
+// Kept: `char::from_digit` gives an Option of a char, to be opened and made a byte again, and `{:x}` wants a writer over the array.
 fn hex_digit(n: u8) -> u8
     requires { n < 16 }
     ensures { result ≡ hex_digit_of n }
@@ -137,65 +127,28 @@ fn hex_digit(n: u8) -> u8
     if n < 10 { 0x30 + n } else { 0x57 + n }
 }
 
-// Version, a dot, revision: the first `len` of the bytes.
-#[derive(Clone, Copy)]
-struct Suffix {
-    bytes: [u8; 5],
-    len: usize,
+// The three version bytes of the response, and RCS956v with the dotted numbers.
+fn named(dotted: &[u8]) -> Layout
+    ensures { (f b : List ℕ) → 3 ≤ length b → length dotted.now ≤ 5 → Lays f b result (take 3 b ++ (name_prefix ++ dotted.now)) }
+{
+    let mut name = *b"RCS956v\0\0\0\0\0";
+    let n = append(dotted, &mut name, 7);
+    Layout::tailed(0, 3, &name[..n])
 }
 
-fn dotted(version: u8, revision: u8) -> Suffix
-    ensures { (take result.len result.bytes ≡ dotted version revision) × (result.len ≤ 5) }
+// The same with version, a dot, and revision.
+fn chipset_name(version: u8, revision: u8) -> Layout
+    ensures { (f b : List ℕ) → 3 ≤ length b → Lays f b result (take 3 b ++ name_bytes version revision) }
 {
     let high = hex_digit(version / 16);
     let low = hex_digit(version % 16);
     let tens = hex_digit(revision / 16);
     let ones = hex_digit(revision % 16);
-    if version < 16 {
-        if revision < 16 {
-            Suffix {
-                bytes: [low, b'.', ones, 0, 0],
-                len: 3,
-            }
-        } else {
-            Suffix {
-                bytes: [low, b'.', tens, ones, 0],
-                len: 4,
-            }
-        }
-    } else {
-        if revision < 16 {
-            Suffix {
-                bytes: [high, low, b'.', ones, 0],
-                len: 4,
-            }
-        } else {
-            Suffix {
-                bytes: [high, low, b'.', tens, ones],
-                len: 5,
-            }
-        }
-    }
-}
-
-// RCS956v, version, a dot and revision: the first `len` of the bytes.
-#[derive(Clone, Copy)]
-struct Named {
-    tail: Tail,
-    len: usize,
-}
-
-fn chipset_name(version: u8, revision: u8) -> Named
-    ensures { (take result.len (tail_bytes result.tail) ≡ name_bytes version revision) × (result.len ≤ tail_limit) }
-{
-    let suffix = dotted(version, revision);
-    let d = suffix.bytes;
-    let tail = Tail(
-        b'R', b'C', b'S', b'9', b'5', b'6', b'v', d[0], d[1], d[2], d[3], d[4],
-    );
-    Named {
-        tail,
-        len: 7 + suffix.len,
+    match (version < 16, revision < 16) {
+        (true, true) => named(&[low, b'.', ones]),
+        (true, false) => named(&[low, b'.', tens, ones]),
+        (false, true) => named(&[high, low, b'.', ones]),
+        (false, false) => named(&[high, low, b'.', tens, ones]),
     }
 }
 
@@ -203,24 +156,19 @@ fn chipset_name(version: u8, revision: u8) -> Named
 fn version(response: &[u8]) -> Decision
     ensures { (f : List ℕ) → DecisionRefines f response.now result (version_kept response.now) }
 {
-    if response.len() < VERSION_NEED {
+    let [_, version, revision, _, ..] = response else {
         return Decision::Refused(Fault::ShortResponse);
-    }
-    let name = chipset_name(response[1], response[2]);
-    let tail = name.tail;
-    Decision::Keep(FIELD_OFF_STAGE, Layout::tailed(0, 3, tail, name.len))
+    };
+    Decision::Keep(FIELD_OFF_STAGE, chipset_name(*version, *revision))
 }
 
 // What follows a response, or a reset; `found` is the answer once the version is known.
 pub fn decided(stage: u8, found: &[u8], response: &[u8]) -> Decision
     ensures { DecisionRefines found.now response.now result (opening_decision stage found.now response.now) }
 {
-    if stage == VERSION_STAGE {
-        return version(response);
-    }
-    if stage < RF_CFG_STAGE {
-        Decision::Send(stage + 1)
-    } else {
-        registers::found_written(found, response)
+    match stage {
+        VERSION_STAGE => version(response),
+        RESET_STAGE..RF_CFG_STAGE => Decision::Send(stage + 1),
+        _ => registers::found_written(found, response),
     }
 }

@@ -1,35 +1,21 @@
 -- What the arm for all other variants, or for several numbers, knows.
 use mathlib.Core.Path.{◌≡◌, refl, ap}
-use mathlib.Core.Bool.{true, false, ◌||◌}
-use mathlib.Core.List.{List, [], ◌∷◌}
-use mathlib.Core.Logic.{inl, inr}
-use mathlib.Core.Option.{none}
+use mathlib.Core.List.{List}
+use mathlib.Core.Logic.{◌⊎◌, inl, inr}
+use lib.ListN.{take, drop}
+use Rattle.protocol.specs.Scripts.{done}
+use Rattle.stages.specs.Stages.{ends}
 use Prim.Native.Nat.{ℕ}
-use borrow.Author.Tests.{ne_eqb}
-use lib.Dec.{eqb}
-use types.Run.{OneOf, miss}
 use Rattle.errors.specs.Refusals.{by_status}
 use Rattle.errors.specs.declared.Fault.{Fault}
 use Rattle.errors.specs.declared.Fault.TheVariants.{Transport, TimeOut, FalseStart, BrokenFrame, Length, FrameKind, Identifier, Code, Status, ShortResponse, NoCard, CrcA, Rate, CardStatus, OtherCard, UidLayout}
 use Rattle.stages.specs.Stages as stages
-use Rattle.stages.specs.Decided.{DecisionRefines}
+use Rattle.stages.specs.Decided.{decision_in, layout_bytes, DecisionRefines}
 use Rattle.stages.specs.declared.Decision.{Decision}
 use Rattle.stages.specs.declared.Layout.{Layout}
 use Rattle.stages.specs.declared.Decision.TheVariants.{Send, Keep, Next, Put, Pause, Done, Part, Type1, UidAndAts, Nothing, Refused, RefusedAfter}
-use Rattle.targets.specs.declared.Bitrate.{Bitrate}
-use Rattle.targets.specs.declared.Bitrate.TheVariants.{B106A, B212F, B424F, B106B, B212B, B424B, B848B, Other}
-use Rattle.targets.specs.contracts.Bitrate.{the_type}
 use Rattle.protocol.specs.Discovery.{by_no_card}
-use Rattle.protocol.specs.Starts.{type_a_code, type_b_code, type_f_code, dep_code}
 use Rattle.discovery.specs.Decisions.{on_end}
-
--- the status bytes 01 and 0A
-pub no_partner-known : (x : ℕ) → OneOf (1 ∷ 10 ∷ []) x → (eqb x 1 || eqb x 10) ≡ true
-no_partner-known x (inl e) = rw e
-no_partner-known x (inr e) = rw e
-
-pub partner-known : (x : ℕ) → (OneOf (1 ∷ 10 ∷ []) x → ⊥) → (eqb x 1 || eqb x 10) ≡ false
-partner-known x h = rw (ne_eqb x 1 (λ e. h (inl e)), ne_eqb x 10 (λ e. h (inr e)))
 
 -- no status
 pub not_status : {A : Type 0} (f : ℕ → A) (a : A) (fault : Fault) → ((s : ℕ) → fault ≡ Status s → ⊥) → by_status f a fault ≡ a
@@ -68,6 +54,11 @@ not_no_card x a Rate h = refl
 not_no_card x a (CardStatus s t) h = refl
 not_no_card x a OtherCard h = refl
 not_no_card x a UidLayout h = refl
+
+-- an end with bytes
+pub given_bytes : (f b : List ℕ) (d : Decision) → ((x : Layout) × d ≡ Done x) ⊎ ((s n : ℕ) × d ≡ Part s n) → (bytes : List ℕ) × decision_in f b d ≡ ends (done bytes)
+given_bytes f b d (inl h) = (layout_bytes f b h.0, ap (decision_in f b) h.1)
+given_bytes f b d (inr h) = (take h.1 (drop h.0 b), ap (decision_in f b) h.2)
 
 -- no end with bytes or with a fault
 pub not_ended : (f b : List ℕ) (F : List ℕ → stages.Decision) (G : Fault → stages.Decision) (r : Decision) (d : stages.Decision)

@@ -12,9 +12,13 @@ use Rattle.protocol.specs.Arguments.{word}
 use Rattle.protocol.specs.Discovery.{uid_length, ats_length, by_no_card, system_code_req}
 use Rattle.chipset.specs.Responses.{found_written_of}
 use Rattle.stages.specs.Stages.{Command, cmd, Decision, send, keep, next, put, pause, ends, refuse, with_length}
-use Rattle.protocol.specs.Names.{ciu_fifo_data, ciu_mode, ciu_rx_mode, ciu_tx_control, command_clock, field_pause_time, in_jump_for_dep_clock, in_list_passive_target_clock, register_write_failed, registers_clock, rf_not_activated, rid_clock, timeout_status, type_b_clock, deselect_code, idm_and_pmm, listed_idm_offset, pmm_end, protocol_offset, rid_code, sel_res_offset, sens_req, sens_res_offset, target_offset, uid_offset, wupb_code, wupb_parameter, rf_field_item, field_on, timeouts_item, timeouts, rx_crc_en, no_detect_sync, atr_res_cmd0, atr_res_cmd1, one_target, target_number, code_type1, card_mark, no_card_mark, rid_data, tx_rf_en}
+use Rattle.protocol.specs.Names.{ciu_fifo_data, ciu_mode, ciu_rx_mode, ciu_tx_control, command_clock, field_pause_time, in_jump_for_dep_clock, in_list_passive_target_clock, register_write_failed, registers_clock, rf_not_activated, rid_clock, timeout_status, type_b_clock, deselect_code, idm_and_pmm, listed_idm_offset, pmm_end, protocol_offset, sel_res_offset, sens_req, sens_res_offset, target_offset, uid_offset, wupb_code, wupb_parameter, rf_field_item, field_on, timeouts_item, timeouts, rx_crc_en, no_detect_sync, atr_res_cmd0, atr_res_cmd1, one_target, target_number, code_type1, card_mark, no_card_mark, rid_data, tx_rf_en}
 use Rattle.protocol.specs.Calls.{in_communicate_thru_code, in_data_exchange_code, in_jump_for_dep_code, in_list_passive_target_code, read_register_code, rf_configuration_code, write_register_code}
 use Rattle.discovery.specs.Kinds.{list_stage, fifo_stage, list_type1_stage, rid_stage, read_rx_mode_stage, write_rx_mode_stage, deselect_stage, wake_up_stage, field_stage, rf_on_stage, poll_stage, dep_timeouts_stage, jump_stage, write_mode_stage}
+
+-- a list: without a target x, nothing where it is under n bytes, and else y
+unfoldable pub by_target : ℕ → Decision → Decision → List ℕ → Decision
+by_target n x y bs = pick (eqb (get_or bs 0 0) 0) x (with_length bs 2 (pick (ltb (length bs) n) (ends nothing) y))
 
 -- ---- Type A
 
@@ -30,11 +34,13 @@ type_a_command stage pending =
 abbrev pub card_bytes : List ℕ → List ℕ
 card_bytes list = get_or list (sens_res_offset + 1) 0 ∷ get_or list sens_res_offset 0 ∷ get_or list sel_res_offset 0 ∷ drop uid_offset list
 
+-- a listed target: of a Type 2 tag the RX mode is set before it is handed out
+abbrev pub card_found_of : List ℕ → Decision
+card_found_of bs = pick (is_type2 (get_or bs sel_res_offset 0)) (keep read_rx_mode_stage (card_bytes bs)) (ends (done (card_bytes bs)))
+
 unfoldable pub listed_a_of : List ℕ → Decision
 listed_a_of bs =
-    pick (eqb (get_or bs 0 0) 0) (send fifo_stage)
-    (with_length bs 2
-    (pick (ltb (length bs) uid_offset) (ends nothing) (pick (is_type2 (get_or bs sel_res_offset 0)) (keep read_rx_mode_stage (card_bytes bs)) (ends (done (card_bytes bs))))))
+    pick (eqb (get_or bs 0 0) 0) (send fifo_stage) (with_length bs 2 (pick (ltb (length bs) uid_offset) (ends nothing) (card_found_of bs)))
 
 unfoldable pub fifo_read : List ℕ → Decision
 fifo_read bs = pick (eqb (get_or bs 0 0) sens_req) (ends nothing) (send list_type1_stage)

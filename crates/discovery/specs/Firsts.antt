@@ -1,18 +1,16 @@
 -- How each discovery starts: the bytes that are put by for its stages, or its refusal at once.
 use Rattle.std.specs.Prelude.{true, ◌≡◌, List, [], ◌∷◌, ℕ, take, drop}
-use Rattle.std.proofs.Math.Option.{Option, none, some}
+use Rattle.std.specs.Prelude.{Option, Some, None, Result, Ok, Err}
+use Rattle.std.proofs.Math.Option.{Option as Maybe, none, some}
 use Rattle.protocol.specs.Arguments.{jump_data, system_codes_fit, atr_req_fits, shortest_atr_req, nfcid3_size, active_byte, nfcid3_offset}
 use Rattle.protocol.specs.Discovery.{cascaded}
 use Rattle.protocol.specs.Starts.{type_f_code, dep_code}
 use Rattle.stages.specs.Starts.{Start, staged, staged_limited, asserted, refuses}
 use Rattle.stages.specs.Bitrates.{code_for}
 use Rattle.targets.specs.declared.Bitrate.{Bitrate}
-use Rattle.targets.specs.declared.Bitrate.TheVariants.{Other}
-use Rattle.discovery.specs.declared.rates.Supported.{Supported}
-use Rattle.discovery.specs.declared.rates.Supported.TheVariants.{Code, Not}
 use Rattle.discovery.specs.Kinds.{type_a_kind, type_b_kind, type_f_kind, dep_kind, poll_type_f_kind, type_a_split_kind}
 use Rattle.protocol.specs.Names.{one_target}
-use Rattle.targets.specs.Bitrates.{by_code_of}
+use Rattle.errors.specs.declared.Refusal.{Refusal}
 use Rattle.errors.specs.declared.Refusal.TheVariants.{Bitrate as BadBitrate}
 
 -- the list with the UID, of a kind that has Type A's stages
@@ -48,11 +46,12 @@ dep_first atrReq code = staged dep_kind (jump_data (active_byte true) code [] (t
 unfoldable pub dep_asserted : List ℕ → List ℕ → Start
 dep_asserted text atrReq = asserted (atr_req_fits atrReq) (code_for dep_code text (dep_first atrReq))
 
--- the bitrate of a text; a malformed one starts no call, as a bitrate that no call takes
-abbrev pub Rated : List ℕ → Bitrate → Type 0
-Rated text b = (takes : Bitrate → Option ℕ) (f : ℕ → Start) → takes Other ≡ none → by_code_of (refuses BadBitrate) (takes b) f ≡ code_for takes text f
+-- the code by which a call names a text's bitrate, or refusal 5
+abbrev pub Rated : Result ℕ Refusal → (Bitrate → Maybe ℕ) → List ℕ → Type 0
+Rated (Ok code) takes text = (f : ℕ → Start) → code_for takes text f ≡ f code
+Rated (Err e) takes text = (e ≡ BadBitrate) × ((f : ℕ → Start) → code_for takes text f ≡ refuses BadBitrate)
 
 -- what the code's answer says
-abbrev pub supported_in : Supported → Option ℕ
-supported_in (Code code) = some code
-supported_in Not = none
+abbrev pub supported_in : Option ℕ → Maybe ℕ
+supported_in (Some code) = some code
+supported_in None = none

@@ -1,7 +1,9 @@
 -- Laws of a list of system codes.
-use Rattle.std.specs.Prelude.{◌≡◌, refl, Bool, true, false, List, [], ◌∷◌, ◌++◌, ℕ, ◌+◌, ◌*◌, ◌/◌, ◌%◌, ◌≤◌, ◌<◌, eqb, ltb, length, take, drop, get_or}
+use Rattle.std.specs.Prelude.{◌≡◌, refl, Bool, true, false, List, [], ◌∷◌, ◌++◌, ℕ, ◌+◌, ◌*◌, ◌/◌, ◌%◌, ◌≤◌, ◌<◌, min, eqb, ltb, length, take, drop, get_or}
 use Rattle.std.proofs.Math.Path.{sym, ap}
 use Rattle.std.proofs.Common.{◌∙◌, arith, ltb-true, ltb-false, ne_eqb, take_all}
+use Rattle.std.proofs.Math.Nat.{min_comm}
+use Rattle.std.proofs.lemmas.List.{take_min}
 use Rattle.errors.specs.Choice.{pick}
 use Rattle.errors.specs.declared.Fault.{Fault}
 use Rattle.errors.specs.declared.Fault.TheVariants.{NoCard, ShortResponse}
@@ -30,6 +32,9 @@ module _ (cursor : ℕ) (found : List ℕ) where
   pub most-found : (cursor ≡ 0 → ⊥) → take so_far_limit found ≡ so_far cursor found
   unfolding so_far pick
   most-found h = rw (ne_eqb cursor 0 h)
+
+  pub least_found : (n : ℕ) → (cursor ≡ 0 → ⊥) → n ≡ min (length found) so_far_limit → take n found ≡ so_far cursor found
+  least_found n h e = rw (e, min_comm (length found) so_far_limit, take_min so_far_limit found) (most-found h)
 
 pub lays_so_far : (f b : List ℕ) (l : Layout) (k : ℕ) (s x : List ℕ) → take k f ≡ s → Lays f b l (take k f ++ x) → Lays f b l (s ++ x)
 lays_so_far f b l k s x e h = rw (← e) h

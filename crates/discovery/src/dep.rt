@@ -1,4 +1,6 @@
 // detect_dep: the command of each stage, and what follows each reply.
+#![tactic(auto, using(stages::specs::Laws::decided), unfolding(errors::specs::Choice::pick, stages::specs::Stages::with_length, crate::specs::Decisions::dep_command, crate::specs::Decisions::no_partner_of))]
+
 ghost use Rattle.std.specs.Prelude.{List, ℕ, ◌≡◌, [], ◌+◌, ◌*◌, ◌≤◌, length, take, drop};
 ghost use Rattle.stages.specs.Decided.{DecisionRefines, Always, Commands};
 ghost use Rattle.discovery.specs.Decisions.{dep_command, no_partner_of, jumped_to, dep_decision, jump_failure, dep_failure};
@@ -6,13 +8,13 @@ ghost use Rattle.stages.specs.Starts.{Starts};
 ghost use Rattle.protocol.specs.Arguments.{bit, shortest_atr_req, longest_atr_req, nfcid3_size, nfcid3_offset};
 ghost use Rattle.discovery.specs.Firsts.{dep_first, dep_asserted};
 
-use super::DEP_KIND;
-use super::rates::{Supported, bitrate_of, dep_code};
+use super::rates::{chip_code, dep_code};
+use super::{DEP_KIND, staged};
 use chipset::{ciu, clock, err, general, initiator, registers};
 use errors::{Fault, Refusal};
-use stages::put::{DATA_LIMIT, put_all};
+use stages::put::DATA_LIMIT;
 use stages::start::Start;
-use stages::{Command, Decision, Head, Layout, byte_or, start};
+use stages::{Command, Decision, Layout, byte_or};
 
 // An ATR_REQ without general bytes, and the longest.
 const SHORTEST_ATR_REQ: usize = 16;
@@ -40,38 +42,32 @@ fn given(atr_req: &[u8]) -> u8
 const ACTIVE: u8 = 1;
 
 // The time-outs are set first; the jump is put by.
-fn jump(code: u8, atr_req: &[u8], command: &mut [u8; DATA_LIMIT]) -> Start
+fn jump(code: u8, atr_req: &[u8], command: &mut [u8; DATA_LIMIT]) -> Result<Start, Refusal>
     requires { (shortest_atr_req ≤ length atr_req.now) × (length atr_req.now ≤ longest_atr_req) }
     ensures { Starts result command.old command.new (dep_first atr_req.now code) }
 {
     let head = [ACTIVE, code, given(atr_req)];
-    let n = put_all(
-        &head,
-        &atr_req[NFCID3_OFFSET..NFCID3_END],
-        &atr_req[SHORTEST_ATR_REQ..],
-        &[],
-        &[],
-        command,
-    );
-    start::staged(DEP_KIND, n)
+    let nfcid3 = &atr_req[NFCID3_OFFSET..NFCID3_END];
+    let general_bytes = &atr_req[SHORTEST_ATR_REQ..];
+    staged(DEP_KIND, &[&head, nfcid3, general_bytes], command)
 }
 
-pub fn detect_dep(bitrate: &[u8], atr_req: &[u8], command: &mut [u8; DATA_LIMIT]) -> Start
+pub fn detect_dep(
+    bitrate: &[u8],
+    atr_req: &[u8],
+    command: &mut [u8; DATA_LIMIT],
+) -> Result<Start, Refusal>
     ensures { Starts result command.old command.new (dep_asserted bitrate.now atr_req.now) }
 {
-    if atr_req.len() < SHORTEST_ATR_REQ {
-        return start::refused(Refusal::BadArgument);
+    if atr_req.len() < SHORTEST_ATR_REQ || LONGEST_ATR_REQ < atr_req.len() {
+        return Err(Refusal::BadArgument);
     }
-    if LONGEST_ATR_REQ < atr_req.len() {
-        return start::refused(Refusal::BadArgument);
-    }
-    let Supported::Code(code) = dep_code(bitrate_of(bitrate)) else {
-        return start::refused(Refusal::Bitrate);
-    };
+    let code = chip_code(bitrate, dep_code)?;
     jump(code, atr_req, command)
 }
 
 // The stages.
+// Kept: numbers and no enum, since a stage stands in session memory, which is repr(C) and may hold any byte.
 const DEP_TIMEOUTS_STAGE: u8 = 0;
 
 const JUMP_STAGE: u8 = 1;
@@ -94,8 +90,7 @@ pub fn command(stage: u8) -> Command
         DEP_TIMEOUTS_STAGE => Command::fixed(
             general::RF_CONFIGURATION_CODE,
             clock::COMMAND_CLOCK,
-            general::ATR_RES_TIMEOUTS,
-            4,
+            &general::ATR_RES_TIMEOUTS,
         ),
         JUMP_STAGE => Command::pending(
             initiator::IN_JUMP_FOR_DEP_CODE,
@@ -116,25 +111,23 @@ fn no_partner(status: u8) -> Decision
 }
 
 // The reply to the jump: D5 01 and its rest are kept.
+#[tactic(auto, using(stages::specs::Laws::decided), unfolding(errors::specs::Choice::pick, stages::specs::Stages::with_length, crate::specs::Decisions::jumped_to))]
 fn jumped(response: &[u8]) -> Decision
     ensures { (f : List ℕ) → DecisionRefines f response.now result (jumped_to response.now) }
 {
     let status = byte_or(response, 0, err::NO_DATA);
-    if status == 0 {
-        if response.len() < 2 {
-            Decision::Refused(Fault::ShortResponse)
-        } else {
-            Decision::Keep(
-                WRITE_MODE_STAGE,
-                Layout::headed(Head(ATR_RES_CMD0, ATR_RES_CMD1, 0), 2, response, 2),
-            )
-        }
-    } else {
-        no_partner(status)
+    if status != 0 {
+        return no_partner(status);
     }
+    if response.len() < 2 {
+        return Decision::Refused(Fault::ShortResponse);
+    }
+    let atr_res = Layout::headed(&[ATR_RES_CMD0, ATR_RES_CMD1], response, 2);
+    Decision::Keep(WRITE_MODE_STAGE, atr_res)
 }
 
 // What follows a response; `found` are the bytes that were kept of an earlier one.
+#[tactic(auto, using(stages::specs::Laws::decided), unfolding(errors::specs::Choice::pick, crate::specs::Decisions::dep_decision))]
 pub fn decided(stage: u8, found: &[u8], response: &[u8]) -> Decision
     ensures { DecisionRefines found.now response.now result (dep_decision stage found.now response.now) }
 {
@@ -146,6 +139,7 @@ pub fn decided(stage: u8, found: &[u8], response: &[u8]) -> Decision
 }
 
 // A status of InJumpForDEP says why there is no partner.
+#[tactic(auto, using(stages::specs::Laws::decided), unfolding(errors::specs::Choice::pick, crate::specs::Decisions::jump_failure))]
 fn jump_failed(fault: Fault) -> Decision
     ensures { Always result (jump_failure fault) }
 {
@@ -156,6 +150,7 @@ fn jump_failed(fault: Fault) -> Decision
 }
 
 // What follows a command that failed.
+#[tactic(auto, using(stages::specs::Laws::decided), unfolding(errors::specs::Choice::pick, crate::specs::Decisions::dep_failure))]
 pub fn failed(stage: u8, fault: Fault) -> Decision
     ensures { Always result (dep_failure stage fault) }
 {

@@ -8,14 +8,14 @@ ghost use Rattle.stages.specs.Starts.{Starts};
 ghost use Rattle.discovery.specs.Decisions.{poll_command, so_far, has_next_of, code_finished, poll_failure, poll_decision, so_far_limit};
 ghost use Rattle.discovery.specs.Firsts.{poll_asserted};
 
-use super::rates::{Supported, bitrate_of, type_f_code};
+use super::rates::{chip_code, type_f_code};
 use super::type_f::{FIELD_STAGE, LISTED_IDM_OFFSET, SENSF_REQ_CODE};
-use super::{POLL_TYPE_F_KIND, type_f};
+use super::{POLL_TYPE_F_KIND, staged, type_f};
 use chipset::initiator::ONE_TARGET;
 use errors::{Fault, Refusal};
-use stages::put::{DATA_LIMIT, put_two};
+use stages::put::DATA_LIMIT;
 use stages::start::Start;
-use stages::{Command, Decision, Layout, byte_or, start};
+use stages::{Command, Data, Decision, Layout, byte_or};
 
 // The most system codes of a list.
 const SYSTEM_CODES: usize = 16;
@@ -41,31 +41,22 @@ const SO_FAR_LIMIT: usize = 255;
 fn is_list(codes: &[u8]) -> bool
     ensures { result ≡ system_codes_fit codes.now }
 {
-    if codes.len() % 2 == 0 {
-        if 1 <= codes.len() / 2 {
-            codes.len() / 2 <= SYSTEM_CODES
-        } else {
-            false
-        }
-    } else {
-        false
-    }
+    codes.len() % 2 == 0 && 1 <= codes.len() / 2 && codes.len() / 2 <= SYSTEM_CODES
 }
 
 // TX control is read first; the bitrate's code and the system codes are put by.
-pub fn poll_type_f(bitrate: &[u8], codes: &[u8], command: &mut [u8; DATA_LIMIT]) -> Start
+pub fn poll_type_f(
+    bitrate: &[u8],
+    codes: &[u8],
+    command: &mut [u8; DATA_LIMIT],
+) -> Result<Start, Refusal>
     ensures { Starts result command.old command.new (poll_asserted bitrate.now codes.now) }
 {
-    if is_list(codes) {
-        let Supported::Code(code) = type_f_code(bitrate_of(bitrate)) else {
-            return start::refused(Refusal::Bitrate);
-        };
-        let head = [code];
-        let n = put_two(&head, codes, command);
-        start::staged(POLL_TYPE_F_KIND, n)
-    } else {
-        start::refused(Refusal::BadArgument)
+    if !is_list(codes) {
+        return Err(Refusal::BadArgument);
     }
+    let code = chip_code(bitrate, type_f_code)?;
+    staged(POLL_TYPE_F_KIND, &[&[code], codes], command)
 }
 
 // The command of a stage: Type F's, its poll with the cursor's code.
@@ -73,113 +64,86 @@ pub fn command(stage: u8, cursor: u8, pending: &[u8]) -> Command
     ensures { Sends result pending.now (poll_command stage cursor pending.now) }
 {
     let next = type_f::command(stage);
-    if next.is_pending {
-        let at = 2 * cursor as usize;
-        let code = byte_or(pending, 0, 0);
-        let high = byte_or(pending, at + 1, 0);
-        let low = byte_or(pending, at + 2, 0);
-        Command {
-            code: next.code,
-            clock: next.clock,
-            is_pending: false,
-            bytes: [
-                ONE_TARGET,
-                code,
-                SENSF_REQ_CODE,
-                high,
-                low,
-                SYSTEM_CODE_REQUEST,
-                ONE_TIME_SLOT,
-                0,
-                0,
-                0,
-                0,
-                0,
-            ],
-            len: 7,
+    let Data::Pending = next.bytes else {
+        return next;
+    };
+    let at = 2 * cursor as usize;
+    let code = byte_or(pending, 0, 0);
+    let high = byte_or(pending, at + 1, 0);
+    let low = byte_or(pending, at + 2, 0);
+    let poll = [
+        ONE_TARGET,
+        code,
+        SENSF_REQ_CODE,
+        high,
+        low,
+        SYSTEM_CODE_REQUEST,
+        ONE_TIME_SLOT,
+    ];
+    Command::fixed(next.code, next.clock, &poll)
+}
+
+// Where a list stands: how many of its codes are finished, the pending command, and the bytes that those codes have added.
+#[derive(Clone, Copy)]
+pub struct Codes<'a> {
+    pub cursor: u8,
+    pub pending: &'a [u8],
+    pub found: &'a [u8],
+}
+
+impl<'a> Codes<'a> {
+    // How many found bytes the finished codes have added.
+    fn so_far(&self) -> usize
+        ensures { (take result self.now.found.now ≡ so_far self.now.cursor self.now.found.now) × (result ≤ length self.now.found.now) × (result ≤ so_far_limit) }
+    {
+        if self.cursor == 0 {
+            0
+        } else {
+            self.found.len().min(SO_FAR_LIMIT)
         }
-    } else {
-        next
     }
-}
 
-// How many found bytes the finished codes have added.
-fn so_far(cursor: u8, found: &[u8]) -> usize
-    ensures { (take result found.now ≡ so_far cursor found.now) × (result ≤ length found.now) × (result ≤ so_far_limit) }
-{
-    if cursor == 0 {
-        return 0;
+    // A code follows the cursor's.
+    #[tactic(auto, using(framing::specs::Rules::steps), unfolding(crate::specs::Decisions::has_next_of))]
+    fn has_next(&self) -> bool
+        ensures { result ≡ has_next_of self.now.cursor self.now.pending.now }
+    {
+        self.cursor < LAST_CODE && 2 * self.cursor as usize + 5 <= self.pending.len()
     }
-    if found.len() < SO_FAR_LIMIT {
-        found.len()
-    } else {
-        SO_FAR_LIMIT
-    }
-}
 
-// A code follows the cursor's.
-fn has_next(cursor: u8, pending: &[u8]) -> bool
-    ensures { result ≡ has_next_of cursor pending.now }
-{
-    if cursor < LAST_CODE {
-        2 * cursor as usize + 5 <= pending.len()
-    } else {
-        false
+    // A code is finished, and adds a mark and a part of the response: the next code follows, or the answer.
+    fn finished(&self, mark: u8, start: usize, len: usize) -> Decision
+        ensures { (b : List ℕ) → start + len ≤ length b → len ≤ idm_and_pmm → DecisionRefines self.now.found.now b result (code_finished self.now.cursor self.now.pending.now self.now.found.now (mark ∷ take len (drop start b))) }
+    {
+        let layout = Layout::marked(self.so_far(), mark, start, len);
+        if self.has_next() {
+            Decision::Next(FIELD_STAGE, self.cursor + 1, layout)
+        } else {
+            Decision::Done(layout)
+        }
     }
-}
 
-// A code is finished, and adds a mark and a part of the response: the next code follows, or the answer.
-fn finished(
-    cursor: u8,
-    pending: &[u8],
-    found: &[u8],
-    mark: u8,
-    start: usize,
-    len: usize,
-) -> Decision
-    ensures { (b : List ℕ) → start + len ≤ length b → len ≤ idm_and_pmm → DecisionRefines found.now b result (code_finished cursor pending.now found.now (mark ∷ take len (drop start b))) }
-{
-    let layout = Layout::marked(so_far(cursor, found), mark, start, len);
-    if has_next(cursor, pending) {
-        Decision::Next(FIELD_STAGE, cursor + 1, layout)
-    } else {
-        Decision::Done(layout)
+    // What follows a command that failed: no card is a mark, any other fault ends the list.
+    pub fn failed(&self, fault: Fault) -> Decision
+        ensures { (b : List ℕ) → DecisionRefines self.now.found.now b result (poll_failure self.now.cursor self.now.pending.now self.now.found.now fault) }
+    {
+        match fault {
+            Fault::NoCard => self.finished(NO_CARD_MARK, 0, 0),
+            _ => Decision::RefusedAfter(fault, self.cursor),
+        }
     }
-}
 
-// What follows a command that failed: no card is a mark, any other fault ends the list.
-pub fn failed(cursor: u8, pending: &[u8], found: &[u8], fault: Fault) -> Decision
-    ensures { (b : List ℕ) → DecisionRefines found.now b result (poll_failure cursor pending.now found.now fault) }
-{
-    match fault {
-        Fault::NoCard => finished(cursor, pending, found, NO_CARD_MARK, 0, 0),
-        _ => Decision::RefusedAfter(fault, cursor),
-    }
-}
-
-// What follows a response: what Type F's stage decides, but for its ends.
-pub fn decided(stage: u8, cursor: u8, pending: &[u8], found: &[u8], response: &[u8]) -> Decision
-    ensures { DecisionRefines found.now response.now result (poll_decision stage cursor pending.now found.now response.now) }
-{
-    let decision = type_f::decided(stage, response);
-    match decision {
-        Decision::Done(_) => finished(
-            cursor,
-            pending,
-            found,
-            CARD_MARK,
-            LISTED_IDM_OFFSET,
-            IDM_AND_PMM,
-        ),
-        Decision::Part(_, _) => finished(
-            cursor,
-            pending,
-            found,
-            CARD_MARK,
-            LISTED_IDM_OFFSET,
-            IDM_AND_PMM,
-        ),
-        Decision::Refused(fault) => failed(cursor, pending, found, fault),
-        _ => decision,
+    // What follows a response: what Type F's stage decides, but for its ends.
+    pub fn decided(&self, stage: u8, response: &[u8]) -> Decision
+        ensures { DecisionRefines self.now.found.now response.now result (poll_decision stage self.now.cursor self.now.pending.now self.now.found.now response.now) }
+    {
+        let decision = type_f::decided(stage, response);
+        match decision {
+            Decision::Done(_) | Decision::Part(_, _) => {
+                self.finished(CARD_MARK, LISTED_IDM_OFFSET, IDM_AND_PMM)
+            }
+            Decision::Refused(fault) => self.failed(fault),
+            _ => decision,
+        }
     }
 }

@@ -1,24 +1,30 @@
 // detect_type_a: the command of each stage, and what follows each reply.
+#![tactic(auto, using(stages::specs::Laws::decided), unfolding(errors::specs::Choice::pick, stages::specs::Stages::with_length, crate::specs::Decisions::type_a_command, crate::specs::Decisions::fifo_read, crate::specs::Decisions::rid_of, crate::specs::Decisions::rx_mode_read, crate::specs::Decisions::rid_failure))]
+
 ghost use Rattle.std.specs.Prelude.{List, ℕ, ◌≤◌, length};
 ghost use Rattle.protocol.specs.Names.{uid_offset};
 ghost use Rattle.stages.specs.Decided.{Lays, DecisionRefines, Always, Commands};
-ghost use Rattle.discovery.specs.Decisions.{card_bytes, sens_res, type_a_command, listed_a_of, fifo_read, listed_type1_of, rid_of, rx_mode_read, type_a_decision, rid_failure, type_a_failure};
+ghost use Rattle.discovery.specs.Decisions.{card_bytes, card_found_of, sens_res, type_a_command, listed_a_of, fifo_read, listed_type1_of, rid_of, rx_mode_read, type_a_decision, rid_failure, type_a_failure};
+ghost use Rattle.discovery.specs.Kinds.{rid_stage};
+ghost use Rattle.stages.specs.Stages.{keep};
 ghost use Rattle.stages.specs.Starts.{Starts};
 ghost use Rattle.protocol.specs.Starts.{type_a_code};
 ghost use Rattle.stages.specs.Bitrates.{code_for};
 ghost use Rattle.discovery.specs.Firsts.{list_first, type_a_first};
 
-use super::TYPE_A_KIND;
-use super::rates::{CODE_TYPE_1, Supported, bitrate_of, type_a_code};
+use super::list::by_target;
+use super::rates::{CODE_TYPE_1, chip_code, type_a_code};
+use super::{TYPE_A_KIND, staged};
 use chipset::initiator::{ONE_TARGET, TARGET_NUMBER};
 use chipset::{ciu, clock, initiator, registers};
 use errors::{Fault, Refusal};
-use stages::put::{DATA_LIMIT, put_two};
+use stages::put::DATA_LIMIT;
 use stages::start::Start;
-use stages::{Command, Decision, FIXED_LIMIT, Head, Layout, byte_or, start};
+use stages::{Command, Decision, Layout, byte_or};
 use targets::type_a::is_type2;
 
 // The stages.
+// Kept: numbers and no enum, since a stage stands in session memory, which is repr(C) and may hold any byte.
 pub(crate) const LIST_STAGE: u8 = 0;
 
 pub(crate) const FIFO_STAGE: u8 = 1;
@@ -52,54 +58,51 @@ pub(crate) const UID_OFFSET: usize = 6;
 const RID_CLOCK: u32 = 100;
 
 // A UID over 4 bytes gets 0x88 at 0; if then over 8, 0x88 at 4.
-fn list(kind: u8, code: u8, uid: &[u8], command: &mut [u8; DATA_LIMIT]) -> Start
+fn list(kind: u8, code: u8, uid: &[u8], command: &mut [u8; DATA_LIMIT]) -> Result<Start, Refusal>
     ensures { Starts result command.old command.new (list_first kind uid.now code) }
 {
     if uid.len() <= 4 {
-        let n = put_two(&[ONE_TARGET, code], uid, command);
-        return start::staged(kind, n);
+        return staged(kind, &[&[ONE_TARGET, code], uid], command);
     }
     if uid.len() <= 7 {
-        let n = put_two(&[ONE_TARGET, code, CASCADE_TAG], uid, command);
-        return start::staged(kind, n);
+        return staged(kind, &[&[ONE_TARGET, code, CASCADE_TAG], uid], command);
     }
-    let head = [
-        ONE_TARGET,
-        code,
-        CASCADE_TAG,
-        uid[0],
-        uid[1],
-        uid[2],
-        CASCADE_TAG,
-    ];
-    let n = put_two(&head, &uid[3..], command);
-    start::staged(kind, n)
+    let first = [ONE_TARGET, code, CASCADE_TAG];
+    staged(
+        kind,
+        &[&first, &uid[..3], &[CASCADE_TAG], &uid[3..]],
+        command,
+    )
 }
 
 // Stage 0 of a kind that has Type A's stages.
-pub(crate) fn detect(kind: u8, bitrate: &[u8], uid: &[u8], command: &mut [u8; DATA_LIMIT]) -> Start
+pub(crate) fn detect(
+    kind: u8,
+    bitrate: &[u8],
+    uid: &[u8],
+    command: &mut [u8; DATA_LIMIT],
+) -> Result<Start, Refusal>
     ensures { Starts result command.old command.new (code_for type_a_code bitrate.now (list_first kind uid.now)) }
 {
-    let Supported::Code(code) = type_a_code(bitrate_of(bitrate)) else {
-        return start::refused(Refusal::Bitrate);
-    };
+    let code = chip_code(bitrate, type_a_code)?;
     list(kind, code, uid, command)
 }
 
-pub fn detect_type_a(bitrate: &[u8], uid: &[u8], command: &mut [u8; DATA_LIMIT]) -> Start
+pub fn detect_type_a(
+    bitrate: &[u8],
+    uid: &[u8],
+    command: &mut [u8; DATA_LIMIT],
+) -> Result<Start, Refusal>
     ensures { Starts result command.old command.new (code_for type_a_code bitrate.now (type_a_first uid.now)) }
 {
     detect(TYPE_A_KIND, bitrate, uid, command)
 }
 
-// The list of a Type 1 tag: one target, at the chip's code for Type 1.
-const TYPE_1_LIST: [u8; FIXED_LIMIT] = [ONE_TARGET, CODE_TYPE_1, 0, 0, 0, 0, 0, 0, 0, 0, 0, 0];
-
 // RID's code.
 const RID_CODE: u8 = 0x78;
 
 // RID to the listed target, behind its code six bytes of 0.
-const RID_DATA: [u8; FIXED_LIMIT] = [TARGET_NUMBER, RID_CODE, 0, 0, 0, 0, 0, 0, 0, 0, 0, 0];
+const RID_DATA: [u8; 8] = [TARGET_NUMBER, RID_CODE, 0, 0, 0, 0, 0, 0];
 
 // The command of a stage.
 pub fn command(stage: u8) -> Command
@@ -111,15 +114,12 @@ pub fn command(stage: u8) -> Command
             clock::IN_LIST_PASSIVE_TARGET_CLOCK,
         ),
         FIFO_STAGE => registers::read_single_register_command(ciu::CIU_FIFO_DATA),
-        LIST_TYPE_1_STAGE => {
-            Command::fixed(
-                initiator::IN_LIST_PASSIVE_TARGET_CODE,
-                clock::IN_LIST_PASSIVE_TARGET_CLOCK,
-                TYPE_1_LIST,
-                2,
-            )
-        }
-        RID_STAGE => Command::fixed(initiator::IN_DATA_EXCHANGE_CODE, RID_CLOCK, RID_DATA, 8),
+        LIST_TYPE_1_STAGE => Command::fixed(
+            initiator::IN_LIST_PASSIVE_TARGET_CODE,
+            clock::IN_LIST_PASSIVE_TARGET_CLOCK,
+            &[ONE_TARGET, CODE_TYPE_1],
+        ),
+        RID_STAGE => Command::fixed(initiator::IN_DATA_EXCHANGE_CODE, RID_CLOCK, &RID_DATA),
         READ_RX_MODE_STAGE => registers::read_single_register_command(ciu::CIU_RX_MODE),
         _ => Command::pending(registers::WRITE_REGISTER_CODE, clock::REGISTERS_CLOCK),
     }
@@ -130,36 +130,31 @@ pub(crate) fn card(list: &[u8]) -> Layout
     requires { uid_offset ≤ length list.now }
     ensures { (f : List ℕ) → Lays f list.now result (card_bytes list.now) }
 {
-    Layout::headed(
-        Head(
-            list[SENS_RES_SECOND],
-            list[SENS_RES_OFFSET],
-            list[SEL_RES_OFFSET],
-        ),
-        3,
-        list,
-        UID_OFFSET,
-    )
+    let head = [
+        list[SENS_RES_SECOND],
+        list[SENS_RES_OFFSET],
+        list[SEL_RES_OFFSET],
+    ];
+    Layout::headed(&head, list, UID_OFFSET)
 }
 
-// detect_type_a: a target was listed, or none. Of a Type 2 tag the RX mode is set before it is handed out.
+// A target was listed: of a Type 2 tag the RX mode is set before it is handed out.
+fn card_found(list: &[u8]) -> Decision
+    requires { uid_offset ≤ length list.now }
+    ensures { (f : List ℕ) → DecisionRefines f list.now result (card_found_of list.now) }
+{
+    if is_type2(list[SEL_RES_OFFSET]) {
+        Decision::Keep(READ_RX_MODE_STAGE, card(list))
+    } else {
+        Decision::Done(card(list))
+    }
+}
+
+// detect_type_a: a target was listed, or none.
 fn listed_a(response: &[u8]) -> Decision
     ensures { (f : List ℕ) → DecisionRefines f response.now result (listed_a_of response.now) }
 {
-    if byte_or(response, 0, 0) == 0 {
-        return Decision::Send(FIFO_STAGE);
-    }
-    if response.len() < 2 {
-        return Decision::Refused(Fault::ShortResponse);
-    }
-    if response.len() < UID_OFFSET {
-        return Decision::Nothing;
-    }
-    if is_type2(response[SEL_RES_OFFSET]) {
-        Decision::Keep(READ_RX_MODE_STAGE, card(response))
-    } else {
-        Decision::Done(card(response))
-    }
+    by_target(response, UID_OFFSET, Decision::Send(FIFO_STAGE), card_found)
 }
 
 // No SENS_RES came where the FIFO still holds the request.
@@ -181,36 +176,35 @@ fn sens_res(list: &[u8]) -> Layout
         Layout::part(0, 0)
     } else {
         Layout::headed(
-            Head(list[SENS_RES_SECOND], list[SENS_RES_OFFSET], 0),
-            2,
+            &[list[SENS_RES_SECOND], list[SENS_RES_OFFSET]],
             list,
             list.len(),
         )
     }
 }
 
+// A Type 1 tag was listed.
+fn type1_found(list: &[u8]) -> Decision
+    ensures { (f : List ℕ) → DecisionRefines f list.now result (keep rid_stage (sens_res list.now)) }
+{
+    Decision::Keep(RID_STAGE, sens_res(list))
+}
+
 // try_type1_detection: a target was listed, or none.
 fn listed_type1(response: &[u8]) -> Decision
     ensures { (f : List ℕ) → DecisionRefines f response.now result (listed_type1_of response.now) }
 {
-    if byte_or(response, 0, 0) == 0 {
-        return Decision::Nothing;
-    }
-    if response.len() < 2 {
-        Decision::Refused(Fault::ShortResponse)
-    } else {
-        Decision::Keep(RID_STAGE, sens_res(response))
-    }
+    by_target(response, 2, Decision::Nothing, type1_found)
 }
 
 // The RID reply. A status other than 0 is none.
 fn rid(found: &[u8], response: &[u8]) -> Decision
     ensures { DecisionRefines found.now response.now result (rid_of found.now response.now) }
 {
-    if response.len() == 0 {
+    let Some(status) = response.first() else {
         return Decision::Nothing;
-    }
-    if response[0] % initiator::MORE_BIT != 0 {
+    };
+    if *status % initiator::MORE_BIT != 0 {
         return Decision::Nothing;
     }
     if found.len() < 2 {
@@ -223,19 +217,15 @@ fn rid(found: &[u8], response: &[u8]) -> Decision
 fn rx_mode(response: &[u8]) -> Decision
     ensures { (f : List ℕ) → DecisionRefines f response.now result (rx_mode_read response.now) }
 {
-    if response.len() < 1 {
-        Decision::Refused(Fault::ShortResponse)
-    } else {
-        let high = (ciu::CIU_RX_MODE / 256) as u8;
-        let low = (ciu::CIU_RX_MODE % 256) as u8;
-        Decision::Put(
-            WRITE_RX_MODE_STAGE,
-            Head(high, low, response[0] % ciu::RX_CRC_EN),
-        )
-    }
+    let Some(rx_mode) = response.first() else {
+        return Decision::Refused(Fault::ShortResponse);
+    };
+    let [high, low] = ciu::CIU_RX_MODE.to_be_bytes();
+    Decision::Put(WRITE_RX_MODE_STAGE, [high, low, *rx_mode % ciu::RX_CRC_EN])
 }
 
 // What follows a response; `found` are the bytes that were kept of an earlier one.
+#[tactic(auto, using(stages::specs::Laws::decided), unfolding(errors::specs::Choice::pick, crate::specs::Decisions::type_a_decision))]
 pub fn decided(stage: u8, found: &[u8], response: &[u8]) -> Decision
     ensures { DecisionRefines found.now response.now result (type_a_decision stage found.now response.now) }
 {
@@ -260,6 +250,7 @@ fn rid_failed(fault: Fault) -> Decision
 }
 
 // What follows a command that failed.
+#[tactic(auto, using(stages::specs::Laws::decided), unfolding(errors::specs::Choice::pick, crate::specs::Decisions::type_a_failure))]
 pub fn failed(stage: u8, fault: Fault) -> Decision
     ensures { Always result (type_a_failure stage fault) }
 {

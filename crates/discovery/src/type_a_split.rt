@@ -1,5 +1,7 @@
 // detect_type_a in the mode that separates UID and ATS: Type A's stages and commands, with its own decisions upon the list and at
 // the end. The cursor is the UID's length while the RX mode is set; the found bytes are then three bytes, the UID and the ATS.
+#![tactic(auto, using(stages::specs::Laws::decided), unfolding(errors::specs::Choice::pick, stages::specs::Stages::with_length, crate::specs::Decisions::split_found, crate::specs::Decisions::split_written))]
+
 ghost use Rattle.std.specs.Prelude.{List, ℕ, ◌≤◌, length};
 ghost use Rattle.protocol.specs.Names.{uid_offset};
 ghost use Rattle.stages.specs.Decided.{DecisionRefines};
@@ -9,6 +11,7 @@ ghost use Rattle.protocol.specs.Starts.{type_a_code};
 ghost use Rattle.discovery.specs.Decisions.{split_found, split_listed, split_written, split_decision};
 ghost use Rattle.discovery.specs.Firsts.{split_first};
 
+use super::list::by_target;
 use super::type_a::{
     FIFO_STAGE, LIST_STAGE, READ_RX_MODE_STAGE, SEL_RES_OFFSET, TARGET_OFFSET, UID_OFFSET,
     WRITE_RX_MODE_STAGE, card,
@@ -16,7 +19,7 @@ use super::type_a::{
 use super::{TYPE_A_SPLIT_KIND, type_a};
 use chipset::err;
 use chipset::registers::any_nonzero;
-use errors::Fault;
+use errors::{Fault, Refusal};
 use stages::put::DATA_LIMIT;
 use stages::start::Start;
 use stages::{Decision, Layout, byte_or};
@@ -27,7 +30,11 @@ const UID_LENGTH_OFFSET: usize = 5;
 
 const FOUND_UID_OFFSET: usize = 3;
 
-pub fn detect_type_a_split(bitrate: &[u8], uid: &[u8], command: &mut [u8; DATA_LIMIT]) -> Start
+pub fn detect_type_a_split(
+    bitrate: &[u8],
+    uid: &[u8],
+    command: &mut [u8; DATA_LIMIT],
+) -> Result<Start, Refusal>
     ensures { Starts result command.old command.new (code_for type_a_code bitrate.now (split_first uid.now)) }
 {
     type_a::detect(TYPE_A_SPLIT_KIND, bitrate, uid, command)
@@ -55,16 +62,12 @@ fn target_found(response: &[u8]) -> Decision
 fn listed(response: &[u8]) -> Decision
     ensures { (f : List ℕ) → DecisionRefines f response.now result (split_listed response.now) }
 {
-    if byte_or(response, 0, 0) == 0 {
-        return Decision::Send(FIFO_STAGE);
-    }
-    if response.len() < 2 {
-        return Decision::Refused(Fault::ShortResponse);
-    }
-    if response.len() < UID_OFFSET {
-        return Decision::Nothing;
-    }
-    target_found(response)
+    by_target(
+        response,
+        UID_OFFSET,
+        Decision::Send(FIFO_STAGE),
+        target_found,
+    )
 }
 
 // The RX mode of a Type 2 tag was written.
@@ -80,6 +83,7 @@ fn rx_mode_written(cursor: u8, found: &[u8], response: &[u8]) -> Decision
 }
 
 // What follows a response: what Type A's stage decides, but for the list and the end.
+#[tactic(auto, using(stages::specs::Laws::decided), unfolding(errors::specs::Choice::pick, crate::specs::Decisions::split_decision))]
 pub fn decided(stage: u8, cursor: u8, found: &[u8], response: &[u8]) -> Decision
     ensures { DecisionRefines found.now response.now result (split_decision stage cursor found.now response.now) }
 {

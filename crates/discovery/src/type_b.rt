@@ -1,34 +1,41 @@
 // detect_type_b: the command of each stage, and what follows each reply.
-ghost use Rattle.std.specs.Prelude.{List, ℕ, get_or};
+#![tactic(auto, using(stages::specs::Laws::decided), unfolding(errors::specs::Choice::pick, stages::specs::Stages::with_length, crate::specs::Decisions::type_b_command, crate::specs::Decisions::iso_dep_of, crate::specs::Decisions::woken_up, crate::specs::Decisions::type_b_failure))]
+
+ghost use Rattle.std.specs.Prelude.{List, ℕ, ◌+◌, ◌≤◌, length, get_or};
 ghost use Rattle.stages.specs.Decided.{DecisionRefines, Always, Commands};
 ghost use Rattle.discovery.specs.Decisions.{type_b_command, iso_dep_of, listed_b_of, woken_up, type_b_decision, type_b_failure};
+ghost use Rattle.protocol.specs.Names.{protocol_offset};
 ghost use Rattle.stages.specs.Starts.{Starts};
 ghost use Rattle.protocol.specs.Starts.{type_b_code};
 ghost use Rattle.stages.specs.Bitrates.{code_for};
 ghost use Rattle.discovery.specs.Firsts.{type_b_first};
 
-use super::TYPE_B_KIND;
-use super::rates::{Supported, bitrate_of, type_b_code};
+use super::list::by_target;
+use super::rates::{chip_code, type_b_code};
 use super::type_a::LIST_STAGE;
+use super::{TYPE_B_KIND, staged};
 use chipset::initiator::ONE_TARGET;
 use chipset::response::from;
 use chipset::{clock, err, initiator};
 use errors::{Fault, Refusal};
-use stages::put::{DATA_LIMIT, put_two};
+use stages::put::DATA_LIMIT;
 use stages::start::Start;
-use stages::{Command, Decision, FIXED_LIMIT, Head, byte_or, start};
+use stages::{Command, Decision, byte_or};
 
-pub fn detect_type_b(bitrate: &[u8], sensb_req: &[u8], command: &mut [u8; DATA_LIMIT]) -> Start
+pub fn detect_type_b(
+    bitrate: &[u8],
+    sensb_req: &[u8],
+    command: &mut [u8; DATA_LIMIT],
+) -> Result<Start, Refusal>
     ensures { Starts result command.old command.new (code_for type_b_code bitrate.now (type_b_first (get_or sensb_req.now 0 0))) }
 {
-    let Supported::Code(code) = type_b_code(bitrate_of(bitrate)) else {
-        return start::refused(Refusal::Bitrate);
-    };
-    let n = put_two(&[ONE_TARGET, code, byte_or(sensb_req, 0, 0)], &[], command);
-    start::staged(TYPE_B_KIND, n)
+    let code = chip_code(bitrate, type_b_code)?;
+    let head = [ONE_TARGET, code, byte_or(sensb_req, 0, 0)];
+    staged(TYPE_B_KIND, &[&head], command)
 }
 
 // The stages behind the list.
+// Kept: numbers and no enum, since a stage stands in session memory, which is repr(C) and may hold any byte.
 const DESELECT_STAGE: u8 = 1;
 
 const WAKE_UP_STAGE: u8 = 2;
@@ -38,8 +45,6 @@ const TYPE_B_CLOCK: u32 = 500;
 
 // S(DESELECT).
 const DESELECT_CODE: u8 = 0xC2;
-
-const DESELECT_DATA: [u8; FIXED_LIMIT] = [DESELECT_CODE, 0, 0, 0, 0, 0, 0, 0, 0, 0, 0, 0];
 
 // WUPB: its code and, behind the AFI, its parameter.
 const WUPB_CODE: u8 = 0x05;
@@ -58,8 +63,7 @@ pub fn command(stage: u8) -> Command
         DESELECT_STAGE => Command::fixed(
             initiator::IN_COMMUNICATE_THRU_CODE,
             TYPE_B_CLOCK,
-            DESELECT_DATA,
-            1,
+            &[DESELECT_CODE],
         ),
         _ => Command::pending(initiator::IN_COMMUNICATE_THRU_CODE, TYPE_B_CLOCK),
     }
@@ -69,12 +73,8 @@ pub fn command(stage: u8) -> Command
 fn iso_dep(protocol: u8, afi: u8) -> Decision
     ensures { (f b : List ℕ) → DecisionRefines f b result (iso_dep_of protocol afi) }
 {
-    if protocol % 2 == 1 {
-        if protocol / 8 % 2 == 0 {
-            Decision::Put(DESELECT_STAGE, Head(WUPB_CODE, afi, WUPB_PARAMETER))
-        } else {
-            Decision::Nothing
-        }
+    if protocol % 2 == 1 && protocol / 8 % 2 == 0 {
+        Decision::Put(DESELECT_STAGE, [WUPB_CODE, afi, WUPB_PARAMETER])
     } else {
         Decision::Nothing
     }
@@ -89,17 +89,16 @@ const PROTOCOL_END: usize = PROTOCOL_OFFSET + 1;
 fn listed_b(pending: &[u8], response: &[u8]) -> Decision
     ensures { (f : List ℕ) → DecisionRefines f response.now result (listed_b_of pending.now response.now) }
 {
-    if byte_or(response, 0, 0) == 0 {
-        return Decision::Nothing;
-    }
-    if response.len() < 2 {
-        return Decision::Refused(Fault::ShortResponse);
-    }
-    if response.len() < PROTOCOL_END {
-        Decision::Nothing
-    } else {
-        iso_dep(response[PROTOCOL_OFFSET], byte_or(pending, 2, 0))
-    }
+    let afi = byte_or(pending, 2, 0);
+    by_target(
+        response,
+        PROTOCOL_END,
+        Decision::Nothing,
+        |list: &[u8]|
+            requires { protocol_offset + 1 ≤ length list.now }
+            ensures { (f : List ℕ) → DecisionRefines f list.now result (iso_dep_of (get_or list.now protocol_offset 0) afi) }
+        { iso_dep(list[PROTOCOL_OFFSET], afi) },
+    )
 }
 
 // The reply to the wake-up.
@@ -114,6 +113,7 @@ fn woken(response: &[u8]) -> Decision
 }
 
 // What follows a response; `pending` is the pending command.
+#[tactic(auto, using(stages::specs::Laws::decided), unfolding(errors::specs::Choice::pick, crate::specs::Decisions::type_b_decision))]
 pub fn decided(stage: u8, pending: &[u8], response: &[u8]) -> Decision
     ensures { (f : List ℕ) → DecisionRefines f response.now result (type_b_decision stage pending.now response.now) }
 {

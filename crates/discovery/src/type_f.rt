@@ -1,4 +1,6 @@
 // detect_type_f: the command of each stage, and what follows each reply.
+#![tactic(auto, using(stages::specs::Laws::decided), unfolding(errors::specs::Choice::pick, stages::specs::Stages::with_length, crate::specs::Decisions::tx_control_read, crate::specs::Decisions::polled, crate::specs::Decisions::type_f_command))]
+
 ghost use Rattle.std.specs.Prelude.{List, ℕ};
 ghost use Rattle.stages.specs.Decided.{DecisionRefines, Commands};
 ghost use Rattle.discovery.specs.Decisions.{type_f_command, tx_control_read, polled as polled_of, type_f_decision};
@@ -8,16 +10,16 @@ ghost use Rattle.protocol.specs.Discovery.{sensf_req};
 ghost use Rattle.stages.specs.Bitrates.{code_for};
 ghost use Rattle.discovery.specs.Firsts.{type_f_first};
 
-use super::TYPE_F_KIND;
-use super::rates::{Supported, bitrate_of, type_f_code};
+use super::rates::{chip_code, type_f_code};
+use super::{TYPE_F_KIND, staged};
 use chipset::general::{FIELD_ON, RF_FIELD_ITEM};
 use chipset::initiator::ONE_TARGET;
 use chipset::response::from;
 use chipset::{ciu, clock, general, initiator, registers};
 use errors::{Fault, Refusal};
-use stages::put::{DATA_LIMIT, put_two};
+use stages::put::DATA_LIMIT;
 use stages::start::Start;
-use stages::{Command, Decision, FIXED_LIMIT, byte_or, start};
+use stages::{Command, Decision, byte_or};
 
 // TX control is read first; the poll with its SENSF_REQ is put by.
 pub fn detect_type_f(
@@ -26,14 +28,11 @@ pub fn detect_type_f(
     request_code: u8,
     time_slots: u8,
     command: &mut [u8; DATA_LIMIT],
-) -> Start
+) -> Result<Start, Refusal>
     ensures { Starts result command.old command.new (code_for type_f_code bitrate.now (type_f_first (sensf_req system_code request_code time_slots))) }
 {
-    let Supported::Code(code) = type_f_code(bitrate_of(bitrate)) else {
-        return start::refused(Refusal::Bitrate);
-    };
-    let high = (system_code / 256) as u8;
-    let low = (system_code % 256) as u8;
+    let code = chip_code(bitrate, type_f_code)?;
+    let [high, low] = system_code.to_be_bytes();
     let head = [
         ONE_TARGET,
         code,
@@ -43,14 +42,14 @@ pub fn detect_type_f(
         request_code,
         time_slots,
     ];
-    let n = put_two(&head, &[], command);
-    start::staged(TYPE_F_KIND, n)
+    staged(TYPE_F_KIND, &[&head], command)
 }
 
 // SENSF_REQ's code.
 pub(crate) const SENSF_REQ_CODE: u8 = 0x00;
 
 // The stages.
+// Kept: numbers and no enum, since a stage stands in session memory, which is repr(C) and may hold any byte.
 pub(crate) const FIELD_STAGE: u8 = 0;
 
 const RF_ON_STAGE: u8 = 1;
@@ -59,9 +58,6 @@ const POLL_STAGE: u8 = 2;
 
 // The field is on for so long before a card is polled.
 const FIELD_PAUSE_TIME: u32 = 20400;
-
-// RF configuration: the field on.
-const RF_ON_DATA: [u8; FIXED_LIMIT] = [RF_FIELD_ITEM, FIELD_ON, 0, 0, 0, 0, 0, 0, 0, 0, 0, 0];
 
 // The command of a stage.
 pub fn command(stage: u8) -> Command
@@ -72,8 +68,7 @@ pub fn command(stage: u8) -> Command
         RF_ON_STAGE => Command::fixed(
             general::RF_CONFIGURATION_CODE,
             clock::COMMAND_CLOCK,
-            RF_ON_DATA,
-            2,
+            &[RF_FIELD_ITEM, FIELD_ON],
         ),
         _ => Command::pending(
             initiator::IN_LIST_PASSIVE_TARGET_CODE,
@@ -86,10 +81,10 @@ pub fn command(stage: u8) -> Command
 fn tx_control(response: &[u8]) -> Decision
     ensures { (f : List ℕ) → DecisionRefines f response.now result (tx_control_read response.now) }
 {
-    if response.len() < 1 {
+    let Some(tx_control) = response.first() else {
         return Decision::Refused(Fault::ShortResponse);
-    }
-    if response[0] % ciu::TX_RF_EN == 0 {
+    };
+    if *tx_control % ciu::TX_RF_EN == 0 {
         Decision::Send(RF_ON_STAGE)
     } else {
         Decision::Send(POLL_STAGE)
@@ -116,6 +111,7 @@ fn polled(response: &[u8]) -> Decision
 }
 
 // What follows a response.
+#[tactic(auto, using(stages::specs::Laws::decided), unfolding(errors::specs::Choice::pick, crate::specs::Decisions::type_f_decision))]
 pub fn decided(stage: u8, response: &[u8]) -> Decision
     ensures { (f : List ℕ) → DecisionRefines f response.now result (type_f_decision stage response.now) }
 {

@@ -1,5 +1,5 @@
 -- Document 01's edge cases that are marked to be proved, as one table with one theorem.
-use Rattle.std.specs.Prelude.{◌≡◌, refl, false, cond, List, [], ◌∷◌, ℕ, eqb, drop}
+use Rattle.std.specs.Prelude.{◌≡◌, refl, false, cond, List, [], ◌∷◌, ℕ, eqb, drop, Option, Some, None}
 use Rattle.std.proofs.Common.{ap}
 use Rattle.errors.specs.Choice.{pick, same}
 use Rattle.errors.specs.Refusals.{fault_numbered, plain}
@@ -14,7 +14,7 @@ use Rattle.framing.specs.declared.ErrorDetection.{ErrorDetection}
 use Rattle.framing.specs.declared.ErrorDetection.TheVariants.{ErrorFrame, StatusByte}
 use Rattle.framing.specs.declared.FrameFormat.{FrameFormat}
 use Rattle.framing.specs.declared.FrameType.{FrameType}
-use Rattle.framing.specs.declared.FrameType.TheVariants.{Error, Nothing}
+use Rattle.framing.specs.declared.FrameType.TheVariants.{Error}
 use Rattle.framing.specs.declared.LengthEncoding.{LengthEncoding}
 use Rattle.framing.specs.declared.LengthEncoding.TheVariants.{Normal, ExtendedLittleEndian, NormalOrExtendedBigEndian}
 use Rattle.exchange.specs.Packets.{has_start, ack_led, Reply, response, failed, reply_of}
@@ -27,8 +27,8 @@ use Rattle.device.specs.Transceive.{type2_answer}
 pub data Edge : Type 0 where
   frame : LengthEncoding → List ℕ → List ℕ → Edge  -- the frame of a payload
   length_field : LengthEncoding → ℕ → List ℕ → Edge  -- what stands behind the start bytes, up to the payload
-  parsed : FrameFormat → List ℕ → FrameType → Edge  -- what a packet is under a format
-  parsed_always : List ℕ → FrameType → Edge  -- the same under every setting
+  parsed : FrameFormat → List ℕ → Option FrameType → Edge  -- what a packet is under a format
+  parsed_always : List ℕ → Option FrameType → Edge  -- the same under every setting
   payload : FrameFormat → List ℕ → List ℕ → Edge  -- the payload of a packet
   refused : List ℕ → Fault → ℕ → Edge  -- what the packet is refused with in step 5 of the exchange, and the number of that
   skipped : List ℕ → Edge  -- the exchange skips the packet (its step 4), be it the first or a later one
@@ -85,13 +85,13 @@ edge_table =
     ∷ frame ExtendedLittleEndian [] (0x00 ∷ 0x00 ∷ 0xFF ∷ 0xFF ∷ 0xFF ∷ 0x00 ∷ 0x00 ∷ 0x00 ∷ 0x00 ∷ 0x00 ∷ [])
     ∷ length_field NormalOrExtendedBigEndian 255 (0xFF ∷ 0x01 ∷ [])
     ∷ length_field NormalOrExtendedBigEndian 256 (0xFF ∷ 0xFF ∷ 0x01 ∷ 0x00 ∷ 0xFF ∷ [])
-    ∷ parsed (format_of Normal StatusByte) status_frame (Error 8)
-    ∷ parsed (format_of ExtendedLittleEndian StatusByte) status_frame (Error 8)
-    ∷ parsed (format_of NormalOrExtendedBigEndian StatusByte) status_frame (Error 8)
+    ∷ parsed (format_of Normal StatusByte) status_frame (Some (Error 8))
+    ∷ parsed (format_of ExtendedLittleEndian StatusByte) status_frame (Some (Error 8))
+    ∷ parsed (format_of NormalOrExtendedBigEndian StatusByte) status_frame (Some (Error 8))
     ∷ payload (format_of Normal ErrorFrame) status_frame (0x7F ∷ [])
     ∷ payload (format_of ExtendedLittleEndian ErrorFrame) status_frame (0x7F ∷ [])
     ∷ payload (format_of NormalOrExtendedBigEndian ErrorFrame) status_frame (0x7F ∷ [])
-    ∷ parsed_always ack_and_one Nothing
+    ∷ parsed_always ack_and_one None
     ∷ refused ack_and_one BrokenFrame 10
     ∷ skipped ack_and_one
     ∷ crc type_a (0x00 ∷ 0x00 ∷ []) (0xA0 ∷ 0x1E ∷ [])
@@ -112,7 +112,7 @@ unfolding pick starts same total checksum_of normal_frame extended_frame length_
     is_error_of extends length_at normal_at extended_at normal_of extended_of data_of parse_of payload_of
 formats = tt
 
-broken : (e : LengthEncoding) (d : ErrorDetection) → parse_of (format_of e d) ack_and_one ≡ Nothing
+broken : (e : LengthEncoding) (d : ErrorDetection) → parse_of (format_of e d) ack_and_one ≡ None
 unfolding formats
 broken Normal ErrorFrame = refl
 broken Normal StatusByte = refl

@@ -1,5 +1,5 @@
 -- What an event does to the running call, by the transition that it makes: the ways of `Core::event`.
-use Rattle.std.specs.Prelude.{◌≡◌, ℕ, ◌<◌, ◌≤◌, Bool, true, false, List, length}
+use Rattle.std.specs.Prelude.{◌≡◌, ℕ, ◌<◌, ◌≤◌, Bool, true, false, List, length, Option, Some, None}
 use mathlib.Core.Path.{refl, sym, ap, ◌∙◌, subst}
 use native.Mathlib.Omega.{arith}
 use borrow.Author.Tests.{eq-eqb, ne_eqb, lt-ltb, le-ltb, ltb-false}
@@ -12,52 +12,50 @@ use Rattle.engine.specs.Exchanges.{reply_short_lem}
 use Rattle.engine.specs.Core.{Arrays, After, unchanged, transitioned_of, is_long_of, admitted_of, event_core}
 use Rattle.engine.specs.declared.call.End.{End}
 use Rattle.engine.specs.declared.call.Transition.{Transition}
-use Rattle.engine.specs.declared.call.Transition.TheVariants.{Unfit, Orders, Sends, Ends}
+use Rattle.engine.specs.declared.call.Transition.TheVariants.{Orders, Sends, Ends}
 use Rattle.engine.specs.declared.running.Core.{Core}
 
--- all but `Unfit` fit
-does_fit : (code : ℕ) (p : List ℕ) (t : Transition) → (t ≡ Unfit → ⊥) → fits (transition_in code p t) ≡ true
-does_fit code p Unfit h = absurd (h refl)
-does_fit code p (Orders o c x) h = refl
-does_fit code p (Sends c) h = refl
-does_fit code p (Ends e) h = end_fits code p e
+does_fit : (code : ℕ) (p : List ℕ) (t : Transition) → fits (transition_in code p (Some t)) ≡ true
+does_fit code p (Orders o c x) = refl
+does_fit code p (Sends c) = refl
+does_fit code p (Ends e) = end_fits code p e
 
 pub no_call : (s : Core) (f : Arrays) (e : Event) (b : List ℕ) (x : After Core) → s.call.kind ≡ 0 → x ≡ unchanged s f OutOfTurn b → x ≡ event_core s f e b
 unfolding event_core pick
 no_call s f e b x h q = rw (eq-eqb s.call.kind 0 h) q
 
-module _ (s : Core) (f : Arrays) (e : Event) (p b : List ℕ) (t : Transition) (x : After Core)
+module _ (s : Core) (f : Arrays) (e : Event) (p b : List ℕ) (t : Option Transition) (x : After Core)
     (is : transition_in s.exchange.code p t ≡ transition_of s.call s.exchange e) (runs : s.call.kind ≡ 0 → ⊥) where
   admitted : x ≡ admitted_of s f (transition_in s.exchange.code p t) e b → x ≡ event_core s f e b
   unfolding event_core pick
   admitted h = rw (ne_eqb s.call.kind 0 runs) (h ∙ ap (λ n. admitted_of s f n e b) is)
 
-  pub does_not_fit : t ≡ Unfit → x ≡ unchanged s f OutOfTurn b → x ≡ event_core s f e b
+  pub does_not_fit : t ≡ None → x ≡ unchanged s f OutOfTurn b → x ≡ event_core s f e b
   unfolding admitted_of pick
   does_not_fit u h = admitted (rw u h)
 
-  module _ (tag : t ≡ Unfit → ⊥) where
+  module _ (v : Transition) (has : t ≡ Some v) where
     pub buffer_short : length b < buffer_need → x ≡ unchanged s f ShortBuffer b → x ≡ event_core s f e b
     unfolding admitted_of pick
-    buffer_short n h = admitted (rw (does_fit s.exchange.code p t tag, lt-ltb (length b) buffer_need n) h)
+    buffer_short n h = admitted (rw (has, does_fit s.exchange.code p v, lt-ltb (length b) buffer_need n) h)
 
     module _ (l : Bool) (room : buffer_need ≤ length b) (known : l ≡ is_long_of e) where
       pub packet_long : l ≡ true → x ≡ unchanged s f OverLong b → x ≡ event_core s f e b
       unfolding admitted_of pick
-      packet_long q h = admitted (rw (does_fit s.exchange.code p t tag, le-ltb (length b) buffer_need room, ← known, q) h)
+      packet_long q h = admitted (rw (has, does_fit s.exchange.code p v, le-ltb (length b) buffer_need room, ← known, q) h)
 
-      pub goes_through : (u : Transition) → l ≡ false → t ≡ u → x ≡ transitioned_of s f (transition_in s.exchange.code p u) b → x ≡ event_core s f e b
+      pub goes_through : (u : Transition) → l ≡ false → v ≡ u → x ≡ transitioned_of s f (transition_in s.exchange.code p (Some u)) b → x ≡ event_core s f e b
       unfolding admitted_of pick
       goes_through u q k h =
-          admitted (rw (does_fit s.exchange.code p t tag, le-ltb (length b) buffer_need room, ← known, q) (h ∙ ap (λ v. transitioned_of s f (transition_in s.exchange.code p v) b) (sym k)))
+          admitted (rw (has, does_fit s.exchange.code p v, le-ltb (length b) buffer_need room, ← known, q) (h ∙ ap (λ w. transitioned_of s f (transition_in s.exchange.code p (Some w)) b) (sym k)))
 
 -- a response within a packet that is not over-long
-pub response_short : (s : Core) (e : Event) (p : List ℕ) (t : Transition) (l : Bool) (end : End)
-    → transition_in s.exchange.code p t ≡ transition_of s.call s.exchange e → l ≡ is_long_of e → l ≡ false → t ≡ Ends end
+pub response_short : (s : Core) (e : Event) (p : List ℕ) (t : Option Transition) (v : Transition) (l : Bool) (end : End)
+    → transition_in s.exchange.code p t ≡ transition_of s.call s.exchange e → l ≡ is_long_of e → l ≡ false → t ≡ Some v → v ≡ Ends end
     → reply_length (end_transition s.exchange.code p end) ≤ packet_limit
 unfolding is_long_of
-response_short s e p t l end is known q k =
+response_short s e p t v l end is known q has k =
     let short : reply_length (end_transition s.exchange.code p end) ≤ packet_length e
-    = subst (λ m. reply_length m ≤ packet_length e) (sym is ∙ ap (transition_in s.exchange.code p) k) (reply_short_lem s.call s.exchange e) in
+    = subst (λ m. reply_length m ≤ packet_length e) (sym is ∙ ap (transition_in s.exchange.code p) (has ∙ ap Some k)) (reply_short_lem s.call s.exchange e) in
     let few = ltb-false packet_limit (packet_length e) (sym known ∙ q) in
     omega (arith, few, short)

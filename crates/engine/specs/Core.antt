@@ -1,5 +1,5 @@
 -- What a call or an event does to the running call, its arrays and the buffer: the contracts of core.rt and reply.rt.
-use Rattle.std.specs.Prelude.{◌≡◌, ℕ, ◌≤◌, Bool, List, [], length, take, ◌==◌, nat_le, nat_lt}
+use Rattle.std.specs.Prelude.{ℕ, ◌≤◌, Bool, List, [], length, take, ◌==◌, nat_le, nat_lt}
 use Rattle.errors.specs.Choice.{pick}
 use Rattle.errors.specs.declared.Refusal.{Refusal}
 use Rattle.errors.specs.declared.Refusal.TheVariants.{OutOfTurn, ShortBuffer, OverLong}
@@ -32,9 +32,9 @@ use Rattle.device.specs.Kinds.{opening_kind, reset_stage}
 unfoldable pub is_valid_of : Core → Bool
 is_valid_of s = both (nat_le s.command data_limit) (both (nat_le s.found found_limit) (both (nat_le s.exchange.phase draining_phase) (valid_call s.call)))
 
--- the bytes in use are within their limits, the lent arrays have their sizes, and the buffer has room
-abbrev pub Lent : Core → List ℕ → List ℕ → List ℕ → Type 0
-Lent s command found buffer = (s.found ≤ found_limit) × (s.command ≤ data_limit) × (length command ≡ data_limit) × (length found ≡ found_limit) × (buffer_need ≤ length buffer)
+-- the bytes in use are within their limits, and the buffer has room
+abbrev pub Lent : Core → List ℕ → Type 0
+Lent s buffer = (s.found ≤ found_limit) × (s.command ≤ data_limit) × (buffer_need ≤ length buffer)
 
 -- ---- the numbers with some fields anew
 

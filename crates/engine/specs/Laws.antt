@@ -1,14 +1,12 @@
 -- Laws of what the session's functions do.
-use Rattle.std.specs.Prelude.{◌≡◌, ℕ, ◌+◌, ◌-◌, ◌≤◌, Bool, true, false, cond, List, [], length, take, drop, nat_le, nat_lt}
+use Rattle.std.specs.Prelude.{◌≡◌, ℕ, ◌+◌, ◌-◌, ◌≤◌, Bool, true, false, cond, List, [], length, take, drop, nat_le, nat_lt, Result, Ok, Err}
 use Rattle.std.proofs.Math.Path.{refl, ap}
 use Rattle.std.proofs.Common.{sym, ◌∙◌, le-ltb, leb-true, length-drop, length-take, take_all, length-take-le}
 use native.Mathlib.Omega.{arith}
 use Rattle.errors.specs.Choice.{pick}
-use Rattle.errors.specs.Refusals.{answered, refused, numbered}
+use Rattle.errors.specs.Refusals.{returned, answered, refused, numbered}
 use Rattle.errors.specs.declared.Refusal.{Refusal}
-use Rattle.framing.specs.Build.{left, returned, build_of, put_frame, limit_of}
-use Rattle.framing.specs.declared.Built.{Built}
-use Rattle.framing.specs.declared.Built.TheVariants.{Frame, Refused}
+use Rattle.framing.specs.Build.{left, build_of, put_frame, limit_of}
 use Rattle.framing.specs.Enclose.{length-frame, start-most}
 use Rattle.framing.specs.Settings.{rcs956, command_payload}
 use Rattle.framing.specs.Valid.{both_left, both_right}
@@ -20,6 +18,7 @@ use Rattle.exchange.specs.Steps.{exchange_at, event_of, sending_phase}
 use Rattle.exchange.specs.declared.Event.{Event}
 use Rattle.exchange.specs.declared.Event.TheVariants.{Ok, Bad, Packet, Time, Fail, Late, Slept}
 use Rattle.exchange.specs.declared.Exchange.{Exchange}
+use Rattle.stages.specs.Few.{few}
 use Rattle.stages.specs.Decided.{Fitting, found_limit, response_limit}
 use Rattle.stages.specs.Put.{put, AppendsPart, puts_none}
 use Rattle.stages.specs.declared.Layout.{Layout}
@@ -55,7 +54,7 @@ command_built code bytes b h room =
 
 -- the frame of a command was built, and nothing else can be
 module _ (s : Core) (f : Arrays) (c : Call) (m : Command) (b b₁ : List ℕ) (h : length m.bytes ≤ data_limit) (room : buffer_need ≤ length b) where
-  pub sent_frame : (core : Core) (built : Built) (n : ℕ) (x : Exchange) → built ≡ Frame n → left (returned built) b₁ ≡ build_of rcs956 (command_payload m.code m.bytes) b
+  pub sent_frame : (core : Core) (built : Result ℕ Refusal) (n : ℕ) (x : Exchange) → built ≡ Ok n → left (returned built) b₁ ≡ build_of rcs956 (command_payload m.code m.bytes) b
       → x ≡ exchange_at sending_phase m.code m.clock → core ≡ running s c x → after core f (Sends n) b₁ ≡ sends_of s f c m b
   unfolding returned
   sent_frame core built n x e l k is =
@@ -65,7 +64,7 @@ module _ (s : Core) (f : Arrays) (c : Call) (m : Command) (b b₁ : List ℕ) (h
       let size : n ≡ length (command_frame m.code m.bytes) = cc in
       rw is (λ i. after (running s c (k i)) f (Sends (size i)) ((ap (λ y. y.buffer) q) i))
 
-  pub sent_refused : (a : After Core) (built : Built) (r : Refusal) → built ≡ Refused r → left (returned built) b₁ ≡ build_of rcs956 (command_payload m.code m.bytes) b
+  pub sent_refused : (a : After Core) (built : Result ℕ Refusal) (r : Refusal) → built ≡ Err r → left (returned built) b₁ ≡ build_of rcs956 (command_payload m.code m.bytes) b
       → a ≡ sends_of s f c m b
   unfolding returned
   sent_refused a built r e l =
@@ -100,18 +99,18 @@ part_copied s f bs b b₁ n a start len within few room laid e =
     done_copied s f (take len (drop start bs)) b b₁ n a (p.count ∙ ap length part) (p.is ∙ ap (λ l. put l b) part) e
 
 -- the found bytes are within their array, and the bytes of an answer fit a buffer
-module _ (s : Core) (command found b : List ℕ) (lent : Lent s command found b) where
+module _ (s : Core) (found b : List ℕ) (lent : Lent s b) (array : length found ≡ found_limit) where
   pub found_within : s.found ≤ length found
-  found_within = omega (arith, lent.0, lent.3)
+  found_within = omega (arith, lent.0)
 
   pub found_taken : s.found ≡ length (take s.found found)
   found_taken = sym (length-take-le s.found found found_within)
 
   pub answer-fits : (bs : List ℕ) (l : Layout) → length bs ≤ response_limit → Fitting (take s.found found) bs l
-      → Fitting (take s.found found) bs l × (l.kept + (l.head_len + (l.len + l.tail_len)) ≤ length b)
-  answer-fits bs l few f =
-      let most : length (take s.found found) ≤ found_limit = omega (arith, length-take s.found found, lent.3) in
-      (f, omega (arith, f.room most few, lent.4))
+      → Fitting (take s.found found) bs l × (l.kept + (length (few l.head) + (l.len + length (few l.tail))) ≤ length b)
+  answer-fits bs l short f =
+      let most : length (take s.found found) ≤ found_limit = omega (arith, length-take s.found found) in
+      (f, omega (arith, f.room most short, lent.2))
 
 -- a session in range has its lengths in range
 pub valid_command : (s : Core) → is_valid_of s ≡ true → s.command ≤ data_limit

@@ -1,10 +1,12 @@
 -- Calls as inputs, and the events by their numbers.
-use Rattle.std.specs.Prelude.{◌≡◌, ℕ, zero, suc, List, [], ◌∷◌, ◌≢◌, slice_index_or}
+use Rattle.std.specs.Prelude.{◌≡◌, ℕ, zero, suc, List, [], ◌∷◌, ◌≢◌, slice_index_or, Some, None}
+use Rattle.std.specs.Prelude.{Option as OptionIn}
 use Rattle.std.proofs.Math.Option.{Option, none, some}
 use Rattle.std.specs.Prelude.{refl}
 use Rattle.errors.specs.declared.Refusal.TheVariants.{OutOfTurn}
 use Rattle.exchange.specs.Exchange.{Event, ok, bad, pkt, time, fail, late, slept}
 use Rattle.exchange.specs.Steps as steps
+use Rattle.exchange.specs.declared.Event.{Event as CodeEvent}
 use Rattle.protocol.specs.Calls.{Call, opening, reader}
 use Rattle.engine.specs.Core.{Arrays, After, unchanged}
 use Rattle.engine.specs.SessionSteps.{State, event_after, open_after, start_after}
@@ -12,8 +14,6 @@ use Rattle.calls.specs.Numbers.{call_of, reader_call}
 use Rattle.calls.specs.Firsts.{start_by}
 use Rattle.calls.specs.declared.start.Numbers.{Numbers}
 use Rattle.engine.specs.Inputs.{Input, opens, asks, after_input}
-use Rattle.engine.specs.declared.by_number.Known.{Known}
-use Rattle.engine.specs.declared.by_number.Known.TheVariants.{Is, Not}
 
 abbrev pub call_input : ℕ → Call → List ℕ → Input
 call_input k (opening mode) b = opens k mode b
@@ -26,9 +26,9 @@ event_table packet = some ok ∷ some bad ∷ some (pkt packet) ∷ some time �
 unfoldable pub event_by_of : ℕ → List ℕ → Option Event
 event_by_of number packet = slice_index_or (event_table packet) number none
 
-unfoldable pub known_in : Known → List ℕ → Option Event
-known_in (Is e) packet = some (steps.event_of e packet)
-known_in Not packet = none
+unfoldable pub known_in : OptionIn CodeEvent → List ℕ → Option Event
+known_in (Some e) packet = some (steps.event_of e packet)
+known_in None packet = none
 
 -- an event with a number that has none fits no order
 abbrev pub after_event_number : State → Arrays → Option Event → List ℕ → After State

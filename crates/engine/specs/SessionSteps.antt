@@ -1,5 +1,5 @@
 -- What each entry does to a session, field by field, and to the buffer: the contracts of state.rt and session.rt.
-use Rattle.std.specs.Prelude.{ℕ, Bool, true, false, List, length, replicate, ◌==◌, nat_lt}
+use Rattle.std.specs.Prelude.{ℕ, Bool, true, false, List, length, replicate, ◌==◌, nat_lt, slice_index}
 use Rattle.errors.specs.Choice.{pick}
 use Rattle.errors.specs.declared.Refusal.TheVariants.{OutOfTurn, ShortBuffer, BadArgument}
 use Rattle.framing.specs.Lists.{both}
@@ -36,6 +36,10 @@ state_of c b n = state c (books_of b n)
 unfoldable pub valid : Core → ℕ → ℕ → ℕ → Bool
 valid c opened mode caller = both (valid_core c) (books_in_range opened mode caller)
 
+-- the same, with the three numbers where they lie
+abbrev pub valid_in : Core → List ℕ → Bool
+valid_in c b = valid c (slice_index b 0) (slice_index b 1) (slice_index b 2)
+
 abbrev pub is_valid_state : State → Bool
 is_valid_state s = valid s.core (opened_in s.books) (mode_in s.books) (caller_in s.books)
 
@@ -60,6 +64,9 @@ event_after s f e b =
 abbrev pub free : Core → ℕ → ℕ → ℕ → Bool
 free c opened mode caller = both (valid c opened mode caller) (c.call.kind == no_call_kind)
 
+abbrev pub free_in : Core → List ℕ → Bool
+free_in c b = free c (slice_index b 0) (slice_index b 1) (slice_index b 2)
+
 abbrev pub is_free : State → Bool
 is_free s = free s.core (opened_in s.books) (mode_in s.books) (caller_in s.books)
 
@@ -80,6 +87,9 @@ open_after s f k mode b = pick (is_free s) (with_room s f b (with_caller s f k b
 -- a call of an open reader
 abbrev pub admits_call : Core → ℕ → ℕ → ℕ → Bool
 admits_call c opened mode caller = both (free c opened mode caller) (opened == 1)
+
+abbrev pub admits_in : Core → List ℕ → Bool
+admits_in c b = admits_call c (slice_index b 0) (slice_index b 1) (slice_index b 2)
 
 abbrev pub is_admitted : State → Bool
 is_admitted s = admits_call s.core (opened_in s.books) (mode_in s.books) (caller_in s.books)

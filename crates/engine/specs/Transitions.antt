@@ -1,6 +1,6 @@
 -- What an event does to a running call, as call.rt has it: a few numbers, apart from buffer and session.
 use Rattle.std.specs.Prelude.{◌≡◌, ℕ, zero, suc, ◌+◌, ◌≤◌, Bool, true, false, List, length, ◌==◌, nat_eq, nat_le}
-use Rattle.std.specs.Prelude.{refl}
+use Rattle.std.specs.Prelude.{refl, Option, Some, None}
 use Rattle.std.proofs.Math.Path.{sym, ap, subst}
 use Rattle.std.proofs.Common.{◌∙◌, arith, eq-eqb}
 use Rattle.errors.specs.Choice.{pick}
@@ -21,7 +21,7 @@ use Rattle.engine.specs.declared.call.Call.{Call}
 use Rattle.engine.specs.declared.call.End.{End}
 use Rattle.engine.specs.declared.call.End.TheVariants.{ResetDone, Arrived, Failed}
 use Rattle.engine.specs.declared.call.Transition.{Transition}
-use Rattle.engine.specs.declared.call.Transition.TheVariants.{Unfit, Orders, Sends, Ends}
+use Rattle.engine.specs.declared.call.Transition.TheVariants.{Orders, Sends, Ends}
 use Rattle.protocol.specs.Names.{opening_read_time, reset_pause_time}
 use Rattle.calls.specs.Kinds.{no_call_kind, last_kind, first_stage, last_stage}
 
@@ -114,11 +114,11 @@ end_transition code packet Arrived = reply_transition (reply_of code packet)
 end_transition code packet (Failed r) = refuses r
 
 -- of a packet that a command with this code waits for
-abbrev pub transition_in : ℕ → List ℕ → Transition → Transitioned
-transition_in code packet Unfit = unfitting
-transition_in code packet (Orders o c x) = orders (order_of o) c x
-transition_in code packet (Sends c) = sends c
-transition_in code packet (Ends e) = end_transition code packet e
+abbrev pub transition_in : ℕ → List ℕ → Option Transition → Transitioned
+transition_in code packet None = unfitting
+transition_in code packet (Some (Orders o c x)) = orders (order_of o) c x
+transition_in code packet (Some (Sends c)) = sends c
+transition_in code packet (Some (Ends e)) = end_transition code packet e
 
 -- a command's exchange is over: behind a reset's follows ACK, whatever came of it
 unfoldable pub over_transition : Call → Exchange → Transitioned → Transitioned

@@ -1,12 +1,15 @@
 // The reader's books: what a session keeps beside its running call. They lie in two arrays, which are lent: three numbers, and the command
 // frames ordered since the last opening began, by caller.
-ghost use Rattle.std.specs.Prelude.{◌≡◌, ℕ, ◌≤◌, List};
+#![tactic(auto, using(framing::specs::Rules::steps), unfolding(errors::specs::Choice::pick, crate::specs::Books::extra_in, crate::specs::Books::one_more_of, crate::specs::Books::ended))]
+
+ghost use Rattle.std.specs.Prelude.{◌≡◌, ◌≤◌};
 ghost use Rattle.protocol.specs.Session.{last_caller};
-ghost use Rattle.engine.specs.Books.{books_of, books_in_range, no_books, extra_in, one_more_of, counted_in, by_caller, ended, booked};
+ghost use Rattle.engine.specs.Books.{books_of, books_in_range, no_books, extra_in, one_more_of, counted_in, booked};
 
 use super::running::{Output, PACKET_LIMIT};
 use framing::padded;
 
+// Kept: the three are bytes of one array and no struct of a flag, a mode and a caller: they lie in the C session, where any byte may stand.
 // The places of the three numbers: whether the reader is open, the mode that the last opening chose, whose call runs or ran last.
 pub const OPENED: usize = 0;
 
@@ -16,11 +19,13 @@ pub const CALLER: usize = 2;
 
 pub const BOOKS_SIZE: usize = 3;
 
+// Kept: numbers and no enum, since they stand in session memory, which is repr(C) and may hold any byte.
 pub const CLOSED: u8 = 0;
 
 pub const OPEN: u8 = 1;
 
 // The modes: packets start with 00 00 FF, or up to 16 more zeros may stand before them.
+// Kept: numbers and no enum, since they stand in session memory, which is repr(C) and may hold any byte.
 pub const OFF_MODE: u8 = 0;
 
 pub const PADDED_MODE: u8 = 1;
@@ -37,23 +42,14 @@ pub const CEILING: u32 = 4294967295;
 pub fn is_in_range(opened: u8, mode: u8, caller: u8) -> bool
     ensures { result ≡ books_in_range opened mode caller }
 {
-    if opened > OPEN {
-        return false;
-    }
-    if mode > PADDED_MODE {
-        return false;
-    }
-    caller <= LAST_CALLER
+    opened <= OPEN && mode <= PADDED_MODE && caller <= LAST_CALLER
 }
 
 // How many bytes the mode takes off a packet's start: its extra zeros, unless it is over-long.
 pub fn extra_zeros(mode: u8, packet: &[u8]) -> usize
     ensures { result ≡ extra_in mode packet.now }
 {
-    if mode == PADDED_MODE {
-        if PACKET_LIMIT < packet.len() {
-            return 0;
-        }
+    if mode == PADDED_MODE && packet.len() <= PACKET_LIMIT {
         padded::extra_zeros(packet)
     } else {
         0
@@ -69,6 +65,7 @@ pub(crate) fn begin(frames: &mut [u32; CALLER_COUNT], books: &mut [u8; BOOKS_SIZ
 }
 
 // One command frame more, up to the ceiling.
+// Kept: the ceiling has a name, which the contract gives.
 fn one_more(frames: u32) -> u32
     ensures { result ≡ one_more_of frames }
 {
@@ -80,19 +77,8 @@ fn count_frame(frames: &mut [u32; CALLER_COUNT], caller: u8)
     requires { caller ≤ last_caller }
     ensures { frames.new ≡ counted_in caller frames.old }
 {
-    let at = caller as usize;
-    let more = one_more(frames[at]);
-    frames[at] = more;
-}
-
-// A caller's call has ended: an opening leaves the reader open or not, any other call leaves it as it was.
-fn end_call(books: &mut [u8; BOOKS_SIZE], caller: u8, opening: bool, opened: u8)
-    ensures { (n : List ℕ) → books_of books.new n ≡ ended (by_caller caller (books_of books.old n)) opening opened }
-{
-    books[CALLER] = caller;
-    if opening {
-        books[OPENED] = opened;
-    }
+    let at = usize::from(caller);
+    frames[at] = one_more(frames[at]);
 }
 
 // What came out of a caller's call, an opening or not: a command frame counts, and an opening's end says whether the reader is open.
@@ -106,21 +92,18 @@ pub(crate) fn book(
     requires { caller ≤ last_caller }
     ensures { books_of books.new frames.new ≡ booked caller opening output (books_of books.old frames.old) }
 {
+    if matches!(output, Output::Refused(_)) {
+        return;
+    }
+    books[CALLER] = caller;
     match output {
-        Output::Command(_) => {
-            books[CALLER] = caller;
-            count_frame(frames, caller);
+        Output::Command(_) => count_frame(frames, caller),
+        Output::Done(_) | Output::Type1(_) | Output::UidAndAts(_, _, _) if opening => {
+            books[OPENED] = OPEN
         }
-        Output::Done(_) => end_call(books, caller, opening, OPEN),
-        Output::Type1(_) => end_call(books, caller, opening, OPEN),
-        Output::UidAndAts(_, _, _) => end_call(books, caller, opening, OPEN),
-        Output::Nothing => end_call(books, caller, opening, CLOSED),
-        Output::Failed(_) => end_call(books, caller, opening, CLOSED),
-        Output::FailedAfter(_, _) => end_call(books, caller, opening, CLOSED),
-        Output::Ack => books[CALLER] = caller,
-        Output::Read(_) => books[CALLER] = caller,
-        Output::Drain => books[CALLER] = caller,
-        Output::Pause(_) => books[CALLER] = caller,
-        Output::Refused(_) => {}
+        Output::Nothing | Output::Failed(_) | Output::FailedAfter(_, _) if opening => {
+            books[OPENED] = CLOSED
+        }
+        _ => {}
     }
 }

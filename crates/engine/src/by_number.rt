@@ -11,6 +11,7 @@ use errors::Refusal;
 use exchange::Event;
 use stages::put::DATA_LIMIT;
 
+// Kept: numbers, since the C interface gives an event by its number, and any number may come.
 // The numbers of events.
 const OK_EVENT: u8 = 0;
 
@@ -27,28 +28,25 @@ const LATE_EVENT: u8 = 5;
 const SLEPT_EVENT: u8 = 6;
 
 // The event of a number, where it has one.
-#[derive(Clone, Copy)]
-pub enum Known {
-    Is(Event),
-    Not,
-}
-
-pub fn event_by(number: u8) -> Known
+#[tactic(auto, unfolding(crate::specs::Numbers::known_in, crate::specs::Numbers::event_by_of))]
+// Kept: Event is of another crate, so that no TryFrom may be written here.
+pub fn event_by(number: u8) -> Option<Event>
     ensures { (packet : List ℕ) → known_in result packet ≡ event_by_of number packet }
 {
     match number {
-        OK_EVENT => Known::Is(Event::Ok),
-        BAD_EVENT => Known::Is(Event::Bad),
-        PACKET_EVENT => Known::Is(Event::Packet),
-        TIME_EVENT => Known::Is(Event::Time),
-        FAIL_EVENT => Known::Is(Event::Fail),
-        LATE_EVENT => Known::Is(Event::Late),
-        SLEPT_EVENT => Known::Is(Event::Slept),
-        _ => Known::Not,
+        OK_EVENT => Some(Event::Ok),
+        BAD_EVENT => Some(Event::Bad),
+        PACKET_EVENT => Some(Event::Packet),
+        TIME_EVENT => Some(Event::Time),
+        FAIL_EVENT => Some(Event::Fail),
+        LATE_EVENT => Some(Event::Late),
+        SLEPT_EVENT => Some(Event::Slept),
+        _ => None,
     }
 }
 
 // An event. One with a number that has none fits no order.
+// Kept: the numbers go by value and the arrays are lent where they lie, as document 01 has the host entry (decision 22); one `&mut Session` would be another entry.
 pub fn event(
     core: Core,
     command: &mut [u8; DATA_LIMIT],
@@ -61,7 +59,7 @@ pub fn event(
 ) -> Progress
     ensures { effected result books.new frames.new (arrays command.new found.new) buffer.new ≡ after_event_number (state_of core books.old frames.old) (arrays command.old found.old) (event_by_of number packet.now) buffer.old }
 {
-    let Known::Is(event) = event_by(number) else {
+    let Some(event) = event_by(number) else {
         return core.refused(Refusal::OutOfTurn);
     };
     state::event(core, command, found, frames, books, event, packet, buffer)

@@ -3,12 +3,14 @@ ghost use Rattle.std.specs.Prelude.{◌≡◌, ℕ, List};
 ghost use Rattle.errors.specs.declared.Fault.TheVariants.{Transport};
 ghost use Rattle.exchange.specs.Exchange.{on_write, on_pause};
 ghost use Rattle.exchange.specs.Steps.{event_of};
-ghost use Rattle.engine.specs.Transitions.{no_call_of, first_call, at, to_stage, to_cursor, transition_in, transition_of, reset_ack_transition, reset_pause_transition, opening_ack_transition, opening_reads_transition, pause_transition, unfitting, refuses};
+ghost use Rattle.engine.specs.Ends.{told, reply_in};
+ghost use Rattle.engine.specs.Transitions.{no_call_of, first_call, at, to_stage, to_cursor, transition_in, transition_of, reset_ack_transition, reset_pause_transition, opening_ack_transition, opening_reads_transition, pause_transition, unfitting, refuses, valid_call};
 
-use calls::NO_CALL_KIND;
+use calls::{LAST_KIND, LAST_STAGE, NO_CALL_KIND};
 use errors::Fault;
 use exchange::{Advanced, Event, Exchange, Order};
 
+// Kept: numbers and no enum, since a phase lies in the C session, where any byte may stand, and `transition_of` speaks of all numbers.
 // What a call waits for: its command's exchange, a reset's ACK or pause, the opening's ACK or reads, a pause.
 pub const EXCHANGE_PHASE: u8 = 0;
 
@@ -30,7 +32,7 @@ const OPENING_READ_TIME: u32 = 10;
 // What runs, which of its commands is on or comes next, where it stands in a list of its own, and what is awaited. The cursor is the
 // call's: nothing here looks into it, and any byte is in its range.
 #[repr(C)]
-#[derive(Clone, Copy)]
+#[derive(Clone, Copy, Debug, PartialEq, Eq)]
 pub struct Call {
     pub kind: u8,
     pub stage: u8,
@@ -39,49 +41,56 @@ pub struct Call {
 }
 
 // How a command ends: a reset is done, the packet that ends its exchange is in, or it failed.
-#[derive(Clone, Copy)]
+#[derive(Clone, Copy, Debug, PartialEq, Eq)]
 pub enum End {
     ResetDone,
     Arrived,
     Failed(Fault),
 }
 
-// What an event does to a call: it does not fit, an order follows, the command of the call's stage comes next, or the command ends.
-#[derive(Clone, Copy)]
+impl End {
+    // The response to the command of this code, which stands behind the payload's identifier and code, or the fault; a reset has none.
+    pub(crate) fn response<'p>(self, code: u8, packet: &'p [u8]) -> Result<&'p [u8], Fault>
+        ensures { told result ≡ reply_in code packet.now self }
+    {
+        match self {
+            End::ResetDone => Ok(&packet[..0]),
+            End::Arrived => {
+                let payload = exchange::response_payload(packet, &[code])?;
+                Ok(&payload[2..])
+            }
+            End::Failed(fault) => Err(fault),
+        }
+    }
+}
+
+// What an event that fits does to a call: an order follows, the command of the call's stage comes next, or the command ends.
+// Kept: the ways that an event takes a call on, none of them an answer or a refusal.
+#[derive(Clone, Copy, Debug, PartialEq, Eq)]
 pub enum Transition {
-    Unfit,
     Orders(Order, Call, Exchange),
     Sends(Call),
     Ends(End),
 }
 
 // A write's event: what follows it, or the end with 7.
-fn after_write(event: Event, next: Transition) -> Transition
-    ensures { (code : ℕ) (p : List ℕ) → transition_in code p result ≡ on_write unfitting (transition_in code p next) (refuses Transport) (event_of event p) }
+fn after_write(event: Event, next: Transition) -> Option<Transition>
+    ensures { (code : ℕ) (p : List ℕ) → transition_in code p result ≡ on_write unfitting (transition_in code p (Some next)) (refuses Transport) (event_of event p) }
 {
     match event {
-        Event::Ok => next,
-        Event::Bad => Transition::Ends(End::Failed(Fault::Transport)),
-        Event::Packet => Transition::Unfit,
-        Event::Time => Transition::Unfit,
-        Event::Fail => Transition::Unfit,
-        Event::Late => Transition::Unfit,
-        Event::Slept => Transition::Unfit,
+        Event::Ok => Some(next),
+        Event::Bad => Some(Transition::Ends(End::Failed(Fault::Transport))),
+        _ => None,
     }
 }
 
 // A pause's event.
-fn after_pause(event: Event, next: Transition) -> Transition
-    ensures { (code : ℕ) (p : List ℕ) → transition_in code p result ≡ on_pause unfitting (transition_in code p next) (event_of event p) }
+fn after_pause(event: Event, next: Transition) -> Option<Transition>
+    ensures { (code : ℕ) (p : List ℕ) → transition_in code p result ≡ on_pause unfitting (transition_in code p (Some next)) (event_of event p) }
 {
     match event {
-        Event::Slept => next,
-        Event::Ok => Transition::Unfit,
-        Event::Bad => Transition::Unfit,
-        Event::Packet => Transition::Unfit,
-        Event::Time => Transition::Unfit,
-        Event::Fail => Transition::Unfit,
-        Event::Late => Transition::Unfit,
+        Event::Slept => Some(next),
+        _ => None,
     }
 }
 
@@ -90,12 +99,15 @@ impl Call {
     pub fn none() -> Call
         ensures { result ≡ no_call_of }
     {
-        Call {
-            kind: NO_CALL_KIND,
-            stage: 0,
-            cursor: 0,
-            phase: EXCHANGE_PHASE,
-        }
+        Call::first(NO_CALL_KIND)
+    }
+
+    // Every field is in its range.
+    #[tactic(auto, using(framing::specs::Rules::steps), unfolding(crate::specs::Transitions::valid_call))]
+    pub(crate) fn is_valid(self) -> bool
+        ensures { result ≡ valid_call self }
+    {
+        self.kind <= LAST_KIND && self.stage <= LAST_STAGE && self.phase <= PAUSE_PHASE
     }
 
     // At the first command of a call.
@@ -113,12 +125,7 @@ impl Call {
     pub(crate) fn at(self, phase: u8) -> Call
         ensures { result ≡ at self phase }
     {
-        Call {
-            kind: self.kind,
-            stage: self.stage,
-            cursor: self.cursor,
-            phase,
-        }
+        Call { phase, ..self }
     }
 
     // At the command of a stage.
@@ -126,10 +133,9 @@ impl Call {
         ensures { result ≡ to_stage self stage }
     {
         Call {
-            kind: self.kind,
             stage,
-            cursor: self.cursor,
             phase: EXCHANGE_PHASE,
+            ..self
         }
     }
 
@@ -138,14 +144,13 @@ impl Call {
         ensures { result ≡ to_cursor self stage cursor }
     {
         Call {
-            kind: self.kind,
-            stage,
             cursor,
-            phase: EXCHANGE_PHASE,
+            ..self.to_stage(stage)
         }
     }
 
-    fn on_reset_ack(self, exchange: Exchange, event: Event) -> Transition
+    // Kept: this and `on_opening_ack` order different things behind an ACK, each by a definition of its own.
+    fn on_reset_ack(self, exchange: Exchange, event: Event) -> Option<Transition>
         ensures { (code : ℕ) (p : List ℕ) → transition_in code p result ≡ reset_ack_transition self exchange (event_of event p) }
     {
         let next = Transition::Orders(
@@ -156,13 +161,13 @@ impl Call {
         after_write(event, next)
     }
 
-    fn on_reset_pause(self, event: Event) -> Transition
+    fn on_reset_pause(self, event: Event) -> Option<Transition>
         ensures { (code : ℕ) (p : List ℕ) → transition_in code p result ≡ reset_pause_transition (event_of event p) }
     {
         after_pause(event, Transition::Ends(End::ResetDone))
     }
 
-    fn on_opening_ack(self, exchange: Exchange, event: Event) -> Transition
+    fn on_opening_ack(self, exchange: Exchange, event: Event) -> Option<Transition>
         ensures { (code : ℕ) (p : List ℕ) → transition_in code p result ≡ opening_ack_transition self exchange (event_of event p) }
     {
         let next = Transition::Orders(
@@ -173,28 +178,33 @@ impl Call {
         after_write(event, next)
     }
 
-    fn on_opening_reads(self, exchange: Exchange, event: Event) -> Transition
+    fn on_opening_reads(self, exchange: Exchange, event: Event) -> Option<Transition>
         ensures { (code : ℕ) (p : List ℕ) → transition_in code p result ≡ opening_reads_transition self exchange (event_of event p) }
     {
         match event {
-            Event::Packet => Transition::Orders(Order::Read(OPENING_READ_TIME), self, exchange),
-            Event::Time => Transition::Sends(self.at(EXCHANGE_PHASE)),
-            Event::Fail => Transition::Sends(self.at(EXCHANGE_PHASE)),
-            Event::Ok => Transition::Unfit,
-            Event::Bad => Transition::Unfit,
-            Event::Late => Transition::Unfit,
-            Event::Slept => Transition::Unfit,
+            Event::Packet => Some(Transition::Orders(
+                Order::Read(OPENING_READ_TIME),
+                self,
+                exchange,
+            )),
+            Event::Time | Event::Fail => Some(Transition::Sends(self.at(EXCHANGE_PHASE))),
+            _ => None,
         }
     }
 
-    fn on_pause(self, event: Event) -> Transition
+    fn on_pause(self, event: Event) -> Option<Transition>
         ensures { (code : ℕ) (p : List ℕ) → transition_in code p result ≡ pause_transition self (event_of event p) }
     {
         after_pause(event, Transition::Sends(self.at(EXCHANGE_PHASE)))
     }
 
     // What an event does to the call.
-    pub(crate) fn transition(self, exchange: Exchange, event: Event, packet: &[u8]) -> Transition
+    pub(crate) fn transition(
+        self,
+        exchange: Exchange,
+        event: Event,
+        packet: &[u8],
+    ) -> Option<Transition>
         ensures { transition_in exchange.code packet.now result ≡ transition_of self exchange (event_of event packet.now) }
     {
         let phase = self.phase;
@@ -205,18 +215,18 @@ impl Call {
             OPENING_ACK_PHASE => return self.on_opening_ack(exchange, event),
             OPENING_READS_PHASE => return self.on_opening_reads(exchange, event),
             PAUSE_PHASE => return self.on_pause(event),
-            _ => return Transition::Unfit,
+            _ => return None,
         }
         let end = match exchange.advance(event, packet) {
-            Advanced::Unfit => return Transition::Unfit,
-            Advanced::Pending(order, x) => return Transition::Orders(order, self, x),
+            Advanced::Unfit => return None,
+            Advanced::Pending(order, x) => return Some(Transition::Orders(order, self, x)),
             Advanced::Arrived => End::Arrived,
             Advanced::Failed(fault) => End::Failed(fault),
         };
         // Behind a reset's exchange follows ACK, whatever came of it.
         if calls::is_reset(self.kind, self.stage) {
-            return Transition::Orders(Order::Ack, self.at(RESET_ACK_PHASE), exchange);
+            return Some(Transition::Orders(Order::Ack, self.at(RESET_ACK_PHASE), exchange));
         }
-        Transition::Ends(end)
+        Some(Transition::Ends(end))
     }
 }

@@ -34,17 +34,17 @@ impl Session {
     pub fn fresh() -> Session
         ensures { result ≡ fresh_session }
     {
-        let core = Core::none();
         Session {
             command: [0; DATA_LIMIT],
             found: [0; FOUND_LIMIT],
             frames: [0; CALLER_COUNT],
             books: [0; BOOKS_SIZE],
-            core,
+            core: Core::none(),
         }
     }
 
     // A call, by its number and arguments (`calls::start`).
+    // Kept: number, numbers and four byte strings are the arguments of every call, as C passes them (decision 23).
     pub fn call(
         mut self,
         number: u8,
@@ -57,15 +57,11 @@ impl Session {
     ) -> Step
         ensures { stepped result buffer.new ≡ step_with self (call_input numbers.caller (call_of number numbers first.now second.now third.now fourth.now) buffer.old) }
     {
-        let core = self.core;
-        let mut command = self.command;
-        let mut frames = self.frames;
-        let mut books = self.books;
         let progress = state::call(
-            core,
-            &mut command,
-            &mut frames,
-            &mut books,
+            self.core,
+            &mut self.command,
+            &mut self.frames,
+            &mut self.books,
             number,
             numbers,
             first,
@@ -74,43 +70,31 @@ impl Session {
             fourth,
             buffer,
         );
-        let output = progress.output;
-        let after = progress.core;
-        self.command = command;
-        self.frames = frames;
-        self.books = books;
-        self.core = after;
-        let session = self;
-        Step { session, output }
+        self.core = progress.core;
+        Step {
+            session: self,
+            output: progress.output,
+        }
     }
 
     // What the host returns for an order. A packet's bytes are lent beside the event, and count with Packet alone.
     pub fn event(mut self, event: Event, packet: &[u8], buffer: &mut [u8]) -> Step
         ensures { stepped result buffer.new ≡ step_with self (gives (event_of event packet.now) buffer.old) }
     {
-        let core = self.core;
-        let mut command = self.command;
-        let mut found = self.found;
-        let mut frames = self.frames;
-        let mut books = self.books;
         let progress = state::event(
-            core,
-            &mut command,
-            &mut found,
-            &mut frames,
-            &mut books,
+            self.core,
+            &mut self.command,
+            &mut self.found,
+            &mut self.frames,
+            &mut self.books,
             event,
             packet,
             buffer,
         );
-        let output = progress.output;
-        let after = progress.core;
-        self.command = command;
-        self.found = found;
-        self.frames = frames;
-        self.books = books;
-        self.core = after;
-        let session = self;
-        Step { session, output }
+        self.core = progress.core;
+        Step {
+            session: self,
+            output: progress.output,
+        }
     }
 }

@@ -1,5 +1,5 @@
 -- The table of refusals, document 01's and document 02's: the number of each, the status byte of 15 and the status flags of 20.
-use Rattle.std.specs.Prelude.{ℕ}
+use Rattle.std.specs.Prelude.{ℕ, Result, Ok, Err}
 use Rattle.errors.specs.declared.Numbered.{Numbered}
 use Rattle.errors.specs.declared.Refusal.{Refusal}
 use Rattle.errors.specs.declared.Refusal.TheVariants.{OutOfTurn, ShortBuffer, OverLong, BadArgument, Bitrate, NotSendable}
@@ -75,3 +75,8 @@ by_status f a UidLayout = a
 pub data Returned : Type 0 where
   answered : ℕ → Returned
   refused : Numbered → Returned
+
+-- What a function that answers a number or a refusal at once says by that.
+unfoldable pub returned : Result ℕ Refusal → Returned
+returned (Ok n) = answered n
+returned (Err e) = refused (numbered e)

@@ -2,10 +2,11 @@
 #![tactic(auto)]
 
 ghost use Rattle.std.specs.Prelude.{◌≡◌};
+ghost use Rattle.errors.specs.declared.RoundRefusal.TheVariants.{AtOnce};
 ghost use Rattle.errors.specs.Refusals.{plain as plain_of, numbered as numbered_of, fault_numbered, round_numbered};
 
 // 1 to 6: refused at once, and nothing changes.
-#[derive(Clone, Copy)]
+#[derive(Clone, Copy, Debug, PartialEq, Eq)]
 pub enum Refusal {
     OutOfTurn,
     ShortBuffer,
@@ -16,7 +17,7 @@ pub enum Refusal {
 }
 
 // 7 and up: a running call ends.
-#[derive(Clone, Copy)]
+#[derive(Clone, Copy, Debug, PartialEq, Eq)]
 pub enum Fault {
     Transport,
     TimeOut,
@@ -37,7 +38,7 @@ pub enum Fault {
 }
 
 // Document 02, N9: a round of discovery is refused, and the list stays as it is.
-#[derive(Clone, Copy)]
+#[derive(Clone, Copy, Debug, PartialEq, Eq)]
 pub enum RoundRefusal {
     AtOnce(Refusal),
     StaleRound,
@@ -50,7 +51,7 @@ pub const STATUS_NUMBER: u8 = 15;
 pub const CARD_STATUS_NUMBER: u8 = 20;
 
 // A refusal's number in document 01's table, and what it carries: 15 a status byte, 20 the two status flags (0 where there is none).
-#[derive(Clone, Copy)]
+#[derive(Clone, Copy, Debug, PartialEq, Eq)]
 pub struct Numbered {
     pub number: u8,
     pub status: u8,
@@ -68,11 +69,11 @@ fn plain(number: u8) -> Numbered
     }
 }
 
-impl Refusal {
-    pub fn numbered(self) -> Numbered
-        ensures { result ≡ numbered_of self }
-    {
-        match self {
+impl From<Refusal> for Numbered {
+    ghost from_gives = { λ refusal n. n ≡ numbered_of refusal };
+
+    fn from(refusal: Refusal) -> Numbered {
+        match refusal {
             Refusal::OutOfTurn => plain(1),
             Refusal::ShortBuffer => plain(2),
             Refusal::OverLong => plain(3),
@@ -83,11 +84,11 @@ impl Refusal {
     }
 }
 
-impl Fault {
-    pub fn numbered(self) -> Numbered
-        ensures { result ≡ fault_numbered self }
-    {
-        match self {
+impl From<Fault> for Numbered {
+    ghost from_gives = { λ fault n. n ≡ fault_numbered fault };
+
+    fn from(fault: Fault) -> Numbered {
+        match fault {
             Fault::Transport => plain(7),
             Fault::TimeOut => plain(8),
             Fault::FalseStart => plain(9),
@@ -116,14 +117,22 @@ impl Fault {
     }
 }
 
-impl RoundRefusal {
-    pub fn numbered(self) -> Numbered
-        ensures { result ≡ round_numbered self }
-    {
-        match self {
-            RoundRefusal::AtOnce(refusal) => refusal.numbered(),
+impl From<RoundRefusal> for Numbered {
+    ghost from_gives = { λ refusal n. n ≡ round_numbered refusal };
+
+    fn from(refusal: RoundRefusal) -> Numbered {
+        match refusal {
+            RoundRefusal::AtOnce(at_once) => Numbered::from(at_once),
             RoundRefusal::StaleRound => plain(27),
             RoundRefusal::ListFull => plain(28),
         }
+    }
+}
+
+impl From<Refusal> for RoundRefusal {
+    ghost from_gives = { λ refusal r. r ≡ AtOnce refusal };
+
+    fn from(refusal: Refusal) -> RoundRefusal {
+        RoundRefusal::AtOnce(refusal)
     }
 }

@@ -1,5 +1,5 @@
 -- The packets of one exchange: the frame of a command, and what steps 3 to 5 of document 01 find in a packet.
-use Rattle.std.specs.Prelude.{ℕ, ◌+◌, ◌%◌, Bool, true, false, cond, List, [], ◌∷◌, length, ◌==◌}
+use Rattle.std.specs.Prelude.{ℕ, ◌+◌, ◌%◌, Bool, true, false, cond, List, [], ◌∷◌, length, ◌==◌, Option, Some, None}
 use Rattle.errors.specs.declared.Fault.{Fault}
 use Rattle.errors.specs.declared.Fault.TheVariants.{BrokenFrame, Length, FrameKind, Identifier, Code, Status}
 use Rattle.framing.specs.Frames.{sof, ack, frame_of}
@@ -8,7 +8,7 @@ use Rattle.framing.specs.Lists.{starts}
 use Rattle.framing.specs.Parse.{parse_of, payload_of}
 use Rattle.framing.specs.Settings.{rcs956, command_payload}
 use Rattle.framing.specs.declared.FrameType.{FrameType}
-use Rattle.framing.specs.declared.FrameType.TheVariants.{Ack, Error, Data, Nothing}
+use Rattle.framing.specs.declared.FrameType.TheVariants.{Ack, Error, Data}
 use Rattle.framing.specs.declared.LengthEncoding.TheVariants.{NormalOrExtendedBigEndian}
 use Rattle.framing.specs.Names.{controller_to_host}
 
@@ -54,11 +54,11 @@ payload_reply code (b ∷ bs) = cond (b == error_identifier) (failed (Status err
 abbrev pub filling : ℕ → List ℕ → Reply → Reply
 filling frame packet reply = cond (frame == length packet) reply (failed Length)
 
-abbrev pub frame_reply : ℕ → List ℕ → FrameType → Reply
-frame_reply code packet Nothing = failed BrokenFrame
-frame_reply code packet (Ack frame) = filling frame packet (failed FrameKind)
-frame_reply code packet (Error frame) = filling frame packet (failed FrameKind)
-frame_reply code packet (Data start len frame) = filling frame packet (payload_reply code (payload_of (Data start len frame) packet))
+abbrev pub frame_reply : ℕ → List ℕ → Option FrameType → Reply
+frame_reply code packet None = failed BrokenFrame
+frame_reply code packet (Some (Ack frame)) = filling frame packet (failed FrameKind)
+frame_reply code packet (Some (Error frame)) = filling frame packet (failed FrameKind)
+frame_reply code packet (Some (Data start len frame)) = filling frame packet (payload_reply code (payload_of (Some (Data start len frame)) packet))
 
 -- "Intact" is a packet that gives a response here, for the code of the command it serves.
 unfoldable pub reply_of : ℕ → List ℕ → Reply

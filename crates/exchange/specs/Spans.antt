@@ -1,11 +1,11 @@
 -- Step 5 by the places of a packet: where the payload of an intact response stands, and the fault of any other packet.
-use Rattle.std.specs.Prelude.{ℕ, Bool, true, false, cond, List, length, take, drop, ◌==◌, slice_index}
+use Rattle.std.specs.Prelude.{ℕ, Bool, true, false, cond, List, length, take, drop, ◌==◌, slice_index, Option, Some, None}
 use Rattle.errors.specs.declared.Fault.{Fault}
 use Rattle.errors.specs.declared.Fault.TheVariants.{BrokenFrame, Length, FrameKind, Identifier, Code, Status}
 use Rattle.framing.specs.Parse.{parse_of}
 use Rattle.framing.specs.Settings.{rcs956}
 use Rattle.framing.specs.declared.FrameType.{FrameType}
-use Rattle.framing.specs.declared.FrameType.TheVariants.{Ack, Error, Data, Nothing}
+use Rattle.framing.specs.declared.FrameType.TheVariants.{Ack, Error, Data}
 use Rattle.exchange.specs.Packets.{Reply, response, failed, is_empty, reply_of, error_identifier}
 use Rattle.framing.specs.Names.{controller_to_host}
 
@@ -24,11 +24,11 @@ abbrev pub is_response : Reply → Bool
 is_response (response bytes) = true
 is_response (failed fault) = false
 
-abbrev pub payload_span : FrameType → Span
-payload_span (Ack frame) = nowhere
-payload_span (Error frame) = nowhere
-payload_span (Data start len frame) = record { start = start; len = len }
-payload_span Nothing = nowhere
+abbrev pub payload_span : Option FrameType → Span
+payload_span None = nowhere
+payload_span (Some (Ack frame)) = nowhere
+payload_span (Some (Error frame)) = nowhere
+payload_span (Some (Data start len frame)) = record { start = start; len = len }
 
 -- where the payload of an intact response stands: identifier, code and response
 unfoldable pub response_span : ℕ → List ℕ → Span
@@ -38,7 +38,6 @@ abbrev pub frame_length : FrameType → ℕ
 frame_length (Ack frame) = frame
 frame_length (Error frame) = frame
 frame_length (Data start len frame) = frame
-frame_length Nothing = 0
 
 -- the first check that fails, of a payload and of a packet; the code's check is the last
 abbrev pub payload_fault : List ℕ → Fault
@@ -47,11 +46,11 @@ payload_fault l = cond (is_empty l) Identifier (cond (slice_index l 0 == error_i
 abbrev pub filling_fault : ℕ → List ℕ → Fault → Fault
 filling_fault frame packet fault = cond (frame == length packet) fault Length
 
-abbrev pub frame_fault : List ℕ → FrameType → Fault
-frame_fault packet Nothing = BrokenFrame
-frame_fault packet (Ack frame) = filling_fault frame packet FrameKind
-frame_fault packet (Error frame) = filling_fault frame packet FrameKind
-frame_fault packet (Data start len frame) = filling_fault frame packet (payload_fault (take len (drop start packet)))
+abbrev pub frame_fault : List ℕ → Option FrameType → Fault
+frame_fault packet None = BrokenFrame
+frame_fault packet (Some (Ack frame)) = filling_fault frame packet FrameKind
+frame_fault packet (Some (Error frame)) = filling_fault frame packet FrameKind
+frame_fault packet (Some (Data start len frame)) = filling_fault frame packet (payload_fault (take len (drop start packet)))
 
 unfoldable pub fault_of : List ℕ → Fault
 fault_of packet = frame_fault packet (parse_of rcs956 packet)

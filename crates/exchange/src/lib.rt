@@ -1,18 +1,20 @@
 // One acknowledged command: steps 1 to 5 of document 01's exchange (`command` of chipset.rs).
-#![tactic(auto)]
+#![tactic(auto, using(crate::specs::Rules::step_rules), unfolding(crate::specs::Steps::phase_in, crate::specs::Packets::ack_led, crate::specs::Packets::has_start))]
 
-ghost use Rattle.std.specs.Prelude.{◌≡◌, ℕ, List, slice_index};
-ghost use Rattle.exchange.specs.Packets.{payload_reply};
+ghost use Rattle.std.specs.Prelude.{◌≡◌, ℕ, List, slice_index, Bool, MatchResult};
+ghost use Rattle.exchange.specs.Packets.{failed, payload_reply};
 ghost use Rattle.exchange.specs.Exchange.{advance as advance_of, sending, reading, waiting, cancelling, rejecting, draining, on_packet};
 ghost use Rattle.exchange.specs.Steps.{exchange_at, phase_in, event_of, result_in, SameCommand, Handled, sending_phase};
-ghost use Rattle.exchange.specs.Spans.{part_at, is_response, response_span, frame_length, payload_fault, fault_of};
+ghost use Rattle.exchange.specs.Spans.{is_response, frame_length, payload_fault, fault_of};
+ghost use Rattle.exchange.specs.Responses.{Fills, Unfilled, Responds, Fails};
 
 use errors::Fault;
-use framing::FrameType;
 use framing::frame::{CONTROLLER_TO_HOST, Rcs956Format};
+use framing::{Format, FrameType};
 
 // What the host returns. A packet's bytes are lent beside it.
-#[derive(Clone, Copy)]
+// Kept: a host gives an event's number and the bytes by two arguments of the C interface, and the theorems take the two one by one (`event_of`).
+#[derive(Clone, Copy, Debug, PartialEq, Eq)]
 pub enum Event {
     Ok,
     Bad,
@@ -24,7 +26,7 @@ pub enum Event {
 }
 
 // An order that writes no command; a read has its ms, a pause its µs. An exchange itself never pauses.
-#[derive(Clone, Copy)]
+#[derive(Clone, Copy, Debug, PartialEq, Eq)]
 pub enum Order {
     Ack,
     Read(u32),
@@ -33,8 +35,9 @@ pub enum Order {
 }
 
 // An exchange: its phase, the command's code and the command's clock in ms.
+// Kept: the phase is a number: an exchange lies in session memory that C lends, where any byte may stand, and `phase_in` gives each one a meaning.
 #[repr(C)]
-#[derive(Clone, Copy)]
+#[derive(Clone, Copy, Debug, PartialEq, Eq)]
 pub struct Exchange {
     pub phase: u8,
     pub code: u8,
@@ -42,7 +45,7 @@ pub struct Exchange {
 }
 
 // What an event does: it does not fit, an order follows, the command's packet is in (step 5 is next), or the exchange has failed.
-#[derive(Clone, Copy)]
+#[derive(Clone, Copy, Debug, PartialEq, Eq)]
 pub enum Advanced {
     Unfit,
     Pending(Order, Exchange),
@@ -93,8 +96,7 @@ impl Exchange {
         ensures result_value { result_in self packet.now result ≡ advance_of (phase_in self) (event_of event packet.now) }
         ensures same_command { SameCommand self result }
     {
-        let phase = self.phase;
-        match phase {
+        match self.phase {
             Self::SENDING_PHASE => self.on_sent(event),
             Self::READING_PHASE => self.on_first_read(event, packet),
             Self::WAITING_PHASE => self.on_later_read(event, packet),
@@ -106,11 +108,10 @@ impl Exchange {
     }
 
     // An order follows, in a new phase.
-    fn ordered(mut self, order: Order, phase: u8) -> Advanced
+    fn ordered(self, order: Order, phase: u8) -> Advanced
         ensures { result ≡ Advanced.Pending order (exchange_at phase self.code self.clock) }
     {
-        self.phase = phase;
-        Advanced::Pending(order, self)
+        Advanced::Pending(order, Exchange { phase, ..self })
     }
 
     // Step 1.
@@ -129,16 +130,9 @@ impl Exchange {
         ensures { Handled self packet.now (advance_of (reading self.code self.clock) (event_of event packet.now)) result }
     {
         match event {
-            Event::Packet => {
-                if packet.len() == 0 {
-                    return Advanced::Failed(Fault::TimeOut);
-                }
-                if framing::has_sof(packet) {
-                    self.on_packet(packet)
-                } else {
-                    self.ordered(Order::Ack, Self::REJECTING_PHASE)
-                }
-            }
+            Event::Packet if packet.is_empty() => Advanced::Failed(Fault::TimeOut),
+            Event::Packet if framing::has_sof(packet) => self.on_packet(packet),
+            Event::Packet => self.ordered(Order::Ack, Self::REJECTING_PHASE),
             Event::Time => Advanced::Failed(Fault::TimeOut),
             Event::Fail => Advanced::Failed(Fault::Transport),
             _ => Advanced::Unfit,
@@ -150,12 +144,8 @@ impl Exchange {
         ensures { Handled self packet.now (advance_of (waiting self.code self.clock) (event_of event packet.now)) result }
     {
         match event {
-            Event::Packet => {
-                if packet.len() == 0 {
-                    return Advanced::Failed(Fault::TimeOut);
-                }
-                self.on_packet(packet)
-            }
+            Event::Packet if packet.is_empty() => Advanced::Failed(Fault::TimeOut),
+            Event::Packet => self.on_packet(packet),
             Event::Time => Advanced::Failed(Fault::TimeOut), // no ACK
             Event::Fail => Advanced::Failed(Fault::Transport), // no ACK
             Event::Late => self.ordered(Order::Ack, Self::OVERDUE_PHASE),
@@ -167,14 +157,13 @@ impl Exchange {
     fn on_packet(self, packet: &[u8]) -> Advanced
         ensures { Handled self packet.now (on_packet self.code self.clock packet.now) result }
     {
-        if framing::starts_with(packet, &framing::ACK_BYTES) {
-            if self.clock == 0 {
-                return self.ordered(Order::Ack, Self::OVERDUE_PHASE);
-            }
-            self.ordered(Order::Read(self.clock), Self::WAITING_PHASE)
-        } else {
-            Advanced::Arrived
+        if !framing::starts_with(packet, &framing::ACK_BYTES) {
+            return Advanced::Arrived;
         }
+        if self.clock == 0 {
+            return self.ordered(Order::Ack, Self::OVERDUE_PHASE);
+        }
+        self.ordered(Order::Read(self.clock), Self::WAITING_PHASE)
     }
 
     // Step 3: ACK was written, or that failed.
@@ -182,8 +171,7 @@ impl Exchange {
         ensures { (p : List ℕ) → Handled self p (advance_of rejecting (event_of event p)) result }
     {
         match event {
-            Event::Ok => self.ordered(Order::Drain, Self::DRAINING_PHASE),
-            Event::Bad => self.ordered(Order::Drain, Self::DRAINING_PHASE),
+            Event::Ok | Event::Bad => self.ordered(Order::Drain, Self::DRAINING_PHASE),
             _ => Advanced::Unfit,
         }
     }
@@ -193,15 +181,9 @@ impl Exchange {
         ensures { Handled self packet.now (advance_of draining (event_of event packet.now)) result }
     {
         match event {
-            Event::Packet => {
-                if packet.len() == 0 {
-                    return Advanced::Failed(Fault::FalseStart);
-                }
-                self.ordered(Order::Drain, Self::DRAINING_PHASE)
-            }
-            Event::Time => Advanced::Failed(Fault::FalseStart),
-            Event::Fail => self.ordered(Order::Drain, Self::DRAINING_PHASE),
-            Event::Late => Advanced::Failed(Fault::FalseStart),
+            Event::Packet if packet.is_empty() => Advanced::Failed(Fault::FalseStart),
+            Event::Packet | Event::Fail => self.ordered(Order::Drain, Self::DRAINING_PHASE),
+            Event::Time | Event::Late => Advanced::Failed(Fault::FalseStart),
             _ => Advanced::Unfit,
         }
     }
@@ -212,8 +194,7 @@ fn on_cancelled(event: Event, fault: Fault) -> Advanced
     ensures { (x : Exchange) (p : List ℕ) → Handled x p (advance_of (cancelling fault) (event_of event p)) result }
 {
     match event {
-        Event::Ok => Advanced::Failed(fault),
-        Event::Bad => Advanced::Failed(fault),
+        Event::Ok | Event::Bad => Advanced::Failed(fault),
         _ => Advanced::Unfit,
     }
 }
@@ -222,44 +203,23 @@ fn on_cancelled(event: Event, fault: Fault) -> Advanced
 fn code_of(command: &[u8]) -> u8
     ensures { result ≡ slice_index command.now 0 }
 {
-    if command.len() == 0 {
-        return 0;
-    }
-    command[0]
+    command.first().copied().unwrap_or(0)
 }
 
-// Whether a payload is a response to a command of this code.
-fn is_response(payload: &[u8], code: u8) -> bool
-    ensures { result ≡ is_response (payload_reply code payload.now) }
+// The payload of a data frame that fills the packet; or the fault of any other packet.
+fn filling_payload(packet: &[u8]) -> Result<&[u8], Fault>
+    ensures { MatchResult result (λ payload. Fills packet.now payload.now) (λ fault. Unfilled packet.now fault) }
 {
-    if payload.len() < 2 {
-        return false;
-    }
-    if payload[0] != CONTROLLER_TO_HOST {
-        return false;
-    }
-    payload[1] == std::num::wrapping_add_u8(code, 1)
-}
-
-// Step 5: the payload (identifier, code and response) of an intact response to a command, whose code stands at its start.
-// The empty part where the packet is none.
-pub fn response_payload<'p, 'c>(packet: &'p [u8], command: &'c [u8]) -> &'p [u8]
-    ensures { result.now ≡ part_at (response_span (slice_index command.now 0) packet.now) packet.now }
-{
-    let FrameType::Data { start, len, frame } = framing::parse(Rcs956Format::format(), packet)
-    else {
-        return &packet[0..0];
+    let Some(found) = framing::parse(Rcs956Format::format(), packet) else {
+        return Err(Fault::BrokenFrame);
     };
-    if frame != packet.len() {
-        return &packet[0..0];
+    if frame_length(found) != packet.len() {
+        return Err(Fault::Length);
     }
-    let end = start + len;
-    let payload = &packet[start..end];
-    if is_response(payload, code_of(command)) {
-        payload
-    } else {
-        &packet[0..0]
-    }
+    let FrameType::Data { start, len, .. } = found else {
+        return Err(Fault::FrameKind);
+    };
+    Ok(&packet[start..start + len])
 }
 
 // The length of a frame that was found.
@@ -267,53 +227,48 @@ fn frame_length(found: FrameType) -> usize
     ensures { result ≡ frame_length found }
 {
     match found {
-        FrameType::Ack(frame) => frame,
-        FrameType::Error(frame) => frame,
-        FrameType::Data {
-            start: _,
-            len: _,
-            frame,
-        } => frame,
-        FrameType::Nothing => 0,
+        FrameType::Ack(frame) | FrameType::Error(frame) | FrameType::Data { frame, .. } => frame,
     }
+}
+
+// Whether a payload is a response to a command of this code; or the fault by the first check that fails. The code's check is the last.
+fn check_payload(payload: &[u8], code: u8) -> Result<(), Fault>
+    ensures { MatchResult result (λ _. is_response (payload_reply code payload.now) ≡ Bool.true) (λ fault. payload_reply code payload.now ≡ failed fault) }
+{
+    match payload {
+        [ERROR_IDENTIFIER, ..] => Err(Fault::Status(ERROR_IDENTIFIER)),
+        [CONTROLLER_TO_HOST, answer, ..] if *answer == code.wrapping_add(1) => Ok(()),
+        [CONTROLLER_TO_HOST, ..] => Err(Fault::Code),
+        _ => Err(Fault::Identifier),
+    }
+}
+
+// Step 5: the payload (identifier, code and response) of an intact response to a command, whose code stands at its start; or the packet's fault.
+pub fn response_payload<'p, 'c>(packet: &'p [u8], command: &'c [u8]) -> Result<&'p [u8], Fault>
+    ensures { MatchResult result (λ payload. Responds (slice_index command.now 0) packet.now payload.now) (λ fault. Fails (slice_index command.now 0) packet.now fault) }
+{
+    let payload = filling_payload(packet)?;
+    check_payload(payload, code_of(command))?;
+    Ok(payload)
 }
 
 // The fault of a payload that is no response.
 fn payload_fault(payload: &[u8]) -> Fault
     ensures { result ≡ payload_fault payload.now }
 {
-    if payload.len() == 0 {
-        return Fault::Identifier;
+    match payload {
+        [ERROR_IDENTIFIER, ..] => Fault::Status(ERROR_IDENTIFIER),
+        [CONTROLLER_TO_HOST, ..] => Fault::Code,
+        _ => Fault::Identifier,
     }
-    let identifier = payload[0];
-    if identifier == ERROR_IDENTIFIER {
-        return Fault::Status(ERROR_IDENTIFIER);
-    }
-    if identifier != CONTROLLER_TO_HOST {
-        return Fault::Identifier;
-    }
-    Fault::Code
 }
 
-// Step 5: the fault of a packet that is no intact response, by the first check that fails. The code's check is the last.
+// Step 5: the fault of a packet that is no intact response, whatever the command, by the first check that fails. The code's check is the last.
 pub fn fault(packet: &[u8]) -> Fault
     ensures { result ≡ fault_of packet.now }
 {
-    let found = framing::parse(Rcs956Format::format(), packet);
-    if let FrameType::Nothing = found {
-        return Fault::BrokenFrame;
+    match filling_payload(packet) {
+        Ok(payload) => payload_fault(payload),
+        Err(fault) => fault,
     }
-    if frame_length(found) != packet.len() {
-        return Fault::Length;
-    }
-    let FrameType::Data {
-        start,
-        len,
-        frame: _,
-    } = found
-    else {
-        return Fault::FrameKind;
-    };
-    let end = start + len;
-    payload_fault(&packet[start..end])
 }

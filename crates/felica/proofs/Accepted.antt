@@ -1,5 +1,5 @@
 -- The reader's check passes exactly the standard's replies, with flag 1 at 0, to the request, which are taken apart to their fields; and gives 20 with the flags of one that is refused.
-use Rattle.std.specs.Prelude.{◌≡◌, Bool, leb, drop}
+use Rattle.std.specs.Prelude.{◌≡◌, Bool, leb, drop, Ok, Err}
 use Rattle.std.proofs.Math.Path.{refl, sym, ap₂}
 use Rattle.std.proofs.Common.{ap, ◌∙◌, arith, drop_of_length-le}
 use Rattle.std.proofs.Math.Bool.{true, false}
@@ -16,7 +16,6 @@ use Rattle.felica.specs.Packets.{reply_packet, read_reply_of, write_reply_of, re
 use Rattle.felica.specs.Fields.{idm_in, flag1_in, flag2_in, block_number_in, blocks_in, has_blocks_of, reply_fields_of, read_replied, write_replied}
 use Rattle.felica.specs.Checks.{is_complete, is_from_of, by_flags_of, check_of, read_check, write_check}
 use Rattle.felica.specs.Replies.{parts, laid, idm_eight, has_blocks, number_and_blocks, WriteReplied, read_reply_back, write_reply_back}
-use Rattle.felica.specs.declared.check.Checked.TheVariants.{Good, Faulty}
 use Rattle.felica.specs.Accepted.{AllRead}
 
 -- what a good reply passed
@@ -25,12 +24,12 @@ record Passed (code : ℕ) (idm : List ℕ) (whole : Bool) (p : List ℕ) : Type
   from : is_from_of code idm p ≡ true
   first : flag1_in p ≡ 0
 
-passed : (code : ℕ) (idm : List ℕ) (whole : Bool) (p : List ℕ) → check_of code idm whole p ≡ Good → Passed code idm whole p
+passed : (code : ℕ) (idm : List ℕ) (whole : Bool) (p : List ℕ) → check_of code idm whole p ≡ Ok tt → Passed code idm whole p
 unfolding check_of by_flags_of pick
 passed code idm whole p h = go (is_complete whole p) (is_from_of code idm p) (eqb (flag1_in p) 0) refl refl refl h
   where
     go : (t u v : Bool) → is_complete whole p ≡ t → is_from_of code idm p ≡ u → eqb (flag1_in p) 0 ≡ v
-        → pick t (pick u (pick v Good (Faulty (CardStatus (flag1_in p) (flag2_in p)))) (Faulty OtherCard)) (Faulty ShortResponse) ≡ Good → Passed code idm whole p
+        → pick t (pick u (pick v (Ok (tt {0})) (Err (CardStatus (flag1_in p) (flag2_in p)))) (Err OtherCard)) (Err ShortResponse) ≡ Ok (tt {0}) → Passed code idm whole p
     go true true true a b c k = record { complete = a; from = b; first = eqb-true (flag1_in p) 0 c }
     go true true false a b c k = absurd (let z : ◌≡◌ {A = ℕ} 0 1 = cc in omega arith)
     go true false v a b c k = absurd (let z : ◌≡◌ {A = ℕ} 0 1 = cc in omega arith)
@@ -69,7 +68,7 @@ blocks_fit idm bytes n h e some few =
     rw (eq-eqb (length idm) idm_size h, eq-eqb (length bytes % block_size) 0 (omega arith), le-leb block_size (length bytes) (omega arith))
     (le-leb (length bytes) (block_size * most_blocks) (omega arith))
 
-pub good_read : (idm : List ℕ) (n : ℕ) (p : List ℕ) → read_check idm n p ≡ Good → AllRead idm n p
+pub good_read : (idm : List ℕ) (n : ℕ) (p : List ℕ) → read_check idm n p ≡ Ok tt → AllRead idm n p
 unfolding pick has_blocks_of
 good_read idm n p h =
     let k = passed read_reply_code idm (has_blocks_of n p) p h in
@@ -83,13 +82,13 @@ good_read idm n p h =
     }
 
 -- of 1 to 4 blocks it is taken apart to its fields
-pub good_read_fields : (idm : List ℕ) (n : ℕ) (p : List ℕ) → 1 ≤ n → n ≤ most_blocks → read_check idm n p ≡ Good → reply_fields_of p ≡ read_replied idm 0 (flag2_in p) (blocks_in p)
+pub good_read_fields : (idm : List ℕ) (n : ℕ) (p : List ℕ) → 1 ≤ n → n ≤ most_blocks → read_check idm n p ≡ Ok tt → reply_fields_of p ≡ read_replied idm 0 (flag2_in p) (blocks_in p)
 good_read_fields idm n p some few h =
     let a = good_read idm n p h in
     ap reply_fields_of a.is ∙ read_reply_back idm (blocks_in p) 0 (flag2_in p) (a.fits some few)
 
 -- a good reply to a write is the standard's, and taken apart to its fields
-pub good_write : (idm p : List ℕ) → write_check idm p ≡ Good → WriteReplied p idm 0 (flag2_in p)
+pub good_write : (idm p : List ℕ) → write_check idm p ≡ Ok tt → WriteReplied p idm 0 (flag2_in p)
 good_write idm p h =
     let k = passed write_reply_code idm (eqb (length p) flags_end) p h in
     let n : length p ≡ flags_end = eqb-true (length p) flags_end (all write_reply_code idm (eqb (length p) flags_end) p k) in
@@ -98,7 +97,7 @@ good_write idm p h =
       fits = eq-eqb (length idm) idm_size (idm-long write_reply_code idm (eqb (length p) flags_end) p k);
     }
 
-pub good_write_fields : (idm p : List ℕ) → write_check idm p ≡ Good → reply_fields_of p ≡ write_replied idm 0 (flag2_in p)
+pub good_write_fields : (idm p : List ℕ) → write_check idm p ≡ Ok tt → reply_fields_of p ≡ write_replied idm 0 (flag2_in p)
 good_write_fields idm p h =
     let a = good_write idm p h in
     ap reply_fields_of a.is ∙ write_reply_back idm 0 (flag2_in p) a.fits
@@ -113,29 +112,29 @@ module _ (code flag1 flag2 : ℕ) (idm bytes : List ℕ) (h : length idm ≡ idm
       rw (le-leb flags_end (length p) (omega (arith, q.size)), eq-eqb (get_or p 0 0) (length p) q.len, q.first, q.second, q.code_is, eq-eqb code code refl, q.idm_is, same_self idm)
       (go (eqb flag1 0) refl)
     where
-      go : (t : Bool) → eqb flag1 0 ≡ t → pick (pick t whole true) (by_flags_of flag1 flag2) (Faulty ShortResponse) ≡ by_flags_of flag1 flag2
+      go : (t : Bool) → eqb flag1 0 ≡ t → pick (pick t whole true) (by_flags_of flag1 flag2) (Err ShortResponse) ≡ by_flags_of flag1 flag2
       go true e = rw (w (eqb-true flag1 0 e))
       go false e = refl
 
 -- the standard's replies: good, or 20 with both flags
-pub read_good : (idm bytes : List ℕ) (n flag2 : ℕ) → length idm ≡ idm_size → length bytes ≡ block_size * n → read_check idm n (read_reply_of idm 0 flag2 bytes) ≡ Good
+pub read_good : (idm bytes : List ℕ) (n flag2 : ℕ) → length idm ≡ idm_size → length bytes ≡ block_size * n → read_check idm n (read_reply_of idm 0 flag2 bytes) ≡ Ok tt
 unfolding by_flags_of pick
 read_good idm bytes n flag2 h e =
     by_flags read_reply_code 0 flag2 idm (length bytes / block_size ∷ bytes) h (has_blocks_of n (read_reply_of idm 0 flag2 bytes)) (λ _. has_blocks read_reply_code 0 flag2 n idm bytes h e)
 
-pub write_good : (idm : List ℕ) (flag2 : ℕ) → length idm ≡ idm_size → write_check idm (write_reply_of idm 0 flag2) ≡ Good
+pub write_good : (idm : List ℕ) (flag2 : ℕ) → length idm ≡ idm_size → write_check idm (write_reply_of idm 0 flag2) ≡ Ok tt
 unfolding by_flags_of pick
 write_good idm flag2 h =
     by_flags write_reply_code 0 flag2 idm [] h (eqb (length (write_reply_of idm 0 flag2)) flags_end) (λ _. eq-eqb (length (write_reply_of idm 0 flag2)) flags_end (parts write_reply_code 0 flag2 idm [] h).size)
 
 module _ (idm : List ℕ) (flag1 flag2 : ℕ) (h : length idm ≡ idm_size) (ne : flag1 ≡ 0 → ⊥) where
-  pub read_refused : (n : ℕ) → read_check idm n (read_reply_of idm flag1 flag2 []) ≡ Faulty (CardStatus flag1 flag2)
+  pub read_refused : (n : ℕ) → read_check idm n (read_reply_of idm flag1 flag2 []) ≡ Err (CardStatus flag1 flag2)
   unfolding by_flags_of pick
   read_refused n =
       rw (ne_eqb flag1 0 ne)
       (by_flags read_reply_code flag1 flag2 idm [] h (has_blocks_of n (reply_packet read_reply_code idm flag1 flag2 [])) (λ e. absurd (ne e)) ∙ rw (ne_eqb flag1 0 ne))
 
-  pub write_refused : write_check idm (write_reply_of idm flag1 flag2) ≡ Faulty (CardStatus flag1 flag2)
+  pub write_refused : write_check idm (write_reply_of idm flag1 flag2) ≡ Err (CardStatus flag1 flag2)
   unfolding by_flags_of pick
   write_refused =
       by_flags write_reply_code flag1 flag2 idm [] h (eqb (length (write_reply_of idm flag1 flag2)) flags_end) (λ e. absurd (ne e)) ∙ rw (ne_eqb flag1 0 ne)

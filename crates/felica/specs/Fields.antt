@@ -1,10 +1,9 @@
 -- Packets taken apart: the fields by their places, and what is a request or a reply.
-use Rattle.std.specs.Prelude.{Bool, true, false, List, [], ◌∷◌, ℕ, ◌+◌, ◌*◌, eqb, leb, length, take, drop, get_or}
+use Rattle.std.specs.Prelude.{Bool, true, false, List, [], ◌∷◌, ℕ, ◌+◌, ◌*◌, eqb, leb, length, take, drop, get_or, Option, Some, None}
 use Rattle.errors.specs.Choice.{pick}
 use Rattle.framing.specs.Lists.{both}
 use Rattle.felica.specs.Names.{idm_size, block_size, most_blocks, element_size, element, code_offset, idm_offset, services_offset, service_low_offset, service_high_offset, count_offset, request_head, flag1_offset, flag2_offset, flags_end, blocks_offset}
 use Rattle.felica.specs.Packets.{read_code, read_reply_code, write_code, write_reply_code}
-use Rattle.felica.specs.declared.BlockNumbers.{BlockNumbers}
 use Rattle.felica.specs.declared.request.Asked.{Asked}
 use Rattle.felica.specs.declared.request.Request.{Request}
 use Rattle.felica.specs.declared.request.Request.TheVariants as request
@@ -77,26 +76,23 @@ request_of p =
     (pick (is_request_of write_code block_size p) (writes (idm_in p) (service_in p) (numbers_in (list_in p)) (block_data_in (count_in p) p)) no_request)
 
 -- the code's answer: the service code, the number of blocks, and the block numbers of a list's first four elements, 0 where it has fewer
-abbrev pub four_in : List ℕ → BlockNumbers
-four_in l = record { 0 = get_or l 1 0; 1 = get_or l 3 0; 2 = get_or l 5 0; 3 = get_or l 7 0 }
+abbrev pub four_in : List ℕ → List ℕ
+four_in l = get_or l 1 0 ∷ get_or l 3 0 ∷ get_or l 5 0 ∷ get_or l 7 0 ∷ []
 
 abbrev pub asked_in : List ℕ → Asked
 asked_in p = record { service = service_in p; count = count_in p; numbers = four_in (list_in p) }
 
-unfoldable pub parsed_request : List ℕ → Request
-parsed_request p = pick (is_request_of read_code 0 p) (request.Read (asked_in p)) (pick (is_request_of write_code block_size p) (request.Write (asked_in p)) request.Nothing)
+unfoldable pub parsed_request : List ℕ → Option Request
+parsed_request p = pick (is_request_of read_code 0 p) (Some (request.Read (asked_in p))) (pick (is_request_of write_code block_size p) (Some (request.Write (asked_in p))) None)
 
 -- what such an answer says of the packet p; of `parsed_request p` that is `request_of p`: `parsed_fields` (Taken.antt)
-abbrev pub four : BlockNumbers → List ℕ
-four n = n.0 ∷ n.1 ∷ n.2 ∷ n.3 ∷ []
-
 abbrev pub numbers_of : Asked → List ℕ
-numbers_of a = take a.count (four a.numbers)
+numbers_of a = take a.count a.numbers
 
-abbrev pub request_in : Request → List ℕ → RequestFields
-request_in (request.Read a) p = reads (idm_in p) a.service (numbers_of a)
-request_in (request.Write a) p = writes (idm_in p) a.service (numbers_of a) (block_data_in a.count p)
-request_in request.Nothing p = no_request
+abbrev pub request_in : Option Request → List ℕ → RequestFields
+request_in (Some (request.Read a)) p = reads (idm_in p) a.service (numbers_of a)
+request_in (Some (request.Write a)) p = writes (idm_in p) a.service (numbers_of a) (block_data_in a.count p)
+request_in None p = no_request
 
 -- ---- replies
 
@@ -129,7 +125,7 @@ reply_fields_of p =
     pick (is_read_reply_of p) (read_replied (idm_in p) (flag1_in p) (flag2_in p) (blocks_in p))
     (pick (is_write_reply_of p) (write_replied (idm_in p) (flag1_in p) (flag2_in p)) no_reply)
 
-abbrev pub reply_fields_in : Reply → List ℕ → ReplyFields
-reply_fields_in (reply.Read flag1 flag2) p = read_replied (idm_in p) flag1 flag2 (blocks_in p)
-reply_fields_in (reply.Write flag1 flag2) p = write_replied (idm_in p) flag1 flag2
-reply_fields_in reply.Nothing p = no_reply
+abbrev pub reply_fields_in : Option Reply → List ℕ → ReplyFields
+reply_fields_in (Some (reply.Read flag1 flag2)) p = read_replied (idm_in p) flag1 flag2 (blocks_in p)
+reply_fields_in (Some (reply.Write flag1 flag2)) p = write_replied (idm_in p) flag1 flag2
+reply_fields_in None p = no_reply

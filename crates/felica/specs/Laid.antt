@@ -1,22 +1,21 @@
 -- Laws of packets put together in a buffer.
-use Rattle.std.specs.Prelude.{◌≡◌, refl, Bool, false, eqb, leb, take, get_or}
-use Rattle.std.proofs.Common.{sym, ◌∙◌, arith, Fits, drop-drop, take_at}
+use Rattle.std.specs.Prelude.{◌≡◌, refl, Bool, eqb, leb, take, get_or}
+use Rattle.std.proofs.Common.{sym, ◌∙◌, arith, drop-drop, take_at}
 use Rattle.std.proofs.Math.Path.{ap, ap₂}
 use Rattle.std.proofs.Math.Bool.{true}
-use mathlib.Core.List.{List, [], ◌∷◌, ◌++◌, append_assoc, append-nil}
+use mathlib.Core.List.{List, [], ◌∷◌, ◌++◌, append_assoc}
 use Prim.Native.Nat.{ℕ, suc, ◌+◌, ◌*◌, ◌/◌, ◌%◌, ◌≤◌, ◌<◌}
-use borrow.Author.Tests.{lt-ltb, le-ltb, leb-true, eqb-true, eq-eqb, ne_eqb}
-use Rattle.std.specs.Int.{w64}
+use borrow.Author.Tests.{lt-ltb, le-ltb, leb-true, eqb-true, eq-eqb}
+use Rattle.std.specs.Int.{w16, to_le_bytes}
 use Rattle.std.proofs.Math.ListN.{length, drop, length-append}
 use Rattle.std.proofs.Math.Seq.{drop-append-add}
 use Rattle.errors.specs.Choice.{pick}
-use Rattle.errors.specs.Refusals.{refused, answered, plain, numbered}
-use Rattle.framing.specs.Build.{Left, left, put_frame}
+use Rattle.errors.specs.Refusals.{refused, answered, plain}
+use Rattle.framing.specs.Build.{left, put_frame}
 use Rattle.framing.specs.Valid.{both_left, both_right}
-use Rattle.felica.specs.Names.{idm_size, block_size, most_blocks, element_size, request_head, flags_end, blocks_offset, one_service}
-use Rattle.felica.specs.Packets.{packet, block_list, request, reply_packet, read_reply_of, read_reply_code, idm_fits, request_fits, write_fits_of, are_blocks_of, read_reply_fits, built_of}
+use Rattle.felica.specs.Names.{idm_size, block_size, most_blocks, element_size, request_head, flags_end, one_service}
+use Rattle.felica.specs.Packets.{packet, block_list, request, reply_packet, idm_fits, request_fits, write_fits_of, are_blocks_of, read_reply_fits}
 use Rattle.felica.specs.Lists.{eight, list_length}
-use Rattle.errors.specs.declared.Refusal.TheVariants.{BadArgument}
 
 -- a part put behind the bytes l that stand at the start of b, which is c otherwise
 pub put-behind : (b l part c : List ℕ) (n : ℕ) → n ≡ length l → b ≡ l ++ drop n c → take n b ++ (part ++ drop (n + length part) b) ≡ (l ++ part) ++ drop (n + length part) c
@@ -62,17 +61,19 @@ module _ (code service : ℕ) (idm blocks bytes : List ℕ) (h : length idm ≡ 
   request_no_room b k = no_room (request code idm service blocks bytes) b (request_head + element_size * length blocks + length bytes) (sym request-length) k
 
   -- the three parts put one behind the other
-  pub request-put : (b b₁ b₂ b₃ : List ℕ) → request_head + element_size * length blocks + length bytes ≤ length b
+  pub request-put : (pair : List ℕ) → pair ≡ to_le_bytes w16 service → service < 65536 → (b b₁ b₂ b₃ : List ℕ) → request_head + element_size * length blocks + length bytes ≤ length b
       → b₁ ≡ take 0 b ++ (((request_head + element_size * length blocks + length bytes) ∷ code ∷ get_or idm 0 0 ∷ get_or idm 1 0 ∷ get_or idm 2 0 ∷ get_or idm 3 0 ∷ get_or idm 4 0 ∷ get_or idm 5 0
-      ∷ get_or idm 6 0 ∷ get_or idm 7 0 ∷ one_service ∷ service % 256 ∷ service / 256 ∷ length blocks ∷ []) ++ drop request_head b)
+      ∷ get_or idm 6 0 ∷ get_or idm 7 0 ∷ one_service ∷ get_or pair 0 0 ∷ get_or pair 1 0 ∷ length blocks ∷ []) ++ drop request_head b)
       → b₂ ≡ take request_head b₁ ++ (block_list blocks ++ drop (request_head + element_size * length blocks) b₁)
       → b₃ ≡ take (request_head + element_size * length blocks) b₂ ++ (bytes ++ drop (request_head + element_size * length blocks + length bytes) b₂)
       → left (answered (request_head + element_size * length blocks + length bytes)) b₃ ≡ put_frame (request code idm service blocks bytes) b
-  request-put b b₁ b₂ b₃ room e₁ e₂ e₃ =
+  request-put pair e f b b₁ b₂ b₃ room e₀ e₂ e₃ =
       let len : ℕ = request_head + element_size * length blocks + length bytes in
       let head : List ℕ =
       len ∷ code ∷ get_or idm 0 0 ∷ get_or idm 1 0 ∷ get_or idm 2 0 ∷ get_or idm 3 0 ∷ get_or idm 4 0 ∷ get_or idm 5 0 ∷ get_or idm 6 0 ∷ get_or idm 7 0
       ∷ one_service ∷ service % 256 ∷ service / 256 ∷ length blocks ∷ [] in
+      let high : service / 256 % 256 ≡ service / 256 = omega arith in
+      let e₁ : b₁ ≡ take 0 b ++ (head ++ drop request_head b) = rw (ap (λ l. get_or l 0 0) e, ap (λ l. get_or l 1 0) e ∙ high) at e₀ in
       let n : request_head + length (block_list blocks) ≡ request_head + element_size * length blocks = ap (λ k. request_head + k) (list_length blocks) in
       let two : b₂ ≡ (head ++ block_list blocks) ++ drop (request_head + element_size * length blocks) b =
       e₂ ∙ ap (λ k. take request_head b₁ ++ (block_list blocks ++ drop k b₁)) (sym n) ∙ put-behind b₁ head (block_list blocks) b request_head refl e₁
@@ -83,12 +84,6 @@ module _ (code service : ℕ) (idm blocks bytes : List ℕ) (h : length idm ≡ 
       (three ∙ ap (λ l. l ++ drop len b) (append_assoc head (block_list blocks) bytes ∙ request-laid len refl))
 
 -- ---- replies
-
-pub head-laid : (len code flag1 flag2 : ℕ) (idm : List ℕ) → length idm ≡ idm_size
-    → ◌≡◌ {A = List ℕ} (len ∷ code ∷ get_or idm 0 0 ∷ get_or idm 1 0 ∷ get_or idm 2 0 ∷ get_or idm 3 0 ∷ get_or idm 4 0 ∷ get_or idm 5 0 ∷ get_or idm 6 0 ∷ get_or idm 7 0
-    ∷ flag1 ∷ flag2 ∷ [])
-    (len ∷ code ∷ idm ++ (flag1 ∷ flag2 ∷ []))
-head-laid len code flag1 flag2 idm h = ap (λ l. len ∷ code ∷ l ++ (flag1 ∷ flag2 ∷ [])) (eight idm h)
 
 module _ (code flag1 flag2 : ℕ) (idm bytes : List ℕ) (h : length idm ≡ idm_size) where
   pub reply-length : length (reply_packet code idm flag1 flag2 bytes) ≡ flags_end + length bytes
@@ -113,33 +108,29 @@ module _ (code flag1 flag2 : ℕ) (idm bytes : List ℕ) (h : length idm ≡ idm
 head-length : (len code flag1 flag2 : ℕ) (idm : List ℕ) → length idm ≡ idm_size → length (len ∷ code ∷ idm ++ (flag1 ∷ flag2 ∷ [])) ≡ flags_end
 head-length len code flag1 flag2 idm h = omega (arith, length-append idm (flag1 ∷ flag2 ∷ []))
 
-pub flags_put : (code flag1 flag2 : ℕ) (idm head b b₁ : List ℕ) → length idm ≡ idm_size → flags_end ≤ length b → head ≡ flags_end ∷ code ∷ idm ++ (flag1 ∷ flag2 ∷ [])
-    → b₁ ≡ take 0 b ++ (head ++ drop (0 + length head) b) → left (answered flags_end) b₁ ≡ put_frame (reply_packet code idm flag1 flag2 []) b
-flags_put code flag1 flag2 idm head b b₁ h room k e =
-    let n : length head ≡ flags_end = ap length k ∙ head-length flags_end code flag1 flag2 idm h in
-    let one : b₁ ≡ head ++ drop flags_end b = e ∙ ap (λ j. take 0 b ++ (head ++ drop (0 + j) b)) n in
-    reply-put code flag1 flag2 idm [] h b b₁ flags_end refl room
-    (one ∙ ap (λ l. l ++ drop flags_end b) (k ∙ sym (append-nil (flags_end ∷ code ∷ idm ++ (flag1 ∷ flag2 ∷ [])))))
+-- the head, and the number of blocks and their data behind it, each put behind what stands there
+module _ (code flag1 flag2 : ℕ) (idm number bytes : List ℕ) (h : length idm ≡ idm_size) where
+  size : flags_end + length number + length bytes ≡ flags_end + length (number ++ bytes)
+  size = omega (arith, length-append number bytes)
 
-pub blocks_no_room : (code flag1 flag2 : ℕ) (idm bytes b : List ℕ) → length idm ≡ idm_size → length b < blocks_offset + length bytes
-    → left (refused (plain 2)) b ≡ put_frame (reply_packet code idm flag1 flag2 (length bytes / block_size ∷ bytes)) b
-blocks_no_room code flag1 flag2 idm bytes b h k =
-    no_room (reply_packet code idm flag1 flag2 (length bytes / block_size ∷ bytes)) b (blocks_offset + length bytes) (omega (arith, reply-length code flag1 flag2 idm (length bytes / block_size ∷ bytes) h)) k
+  pub blocks_no_room : (b : List ℕ) → length b < flags_end + length number + length bytes
+      → left (refused (plain 2)) b ≡ put_frame (reply_packet code idm flag1 flag2 (number ++ bytes)) b
+  blocks_no_room b k = reply_no_room code flag1 flag2 idm (number ++ bytes) h b (flags_end + length number + length bytes) size k
 
-pub blocks_put : (code flag1 flag2 : ℕ) (idm bytes head b b₁ b₂ b₃ : List ℕ) → length idm ≡ idm_size → blocks_offset + length bytes ≤ length b
-    → head ≡ (blocks_offset + length bytes) ∷ code ∷ idm ++ (flag1 ∷ flag2 ∷ []) → b₁ ≡ take 0 b ++ (head ++ drop (0 + length head) b)
-    → b₂ ≡ take flags_end b₁ ++ ((length bytes / block_size ∷ []) ++ drop blocks_offset b₁) → b₃ ≡ take blocks_offset b₂ ++ (bytes ++ drop (blocks_offset + length bytes) b₂)
-    → left (answered (blocks_offset + length bytes)) b₃ ≡ put_frame (reply_packet code idm flag1 flag2 (length bytes / block_size ∷ bytes)) b
-blocks_put code flag1 flag2 idm bytes head b b₁ b₂ b₃ h room k e₁ e₂ e₃ =
-    let len : ℕ = blocks_offset + length bytes in
-    let n : length head ≡ flags_end = ap length k ∙ head-length len code flag1 flag2 idm h in
-    let number : List ℕ = length bytes / block_size ∷ [] in
-    let one : b₁ ≡ head ++ drop flags_end b = e₁ ∙ ap (λ j. take 0 b ++ (head ++ drop (0 + j) b)) n in
-    let two : b₂ ≡ (head ++ number) ++ drop blocks_offset b = e₂ ∙ put-behind b₁ head number b flags_end (sym n) one in
-    let at : blocks_offset ≡ length (head ++ number) = sym (length-append head number ∙ ap (λ j. j + 1) n) in
-    let three : b₃ ≡ ((head ++ number) ++ bytes) ++ drop len b = e₃ ∙ put-behind b₂ (head ++ number) bytes b blocks_offset at two in
-    reply-put code flag1 flag2 idm (length bytes / block_size ∷ bytes) h b b₃ len (omega arith) room
-    (three ∙ ap (λ l. l ++ drop len b) (append_assoc head number bytes ∙ ap (λ l. l ++ (length bytes / block_size ∷ bytes)) k))
+  pub blocks_put : (head b b₁ b₂ b₃ : List ℕ) → flags_end + length number + length bytes ≤ length b
+      → head ≡ (flags_end + length number + length bytes) ∷ code ∷ idm ++ (flag1 ∷ flag2 ∷ []) → b₁ ≡ take 0 b ++ (head ++ drop (0 + length head) b)
+      → b₂ ≡ take flags_end b₁ ++ (number ++ drop (flags_end + length number) b₁)
+      → b₃ ≡ take (flags_end + length number) b₂ ++ (bytes ++ drop (flags_end + length number + length bytes) b₂)
+      → left (answered (flags_end + length number + length bytes)) b₃ ≡ put_frame (reply_packet code idm flag1 flag2 (number ++ bytes)) b
+  blocks_put head b b₁ b₂ b₃ room k e₁ e₂ e₃ =
+      let len : ℕ = flags_end + length number + length bytes in
+      let n : length head ≡ flags_end = ap length k ∙ head-length len code flag1 flag2 idm h in
+      let one : b₁ ≡ head ++ drop flags_end b = e₁ ∙ ap (λ j. take 0 b ++ (head ++ drop (0 + j) b)) n in
+      let two : b₂ ≡ (head ++ number) ++ drop (flags_end + length number) b = e₂ ∙ put-behind b₁ head number b flags_end (sym n) one in
+      let at : flags_end + length number ≡ length (head ++ number) = sym (length-append head number ∙ ap (λ j. j + length number) n) in
+      let three : b₃ ≡ ((head ++ number) ++ bytes) ++ drop len b = e₃ ∙ put-behind b₂ (head ++ number) bytes b (flags_end + length number) at two in
+      reply-put code flag1 flag2 idm (number ++ bytes) h b b₃ len size room
+      (three ∙ ap (λ l. l ++ drop len b) (append_assoc head number bytes ∙ ap (λ l. l ++ (number ++ bytes)) k))
 
 -- ---- what fits
 
@@ -180,35 +171,6 @@ module _ (idm bytes : List ℕ) (flag1 : ℕ) (r : Bool) (known : r ≡ read_rep
       let k : are_blocks_of (length bytes) ≡ true = rw (eq-eqb flag1 0 z) at h in
       leb-true (length bytes) (block_size * most_blocks) (both_right (leb block_size (length bytes)) _ (both_right (eqb (length bytes % block_size) 0) _ k))
 
-  module _ (x : Left) (flag2 : ℕ) (b : List ℕ) where
-    pub built_blocks : flag1 ≡ 0 → x ≡ put_frame (reply_packet read_reply_code idm flag1 flag2 (length bytes / block_size ∷ bytes)) b
-        → x ≡ built_of (read_reply_fits idm flag1 bytes) (read_reply_of idm flag1 flag2 bytes) b
-    unfolding built_of pick
-    built_blocks z e = rw (sym known ∙ good, eq-eqb flag1 0 z) e
-
-    pub built_flags : (flag1 ≡ 0 → ⊥) → x ≡ put_frame (reply_packet read_reply_code idm flag1 flag2 []) b
-        → x ≡ built_of (read_reply_fits idm flag1 bytes) (read_reply_of idm flag1 flag2 bytes) b
-    unfolding built_of pick
-    built_flags n e = rw (sym known ∙ good, ne_eqb flag1 0 n) e
-
--- by the test that a call answered: built, or refused
-module _ (p b : List ℕ) (r t : Bool) (known : r ≡ t) where
-  pub built : (x : Left) → r ≡ true → x ≡ put_frame p b → x ≡ built_of t p b
-  unfolding built_of pick
-  built x good e = rw (sym known ∙ good) e
-
-  pub not_built : r ≡ false → left (refused (numbered BadArgument)) b ≡ built_of t p b
-  unfolding built_of pick
-  not_built bad = rw (sym known ∙ bad)
-
--- the same where the code made the test itself
-module _ (p b idm : List ℕ) where
-  pub as_built : (x : Left) → length idm ≡ idm_size → x ≡ put_frame p b → x ≡ built_of (idm_fits idm) p b
-  as_built x h e = built p b true (idm_fits idm) (sym (eq-eqb (length idm) idm_size h)) x refl e
-
-  pub as_refused : (length idm ≡ idm_size → ⊥) → left (refused (numbered BadArgument)) b ≡ built_of (idm_fits idm) p b
-  as_refused h = not_built p b false (idm_fits idm) (sym (ne_eqb (length idm) idm_size h)) refl
-
 module _ (idm blocks : List ℕ) (r : Bool) (known : r ≡ request_fits idm blocks) (good : r ≡ true) where
   pub fits_idm : length idm ≡ idm_size
   fits_idm = (fits idm blocks r known good).idm_eight
@@ -218,9 +180,6 @@ module _ (idm blocks : List ℕ) (r : Bool) (known : r ≡ request_fits idm bloc
 
   pub fits_some : 1 ≤ length blocks
   fits_some = (fits idm blocks r known good).some
-
-  pub fits_product : Fits w64 (block_size * length blocks)
-  fits_product = record { fits = omega (arith, fits_few) }
 
 module _ (idm blocks bytes : List ℕ) (r : Bool) (known : r ≡ write_fits_of idm blocks bytes) (good : r ≡ true) where
   pub write_idm : length idm ≡ idm_size

@@ -1,10 +1,11 @@
 -- Laws of parts of a list, and of lists of a few elements.
-use Rattle.std.specs.Prelude.{◌≡◌, refl, false, take, drop, get_or}
+use Rattle.std.specs.Prelude.{◌≡◌, refl, Bool, true, false, leb, take, drop, get_or}
 use Rattle.std.proofs.Math.Path.{sym, ap}
 use Rattle.std.proofs.Common.{◌∙◌, eq-eqb, ne_eqb, drop_of_length-le, take_all, drop-cons, length-take-le}
 use mathlib.Core.List.{List, [], ◌∷◌, ◌++◌}
-use Prim.Native.Nat.{ℕ, suc, ◌+◌, ◌*◌, ◌-◌, ◌/◌, ◌≤◌, ◌<◌, min}
+use Prim.Native.Nat.{ℕ, ◌+◌, ◌*◌, ◌-◌, ◌/◌, ◌≤◌, ◌<◌, min}
 use native.Mathlib.Omega.{arith}
+use borrow.Author.Tests.{leb-true, leb-false}
 use Rattle.std.proofs.Math.Dec.{eqb}
 use Rattle.std.proofs.Math.ListN.{length, length-drop}
 use Rattle.framing.specs.Parts.{part_clamped}
@@ -14,24 +15,19 @@ use Rattle.felica.specs.Fields.{idm_in, numbers_in, is_block_list_of}
 
 -- ---- parts that are cut to the list's end
 
-idm_cut : (p : List ℕ) (a b : ℕ) → a ≡ min idm_offset (length p) → b ≡ min idm_end (length p) → take (b - a) (drop a p) ≡ idm_in p
+pub idm_cut : (p : List ℕ) (a b : ℕ) → a ≡ min idm_offset (length p) → b ≡ min idm_end (length p) → take (b - a) (drop a p) ≡ idm_in p
 idm_cut p a b f k =
     let n : b - a ≡ a + (b - a) - a = omega arith in
     ap (λ j. take j (drop a p)) n ∙ part_clamped p idm_offset idm_size a (b - a) f (omega arith)
 
-pub idm_none : (p : List ℕ) → length p < idm_offset → take (length p - length p) (drop (length p) p) ≡ idm_in p
-idm_none p h = idm_cut p (length p) (length p) (omega arith) (omega arith)
-
-pub idm_short : (p : List ℕ) → idm_offset ≤ length p → length p < idm_end → take (length p - idm_offset) (drop idm_offset p) ≡ idm_in p
-idm_short p h k = idm_cut p idm_offset (length p) (omega arith) (omega arith)
-
-pub rest_cut : (p : List ℕ) (k : ℕ) → k ≤ length p → take (length p - k) (drop k p) ≡ drop k p
-rest_cut p k h = take_all (length p - k) (drop k p) (omega (arith, length-drop k p))
-
-pub nothing_left : (p : List ℕ) (k : ℕ) → length p < k → take (length p - length p) (drop (length p) p) ≡ drop k p
-nothing_left p k h =
-    ap (take (length p - length p)) (drop_of_length-le p {i = length p} (omega arith)) ∙ take_all (length p - length p) [] (omega arith)
-    ∙ sym (drop_of_length-le p {i = k} (omega arith))
+pub rest_from : (p : List ℕ) (k n : ℕ) → n ≡ min (length p) k → take (length p - n) (drop n p) ≡ drop k p
+rest_from p k n e = take_all (length p - n) (drop n p) (omega (arith, length-drop n p)) ∙ go (leb k (length p)) refl
+  where
+    go : (t : Bool) → leb k (length p) ≡ t → drop n p ≡ drop k p
+    go true h = ap (λ j. drop j p) (omega (arith, e, leb-true k (length p) h))
+    go false h =
+        let l = leb-false k (length p) h in
+        drop_of_length-le p {i = n} (omega (arith, e, l)) ∙ sym (drop_of_length-le p {i = k} (omega (arith, l)))
 
 -- ---- lists of a few elements
 
@@ -80,38 +76,30 @@ unfolding block_list
 list_length [] = refl
 list_length (a ∷ l) = omega (arith, list_length l)
 
--- a block list, element by element, with the answer behind i bytes as its first argument
-module _ (l : List ℕ) (i : ℕ) (so_far : is_block_list_of l ≡ is_block_list_of (drop i l)) where
-  two : i + 1 < length l → drop i l ≡ get_or l i 0 ∷ get_or l (suc i) 0 ∷ drop (suc (suc i)) l
-  two h = drop-cons l i 0 (omega arith) ∙ ap (λ r. get_or l i 0 ∷ r) (drop-cons l (suc i) 0 (omega arith))
+-- a block list, element by element: an element of the first service, and what is none
+pub list_agrees : (l : List ℕ) → 2 ≤ length l → get_or l 0 0 ≡ element → is_block_list_of l ≡ is_block_list_of (take (length l - 2) (drop 2 l))
+unfolding is_block_list_of
+list_agrees [] h e = absurd (omega arith)
+list_agrees (x ∷ []) h e = absurd (omega arith)
+list_agrees (x ∷ y ∷ l) h e = rw (eq-eqb x element e, take_all (length (x ∷ y ∷ l) - 2) l (omega arith))
 
-  pub list_differs : i + 1 < length l → (get_or l i 0 ≡ element → ⊥) → false ≡ is_block_list_of l
-  unfolding is_block_list_of
-  list_differs h n = sym (so_far ∙ ap is_block_list_of (two h) ∙ rw (ne_eqb (get_or l i 0) element n))
+pub list_ends : (l : List ℕ) → length l < 2 → eqb (length l) 0 ≡ is_block_list_of l
+unfolding is_block_list_of
+list_ends [] h = refl
+list_ends (x ∷ []) h = refl
+list_ends (x ∷ y ∷ l) h = absurd (omega arith)
 
-  pub list_agrees : i + 1 < length l → get_or l i 0 ≡ element → is_block_list_of l ≡ is_block_list_of (drop (i + element_size) l)
-  unfolding is_block_list_of
-  list_agrees h e =
-      let n : i + element_size ≡ suc (suc i) = omega arith in
-      so_far ∙ ap is_block_list_of (two h) ∙ rw (eq-eqb (get_or l i 0) element e, n)
-
-  pub list_ends : i ≤ length l → length l ≤ i + 1 → eqb i (length l) ≡ is_block_list_of l
-  unfolding is_block_list_of
-  list_ends h k = sym (so_far ∙ go (drop i l) (omega (arith, length-drop i l)) (length-drop i l))
-    where
-      go : (r : List ℕ) → length r ≤ 1 → length r ≡ length l - i → is_block_list_of r ≡ eqb i (length l)
-      go [] m e = sym (eq-eqb i (length l) (omega arith))
-      go (x ∷ []) m e = sym (ne_eqb i (length l) (λ f. omega arith))
-      go (x ∷ y ∷ r) m e = absurd (omega arith)
+pub list_differs : (l : List ℕ) → 2 ≤ length l → (get_or l 0 0 ≡ element → ⊥) → eqb (length l) 0 ≡ is_block_list_of l
+unfolding is_block_list_of
+list_differs [] h e = absurd (omega arith)
+list_differs (x ∷ []) h e = absurd (omega arith)
+list_differs (x ∷ y ∷ l) h e = rw (ne_eqb x element e) (ne_eqb (length (x ∷ y ∷ l)) 0 (λ z. omega arith))
 
 -- ---- a block list of at most four elements, put behind the head of a request
 
 module _ (k a b c d e f g h : ℕ) (few : k ≤ most_blocks) where
   pub taken_eight : element_size * k ≡ length (take (element_size * k) (a ∷ b ∷ c ∷ d ∷ e ∷ f ∷ g ∷ h ∷ []))
   taken_eight = sym (length-take-le (element_size * k) (a ∷ b ∷ c ∷ d ∷ e ∷ f ∷ g ∷ h ∷ []) (omega arith))
-
-  pub list_room : (n : ℕ) → request_head + element_size * k ≤ n → request_head + length (take (element_size * k) (a ∷ b ∷ c ∷ d ∷ e ∷ f ∷ g ∷ h ∷ [])) ≤ n
-  list_room n r = rw (← taken_eight) r
 
 pub list_put : (blocks b b₁ : List ℕ) (x y z w : ℕ) → length blocks ≤ most_blocks → x ≡ get_or blocks 0 0 → y ≡ get_or blocks 1 0 → z ≡ get_or blocks 2 0 → w ≡ get_or blocks 3 0
     → b₁ ≡ take request_head b ++ (take (element_size * length blocks) (element ∷ x ∷ element ∷ y ∷ element ∷ z ∷ element ∷ w ∷ [])

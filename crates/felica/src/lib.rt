@@ -5,7 +5,7 @@ pub mod check;
 pub mod reply;
 pub mod request;
 
-ghost use Rattle.std.specs.Prelude.{◌≡◌, ◌++◌, ◌+◌, ◌≤◌, ◌<◌, length, take, drop, get_or};
+ghost use Rattle.std.specs.Prelude.{◌≡◌, ◌++◌, ◌+◌, ◌≤◌, length, take, drop, get_or};
 ghost use Rattle.felica.specs.Fields.{idm_in};
 
 // The codes.
@@ -29,28 +29,11 @@ const CODE_OFFSET: usize = 1;
 
 const IDM_OFFSET: usize = 2;
 
-// Four block numbers. An enum cannot hold an array.
-#[derive(Clone, Copy)]
-pub struct BlockNumbers(pub u8, pub u8, pub u8, pub u8);
-
 // The byte at a place, 0 where there is none.
 fn byte_at(bytes: &[u8], at: usize) -> u8
     ensures { result ≡ get_or bytes.now at 0 }
 {
-    if at < bytes.len() { bytes[at] } else { 0 }
-}
-
-// The same as a number.
-fn number_at(bytes: &[u8], at: usize) -> usize
-    ensures { result ≡ get_or bytes.now at 0 }
-{
-    wide(byte_at(bytes, at))
-}
-
-fn wide(byte: u8) -> usize
-    ensures { (result ≡ byte) × (result < 256) }
-{
-    byte as usize
+    bytes.get(at).copied().unwrap_or(0)
 }
 
 // Copies bytes into the buffer from a place on.
@@ -61,16 +44,19 @@ fn put_part(part: &[u8], buffer: &mut [u8], at: usize)
     octets::copy(part, &mut buffer[at..]);
 }
 
+// What stands in a packet from a place on.
+#[tactic(auto, using(crate::specs::Lists::rest_from))]
+fn behind(packet: &[u8], at: usize) -> &[u8]
+    ensures { result.now ≡ drop at packet.now }
+{
+    &packet[packet.len().min(at)..]
+}
+
 // The IDm of a packet: bytes 2 to 9, as far as there are any.
+#[tactic(auto, using(crate::specs::Lists::idm_cut))]
 pub fn idm(packet: &[u8]) -> &[u8]
     ensures { result.now ≡ idm_in packet.now }
 {
     let n = packet.len();
-    if n < IDM_OFFSET {
-        return &packet[n..n];
-    }
-    if n < IDM_OFFSET + IDM_SIZE {
-        return &packet[IDM_OFFSET..n];
-    }
-    &packet[IDM_OFFSET..IDM_OFFSET + IDM_SIZE]
+    &packet[n.min(IDM_OFFSET)..n.min(IDM_OFFSET + IDM_SIZE)]
 }

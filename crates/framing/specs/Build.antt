@@ -1,21 +1,13 @@
 -- What `build` answers and leaves in the buffer: refusal 3 before 2, nothing written; else the frame at the buffer's start.
-use Rattle.std.specs.Prelude.{ℕ, ◌+◌, min, List, ◌++◌, length, take, drop, nat_lt}
-use Rattle.errors.specs.Refusals.{Returned, answered, refused, numbered, plain}
+use Rattle.std.specs.Prelude.{ℕ, ◌+◌, min, List, ◌++◌, length, take, drop, nat_lt, Result, Ok, Err}
+use Rattle.errors.specs.Refusals.{Returned, answered, refused, plain}
+use Rattle.errors.specs.declared.Refusal.{Refusal}
 use Rattle.errors.specs.declared.Refusal.TheVariants.{OverLong, ShortBuffer}
 use Rattle.framing.specs.Frames.{frame_of, data_start_of, longest}
 use Rattle.errors.specs.Choice.{pick}
 use Rattle.framing.specs.Names.{ending_size}
-use Rattle.framing.specs.declared.Built.{Built}
-use Rattle.framing.specs.declared.Built.TheVariants.{Frame, Refused}
 use Rattle.framing.specs.declared.FrameFormat.{FrameFormat}
 use Rattle.framing.specs.declared.LengthEncoding.{LengthEncoding}
-use Rattle.framing.specs.declared.Place.{Place}
-use Rattle.framing.specs.declared.Place.TheVariants.{At}
-
--- document 01's number or the frame's length
-unfoldable pub returned : Built → Returned
-returned (Frame n) = answered n
-returned (Refused e) = refused (numbered e)
 
 -- the longest payload under a format: its limit, as far as its length form reaches
 unfoldable pub limit_of : FrameFormat → ℕ
@@ -40,7 +32,7 @@ unfoldable pub enclosed : LengthEncoding → ℕ → List ℕ → List ℕ
 enclosed e n b = frame_of e (take n (drop (data_start_of e n) b)) ++ drop (data_start_of e n + n + ending_size) b
 
 -- where the payload is put, or why not
-unfoldable pub place_of : FrameFormat → ℕ → ℕ → Place
+unfoldable pub place_of : FrameFormat → ℕ → ℕ → Result ℕ Refusal
 place_of f n room =
-    pick (nat_lt (limit_of f) n) (Place.Refused OverLong)
-    (pick (nat_lt room (data_start_of f.length n + n + ending_size)) (Place.Refused ShortBuffer) (At (data_start_of f.length n)))
+    pick (nat_lt (limit_of f) n) (Err OverLong)
+    (pick (nat_lt room (data_start_of f.length n + n + ending_size)) (Err ShortBuffer) (Ok (data_start_of f.length n)))

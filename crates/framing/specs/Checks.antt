@@ -1,9 +1,12 @@
 -- What `parse` tests of a packet, byte by byte: the laws in `Valid` say that it comes to `normal_at` and `extended_at`.
-use Rattle.std.specs.Prelude.{ℕ, ◌+◌, ◌-◌, ◌*◌, ◌%◌, Bool, List, length, ◌==◌, nat_le, slice_index, slice_range}
+use Rattle.std.specs.Prelude.{ℕ, ◌+◌, ◌-◌, ◌*◌, ◌%◌, Bool, List, length, ◌==◌, nat_le, slice_index, slice_range, Option, Some, None}
+use Rattle.errors.specs.Choice.{pick}
 use Rattle.framing.specs.Frames.{total}
 use Rattle.framing.specs.Lists.{both}
 use Rattle.framing.specs.Names.{len_offset, lcs_offset, marker_byte, ending_size}
 use Rattle.framing.specs.Parse.{extends}
+use Rattle.framing.specs.declared.FrameType.{FrameType}
+use Rattle.framing.specs.declared.FrameType.TheVariants.{Data}
 use Rattle.framing.specs.declared.LengthEncoding.{LengthEncoding}
 use Rattle.framing.specs.declared.LengthEncoding.TheVariants.{Normal, ExtendedLittleEndian, NormalOrExtendedBigEndian}
 
@@ -33,3 +36,7 @@ checked l s n p =
     (both (matches (between l (s - 1) p) (slice_index p (s - 1)))
     (both (matches (between s (s + n) p) (slice_index p (s + n)))
     (slice_index p (s + n + 1) == 0)))
+
+-- the data frame of these places, where it fits the packet
+unfoldable pub frame_at_of : ℕ → ℕ → ℕ → List ℕ → Option FrameType
+frame_at_of from start n p = pick (checked from start n p) (Some (Data start n (start + n + ending_size))) None

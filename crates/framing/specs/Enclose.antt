@@ -1,11 +1,11 @@
 -- Laws of what `build` writes.
-use Rattle.std.specs.Prelude.{◌≡◌, ℕ, ◌+◌, ◌-◌, ◌<◌, ◌≤◌, min, Bool, true, false, List, [], ◌∷◌, ◌++◌, length, take, drop, nat_lt, slice_set}
+use Rattle.std.specs.Prelude.{◌≡◌, ℕ, ◌+◌, ◌-◌, ◌≤◌, min, Bool, true, false, List, [], ◌∷◌, ◌++◌, length, take, drop, nat_lt, slice_set, Result, Ok, Err}
 use Rattle.std.proofs.Math.Path.{refl, sym, ap}
 use Rattle.std.proofs.Common.{ap₂, ◌∙◌, add_assoc, add-one, arith, length-set, length-append, length-drop, drop-drop, length-take-le}
 use Rattle.std.proofs.Math.Numerals.{add-two}
 use Rattle.std.proofs.lemmas.List.Edits.{sets-eq}
 use Rattle.std.proofs.Math.Seq.{take-append-add, drop-append-add, drop-append_seam}
-use borrow.Author.Tests.{lt-ltb, le-ltb, ltb-false}
+use borrow.Author.Tests.{ltb-false}
 use Rattle.errors.specs.Refusals.{answered, refused, numbered, plain}
 use Rattle.errors.specs.declared.Refusal.{Refusal}
 use Rattle.errors.specs.declared.Refusal.TheVariants.{OverLong, ShortBuffer}
@@ -16,8 +16,6 @@ use Rattle.framing.specs.Frames.{checksum_of, ending, frame_of, extended_head, h
 use Rattle.errors.specs.Choice.{pick}
 use Rattle.framing.specs.Names.{normal_start, extended_start, ending_size, longest_extended, shortest_extended}
 use Rattle.framing.specs.declared.FrameFormat.{FrameFormat}
-use Rattle.framing.specs.declared.Place.{Place}
-use Rattle.framing.specs.declared.Place.TheVariants.{At}
 use Rattle.framing.specs.declared.LengthEncoding.{LengthEncoding}
 use Rattle.framing.specs.declared.LengthEncoding.TheVariants.{Normal, ExtendedLittleEndian, NormalOrExtendedBigEndian}
 
@@ -42,7 +40,6 @@ start-most NormalOrExtendedBigEndian n = go (nat_lt n shortest_extended)
     go false = omega arith
 
 pub longest-most : (e : LengthEncoding) → longest e ≤ longest_extended
-unfolding longest
 longest-most Normal = omega arith
 longest-most ExtendedLittleEndian = omega arith
 longest-most NormalOrExtendedBigEndian = omega arith
@@ -97,19 +94,19 @@ length-frame e p =
     length-append (head_of e (length p) ++ p) (ending p)
     ∙ ap (λ k. k + ending_size) (length-append (head_of e (length p)) p ∙ ap (λ k. k + length p) (length-head e (length p)))
 
--- The answers of `room_for`, and what `build` makes of them.
+-- What `build` makes of the answers of `room_for`.
 module _ (f : FrameFormat) where
   pub record Fits (n room start : ℕ) : Type 0 where
     pub here : start ≡ data_start_of f.length n
     pub short : n ≤ longest f.length
     pub inside : data_start_of f.length n + n + ending_size ≤ room
 
-  pub place-fits : (n room start : ℕ) → At start ≡ place_of f n room → Fits n room start
+  pub place-fits : (n room start : ℕ) → Ok start ≡ place_of f n room → Fits n room start
   unfolding place_of limit_of pick
   place-fits n room start = go (nat_lt (min f.limit (longest f.length)) n) (nat_lt room (data_start_of f.length n + n + ending_size)) refl refl
     where
       go : (t u : Bool) → nat_lt (min f.limit (longest f.length)) n ≡ t → nat_lt room (data_start_of f.length n + n + ending_size) ≡ u
-          → At start ≡ pick t (Place.Refused OverLong) (pick u (Place.Refused ShortBuffer) (At (data_start_of f.length n))) → Fits n room start
+          → Ok start ≡ pick t (Err OverLong) (pick u (Err ShortBuffer) (Ok (data_start_of f.length n))) → Fits n room start
       go true u l m x = let z : ◌≡◌ {A = ℕ} 0 1 = cc in absurd (omega arith)
       go false true l m x = let z : ◌≡◌ {A = ℕ} 0 1 = cc in absurd (omega arith)
       go false false l m x = record {
@@ -117,24 +114,6 @@ module _ (f : FrameFormat) where
         short = omega (arith, ltb-false (min f.limit (longest f.length)) n l);
         inside = omega (arith, ltb-false room (data_start_of f.length n + n + ending_size) m);
       }
-
-  module _ (n room m l : ℕ) (longest-is : m ≡ longest f.length) (least-is : l ≡ min f.limit m) where
-    limit_is : l ≡ limit_of f
-    unfolding limit_of
-    limit_is = least-is ∙ ap (λ k. min f.limit k) longest-is
-
-    pub place_long : l < n → Place.Refused OverLong ≡ place_of f n room
-    unfolding place_of pick
-    place_long h = rw (← limit_is, lt-ltb l n h)
-
-    module _ (start : ℕ) (start_is : start ≡ data_start_of f.length n) (h : n ≤ l) where
-      pub place_short : room < start + n + ending_size → Place.Refused ShortBuffer ≡ place_of f n room
-      unfolding place_of pick
-      place_short k = rw (← limit_is, le-ltb l n h, ← start_is, lt-ltb room (start + n + ending_size) k)
-
-      pub place_at : start + n + ending_size ≤ room → At start ≡ place_of f n room
-      unfolding place_of pick
-      place_at k = rw (← limit_is, le-ltb l n h, ← start_is, le-ltb room (start + n + ending_size) k)
 
   module _ (p b : List ℕ) where
     abbrev s : ℕ
@@ -144,8 +123,8 @@ module _ (f : FrameFormat) where
     done n = left (answered n) (frame_of f.length p ++ drop n b)
 
     -- the place and the result go by the same two tests
-    abbrev placed : Bool → Bool → Place
-    placed t u = pick t (Place.Refused OverLong) (pick u (Place.Refused ShortBuffer) (At s))
+    abbrev placed : Bool → Bool → Result ℕ Refusal
+    placed t u = pick t (Err OverLong) (pick u (Err ShortBuffer) (Ok s))
 
     abbrev built : Bool → Bool → Left
     built t u = pick t (left (refused (plain 3)) b) (pick u (left (refused (plain 2)) b) (done (s + length p + ending_size)))
@@ -154,29 +133,29 @@ module _ (f : FrameFormat) where
     unfolding build_of put_frame
     is-built = rw (length-frame f.length p)
 
-    refused-built : (e : Refusal) (t u : Bool) → Place.Refused e ≡ placed t u → left (refused (numbered e)) b ≡ built t u
+    refused-built : (e : Refusal) (t u : Bool) → Err e ≡ placed t u → left (refused (numbered e)) b ≡ built t u
     unfolding pick
     refused-built e true u x = let q : e ≡ OverLong = cc in ap (λ r. left (refused (numbered r)) b) q
     refused-built e false true x = let q : e ≡ ShortBuffer = cc in ap (λ r. left (refused (numbered r)) b) q
     refused-built e false false x = cc
 
-    pub build_refused : (e : Refusal) → Place.Refused e ≡ place_of f (length p) (length b) → left (refused (numbered e)) b ≡ build_of f p b
+    pub build_refused : (e : Refusal) → Err e ≡ place_of f (length p) (length b) → left (refused (numbered e)) b ≡ build_of f p b
     unfolding place_of
     build_refused e x = refused-built e _ _ x ∙ sym is-built
 
-    done-built : (start : ℕ) (t u : Bool) → At start ≡ placed t u → done (start + length p + ending_size) ≡ built t u
+    done-built : (start : ℕ) (t u : Bool) → Ok start ≡ placed t u → done (start + length p + ending_size) ≡ built t u
     unfolding pick
     done-built start true u x = cc
     done-built start false true x = cc
     done-built start false false x = let q : start ≡ s = cc in ap (λ k. done (k + length p + ending_size)) q
 
-    pub build_done : (start : ℕ) (b₁ : List ℕ) → At start ≡ place_of f (length p) (length b)
+    pub build_done : (start : ℕ) (b₁ : List ℕ) → Ok start ≡ place_of f (length p) (length b)
         → b₁ ≡ frame_of f.length p ++ drop (start + length p + ending_size) b → left (answered (start + length p + ending_size)) b₁ ≡ build_of f p b
     unfolding place_of
     build_done start b₁ x w = ap (λ l. left (answered (start + length p + ending_size)) l) w ∙ done-built start _ _ x ∙ sym is-built
 
     -- a payload that was put to its place and enclosed
-    pub build_placed : (start : ℕ) (b₁ b₂ : List ℕ) → At start ≡ place_of f (length p) (length b)
+    pub build_placed : (start : ℕ) (b₁ b₂ : List ℕ) → Ok start ≡ place_of f (length p) (length b)
         → b₁ ≡ take start b ++ (p ++ drop (start + length p) b) → b₂ ≡ enclosed f.length (length p) b₁
         → left (answered (start + length p + ending_size)) b₂ ≡ build_of f p b
     unfolding enclosed
@@ -185,7 +164,7 @@ module _ (f : FrameFormat) where
         let room : start + length p ≤ length b = omega (arith, k.here, k.inside) in
         build_done start b₂ x (w ∙ rw (← k.here, e, copied_here b p start room, copied_behind b p start room ending_size))
 
-    pub build_copied : (start : ℕ) (part b₂ : List ℕ) → At start ≡ place_of f (length p) (length b)
+    pub build_copied : (start : ℕ) (part b₂ : List ℕ) → Ok start ≡ place_of f (length p) (length b)
         → part ≡ take (length p) p ++ drop (length p) (take (length b - start) (drop start b))
         → b₂ ≡ enclosed f.length (length p) (put_mid start (length b - start) b part)
         → left (answered (start + length p + ending_size)) b₂ ≡ build_of f p b
@@ -195,7 +174,7 @@ module _ (f : FrameFormat) where
         build_placed start _ b₂ x (copied b p start room part e) w
 
 -- a payload of two bytes and a list, put to its place and enclosed
-pub command_placed : (f : FrameFormat) (x y start : ℕ) (l b part b₂ : List ℕ) → At start ≡ place_of f (length l + 2) (length b)
+pub command_placed : (f : FrameFormat) (x y start : ℕ) (l b part b₂ : List ℕ) → Ok start ≡ place_of f (length l + 2) (length b)
     → part ≡ take (length l) l ++ drop (length l) (take (length (slice_set (slice_set b start x) (start + 1) y) - (start + 2)) (drop (start + 2) (slice_set (slice_set b start x) (start + 1) y)))
     → b₂ ≡ enclosed f.length (length l + 2)
     (put_mid (start + 2) (length (slice_set (slice_set b start x) (start + 1) y) - (start + 2)) (slice_set (slice_set b start x) (start + 1) y) part)

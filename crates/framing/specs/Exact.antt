@@ -1,6 +1,6 @@
 -- `parse` answers Data exactly when the packet starts with a frame, Ack and Error exactly when document 01 says; and what `build`
 -- writes parses to its payload. For every format, so for all six settings at once.
-use Rattle.std.specs.Prelude.{◌≡◌, ℕ, ◌+◌, ◌≤◌, Bool, true, false, ◌⊎◌, ◌↔◌, List, ◌++◌, length, take, drop, ◌≢◌, nat_lt, slice_index, slice_index_or}
+use Rattle.std.specs.Prelude.{◌≡◌, ℕ, ◌+◌, ◌≤◌, Bool, true, false, ◌⊎◌, ◌↔◌, List, ◌++◌, length, take, drop, ◌≢◌, nat_lt, slice_index, slice_index_or, Option, Some, None}
 use Rattle.std.proofs.Math.Path.{refl, sym, ap, subst₃}
 use Rattle.std.proofs.Common.{◌∙◌, subst, append_assoc, arith}
 use Rattle.std.proofs.Math.Logic.{inl, inr}
@@ -16,7 +16,7 @@ use Rattle.framing.specs.Starts.{starts_whole, starts_split}
 use Rattle.framing.specs.Valid.{both_left, both_right, length_framed, length_extended, marker_normal}
 use Rattle.framing.specs.declared.FrameFormat.{FrameFormat}
 use Rattle.framing.specs.declared.FrameType.{FrameType}
-use Rattle.framing.specs.declared.FrameType.TheVariants.{Ack, Error, Data, Nothing}
+use Rattle.framing.specs.declared.FrameType.TheVariants.{Ack, Error, Data}
 use Rattle.framing.specs.declared.LengthEncoding.{LengthEncoding}
 use Rattle.framing.specs.declared.LengthEncoding.TheVariants.{Normal, ExtendedLittleEndian, NormalOrExtendedBigEndian}
 
@@ -79,12 +79,12 @@ extended_sof : (e : LengthEncoding) (q r : List ℕ) → starts sof (extended_fr
 unfolding starts extended_frame
 extended_sof e q r = refl
 
-normal_data : (e : LengthEncoding) (q r : List ℕ) → data_of e (normal_frame q ++ r) ≡ Data normal_start (length q) (length q + normal_overhead)
+normal_data : (e : LengthEncoding) (q r : List ℕ) → data_of e (normal_frame q ++ r) ≡ Some (Data normal_start (length q) (length q + normal_overhead))
 unfolding data_of normal_of pick normal_frame
 normal_data e q r = rw (normal_at_lem q r)
 
 extended_data : (e : LengthEncoding) (q r : List ℕ) → Bytes (extended_frame e q ++ r) → length q ≤ longest_extended → extends e ≡ true
-    → data_of e (extended_frame e q ++ r) ≡ Data extended_start (length q) (length q + extended_overhead)
+    → data_of e (extended_frame e q ++ r) ≡ Some (Data extended_start (length q) (length q + extended_overhead))
 unfolding data_of extended_of pick
 extended_data e q r bytes h x = rw (marker_normal (extended_frame e q ++ r) bytes (extended_sof e q r) (has_marker e q r), extended_at_lem e q r h x, length-at e q r h)
 
@@ -101,25 +101,25 @@ length_long e q = length_extended e q ∙ sum (length q)
     sum : (n : ℕ) → extended_start + n + ending_size ≡ n + extended_overhead
     sum n = omega arith
 
-same_data : {s s' n n' m m' : ℕ} → s ≡ s' → n ≡ n' → m ≡ m' → Data s n m ≡ Data s' n' m'
+same_data : {s s' n n' m m' : ℕ} → s ≡ s' → n ≡ n' → m ≡ m' → Some (Data s n m) ≡ Some (Data s' n' m')
 same_data p q r = cc
 
-data_of_lem : (e : LengthEncoding) (p : List ℕ) (s n m : ℕ) → Bytes p → StartsWithFrame e p s n m → (starts sof p ≡ true) × (data_of e p ≡ Data s n m)
+data_of_lem : (e : LengthEncoding) (p : List ℕ) (s n m : ℕ) → Bytes p → StartsWithFrame e p s n m → (starts sof p ≡ true) × (data_of e p ≡ Some (Data s n m))
 data_of_lem e p s n m bytes w = go w.carries
   where
     q : List ℕ
     q = w.payload
 
-    go : Carries e q w.frame s → (starts sof p ≡ true) × (data_of e p ≡ Data s n m)
+    go : Carries e q w.frame s → (starts sof p ≡ true) × (data_of e p ≡ Some (Data s n m))
     go (inl c) =
         let x : p ≡ normal_frame q ++ w.behind = w.whole ∙ ap (λ f. f ++ w.behind) c.0 in
         let size : length q + normal_overhead ≡ m = sym (w.size ∙ ap length c.0 ∙ length_normal q) in
-        subst (λ l. (starts sof l ≡ true) × (data_of e l ≡ Data s n m)) (sym x)
+        subst (λ l. (starts sof l ≡ true) × (data_of e l ≡ Some (Data s n m))) (sym x)
         (normal_sof q w.behind, normal_data e q w.behind ∙ same_data (sym c.1) (sym w.len) size)
     go (inr c) =
         let x : p ≡ extended_frame e q ++ w.behind = w.whole ∙ ap (λ f. f ++ w.behind) c.0 in
         let size : length q + extended_overhead ≡ m = sym (w.size ∙ ap length c.0 ∙ length_long e q) in
-        subst (λ l. (starts sof l ≡ true) × (data_of e l ≡ Data s n m)) (sym x)
+        subst (λ l. (starts sof l ≡ true) × (data_of e l ≡ Some (Data s n m))) (sym x)
         (extended_sof e q w.behind, extended_data e q w.behind (subst Bytes x bytes) c.2 c.3 ∙ same_data (sym c.1) (sym w.len) size)
 
 -- ---- an answer shows its frame
@@ -169,22 +169,22 @@ module _ (e : LengthEncoding) (p : List ℕ) (bytes : Bytes p) where
         size = ap (λ k. k + extended_overhead) n ∙ sym (length_long e q);
       }
 
-  as-known : {s n m s' n' m' : ℕ} → StartsWithFrame e p s n m → Data s n m ≡ Data s' n' m' → StartsWithFrame e p s' n' m'
+  as-known : {s n m s' n' m' : ℕ} → StartsWithFrame e p s n m → Some (Data s n m) ≡ Some (Data s' n' m') → StartsWithFrame e p s' n' m'
   as-known {s} {n} {m} {s'} {n'} {m'} w x =
       let a : s ≡ s' = cc in
       let b : n ≡ n' = cc in
       let c : m ≡ m' = cc in
       subst₃ (λ i j k. StartsWithFrame e p i j k) a b c w
 
-  no_data_lem : {s n m : ℕ} → Nothing ≢ Data s n m
+  no_data_lem : {s n m : ℕ} → None ≢ Some (Data s n m)
   no_data_lem x = let z : ◌≡◌ {A = ℕ} 0 1 = cc in omega arith
 
-  data-shows : (s n m : ℕ) → data_of e p ≡ Data s n m → StartsWithFrame e p s n m
+  data-shows : (s n m : ℕ) → data_of e p ≡ Some (Data s n m) → StartsWithFrame e p s n m
   unfolding data_of normal_of extended_of pick
   data-shows s n m = go (normal_at p) (extended_at e p) refl refl
     where
       go : (t u : Bool) → normal_at p ≡ t → extended_at e p ≡ u
-          → pick t (pick t (Data normal_start (slice_index p len_offset) (slice_index p len_offset + normal_overhead)) Nothing) (pick u (Data extended_start (length_at e p) (length_at e p + extended_overhead)) Nothing) ≡ Data s n m
+          → pick t (pick t (Some (Data normal_start (slice_index p len_offset) (slice_index p len_offset + normal_overhead))) None) (pick u (Some (Data extended_start (length_at e p) (length_at e p + extended_overhead))) None) ≡ Some (Data s n m)
           → StartsWithFrame e p s n m
       go true u a b x = as-known (normal-shows a) x
       go false true a b x = as-known (extended-shows b) x
@@ -197,25 +197,25 @@ unfolding starts
 sof-ack = refl
 
 -- a number for each kind of answer, to tell them apart
-abbrev kind : FrameType → ℕ
-kind (Ack n) = 0
-kind (Error n) = 1
-kind (Data s n m) = 2
-kind Nothing = 3
+abbrev kind : Option FrameType → ℕ
+kind (Some (Ack n)) = 0
+kind (Some (Error n)) = 1
+kind (Some (Data s n m)) = 2
+kind None = 3
 
 data_kind : (e : LengthEncoding) (p : List ℕ) → 2 ≤ kind (data_of e p)
 unfolding data_of normal_of extended_of pick
 data_kind e p = go (normal_at p) (extended_at e p)
   where
-    go : (t u : Bool) → 2 ≤ kind (pick t (pick t (Data normal_start (slice_index p len_offset) (slice_index p len_offset + normal_overhead)) Nothing) (pick u (Data extended_start (length_at e p) (length_at e p + extended_overhead)) Nothing))
+    go : (t u : Bool) → 2 ≤ kind (pick t (pick t (Some (Data normal_start (slice_index p len_offset) (slice_index p len_offset + normal_overhead))) None) (pick u (Some (Data extended_start (length_at e p) (length_at e p + extended_overhead))) None))
     go true u = omega arith
     go false true = omega arith
     go false false = omega arith
 
 -- The tests of `parse_of` in turn: the start bytes, Ack, the error form's own test.
 module _ (f : FrameFormat) (p : List ℕ) where
-  abbrev answer : Bool → Bool → Bool → FrameType
-  answer t u v = pick t (pick u (Ack ack_size) (pick v (Error (length p)) (data_of f.length p))) Nothing
+  abbrev answer : Bool → Bool → Bool → Option FrameType
+  answer t u v = pick t (pick u (Some (Ack ack_size)) (pick v (Some (Error (length p))) (data_of f.length p))) None
 
   is-answer : parse_of f p ≡ answer (starts sof p) (same ack p) (is_error_of f.error p)
   unfolding parse_of
@@ -224,14 +224,14 @@ module _ (f : FrameFormat) (p : List ℕ) where
   answered : (t u v : Bool) → starts sof p ≡ t → same ack p ≡ u → is_error_of f.error p ≡ v → parse_of f p ≡ answer t u v
   answered t u v a b c = is-answer ∙ rw (a, b, c)
 
-  ack-shows : (n : ℕ) (t u v : Bool) → same ack p ≡ u → answer t u v ≡ Ack n → (p ≡ ack) × (n ≡ ack_size)
+  ack-shows : (n : ℕ) (t u v : Bool) → same ack p ≡ u → answer t u v ≡ Some (Ack n) → (p ≡ ack) × (n ≡ ack_size)
   unfolding pick
   ack-shows n true true v s x = (sym (same_is ack p s), cc)
   ack-shows n true false true s x = absurd (omega (arith, ap kind x))
   ack-shows n true false false s x = absurd (omega (arith, ap kind x, data_kind f.length p))
   ack-shows n false u v s x = absurd (omega (arith, ap kind x))
 
-  error-shows : (n : ℕ) (t u v : Bool) → starts sof p ≡ t → same ack p ≡ u → is_error_of f.error p ≡ v → answer t u v ≡ Error n
+  error-shows : (n : ℕ) (t u v : Bool) → starts sof p ≡ t → same ack p ≡ u → is_error_of f.error p ≡ v → answer t u v ≡ Some (Error n)
       → (starts sof p ≡ true) × (same ack p ≡ false) × (is_error_of f.error p ≡ true) × (n ≡ length p)
   unfolding pick
   error-shows n true true v a b c x = absurd (omega (arith, ap kind x))
@@ -239,7 +239,7 @@ module _ (f : FrameFormat) (p : List ℕ) where
   error-shows n true false false a b c x = absurd (omega (arith, ap kind x, data_kind f.length p))
   error-shows n false u v a b c x = absurd (omega (arith, ap kind x))
 
-  frame-shows : Bytes p → (s n m : ℕ) (t u v : Bool) → same ack p ≡ u → is_error_of f.error p ≡ v → answer t u v ≡ Data s n m
+  frame-shows : Bytes p → (s n m : ℕ) (t u v : Bool) → same ack p ≡ u → is_error_of f.error p ≡ v → answer t u v ≡ Some (Data s n m)
       → Open f p × StartsWithFrame f.length p s n m
   unfolding pick
   frame-shows bytes s n m true true v b c x = absurd (omega (arith, ap kind x))
@@ -248,24 +248,24 @@ module _ (f : FrameFormat) (p : List ℕ) where
   frame-shows bytes s n m false u v b c x = absurd (omega (arith, ap kind x))
 
   -- Ack: exactly the packet 00 00 FF 00 FF 00.
-  pub ack_exact : (n : ℕ) → (parse_of f p ≡ Ack n) ↔ ((p ≡ ack) × (n ≡ ack_size))
+  pub ack_exact : (n : ℕ) → (parse_of f p ≡ Some (Ack n)) ↔ ((p ≡ ack) × (n ≡ ack_size))
   unfolding pick
   ack_exact n = (
     λ x. ack-shows n (starts sof p) (same ack p) (is_error_of f.error p) refl (sym is-answer ∙ x),
-    λ h. answered true true (is_error_of f.error p) (ap (starts sof) h.0 ∙ sof-ack) (ap (same ack) h.0 ∙ same_self ack) refl ∙ ap Ack (sym h.1),
+    λ h. answered true true (is_error_of f.error p) (ap (starts sof) h.0 ∙ sof-ack) (ap (same ack) h.0 ∙ same_self ack) refl ∙ ap (λ k. Some (Ack k)) (sym h.1),
   )
 
   -- Error: the start bytes, no Ack, and the error form's own test; of the whole packet's length.
   pub error_exact : (n : ℕ)
-      → (parse_of f p ≡ Error n) ↔ ((starts sof p ≡ true) × (same ack p ≡ false) × (is_error_of f.error p ≡ true) × (n ≡ length p))
+      → (parse_of f p ≡ Some (Error n)) ↔ ((starts sof p ≡ true) × (same ack p ≡ false) × (is_error_of f.error p ≡ true) × (n ≡ length p))
   unfolding pick
   error_exact n = (
     λ x. error-shows n (starts sof p) (same ack p) (is_error_of f.error p) refl refl refl (sym is-answer ∙ x),
-    λ h. answered true false true h.0 h.1 h.2 ∙ ap Error (sym h.3),
+    λ h. answered true false true h.0 h.1 h.2 ∙ ap (λ k. Some (Error k)) (sym h.3),
   )
 
   -- Data: neither of these, and a frame at the packet's start.
-  pub data_exact : Bytes p → (s n m : ℕ) → (parse_of f p ≡ Data s n m) ↔ (Open f p × StartsWithFrame f.length p s n m)
+  pub data_exact : Bytes p → (s n m : ℕ) → (parse_of f p ≡ Some (Data s n m)) ↔ (Open f p × StartsWithFrame f.length p s n m)
   unfolding pick
   data_exact bytes s n m = (
     λ x. frame-shows bytes s n m (starts sof p) (same ack p) (is_error_of f.error p) refl refl (sym is-answer ∙ x),

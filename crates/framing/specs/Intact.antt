@@ -1,5 +1,5 @@
 -- What one end builds is taken at the other, in a normal and in an extended frame: a command by the chip, its response by the host.
-use Rattle.std.specs.Prelude.{◌≡◌, ℕ, zero, suc, ◌+◌, ◌%◌, ◌<◌, ◌≤◌, Bool, true, false, List, [], ◌∷◌, ◌++◌, length, take, drop, ◌≢◌, nat_lt, refl}
+use Rattle.std.specs.Prelude.{◌≡◌, ℕ, zero, suc, ◌+◌, ◌%◌, ◌<◌, ◌≤◌, Bool, true, false, List, [], ◌∷◌, ◌++◌, length, take, drop, ◌≢◌, nat_lt, refl, Some}
 use Rattle.std.proofs.Common.{sym, ap, ◌∙◌, append_assoc, arith, eq-eqb, ne_eqb, drop_at}
 use Rattle.std.proofs.Math.Seq.{take-append_seam}
 use Rattle.errors.specs.Choice.{pick, same}
@@ -32,10 +32,10 @@ rcs956_frame payload = frame_of NormalOrExtendedBigEndian payload
 -- a packet is one data frame, which fills it, and carries this payload
 pub record Filled (packet payload : List ℕ) : Type 0 where
   pub start : ℕ
-  pub parsed : parse_of rcs956 packet ≡ Data start (length payload) (length packet)
-  pub carried : payload_of (Data start (length payload) (length packet)) packet ≡ payload
+  pub parsed : parse_of rcs956 packet ≡ Some (Data start (length payload) (length packet))
+  pub carried : payload_of (Some (Data start (length payload) (length packet))) packet ≡ payload
 
-frame-part : (e : LengthEncoding) (q : List ℕ) (m : ℕ) → payload_of (Data (data_start_of e (length q)) (length q) m) (frame_of e q) ≡ q
+frame-part : (e : LengthEncoding) (q : List ℕ) (m : ℕ) → payload_of (Some (Data (data_start_of e (length q)) (length q) m)) (frame_of e q) ≡ q
 unfolding payload_of frame_of
 frame-part e q m =
     ap (λ l. take (length q) (drop (data_start_of e (length q)) l)) (append_assoc (head_of e (length q)) q (ending q))

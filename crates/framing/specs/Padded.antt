@@ -1,12 +1,12 @@
 -- Packets of boards that pad the start (document 02, N2): up to 16 zeros before the start bytes, and what such a packet is.
-use Rattle.std.specs.Prelude.{ℕ, zero, suc, ◌+◌, Bool, true, false, List, ◌++◌, drop, replicate}
+use Rattle.std.specs.Prelude.{ℕ, zero, suc, ◌+◌, Bool, true, false, List, ◌++◌, drop, replicate, Option, Some, None}
 use Rattle.framing.specs.Frames.{sof}
 use Rattle.errors.specs.Choice.{pick}
 use Rattle.framing.specs.Lists.{starts}
 use Rattle.framing.specs.Parse.{parse_of}
 use Rattle.framing.specs.declared.FrameFormat.{FrameFormat}
 use Rattle.framing.specs.declared.FrameType.{FrameType}
-use Rattle.framing.specs.declared.FrameType.TheVariants.{Ack, Error, Data, Nothing}
+use Rattle.framing.specs.declared.FrameType.TheVariants.{Ack, Error, Data}
 use Rattle.framing.specs.declared.padded.Padded.{Padded}
 
 abbrev pub most_zeros : ℕ
@@ -35,13 +35,13 @@ zeros_in true p = extra_zeros_of p
 zeros_in false p = 0
 
 -- an answer with its place counted from z bytes further in front
-abbrev pub shifted_by : ℕ → FrameType → FrameType
-shifted_by z (Ack n) = Ack n
-shifted_by z (Error n) = Error n
-shifted_by z (Data start len n) = Data (z + start) len n
-shifted_by z Nothing = Nothing
+abbrev pub shifted_by : ℕ → Option FrameType → Option FrameType
+shifted_by z (Some (Ack n)) = Some (Ack n)
+shifted_by z (Some (Error n)) = Some (Error n)
+shifted_by z (Some (Data start len n)) = Some (Data (z + start) len n)
+shifted_by z None = None
 
-abbrev pub padded : ℕ → FrameType → Padded
+abbrev pub padded : ℕ → Option FrameType → Padded
 padded z t = record { zeros = z; found = t }
 
 -- the plain answer of the packet without the bytes that are stepped over, its place that of the packet as it came

@@ -1,5 +1,5 @@
 -- What a packet is, in document 01's order: start bytes, Ack, Error by the error form, then a frame at the packet's start.
-use Rattle.std.specs.Prelude.{ℕ, ◌+◌, ◌*◌, Bool, true, false, List, [], length, take, drop, ◌==◌, slice_index}
+use Rattle.std.specs.Prelude.{ℕ, ◌+◌, ◌*◌, Bool, true, false, List, [], length, take, drop, ◌==◌, slice_index, Option, Some, None}
 use Rattle.framing.specs.Frames.{sof, ack, error_frame, normal_frame, extended_frame}
 use Rattle.errors.specs.Choice.{pick, same}
 use Rattle.framing.specs.Lists.{both, starts}
@@ -8,7 +8,7 @@ use Rattle.framing.specs.declared.ErrorDetection.{ErrorDetection}
 use Rattle.framing.specs.declared.ErrorDetection.TheVariants.{ErrorFrame, StatusByte}
 use Rattle.framing.specs.declared.FrameFormat.{FrameFormat}
 use Rattle.framing.specs.declared.FrameType.{FrameType}
-use Rattle.framing.specs.declared.FrameType.TheVariants.{Ack, Error, Data, Nothing}
+use Rattle.framing.specs.declared.FrameType.TheVariants.{Ack, Error, Data}
 use Rattle.framing.specs.declared.LengthEncoding.{LengthEncoding}
 use Rattle.framing.specs.declared.LengthEncoding.TheVariants.{Normal, ExtendedLittleEndian, NormalOrExtendedBigEndian}
 
@@ -38,26 +38,26 @@ unfoldable pub extended_at : LengthEncoding → List ℕ → Bool
 extended_at e p = both (extends e) (starts (extended_frame e (take (length_at e p) (drop extended_start p))) p)
 
 -- where the payload starts, its length, the frame's length
-unfoldable pub normal_of : List ℕ → FrameType
-normal_of p = pick (normal_at p) (Data normal_start (slice_index p len_offset) (slice_index p len_offset + normal_overhead)) Nothing
+unfoldable pub normal_of : List ℕ → Option FrameType
+normal_of p = pick (normal_at p) (Some (Data normal_start (slice_index p len_offset) (slice_index p len_offset + normal_overhead))) None
 
-unfoldable pub extended_of : LengthEncoding → List ℕ → FrameType
-extended_of e p = pick (extended_at e p) (Data extended_start (length_at e p) (length_at e p + extended_overhead)) Nothing
+unfoldable pub extended_of : LengthEncoding → List ℕ → Option FrameType
+extended_of e p = pick (extended_at e p) (Some (Data extended_start (length_at e p) (length_at e p + extended_overhead))) None
 
 -- a data frame at the packet's start
-unfoldable pub data_of : LengthEncoding → List ℕ → FrameType
+unfoldable pub data_of : LengthEncoding → List ℕ → Option FrameType
 data_of e p = pick (normal_at p) (normal_of p) (extended_of e p)
 
-unfoldable pub parse_of : FrameFormat → List ℕ → FrameType
+unfoldable pub parse_of : FrameFormat → List ℕ → Option FrameType
 parse_of f p =
     pick (starts sof p)
-    (pick (same ack p) (Ack ack_size)
-    (pick (is_error_of f.error p) (Error (length p)) (data_of f.length p)))
-    Nothing
+    (pick (same ack p) (Some (Ack ack_size))
+    (pick (is_error_of f.error p) (Some (Error (length p))) (data_of f.length p)))
+    None
 
 -- the part of the packet that a data frame's payload occupies
-unfoldable pub payload_of : FrameType → List ℕ → List ℕ
-payload_of (Ack n) p = []
-payload_of (Error n) p = []
-payload_of (Data start len frame) p = take len (drop start p)
-payload_of Nothing p = []
+unfoldable pub payload_of : Option FrameType → List ℕ → List ℕ
+payload_of (Some (Ack n)) p = []
+payload_of (Some (Error n)) p = []
+payload_of (Some (Data start len frame)) p = take len (drop start p)
+payload_of None p = []

@@ -1,6 +1,6 @@
 -- A built frame parses to its payload and length, except under StatusByte, where it gives Error exactly when byte 5 is 0x7F. In an
 -- extended frame byte 5 is a length byte.
-use Rattle.std.specs.Prelude.{◌≡◌, ℕ, zero, suc, ◌<◌, ◌≤◌, Bool, true, false, List, [], ◌∷◌, ◌++◌, length, ◌==◌, nat_lt, slice_index}
+use Rattle.std.specs.Prelude.{◌≡◌, ℕ, zero, suc, ◌<◌, ◌≤◌, Bool, true, false, List, [], ◌∷◌, ◌++◌, length, ◌==◌, nat_lt, slice_index, Some}
 use Rattle.std.proofs.Math.Path.{refl, sym}
 use Rattle.std.proofs.Common.{ap, ◌∙◌, append-nil, inl, inr, arith, ltb-true}
 use Rattle.framing.specs.Enclose.{length-frame}
@@ -100,12 +100,12 @@ module _ (f : FrameFormat) (q : List ℕ) (bytes : Bytes q) (fits : length q ≤
   frame = frame_of f.length q
 
   pub round_trip : parse_of f frame
-      ≡ pick (is_error_of f.error frame) (Error (length frame)) (Data (data_start_of f.length (length q)) (length q) (length frame))
+      ≡ pick (is_error_of f.error frame) (Some (Error (length frame))) (Some (Data (data_start_of f.length (length q)) (length q) (length frame)))
   unfolding pick
   round_trip = go (is_error_of f.error frame) refl
     where
       go : (t : Bool) → is_error_of f.error frame ≡ t
-          → parse_of f frame ≡ pick t (Error (length frame)) (Data (data_start_of f.length (length q)) (length q) (length frame))
+          → parse_of f frame ≡ pick t (Some (Error (length frame))) (Some (Data (data_start_of f.length (length q)) (length q) (length frame)))
       go true x = (error_exact f frame (length frame)).1 (sof-frame f.length q, not_six f.length q ack refl, x, refl)
       go false x =
           (data_exact f frame (bytes_frame f.length q fits bytes) (data_start_of f.length (length q)) (length q) (length frame)).1 (
@@ -122,12 +122,12 @@ module _ (f : FrameFormat) (q : List ℕ) (bytes : Bytes q) (fits : length q ≤
           )
 
   -- with ErrorFrame: always its payload
-  pub round_trip_error_frame : f.error ≡ ErrorFrame → parse_of f frame ≡ Data (data_start_of f.length (length q)) (length q) (length frame)
+  pub round_trip_error_frame : f.error ≡ ErrorFrame → parse_of f frame ≡ Some (Data (data_start_of f.length (length q)) (length q) (length frame))
   unfolding is_error_of pick
   round_trip_error_frame x = round_trip ∙ rw (x, not_six f.length q error_frame refl)
 
   -- with StatusByte: Error exactly when byte 5 is 0x7F
   pub round_trip_status_byte : f.error ≡ StatusByte → parse_of f frame
-      ≡ pick (slice_index frame status_error_offset == status_error_byte) (Error (length frame)) (Data (data_start_of f.length (length q)) (length q) (length frame))
+      ≡ pick (slice_index frame status_error_offset == status_error_byte) (Some (Error (length frame))) (Some (Data (data_start_of f.length (length q)) (length q) (length frame)))
   unfolding is_error_of
   round_trip_status_byte x = round_trip ∙ rw x

@@ -1,5 +1,5 @@
 -- The six settings in document 01's order. A setting's payload limit is the longest that its length form can carry.
-use Rattle.std.specs.Prelude.{ℕ, ◌+◌, ◌%◌, List, ◌∷◌, ◌==◌}
+use Rattle.std.specs.Prelude.{ℕ, ◌+◌, ◌%◌, List, ◌∷◌, ◌==◌, Option, Some, None}
 use Rattle.framing.specs.Frames.{longest}
 use Rattle.errors.specs.Choice.{pick}
 use Rattle.framing.specs.declared.ErrorDetection.{ErrorDetection}
@@ -7,21 +7,22 @@ use Rattle.framing.specs.declared.ErrorDetection.TheVariants.{ErrorFrame, Status
 use Rattle.framing.specs.declared.FrameFormat.{FrameFormat}
 use Rattle.framing.specs.declared.LengthEncoding.{LengthEncoding}
 use Rattle.framing.specs.declared.LengthEncoding.TheVariants.{Normal, ExtendedLittleEndian, NormalOrExtendedBigEndian}
-use Rattle.framing.specs.declared.settings.Setting.{Setting}
-use Rattle.framing.specs.declared.settings.Setting.TheVariants.{Format, Nothing}
 use Rattle.framing.specs.Names.{host_to_controller, controller_to_host}
+
+abbrev pub format_with : LengthEncoding → ErrorDetection → ℕ → FrameFormat
+format_with e d n = record { length = e; error = d; limit = n }
 
 abbrev pub format_of : LengthEncoding → ErrorDetection → FrameFormat
 format_of e d = record { length = e; error = d; limit = longest e }
 
-unfoldable pub setting_of : ℕ → Setting
+unfoldable pub setting_of : ℕ → Option FrameFormat
 setting_of n =
-    pick (n == 0) (Format (format_of Normal ErrorFrame))
-    (pick (n == 1) (Format (format_of Normal StatusByte))
-    (pick (n == 2) (Format (format_of ExtendedLittleEndian ErrorFrame))
-    (pick (n == 3) (Format (format_of ExtendedLittleEndian StatusByte))
-    (pick (n == 4) (Format (format_of NormalOrExtendedBigEndian ErrorFrame))
-    (pick (n == 5) (Format (format_of NormalOrExtendedBigEndian StatusByte)) Nothing)))))
+    pick (n == 0) (Some (format_of Normal ErrorFrame))
+    (pick (n == 1) (Some (format_of Normal StatusByte))
+    (pick (n == 2) (Some (format_of ExtendedLittleEndian ErrorFrame))
+    (pick (n == 3) (Some (format_of ExtendedLittleEndian StatusByte))
+    (pick (n == 4) (Some (format_of NormalOrExtendedBigEndian ErrorFrame))
+    (pick (n == 5) (Some (format_of NormalOrExtendedBigEndian StatusByte)) None)))))
 
 -- the RC-S956's own
 abbrev pub rcs956 : FrameFormat

@@ -1,32 +1,10 @@
--- Laws of `starts`, byte by byte and as a whole, and of `same`.
-use Rattle.std.specs.Prelude.{◌≡◌, ℕ, zero, suc, ◌+◌, ◌<◌, ◌≤◌, Bool, true, false, List, [], ◌∷◌, ◌++◌, length, take, drop, ◌==◌, ◌≢◌, slice_index, refl}
+-- Laws of `starts`, byte by byte and as a whole.
+use Rattle.std.specs.Prelude.{◌≡◌, ℕ, zero, suc, ◌<◌, Bool, true, false, List, [], ◌∷◌, ◌++◌, length, take, drop, ◌==◌, slice_index, refl}
 use Rattle.std.proofs.Math.Path.{sym}
-use Rattle.std.proofs.Common.{ap, ap₂, ◌∙◌, append-nil, add-one, arith, not-suc-le-zero, le_of_suc-le-suc, eq-eqb, ne_eqb, eqb-true}
+use Rattle.std.proofs.Common.{ap, ap₂, ◌∙◌, not-suc-le-zero, le_of_suc-le-suc, eq-eqb, eqb-true}
 use Rattle.std.proofs.lemmas.Bool.{false≢true}
-use Rattle.std.proofs.Math.ListN.{drop_of_length-le}
 use Rattle.std.proofs.Math.Seq.{drop-cons}
-use Rattle.errors.specs.Choice.{same, same_self, same_not}
 use Rattle.framing.specs.Lists.{starts, both, both_assoc, both_false_r}
-
--- a comparison byte by byte, with the answer after i equal bytes as its first argument
-module _ (f p : List ℕ) (i : ℕ) (so_far : starts f p ≡ starts (drop i f) (drop i p)) where
-  pub starts-done : length f ≤ i → true ≡ starts f p
-  unfolding starts
-  starts-done h = sym (so_far ∙ rw (drop_of_length-le f))
-
-  pub starts_short : i < length f → length p ≤ i → false ≡ starts f p
-  unfolding starts
-  starts_short h k = sym (so_far ∙ rw (drop-cons f i 0, drop_of_length-le p))
-
-  step : i < length f → i < length p → starts f p ≡ both (slice_index f i == slice_index p i) (starts (drop (suc i) f) (drop (suc i) p))
-  unfolding starts
-  step h k = so_far ∙ rw (drop-cons f i 0, drop-cons p i 0)
-
-  pub starts_differ : i < length f → i < length p → (slice_index p i ≢ slice_index f i) → false ≡ starts f p
-  starts_differ h k n = sym (step h k ∙ rw (ne_eqb (slice_index f i) (slice_index p i) (λ e. n (sym e))))
-
-  pub starts_agree : i < length f → i < length p → slice_index p i ≡ slice_index f i → starts f p ≡ starts (drop (i + 1) f) (drop (i + 1) p)
-  starts_agree h k e = step h k ∙ rw (eq-eqb (slice_index f i) (slice_index p i) (sym e), add-one)
 
 pub starts-append : (f g p : List ℕ) → starts (f ++ g) p ≡ both (starts f p) (starts g (drop (length f) p))
 unfolding starts
@@ -56,9 +34,6 @@ unfolding starts
 starts_whole [] r = refl
 starts_whole (x ∷ f) r = rw (eq-eqb x x refl) (starts_whole f r)
 
-pub starts_self : (f : List ℕ) → starts f f ≡ true
-starts_self f = ap (starts f) (sym (append-nil f)) ∙ starts_whole f []
-
 -- a packet that starts with f is f and the rest
 pub starts_split : (f p : List ℕ) → starts f p ≡ true → p ≡ f ++ drop (length f) p
 unfolding starts
@@ -69,14 +44,3 @@ starts_split (x ∷ f) (y ∷ p) h = go (x == y) refl h (starts_split f p)
     go : (t : Bool) → (x == y) ≡ t → both t (starts f p) ≡ true → (starts f p ≡ true → p ≡ f ++ drop (length f) p) → y ∷ p ≡ x ∷ (f ++ drop (length f) p)
     go true e k again = ap₂ (λ a l. a ∷ l) (sym (eqb-true x y e)) (again k)
     go false e k again = absurd (false≢true k)
-
--- two lists are the same where their lengths are and one starts with the other
-pub same_length : (f p : List ℕ) → (length p ≢ length f) → false ≡ same f p
-same_length f p n = sym (same_not f p (λ e. n (ap length (sym e))))
-
-pub same-starts : (f p : List ℕ) (r : Bool) → length p ≡ length f → r ≡ starts f p → r ≡ same f p
-same-starts f p r n h = h ∙ go (starts f p) refl
-  where
-    go : (t : Bool) → starts f p ≡ t → t ≡ same f p
-    go true e = let q : p ≡ f = starts_split f p e ∙ ap (λ l. f ++ l) (drop_of_length-le p {i = length f} (omega arith)) ∙ append-nil f in rw q (sym (same_self f))
-    go false e = sym (same_not f p (λ q. false≢true (sym e ∙ ap (λ l. starts f l) (sym q) ∙ starts_self f)))

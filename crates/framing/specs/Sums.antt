@@ -1,6 +1,6 @@
 -- Laws of the sum and the checksum.
 use Rattle.std.specs.Prelude.{◌≡◌, ℕ, zero, suc, ◌+◌, ◌-◌, ◌%◌, ◌<◌, ◌≤◌, List, [], ◌∷◌, ◌++◌, length, take, drop, replicate, slice_index, refl}
-use Rattle.std.proofs.Common.{ap, sym, ◌∙◌, add_assoc, add_comm, arith, take-append-drop, length-drop, take_all, take-suc, drop-drop}
+use Rattle.std.proofs.Common.{ap, sym, ◌∙◌, add_assoc, add_comm, arith, take-append-drop, length-drop, take_all, take-suc, drop-drop, add-one}
 use Rattle.std.proofs.Math.Nat.{mod-add-mod}
 use Rattle.std.proofs.Math.Seq.{take-append-add}
 use Rattle.std.proofs.lemmas.List.{drop-append-le}
@@ -21,6 +21,9 @@ total-take l j h = omega (arith, ap total (take-suc l j 0 h), total-append (take
 -- a sum that wraps at each byte is the sum's remainder: where s is that of l, it is so with one byte more
 pub wraps : (l : List ℕ) (s b : ℕ) → s ≡ total l % 256 → (s + b) % 256 ≡ (total l + b) % 256
 wraps l s b h = rw h (mod-add-mod (total l) 256 b)
+
+pub wraps_next : (l : List ℕ) (s j : ℕ) → j < length l → s ≡ total (take j l) % 256 → (s + slice_index l j) % 256 ≡ total (take (j + 1) l) % 256
+wraps_next l s j h so_far = rw add-one (omega (arith, wraps (take j l) s (slice_index l j) so_far, total-take l j h))
 
 -- so it is for the sums s and t of the two parts of a list
 pub joined : (l : List ℕ) (w s t : ℕ) → s ≡ total (take w l) % 256 → t ≡ total (drop w l) % 256 → (s + t) % 256 ≡ total l % 256

@@ -1,11 +1,12 @@
 -- Laws of a packet's extra zeros, and of the packet without them.
-use Rattle.std.specs.Prelude.{◌≡◌, ℕ, zero, suc, ◌+◌, ◌-◌, ◌<◌, ◌≤◌, min, Bool, true, false, List, [], ◌∷◌, ◌++◌, length, drop, replicate, ◌==◌, ◌≢◌, nat_eq, nat_le, nat_lt, slice_index, slice_index_or}
+use Rattle.std.specs.Prelude.{◌≡◌, ℕ, zero, suc, ◌+◌, ◌-◌, ◌<◌, ◌≤◌, min, Bool, true, false, List, [], ◌∷◌, ◌++◌, length, drop, replicate, ◌==◌, ◌≢◌, nat_eq, nat_le, nat_lt, slice_index, slice_index_or, take, HoldsAt}
 use Rattle.std.proofs.Math.Path.{refl, sym, ap}
 use Rattle.std.proofs.Common.{subst, ◌∙◌, arith}
 use Rattle.std.proofs.lemmas.Bool.{false≢true}
 use borrow.Author.Tests.{eq-eqb, ne_eqb, eqb-true, eqb-false, leb-true, leb-false, ltb-true, ltb-false}
 use Rattle.std.proofs.Math.ListN.{length-drop, get_or-eq_default}
-use Rattle.std.proofs.lemmas.List.{length-replicate}
+use Rattle.std.specs.List.{AllWithin}
+use Rattle.std.proofs.lemmas.List.{length-replicate, get_or-take, length-take, length-take-le}
 use Rattle.std.proofs.Math.Seq.{drop_at}
 use Rattle.errors.specs.Choice.{pick}
 use Rattle.framing.specs.Frames.{sof}
@@ -218,13 +219,6 @@ unfoldable pub extra_at_of : ℕ → ℕ → ℕ
 extra_at_of n b = pick (b == start_end) (pick (nat_lt n 2) 0 (pick (nat_lt most_zeros (n - 2)) 0 (n - 2))) 0
 
 module _ (p : List ℕ) (n : ℕ) (zeros : (k : ℕ) → k < n → slice_index p k ≡ 0) where
-  pub another : slice_index_or p n 0 ≡ 0 → (k : ℕ) → k < n + 1 → slice_index p k ≡ 0
-  another e k l = go (nat_le n k) refl
-    where
-      go : (t : Bool) → nat_le n k ≡ t → slice_index p k ≡ 0
-      go false f = zeros k (leb-false n k f)
-      go true f = let last : k ≡ n = omega (arith, leb-true n k f) in subst (λ j. slice_index p j ≡ 0) (sym last) e
-
   -- the first byte other than 0 is the packet's FF, or the packet has no start
   first-other : (z b : ℕ) → b ≡ slice_index p n → (b ≢ 0) → is_padded z p ≡ true → (n ≡ suc (suc z)) × (b ≡ start_end)
   first-other z b e other h = go (nat_le (suc (suc z)) n) refl (nat_le n (suc (suc z))) refl
@@ -258,3 +252,19 @@ module _ (p : List ℕ) (n : ℕ) (zeros : (k : ℕ) → k < n → slice_index p
       go z m h true e =
           let short : length p ≤ suc (suc z) = omega (arith, leb-true n (suc (suc z)) e) in
           omega (arith, get_or-eq_default p 0 short)
+
+-- what the search for a byte other than 0 in the first `end` bytes says
+module _ (p : List ℕ) (end : ℕ) (at-end : end ≡ min (length p) (most_zeros + sof_size)) where
+  zeros-taken : (n : ℕ) → n ≤ end → AllWithin (λ y. y ≡ 0) (take end p) 0 n → (k : ℕ) → k < n → slice_index p k ≡ 0
+  zeros-taken n h zeros k l = sym (get_or-take end p k 0 (omega arith)) ∙ zeros k 0 (omega arith) l
+
+  pub other_found : (n r : ℕ) → r ≡ extra_at_of n (slice_index p n) → n < length (take end p) → HoldsAt (λ y. y ≢ 0) (take end p) n → AllWithin (λ y. y ≡ 0) (take end p) 0 n
+      → r ≡ extra_zeros_of p
+  other_found n r answer inside other zeros =
+      let l : n < end = omega (arith, length-take end p) in
+      extra_found p n (zeros-taken n (omega arith) zeros) (slice_index p n) r answer refl (λ e. other 0 (get_or-take end p n 0 l ∙ e))
+
+  pub none_found : AllWithin (λ y. y ≡ 0) (take end p) 0 (length (take end p)) → 0 ≡ extra_zeros_of p
+  none_found zeros =
+      let l : length (take end p) ≡ end = length-take-le end p (omega arith) in
+      all-zeros p end (zeros-taken end (omega arith) (subst (λ n. AllWithin (λ y. y ≡ 0) (take end p) 0 n) l zeros)) end at-end (omega arith)

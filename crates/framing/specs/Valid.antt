@@ -1,5 +1,5 @@
 -- Laws of what `parse` tests: the tests of `Checks` say whether the packet starts with a frame, as `Parse` has it.
-use Rattle.std.specs.Prelude.{◌≡◌, ℕ, suc, ◌+◌, ◌-◌, ◌%◌, ◌<◌, ◌≤◌, Bool, true, false, List, [], ◌∷◌, ◌++◌, length, take, drop, ◌==◌, nat_eq, nat_le, slice_index, slice_index_or}
+use Rattle.std.specs.Prelude.{◌≡◌, ℕ, suc, ◌+◌, ◌-◌, ◌%◌, ◌<◌, ◌≤◌, Bool, true, false, List, [], ◌∷◌, ◌++◌, length, take, drop, ◌==◌, nat_eq, nat_le, slice_index, slice_index_or, Option, Some, None}
 use Rattle.std.proofs.Math.Path.{refl, ap}
 use Rattle.std.proofs.Common.{sym, ap₂, ◌∙◌, subst, add-one, arith, length-take, drop-cons}
 use Rattle.std.proofs.lemmas.Bool.{false≢true}
@@ -11,11 +11,11 @@ use Rattle.errors.specs.Choice.{pick}
 use Rattle.framing.specs.Lists.{both, both_true_r, both_false_r, starts, Bytes}
 use Rattle.framing.specs.Names.{sof_size, len_offset, lcs_offset, marker_byte, first_len_offset, second_len_offset, extended_lcs_offset, normal_start, extended_start, ending_size, normal_overhead, extended_overhead}
 use Rattle.framing.specs.Parse.{normal_at, extended_at, normal_of, extended_of, data_of, length_at, extends}
-use Rattle.framing.specs.Checks.{has_marker_of, marked, checked, matches, between, pair_length_of}
+use Rattle.framing.specs.Checks.{has_marker_of, marked, checked, matches, between, pair_length_of, frame_at_of}
 use Rattle.framing.specs.Starts.{starts-append, starts_cons, starts-take, starts_long, starts_split}
 use Rattle.framing.specs.Sums.{checksum_sum, checksum_only}
 use Rattle.framing.specs.declared.FrameType.{FrameType}
-use Rattle.framing.specs.declared.FrameType.TheVariants.{Data, Nothing}
+use Rattle.framing.specs.declared.FrameType.TheVariants.{Data}
 use Rattle.framing.specs.declared.LengthEncoding.{LengthEncoding}
 use Rattle.framing.specs.declared.LengthEncoding.TheVariants.{Normal, ExtendedLittleEndian, NormalOrExtendedBigEndian}
 
@@ -259,42 +259,32 @@ extended_unmarked e p m = go (extended_at e p) refl
     go false x = refl
 
 -- The answers of `parse_normal`, `parse_extended` and `parse_data`, by what they tested.
-pub normal_too_short : (p : List ℕ) → length p < normal_start → Nothing ≡ normal_of p
+pub normal_too_short : (p : List ℕ) → length p < normal_start → None ≡ normal_of p
 unfolding normal_of pick
 normal_too_short p h = rw (normal_short p h)
 
-pub extended_too_short : (e : LengthEncoding) (p : List ℕ) → length p < extended_start → Nothing ≡ extended_of e p
+pub extended_too_short : (e : LengthEncoding) (p : List ℕ) → length p < extended_start → None ≡ extended_of e p
 unfolding extended_of pick
 extended_too_short e p h = rw (extended_short e p h)
 
-module _ (p : List ℕ) (bytes : Bytes p) (h : starts sof p ≡ true) (n : ℕ) (r : Bool) where
-  normal-known : n ≡ slice_index p len_offset → normal_start ≤ length p → r ≡ checked len_offset normal_start n p → normal_at p ≡ r
-  normal-known e five v = sym (normal_valid p bytes h five) ∙ ap (λ k. checked len_offset normal_start k p) (sym e) ∙ sym v
+module _ (p : List ℕ) (bytes : Bytes p) (h : starts sof p ≡ true) (n : ℕ) (x : Option FrameType) where
+  pub normal_found : n ≡ slice_index p len_offset → normal_start ≤ length p → x ≡ frame_at_of len_offset normal_start n p → x ≡ normal_of p
+  unfolding frame_at_of normal_of
+  normal_found e five v =
+      let known : checked len_offset normal_start n p ≡ normal_at p = ap (λ k. checked len_offset normal_start k p) e ∙ normal_valid p bytes h five in
+      let size : normal_start + n + ending_size ≡ n + normal_overhead = omega arith in
+      v ∙ rw (known, size, e) refl
 
-  pub normal_found : n ≡ slice_index p len_offset → normal_start ≤ length p → r ≡ checked len_offset normal_start n p → r ≡ true → Data normal_start n (n + normal_overhead) ≡ normal_of p
-  unfolding normal_of pick
-  normal_found e five v t = rw (normal-known e five v ∙ t, ← e)
+  module _ (e : LengthEncoding) (m : marked e p ≡ true) (len : n ≡ pair_length_of e (slice_index p first_len_offset) (slice_index p second_len_offset)) (eight : extended_start ≤ length p) where
+    pub extended_found : x ≡ frame_at_of first_len_offset extended_start n p → x ≡ extended_of e p
+    unfolding frame_at_of extended_of
+    extended_found v =
+        let l : n ≡ length_at e p = len ∙ pair_at e p in
+        let known : checked first_len_offset extended_start n p ≡ extended_at e p = ap (λ k. checked first_len_offset extended_start k p) l ∙ extended_valid e p bytes h m eight in
+        let size : extended_start + n + ending_size ≡ n + extended_overhead = omega arith in
+        v ∙ rw (known, size, l) refl
 
-  pub normal_none : n ≡ slice_index p len_offset → normal_start ≤ length p → r ≡ checked len_offset normal_start n p → r ≡ false → Nothing ≡ normal_of p
-  unfolding normal_of pick
-  normal_none e five v t = rw (normal-known e five v ∙ t)
-
-  module _ (e : LengthEncoding) (m : marked e p ≡ true) (len : n ≡ pair_length_of e (slice_index p first_len_offset) (slice_index p second_len_offset)) (eight : extended_start ≤ length p) (v : r ≡ checked first_len_offset extended_start n p) where
-    length-known : n ≡ length_at e p
-    length-known = len ∙ pair_at e p
-
-    extended-known : extended_at e p ≡ r
-    extended-known = sym (extended_valid e p bytes h m eight) ∙ ap (λ k. checked first_len_offset extended_start k p) (sym length-known) ∙ sym v
-
-    pub extended_found : r ≡ true → Data extended_start n (n + extended_overhead) ≡ extended_of e p
-    unfolding extended_of pick
-    extended_found t = rw (extended-known ∙ t, ← length-known)
-
-    pub extended_none : r ≡ false → Nothing ≡ extended_of e p
-    unfolding extended_of pick
-    extended_none t = rw (extended-known ∙ t)
-
-module _ (e : LengthEncoding) (p : List ℕ) (x : FrameType) where
+module _ (e : LengthEncoding) (p : List ℕ) (x : Option FrameType) where
   pub data_extended : Bytes p → starts sof p ≡ true → marked e p ≡ true → x ≡ extended_of e p → x ≡ data_of e p
   unfolding data_of pick marked
   data_extended bytes h m f = rw (marker_normal p bytes h (both_right (extends e) (has_marker_of p) m)) f
@@ -303,6 +293,6 @@ module _ (e : LengthEncoding) (p : List ℕ) (x : FrameType) where
   unfolding data_of normal_of extended_of pick
   data_normal m f = f ∙ go (normal_at p)
     where
-      go : (t : Bool) → pick t (Data normal_start (slice_index p len_offset) (slice_index p len_offset + normal_overhead)) Nothing ≡ pick t (pick t (Data normal_start (slice_index p len_offset) (slice_index p len_offset + normal_overhead)) Nothing) (extended_of e p)
+      go : (t : Bool) → pick t (Some (Data normal_start (slice_index p len_offset) (slice_index p len_offset + normal_overhead))) None ≡ pick t (pick t (Some (Data normal_start (slice_index p len_offset) (slice_index p len_offset + normal_overhead))) None) (extended_of e p)
       go true = refl
       go false = rw (extended_unmarked e p m)

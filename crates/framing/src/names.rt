@@ -14,12 +14,10 @@ pub const LCS_OFFSET: usize = 4;
 
 pub const MARKER_BYTE: u8 = 0xFF;
 
-// Where the two length bytes of an extended frame stand, and its LCS.
+// Where the two length bytes of an extended frame stand.
 pub const FIRST_LEN_OFFSET: usize = 5;
 
 pub const SECOND_LEN_OFFSET: usize = 6;
-
-pub const EXTENDED_LCS_OFFSET: usize = 7;
 
 // Where the payload starts in a normal and in an extended frame.
 pub const NORMAL_START: usize = 5;
@@ -28,11 +26,6 @@ pub const EXTENDED_START: usize = 8;
 
 // DCS and postamble.
 pub const ENDING_SIZE: usize = 2;
-
-// A frame around its payload.
-pub const NORMAL_OVERHEAD: usize = 7;
-
-pub const EXTENDED_OVERHEAD: usize = 10;
 
 // The longest payload of a normal and of an extended frame.
 pub const LONGEST_NORMAL: usize = 255;

@@ -12,10 +12,10 @@ use super::{FrameFormat, FrameType, names};
 
 // What `parse_padded` answers: how many zeros it stepped over, and the answer, whose place is that of the packet as it came. A frame's
 // length counts no extra zeros.
-#[derive(Clone, Copy)]
+#[derive(Clone, Copy, Debug, PartialEq, Eq)]
 pub struct Padded {
     pub zeros: usize,
-    pub found: FrameType,
+    pub found: Option<FrameType>,
 }
 
 pub const MOST_ZEROS: usize = 16;
@@ -24,28 +24,21 @@ pub const MOST_ZEROS: usize = 16;
 fn extra_at(n: usize, byte: u8) -> usize
     ensures { result ≡ extra_at_of n byte }
 {
-    if byte != names::START_END {
+    if byte != names::START_END || n < 2 || MOST_ZEROS < n - 2 {
         return 0;
     }
-    if n < 2 {
-        return 0;
-    }
-    if MOST_ZEROS < n - 2 { 0 } else { n - 2 }
+    n - 2
 }
 
 // How many extra zeros a packet has.
 pub fn extra_zeros(packet: &[u8]) -> usize
     ensures { result ≡ extra_zeros_of packet.now }
 {
-    let end = super::least(packet.len(), MOST_ZEROS + names::SOF_SIZE);
-    let mut n = 0;
-    while n < end {
-        if packet[n] != 0 {
-            return extra_at(n, packet[n]);
-        }
-        n += 1;
+    let end = packet.len().min(MOST_ZEROS + names::SOF_SIZE);
+    match packet[..end].iter().position(|byte| *byte != 0) {
+        Some(n) => extra_at(n, packet[n]),
+        None => 0,
     }
-    0
 }
 
 // How many bytes are stepped over in a mode.
@@ -56,19 +49,17 @@ fn zeros_in(padded: bool, packet: &[u8]) -> usize
 }
 
 // The answer with its place counted from `zeros` bytes further in front.
-fn shifted_by(zeros: usize, found: FrameType) -> FrameType
+fn shifted_by(zeros: usize, found: Option<FrameType>) -> Option<FrameType>
     requires { (zeros ≤ most_zeros) × (payload_start found ≤ extended_start) }
     ensures { result ≡ shifted_by zeros found }
 {
     match found {
-        FrameType::Ack(n) => FrameType::Ack(n),
-        FrameType::Error(n) => FrameType::Error(n),
-        FrameType::Data { start, len, frame } => FrameType::Data {
+        Some(FrameType::Data { start, len, frame }) => Some(FrameType::Data {
             start: zeros + start,
             len,
             frame,
-        },
-        FrameType::Nothing => FrameType::Nothing,
+        }),
+        other => other,
     }
 }
 

@@ -1,154 +1,155 @@
 // The six settings, in document 01's order: each length form with ErrorFrame, then with StatusByte.
 #![tactic(auto, using(errors::specs::Rules::picks), unfolding(errors::specs::Choice::pick, crate::specs::Settings::setting_of))]
 
-ghost use Rattle.std.specs.Prelude.{◌≡◌};
-ghost use Rattle.framing.specs.Settings.{format_of, setting_of};
+ghost use Rattle.std.specs.Prelude.{◌≡◌, ℕ};
+ghost use Rattle.framing.specs.Names.{longest_normal, longest_extended};
+ghost use Rattle.framing.specs.Settings.{format_with, setting_of};
+ghost use Rattle.framing.specs.declared.ErrorDetection.{ErrorDetection};
+ghost use Rattle.framing.specs.declared.LengthEncoding.{LengthEncoding};
+ghost use Rattle.framing.specs.declared.ErrorDetection.TheVariants.{ErrorFrame, StatusByte};
+ghost use Rattle.framing.specs.declared.LengthEncoding.TheVariants.{Normal, ExtendedLittleEndian, NormalOrExtendedBigEndian};
 
 use super::{ErrorDetection, FrameFormat, LengthEncoding, names};
 
-// The setting of a number, if there is one.
-#[derive(Clone, Copy)]
-pub enum Setting {
-    Format(FrameFormat),
-    Nothing,
+// A setting: how lengths are written, how errors are reported, and the longest payload.
+pub trait Format {
+    ghost LENGTH: { LengthEncoding };
+
+    const LENGTH: LengthEncoding;
+
+    ghost ERROR: { ErrorDetection };
+
+    const ERROR: ErrorDetection;
+
+    ghost LIMIT: { ℕ };
+
+    const LIMIT: usize;
+
+    fn format() -> FrameFormat
+        ensures { result ≡ format_with LENGTH ERROR LIMIT }
+    {
+        FrameFormat {
+            length: Self::LENGTH,
+            error: Self::ERROR,
+            limit: Self::LIMIT,
+        }
+    }
 }
 
-pub fn by_number(number: u8) -> Setting
+// The setting of a number, if there is one.
+// Kept: a number above 5 is no error of this crate: its callers refuse it with 4 or with 1.
+pub fn by_number(number: u8) -> Option<FrameFormat>
     ensures { result ≡ setting_of number }
 {
     match number {
-        0 => Setting::Format(NormalErrorFrame::format()),
-        1 => Setting::Format(NormalStatusByte::format()),
-        2 => Setting::Format(LittleEndianErrorFrame::format()),
-        3 => Setting::Format(LittleEndianStatusByte::format()),
-        4 => Setting::Format(BigEndianErrorFrame::format()),
-        5 => Setting::Format(BigEndianStatusByte::format()),
-        _ => Setting::Nothing,
+        0 => Some(NormalErrorFrame::format()),
+        1 => Some(NormalStatusByte::format()),
+        2 => Some(LittleEndianErrorFrame::format()),
+        3 => Some(LittleEndianStatusByte::format()),
+        4 => Some(BigEndianErrorFrame::format()),
+        5 => Some(BigEndianStatusByte::format()),
+        _ => None,
     }
 }
 
-#[derive(Clone, Copy)]
+#[derive(Clone, Copy, Debug, PartialEq, Eq)]
 pub struct NormalErrorFrame;
 
-impl NormalErrorFrame {
-    pub const LENGTH: LengthEncoding = LengthEncoding::Normal;
+impl Format for NormalErrorFrame {
+    ghost LENGTH = { Normal };
 
-    pub const ERROR: ErrorDetection = ErrorDetection::ErrorFrame;
+    const LENGTH: LengthEncoding = LengthEncoding::Normal;
 
-    pub const LIMIT: usize = names::LONGEST_NORMAL;
+    ghost ERROR = { ErrorFrame };
 
-    pub fn format() -> FrameFormat
-        ensures { result ≡ format_of LengthEncoding.Normal ErrorDetection.ErrorFrame }
-    {
-        FrameFormat {
-            length: Self::LENGTH,
-            error: Self::ERROR,
-            limit: Self::LIMIT,
-        }
-    }
+    const ERROR: ErrorDetection = ErrorDetection::ErrorFrame;
+
+    ghost LIMIT = { longest_normal };
+
+    const LIMIT: usize = names::LONGEST_NORMAL;
 }
 
-#[derive(Clone, Copy)]
+#[derive(Clone, Copy, Debug, PartialEq, Eq)]
 pub struct NormalStatusByte;
 
-impl NormalStatusByte {
-    pub const LENGTH: LengthEncoding = LengthEncoding::Normal;
+impl Format for NormalStatusByte {
+    ghost LENGTH = { Normal };
 
-    pub const ERROR: ErrorDetection = ErrorDetection::StatusByte;
+    const LENGTH: LengthEncoding = LengthEncoding::Normal;
 
-    pub const LIMIT: usize = names::LONGEST_NORMAL;
+    ghost ERROR = { StatusByte };
 
-    pub fn format() -> FrameFormat
-        ensures { result ≡ format_of LengthEncoding.Normal ErrorDetection.StatusByte }
-    {
-        FrameFormat {
-            length: Self::LENGTH,
-            error: Self::ERROR,
-            limit: Self::LIMIT,
-        }
-    }
+    const ERROR: ErrorDetection = ErrorDetection::StatusByte;
+
+    ghost LIMIT = { longest_normal };
+
+    const LIMIT: usize = names::LONGEST_NORMAL;
 }
 
-#[derive(Clone, Copy)]
+#[derive(Clone, Copy, Debug, PartialEq, Eq)]
 pub struct LittleEndianErrorFrame;
 
-impl LittleEndianErrorFrame {
-    pub const LENGTH: LengthEncoding = LengthEncoding::ExtendedLittleEndian;
+impl Format for LittleEndianErrorFrame {
+    ghost LENGTH = { ExtendedLittleEndian };
 
-    pub const ERROR: ErrorDetection = ErrorDetection::ErrorFrame;
+    const LENGTH: LengthEncoding = LengthEncoding::ExtendedLittleEndian;
 
-    pub const LIMIT: usize = names::LONGEST_EXTENDED;
+    ghost ERROR = { ErrorFrame };
 
-    pub fn format() -> FrameFormat
-        ensures { result ≡ format_of LengthEncoding.ExtendedLittleEndian ErrorDetection.ErrorFrame }
-    {
-        FrameFormat {
-            length: Self::LENGTH,
-            error: Self::ERROR,
-            limit: Self::LIMIT,
-        }
-    }
+    const ERROR: ErrorDetection = ErrorDetection::ErrorFrame;
+
+    ghost LIMIT = { longest_extended };
+
+    const LIMIT: usize = names::LONGEST_EXTENDED;
 }
 
-#[derive(Clone, Copy)]
+#[derive(Clone, Copy, Debug, PartialEq, Eq)]
 pub struct LittleEndianStatusByte;
 
-impl LittleEndianStatusByte {
-    pub const LENGTH: LengthEncoding = LengthEncoding::ExtendedLittleEndian;
+impl Format for LittleEndianStatusByte {
+    ghost LENGTH = { ExtendedLittleEndian };
 
-    pub const ERROR: ErrorDetection = ErrorDetection::StatusByte;
+    const LENGTH: LengthEncoding = LengthEncoding::ExtendedLittleEndian;
 
-    pub const LIMIT: usize = names::LONGEST_EXTENDED;
+    ghost ERROR = { StatusByte };
 
-    pub fn format() -> FrameFormat
-        ensures { result ≡ format_of LengthEncoding.ExtendedLittleEndian ErrorDetection.StatusByte }
-    {
-        FrameFormat {
-            length: Self::LENGTH,
-            error: Self::ERROR,
-            limit: Self::LIMIT,
-        }
-    }
+    const ERROR: ErrorDetection = ErrorDetection::StatusByte;
+
+    ghost LIMIT = { longest_extended };
+
+    const LIMIT: usize = names::LONGEST_EXTENDED;
 }
 
-#[derive(Clone, Copy)]
+#[derive(Clone, Copy, Debug, PartialEq, Eq)]
 pub struct BigEndianErrorFrame;
 
-impl BigEndianErrorFrame {
-    pub const LENGTH: LengthEncoding = LengthEncoding::NormalOrExtendedBigEndian;
+impl Format for BigEndianErrorFrame {
+    ghost LENGTH = { NormalOrExtendedBigEndian };
 
-    pub const ERROR: ErrorDetection = ErrorDetection::ErrorFrame;
+    const LENGTH: LengthEncoding = LengthEncoding::NormalOrExtendedBigEndian;
 
-    pub const LIMIT: usize = names::LONGEST_EXTENDED;
+    ghost ERROR = { ErrorFrame };
 
-    pub fn format() -> FrameFormat
-        ensures { result ≡ format_of LengthEncoding.NormalOrExtendedBigEndian ErrorDetection.ErrorFrame }
-    {
-        FrameFormat {
-            length: Self::LENGTH,
-            error: Self::ERROR,
-            limit: Self::LIMIT,
-        }
-    }
+    const ERROR: ErrorDetection = ErrorDetection::ErrorFrame;
+
+    ghost LIMIT = { longest_extended };
+
+    const LIMIT: usize = names::LONGEST_EXTENDED;
 }
 
-#[derive(Clone, Copy)]
+#[derive(Clone, Copy, Debug, PartialEq, Eq)]
 pub struct BigEndianStatusByte;
 
-impl BigEndianStatusByte {
-    pub const LENGTH: LengthEncoding = LengthEncoding::NormalOrExtendedBigEndian;
+impl Format for BigEndianStatusByte {
+    ghost LENGTH = { NormalOrExtendedBigEndian };
 
-    pub const ERROR: ErrorDetection = ErrorDetection::StatusByte;
+    const LENGTH: LengthEncoding = LengthEncoding::NormalOrExtendedBigEndian;
 
-    pub const LIMIT: usize = names::LONGEST_EXTENDED;
+    ghost ERROR = { StatusByte };
 
-    pub fn format() -> FrameFormat
-        ensures { result ≡ format_of LengthEncoding.NormalOrExtendedBigEndian ErrorDetection.StatusByte }
-    {
-        FrameFormat {
-            length: Self::LENGTH,
-            error: Self::ERROR,
-            limit: Self::LIMIT,
-        }
-    }
+    const ERROR: ErrorDetection = ErrorDetection::StatusByte;
+
+    ghost LIMIT = { longest_extended };
+
+    const LIMIT: usize = names::LONGEST_EXTENDED;
 }

@@ -1,4 +1,5 @@
 // A byte looked for in a part of a slice.
+
 ghost use Rattle.std.specs.Prelude.{◌≡◌, ◌+◌, ◌≤◌, length};
 ghost use Rattle.octets.specs.Bytes.{index_of, slice};
 
@@ -6,11 +7,11 @@ ghost use Rattle.octets.specs.Bytes.{index_of, slice};
 pub fn find(bytes: &[u8], from: usize, to: usize, byte: u8) -> usize
     requires order { from ≤ to }
     requires within { to ≤ length bytes.now }
-    ensures { result ≡ from + index_of byte (slice from to bytes.now) }
+    ensures place { result ≡ from + index_of byte (slice from to bytes.now) }
+    ensures bounds { (from ≤ result) × (result ≤ to) }
 {
-    let mut at = from;
-    while at < to && bytes[at] != byte {
-        at += 1;
+    match bytes[from..to].iter().position(|b| *b == byte) {
+        Some(at) => from + at,
+        None => to,
     }
-    at
 }

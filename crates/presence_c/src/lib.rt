@@ -23,15 +23,5 @@ pub extern "C" fn presence_empty() -> Presence
 pub extern "C" fn presence_round(list: &mut Presence, number: u32, records: &[u8]) -> Outcome
     ensures { report list.new result ≡ report_for list.old number records.now }
 {
-    let state = list.state;
-    let step = state.round(
-        &mut list.cards,
-        &mut list.arrived,
-        &mut list.departed,
-        number,
-        records,
-    );
-    let after = step.state;
-    list.state = after;
-    Outcome::of(step.answer)
+    Outcome::from(list.round(number, records))
 }

@@ -1,12 +1,12 @@
 -- Laws of what is printed: each text behind the one before it, and that all fit.
-use mathlib.Core.Path.{◌≡◌, refl, sym, ap, ◌∙◌}
+use mathlib.Core.Path.{◌≡◌, sym, ap, ◌∙◌}
 use mathlib.Core.Bool.{Bool, true, false}
 use mathlib.Core.List.{List, [], ◌∷◌, ◌++◌, append_assoc, append-nil}
-use Prim.Native.Nat.{ℕ, zero, suc, ◌+◌, ◌-◌, ◌*◌, ◌≤◌, ◌<◌}
+use Prim.Native.Nat.{ℕ, zero, suc, ◌+◌, ◌*◌, ◌≤◌, ◌<◌}
 use native.Mathlib.Numerals.{add-one}
 use native.Mathlib.Omega.{arith}
 use lib.ListN.{length, take, drop, get_or, length-append, length-take}
-use lib.Seq.{take-suc, take-take, take-length, drop-drop}
+use lib.Seq.{take-suc, take_all}
 use Rattle.errors.specs.Choice.{pick}
 use Rattle.errors.specs.Refusals.{round_numbered}
 use Rattle.errors.specs.declared.Numbered.{Numbered}
@@ -18,42 +18,23 @@ use Rattle.bench.specs.HexLaws.{hex_short}
 use Rattle.bench.specs.TextLaws.{appended, none_put, both_appended, then_put, both-put}
 use Rattle.bench.specs.Texts.{placed, put_at, decimal_of, Appends}
 use Rattle.bench.specs.Words.{ahead, words_of_lem}
-use Rattle.presence_list.specs.Names.{record_size, identifier_limit, length_offset, bitrate_offset, card_limit}
-use Rattle.presence_list.specs.Checks.{byte_in_lem, first_in}
-use Rattle.presence_list.specs.Memory.{pieces, length_in}
-use Rattle.presence_list.specs.MemoryLaws.{length-pieces, piece_at}
+use Rattle.presence_list.specs.Names.{identifier_limit, length_offset, bitrate_offset, card_limit}
+use Rattle.presence_list.specs.Memory.{length_in}
 use Rattle.presence_lines.specs.Lines.{kinds, bitrates, card_text, rate_text, cards_text, lists_text, refused_text}
 
--- the identifier's bytes of a record
-identifier_in : (b : List ℕ) (at : ℕ) → take identifier_limit (drop 1 (take record_size (drop at b))) ≡ take identifier_limit (drop (at + 1) b)
-identifier_in b at = inside (drop at b) ∙ ap (take identifier_limit) (drop-drop 1 at b)
-  where
-    inside : (x : List ℕ) → take identifier_limit (drop 1 (take record_size x)) ≡ take identifier_limit (drop 1 x)
-    inside [] = refl
-    inside (a ∷ x) = take-take identifier_limit (record_size - 1) x (omega arith)
-
-module _ (b : List ℕ) (i : ℕ) where
+module _ (e : List ℕ) where
   pub card-done : (w p q o o₁ o₂ o₃ o₄ : List ℕ) (at r₁ r₂ r₃ r₄ : ℕ) → placed r₁ o₁ ≡ put_at at (ascii " ") o → placed r₂ o₂ ≡ put_at r₁ w o₁ → placed r₃ o₃ ≡ put_at r₂ (ascii ":") o₂
-      → placed r₄ o₄ ≡ put_at r₃ (hex_of q) o₃ → w ≡ get_or (words_of_lem (ascii "A T1 B F DEP")) (get_or b (record_size * i) 0) [] → q ≡ take (get_or b (record_size * i + length_offset) 0) p → p ≡ take (record_size * i + 1 + identifier_limit - (record_size * i + 1)) (drop (record_size * i + 1) b)
-      → Appends at (card_text (take record_size (drop (record_size * i) b))) o r₄ o₄
+      → placed r₄ o₄ ≡ put_at r₃ (hex_of q) o₃ → w ≡ get_or (words_of_lem (ascii "A T1 B F DEP")) (get_or e 0 0) [] → q ≡ take (get_or e length_offset 0) p → p ≡ take identifier_limit (drop 1 e)
+      → Appends at (card_text e) o r₄ o₄
   unfolding card_text kinds
-  card-done w p q o o₁ o₂ o₃ o₄ at r₁ r₂ r₃ r₄ e f g h kind part all =
-      let size : record_size * i + 1 + identifier_limit - (record_size * i + 1) ≡ identifier_limit = omega arith in
-      let whole : p ≡ take identifier_limit (drop 1 (take record_size (drop (record_size * i) b))) = all ∙ ap (λ (k : ℕ). take k (drop (record_size * i + 1) b)) size ∙ sym (identifier_in b (record_size * i)) in
-      let is : q ≡ take (length_in (take record_size (drop (record_size * i) b))) (take identifier_limit (drop 1 (take record_size (drop (record_size * i) b)))) = part ∙ rw (← byte_in_lem b (record_size * i) length_offset (omega arith), whole) in
-      let named : w ≡ get_or kinds (get_or (take record_size (drop (record_size * i) b)) 0 0) [] = kind ∙ ap (λ (k : ℕ). get_or kinds k []) (sym (first_in b (record_size * i))) in
-      rw (← named, ← is) (then_put _ _ _ _ _ _ _ _ (then_put _ _ _ _ _ _ _ _ (both-put _ _ _ _ _ _ _ _ e f) g) h)
+  card-done w p q o o₁ o₂ o₃ o₄ at r₁ r₂ r₃ r₄ e₁ f g h kind part all =
+      let is : q ≡ take (length_in e) (take identifier_limit (drop 1 e)) = part ∙ ap (take (length_in e)) all in
+      rw (← kind, ← is) (then_put _ _ _ _ _ _ _ _ (then_put _ _ _ _ _ _ _ _ (both-put _ _ _ _ _ _ _ _ e₁ f) g) h)
 
   pub bitrate_shown : (t : Bool) (w o o₁ o₂ : List ℕ) (at r₁ r₂ : ℕ) → t ≡ true → placed r₁ o₁ ≡ put_at at (ascii ":") o → placed r₂ o₂ ≡ put_at r₁ w o₁
-      → w ≡ get_or (words_of_lem (ascii "106A 212F 424F 106B 212B 424B 848B")) (get_or b (record_size * i + bitrate_offset) 0) [] → Appends at (rate_text t (take record_size (drop (record_size * i) b))) o r₂ o₂
+      → w ≡ get_or (words_of_lem (ascii "106A 212F 424F 106B 212B 424B 848B")) (get_or e bitrate_offset 0) [] → Appends at (rate_text t e) o r₂ o₂
   unfolding rate_text bitrates pick
-  bitrate_shown t w o o₁ o₂ at r₁ r₂ h e f is =
-      let named : w ≡ get_or bitrates (get_or (take record_size (drop (record_size * i) b)) bitrate_offset 0) [] = is ∙ ap (λ (k : ℕ). get_or bitrates k []) (sym (byte_in_lem b (record_size * i) bitrate_offset (omega arith))) in
-      rw (h, ← named) (both-put _ _ _ _ _ _ _ _ e f)
-
-pub bitrate_not : (t : Bool) (e o : List ℕ) (at : ℕ) → t ≡ false → Appends at (rate_text t e) o at o
-unfolding rate_text pick
-bitrate_not t e o at h = rw h (none_put o at)
+  bitrate_shown t w o o₁ o₂ at r₁ r₂ h e₁ f is = rw (h, ← is) (both-put _ _ _ _ _ _ _ _ e₁ f)
 
 -- the cards of a list, one behind the other
 cards_more : (t : Bool) (es : List (List ℕ)) (e : List ℕ) → cards_text t (es ++ (e ∷ [])) ≡ cards_text t es ++ card_text e ++ rate_text t e
@@ -68,18 +49,14 @@ pub cards_none : (t : Bool) (es : List (List ℕ)) (o : List ℕ) (at : ℕ) →
 unfolding cards_text
 cards_none t es o at = none_put o at
 
-pub cards_turn : (t : Bool) (n i : ℕ) (b o o₁ o₂ o₃ : List ℕ) (at r₁ r₂ r₃ : ℕ) → i < n → Appends at (cards_text t (take i (pieces n b))) o r₁ o₁
-    → Appends r₁ (card_text (take record_size (drop (record_size * i) b))) o₁ r₂ o₂ → Appends r₂ (rate_text t (take record_size (drop (record_size * i) b))) o₂ r₃ o₃ → Appends at (cards_text t (take (i + 1) (pieces n b))) o r₃ o₃
-cards_turn t n i b o o₁ o₂ o₃ at r₁ r₂ r₃ h before card rate =
-    let less : i < length (pieces n b) = rw (length-pieces n b) h in
-    let more : take (i + 1) (pieces n b) ≡ take i (pieces n b) ++ (take record_size (drop (record_size * i) b) ∷ [])
-    = ap (λ (k : ℕ). take k (pieces n b)) (add-one i) ∙ take-suc (pieces n b) i [] less ∙ ap (λ (e : List ℕ). take i (pieces n b) ++ (e ∷ [])) (piece_at n i b h) in
-    rw (more, cards_more t (take i (pieces n b)) (take record_size (drop (record_size * i) b))) (both_appended _ _ _ _ _ _ _ _ (both_appended _ _ _ _ _ _ _ _ before card) rate)
+pub cards_turn : (t : Bool) (i : ℕ) (es : List (List ℕ)) (o o₁ o₂ o₃ : List ℕ) (at r₁ r₂ r₃ : ℕ) → i < length es → Appends at (cards_text t (take i es)) o r₁ o₁
+    → Appends r₁ (card_text (get_or es i [])) o₁ r₂ o₂ → Appends r₂ (rate_text t (get_or es i [])) o₂ r₃ o₃ → Appends at (cards_text t (take (i + 1) es)) o r₃ o₃
+cards_turn t i es o o₁ o₂ o₃ at r₁ r₂ r₃ h before card rate =
+    let more : take (i + 1) es ≡ take i es ++ (get_or es i [] ∷ []) = ap (λ (k : ℕ). take k es) (add-one i) ∙ take-suc es i [] h in
+    rw (more, cards_more t (take i es) (get_or es i [])) (both_appended _ _ _ _ _ _ _ _ (both_appended _ _ _ _ _ _ _ _ before card) rate)
 
-pub cards_all : (t : Bool) (n i : ℕ) (b o o₁ : List ℕ) (at r : ℕ) → i ≤ n → n ≤ i → Appends at (cards_text t (take i (pieces n b))) o r o₁ → Appends at (cards_text t (pieces n b)) o r o₁
-cards_all t n i b o o₁ at r h k e =
-    let size : i ≡ length (pieces n b) = omega (arith, length-pieces n b) in
-    rw (ap (λ (j : ℕ). take j (pieces n b)) size ∙ take-length (pieces n b)) at e
+pub cards_all : (t : Bool) (i : ℕ) (es : List (List ℕ)) (o o₁ : List ℕ) (at r : ℕ) → length es ≤ i → Appends at (cards_text t (take i es)) o r o₁ → Appends at (cards_text t es) o r o₁
+cards_all t i es o o₁ at r h e = rw (take_all i es h) at e
 
 pub lists_done : (came left present : List (List ℕ)) (o o₁ o₂ o₃ o₄ o₅ o₆ : List ℕ) (r₁ r₂ r₃ r₄ r₅ r₆ : ℕ) → placed r₁ o₁ ≡ put_at 0 (ascii "arrived") o → Appends r₁ (cards_text false came) o₁ r₂ o₂
     → placed r₃ o₃ ≡ put_at r₂ (ascii " departed") o₂ → Appends r₃ (cards_text false left) o₃ r₄ o₄ → placed r₅ o₅ ≡ put_at r₄ (ascii " present") o₄ → Appends r₅ (cards_text true present) o₅ r₆ o₆

@@ -6,42 +6,25 @@ use Prim.Native.Nat.{ℕ, suc, ◌+◌, ◌-◌, ◌/◌, ◌≤◌, ◌<◌}
 use native.Mathlib.Nat.{zero-add}
 use native.Mathlib.Numerals.{add-one}
 use native.Mathlib.Omega.{arith}
-use borrow.Author.Tests.{lt-ltb, le-ltb, lt-leb, le-leb}
-use lib.Dec.{eqb}
-use lib.ListN.{length, take, drop, get_or, replicate, length-take, length-drop, drop_of_length-le}
+use borrow.Author.Tests.{le-ltb, lt-leb, le-leb}
+use lib.ListN.{length, take, drop, get_or, replicate, length-drop, drop_of_length-le}
 use lib.Seq.{drop-cons, take-length, take_all, take_at}
-use Rattle.octets.specs.Bytes.{index_of, index_after, slice}
+use Rattle.octets.specs.Bytes.{index_of, slice}
+use Rattle.std.specs.Prelude.{Some, Result, Ok, Err}
 use Rattle.errors.specs.Choice.{pick, same}
+use Rattle.errors.specs.Refusals.{returned}
 use Rattle.errors.specs.declared.Refusal.{Refusal}
 use Rattle.targets.specs.Bitrates.{ascii}
 use Rattle.bench.specs.Hex.{is_hex_of, pairs_of, read_of}
-use Rattle.bench.specs.HexLaws.{length_pairs, read_count, read_into, not_read}
+use Rattle.bench.specs.HexLaws.{read_count, read_into, not_read}
 use Rattle.bench.specs.TextLaws.{none_put, both_appended, then_put, both-put}
-use Rattle.bench.specs.Texts.{returned, over, placed, put_at, Appends}
+use Rattle.bench.specs.Texts.{over, placed, put_at, Appends}
 use Rattle.bench.specs.WordLaws.{words_behind, next_word}
-use Rattle.bench.specs.Words.{words_of_lem}
-use Rattle.bench.specs.declared.Put.{Put}
-use Rattle.bench.specs.declared.Put.TheVariants.{Bytes as PutBytes, Refused}
-use Rattle.presence_lines.specs.Lines.{kinds, bitrates, place_among, before_colon, behind_colon, kind_named_of, bitrate_of, identifier_of, is_identifier, is_card, record_with, over_length, identified, record_of_word, are_cards, records_of_words, colon}
+use Rattle.bench.specs.Words.{ahead, words_of_lem}
+use Rattle.presence_lines.specs.Lines.{kinds, bitrates, place_among, before_colon, behind_colon, kind_named_of, bitrate_of, identifier_of, is_identifier, is_card, record_with, identified, record_of_word, are_cards, records_of_words, colon}
 use Rattle.presence_lines.specs.Readings.{PutsRecord, ReadSoFar}
-use Rattle.presence_lines.specs.declared.read.Cards.{Cards}
-use Rattle.presence_lines.specs.declared.read.Cards.TheVariants.{Bytes, Unreadable}
 use Rattle.presence_list.specs.Names.{identifier_limit, last_card_kind, last_bitrate}
 use Rattle.framing.specs.Build.{left}
-
--- a byte that is looked for is found in the part, or is its end
-index_within : (x : ℕ) (b : List ℕ) → index_of x b ≤ length b
-unfolding index_of index_after
-index_within x [] = omega arith
-index_within x (y ∷ b) = go (eqb y x) (index_within x b)
-  where
-    go : (t : Bool) → index_of x b ≤ length b → index_after t (index_of x b) ≤ suc (length b)
-    go true h = omega arith
-    go false h = omega arith
-
-pub found_within : (x at to n : ℕ) (b : List ℕ) → at ≤ to → to ≤ length b → n ≡ at + index_of x (slice at to b) → n ≤ to
-unfolding slice
-found_within x at to n b h k e = omega (arith, index_within x (drop at (take to b)), length-drop at (take to b), length-take to b)
 
 -- the place of a word among others
 module _ (w : List ℕ) (ws : List (List ℕ)) (i : ℕ) (rest : place_among w ws ≡ i + place_among w (drop i ws)) where
@@ -61,9 +44,9 @@ module _ (w : List ℕ) (ws : List (List ℕ)) (i : ℕ) (rest : place_among w w
       let z : place_among w (drop i ws) ≡ suc (place_among w (drop (i + 1) ws)) = here h ∙ rw (← e, ← f, g, add-one) in
       omega (arith, rest, z)
 
-  pub place_end : length ws ≤ i → i ≡ place_among w ws
+  pub place_end : length ws ≤ i → i ≤ length ws → place_among w ws ≡ length ws
   unfolding place_among
-  place_end h = let z : place_among w (drop i ws) ≡ 0 = rw (drop_of_length-le ws {i = i} h) in omega (arith, rest, z)
+  place_end h k = let z : place_among w (drop i ws) ≡ 0 = rw (drop_of_length-le ws {i = i} h) in omega (arith, rest, z)
 
 pub place-begin : (w : List ℕ) (ws : List (List ℕ)) → place_among w ws ≡ 0 + place_among w (drop 0 ws)
 place-begin w ws = omega arith
@@ -82,9 +65,13 @@ module _ (w : List ℕ) (n : ℕ) (found : n ≡ 0 + index_of colon (slice 0 (le
   unfolding behind_colon
   behind_is h = rw (← at-colon) (take_all (length w - (n + 1)) (drop (n + 1) w) (rw (length-drop (n + 1) w) (omega arith)))
 
-  pub behind_none : length w ≤ n → take (length w - n) (drop n w) ≡ behind_colon w
+  pub before_all : length w ≤ n → w ≡ before_colon w
+  unfolding before_colon
+  before_all h = rw (← at-colon) (sym (take_all n w h))
+
+  pub behind_none : length w ≤ n → [] ≡ behind_colon w
   unfolding behind_colon
-  behind_none h = rw (← at-colon, drop_of_length-le w {i = n} h, drop_of_length-le w {i = n + 1} (omega arith)) (take_all (length w - n) [] (omega arith))
+  behind_none h = rw (← at-colon, drop_of_length-le w {i = n + 1} (omega arith))
 
 -- a record, and that of an identifier
 pub record_done : (kind n rate : ℕ) (p z o o₁ o₂ o₃ o₄ : List ℕ) (at r₁ r₂ r₃ r₄ : ℕ) → placed r₁ o₁ ≡ put_at at (kind ∷ []) o → placed r₂ o₂ ≡ put_at r₁ p o₁ → placed r₃ o₃ ≡ put_at r₂ z o₂
@@ -94,15 +81,11 @@ record_done kind n rate p z o o₁ o₂ o₃ o₄ at r₁ r₂ r₃ r₄ e f g h
     rw (← is) (then_put _ _ _ _ _ _ _ _ (then_put _ _ _ _ _ _ _ _ (both-put _ _ _ _ _ _ _ _ e f) g) h)
 
 module _ (kind rate at r : ℕ) (w b o : List ℕ) where
-  pub identified_long : (p : List ℕ) → identifier_limit < length w / 2 → p ≡ take 0 w → Appends at (record_with kind p over_length rate) b r o → Appends at (identified kind w rate) b r o
-  unfolding identified pick
-  identified_long p h e d = rw (lt-ltb identifier_limit (length w / 2) h) (rw e at d)
-
-  module _ (z part : List ℕ) (q : Put) (known : left (returned q) part ≡ read_of w z) (few : length w / 2 ≤ identifier_limit) (room : length z ≡ identifier_limit) where
+  module _ (z part : List ℕ) (q : Result ℕ Refusal) (known : left (returned q) part ≡ read_of w z) (few : length w / 2 ≤ identifier_limit) (room : length z ≡ identifier_limit) where
     enough : length w / 2 ≤ length z
     enough = omega arith
 
-    pub identified_read : (k n : ℕ) (p : List ℕ) → q ≡ PutBytes k → p ≡ take k part → n ≡ length w / 2 → Appends at (record_with kind p n rate) b r o → Appends at (identified kind w rate) b r o
+    pub identified_read : (k n : ℕ) (p : List ℕ) → q ≡ Ok k → p ≡ take k part → n ≡ length w / 2 → Appends at (record_with kind p n rate) b r o → Appends at (identified kind w rate) b r o
     unfolding identified pick over
     identified_read k n p e is size d =
         let filled : part ≡ pairs_of w ++ drop (length (pairs_of w)) z = read_into w z part q enough known k e ∙ ap (λ (j : ℕ). pairs_of w ++ drop j z) (zero-add (length (pairs_of w))) in
@@ -110,53 +93,63 @@ module _ (kind rate at r : ℕ) (w b o : List ℕ) where
         let all : p ≡ pairs_of w = is ∙ rw (filled, count) (take_at (pairs_of w) (drop (length (pairs_of w)) z) (length (pairs_of w)) refl) in
         rw (le-ltb identifier_limit (length w / 2) few) (rw (all, size) at d)
 
-    pub identified_short : (k : ℕ) (p : List ℕ) → q ≡ PutBytes k → p ≡ take k part → length p ≤ identifier_limit
-    identified_short k p e is = omega (arith, read_count w z part q enough known k e, length_pairs w, ap length is, length-take k part)
-
-    pub identified_not : (e : Refusal) → q ≡ Refused e → is_hex_of w ≡ true → Appends at (identified kind w rate) b at b
+    pub identified_not : (e : Refusal) → q ≡ Err e → is_hex_of w ≡ true → Appends at (identified kind w rate) b at b
     identified_not e g h = absurd (false≢true (sym (not_read w z part q enough known e g) ∙ h))
 
--- a card, by the places of its parts
-module _ (w p rest : List ℕ) (k : ℕ) (rest-is : rest ≡ behind_colon w) (p-is : p ≡ before_colon w) (kind : k ≡ place_among p (words_of_lem (ascii "A T1 B F DEP"))) where
-  kind-is : k ≡ kind_named_of w
+-- how many names there are
+kinds_are : length (words_of_lem (ascii "A T1 B F DEP")) ≡ suc last_card_kind
+unfolding words_of_lem ahead pick
+kinds_are = refl
+
+bitrates_are : length (words_of_lem (ascii "106A 212F 424F 106B 212B 424B 848B")) ≡ suc last_bitrate
+unfolding words_of_lem ahead pick
+bitrates_are = refl
+
+-- a card, by its parts
+module _ (w p rest u q : List ℕ) (p-is : p ≡ before_colon w) (rest-is : rest ≡ behind_colon w) (u-is : u ≡ before_colon rest) (q-is : q ≡ behind_colon rest) where
+  kind-at : place_among p (words_of_lem (ascii "A T1 B F DEP")) ≡ kind_named_of w
   unfolding kinds
-  kind-is = kind ∙ ap (λ (x : List ℕ). place_among x kinds) p-is
+  kind-at = ap (λ (x : List ℕ). place_among x kinds) p-is
 
-  pub no_kind : last_card_kind < k → is_card w ≡ false
+  rate-at : place_among q (words_of_lem (ascii "106A 212F 424F 106B 212B 424B 848B")) ≡ bitrate_of w
+  unfolding bitrates
+  rate-at = ap (λ (x : List ℕ). place_among x bitrates) (q-is ∙ ap behind_colon rest-is)
+
+  identifier-is : u ≡ identifier_of w
+  identifier-is = u-is ∙ ap before_colon rest-is
+
+  pub no_kind : place_among p (words_of_lem (ascii "A T1 B F DEP")) ≡ length (words_of_lem (ascii "A T1 B F DEP")) → is_card w ≡ false
   unfolding is_card pick
-  no_kind h = rw (lt-leb (kind_named_of w) last_card_kind (omega (arith, kind-is)))
+  no_kind h = rw (lt-leb (kind_named_of w) last_card_kind (omega (arith, kind-at, kinds_are, h)))
 
-  module _ (q : List ℕ) (m : ℕ) (few : k ≤ last_card_kind) (q-is : q ≡ behind_colon rest) (rate : m ≡ place_among q (words_of_lem (ascii "106A 212F 424F 106B 212B 424B 848B"))) where
-    rate-is : m ≡ bitrate_of w
-    unfolding bitrates
-    rate-is = rate ∙ ap (λ (x : List ℕ). place_among x bitrates) (q-is ∙ ap behind_colon rest-is)
+  module _ (k : ℕ) (kind : (k ≡ place_among p (words_of_lem (ascii "A T1 B F DEP"))) × (k < length (words_of_lem (ascii "A T1 B F DEP")))) where
+    kind-is : k ≡ kind_named_of w
+    kind-is = kind.0 ∙ kind-at
 
-    pub no_rate : last_bitrate < m → is_card w ≡ false
+    pub few_kinds : k ≤ last_card_kind
+    few_kinds = omega (arith, kind.1, kinds_are)
+
+    pub no_rate : place_among q (words_of_lem (ascii "106A 212F 424F 106B 212B 424B 848B")) ≡ length (words_of_lem (ascii "106A 212F 424F 106B 212B 424B 848B")) → is_card w ≡ false
     unfolding is_card pick
-    no_rate h = rw (le-leb (kind_named_of w) last_card_kind (omega (arith, kind-is)), lt-leb (bitrate_of w) last_bitrate (omega (arith, rate-is)))
+    no_rate h = rw (le-leb (kind_named_of w) last_card_kind (omega (arith, kind-is, few_kinds)), lt-leb (bitrate_of w) last_bitrate (omega (arith, rate-at, bitrates_are, h)))
 
-    module _ (u : List ℕ) (t : Bool) (less : m ≤ last_bitrate) (u-is : u ≡ before_colon rest) (test : t ≡ is_identifier u) where
-      identifier-is : u ≡ identifier_of w
-      identifier-is = u-is ∙ ap before_colon rest-is
+    module _ (m : ℕ) (rate : (m ≡ place_among q (words_of_lem (ascii "106A 212F 424F 106B 212B 424B 848B"))) × (m < length (words_of_lem (ascii "106A 212F 424F 106B 212B 424B 848B")))) where
+      rate-is : m ≡ bitrate_of w
+      rate-is = rate.0 ∙ rate-at
 
-      card-is : is_card w ≡ t
-      unfolding is_card pick
-      card-is = rw (le-leb (kind_named_of w) last_card_kind (omega (arith, kind-is)), le-leb (bitrate_of w) last_bitrate (omega (arith, rate-is))) (ap is_identifier (sym identifier-is) ∙ sym test)
+      pub few_rates : m ≤ last_bitrate
+      few_rates = omega (arith, rate.1, bitrates_are)
 
-      pub no_identifier : t ≡ false → is_card w ≡ false
-      no_identifier h = card-is ∙ h
+      module _ (t : Bool) (test : t ≡ is_identifier u) where
+        card-is : is_card w ≡ t
+        unfolding is_card pick
+        card-is =
+            rw (le-leb (kind_named_of w) last_card_kind (omega (arith, kind-is, few_kinds)), le-leb (bitrate_of w) last_bitrate (omega (arith, rate-is, few_rates)))
+            (ap is_identifier (sym identifier-is) ∙ sym test)
 
-      pub card-put : (at r : ℕ) (b o : List ℕ) → t ≡ true → Appends at (identified k u m) b r o → (is_card w ≡ true) × Appends at (record_of_word w) b r o
-      unfolding record_of_word
-      card-put at r b o h d = (card-is ∙ h, rw (kind-is, rate-is, identifier-is) at d)
-
-pub identifier_hex : (u : List ℕ) (t : Bool) → t ≡ is_identifier u → t ≡ true → is_hex_of u ≡ true
-unfolding pick
-identifier_hex u t e h = go (is_hex_of u) refl
-  where
-    go : (x : Bool) → is_hex_of u ≡ x → is_hex_of u ≡ true
-    go true f = f
-    go false f = absurd (false≢true (sym (rw f at e) ∙ h))
+        pub card-put : (at r : ℕ) (b o : List ℕ) → t ≡ true → Appends at (identified k u m) b r o → (is_card w ≡ true) × Appends at (record_of_word w) b r o
+        unfolding record_of_word
+        card-put at r b o h d = (card-is ∙ h, rw (kind-is, rate-is, identifier-is) at d)
 
 -- the cards of a line, one behind the other
 pub filled_none : (ws : List (List ℕ)) (b : List ℕ) → ReadSoFar ws ws b 0 b
@@ -177,14 +170,13 @@ module _ (all : List (List ℕ)) (l b o : List ℕ) (at n : ℕ) (filled : ReadS
         ap words_behind (drop-cons l at 0 inside) ∙ ap (λ (j : ℕ). words_of_lem (drop j l)) (sym (add-one at)) ∙ next_word l (at + 1) end (omega arith) found
         ∙ ap (λ (x : List ℕ). x ∷ words_behind (drop end l)) (sym w-is)
 
-    pub filled_not : (r : Cards) (o' : List ℕ) → PutsRecord r (is_card w) n (record_of_word w) o o' → r ≡ Unreadable → are_cards all ≡ false
+    pub filled_not : is_card w ≡ false → are_cards all ≡ false
     unfolding are_cards pick
-    filled_not r o' p e = let not : is_card w ≡ false = rw e at p in filled.cards ∙ ap are_cards words_are ∙ rw not
+    filled_not not = filled.cards ∙ ap are_cards words_are ∙ rw not
 
-    pub filled_more : (r : Cards) (o' : List ℕ) (m : ℕ) → PutsRecord r (is_card w) n (record_of_word w) o o' → r ≡ Bytes m → ReadSoFar all (words_behind (drop end l)) b m o'
+    pub filled_more : (o' : List ℕ) (m : ℕ) → PutsRecord (Some m) (is_card w) n (record_of_word w) o o' → ReadSoFar all (words_behind (drop end l)) b m o'
     unfolding are_cards records_of_words pick
-    filled_more r o' m p e =
-        let here : (is_card w ≡ true) × Appends n (record_of_word w) o m o' = rw e at p in
+    filled_more o' m here =
         let is : is_card w ≡ true = here.0 in
         record {
           done = filled.done ++ record_of_word w;

@@ -2,7 +2,7 @@
 use mathlib.Core.Path.{◌≡◌, refl, sym, ap, ◌∙◌}
 use mathlib.Core.Bool.{Bool, true, false, false≢true}
 use mathlib.Core.List.{List, [], ◌∷◌, ◌++◌}
-use mathlib.Core.Option.{none, some}
+use Rattle.std.specs.Prelude.{Option, Some, None}
 use Prim.Native.Nat.{ℕ, suc, ◌+◌, ◌-◌, ◌*◌, ◌/◌, ◌≤◌, ◌<◌}
 use native.Mathlib.Nat.{zero-add}
 use native.Mathlib.Numerals.{add-one}
@@ -16,17 +16,13 @@ use Rattle.errors.specs.Choice.{pick, same, same_is}
 use Rattle.targets.specs.Bitrates.{ascii}
 use Rattle.bench.specs.Hex.{is_hex_of, pairs_of}
 use Rattle.bench.specs.HexLaws.{length_pairs}
-use Rattle.bench.specs.Numbers.{number_of, number_in}
+use Rattle.bench.specs.Numbers.{number_of}
 use Rattle.bench.specs.TextLaws.{at-start}
-use Rattle.bench.specs.Texts.{over, Placed, Appends}
+use Rattle.bench.specs.Texts.{over, Placed}
 use Rattle.bench.specs.WordLaws.{words_behind, words_behind_lem, next_word}
 use Rattle.bench.specs.Words.{ahead, words_of_lem}
-use Rattle.bench.specs.declared.number.Number.{Number}
-use Rattle.bench.specs.declared.number.Number.TheVariants.{Value, Unreadable as NoNumber}
-use Rattle.presence_lines.specs.Lines.{line_limit, records_room, kinds, bitrates, place_among, before_colon, behind_colon, kind_named_of, bitrate_of, identifier_of, is_card, record_with, over_length, identified, record_of_word, are_cards, records_of_words, said, said_round, said_of, colon}
+use Rattle.presence_lines.specs.Lines.{line_limit, records_room, kinds, bitrates, place_among, before_colon, behind_colon, kind_named_of, bitrate_of, identifier_of, is_card, record_with, over_length, identified, record_of_word, are_cards, records_of_words, Said, said, said_round, said_of, colon}
 use Rattle.presence_lines.specs.Readings.{PutsRecord}
-use Rattle.presence_lines.specs.declared.read.Cards.{Cards}
-use Rattle.presence_lines.specs.declared.read.Cards.TheVariants.{Bytes, Unreadable}
 use Rattle.presence_list.specs.Names.{record_size, identifier_limit, last_card_kind, last_bitrate}
 
 -- ---- a card has 8 bytes or more
@@ -140,7 +136,7 @@ module _ (l : List ℕ) (end : ℕ) (found : end ≡ 0 + index_of 32 (slice 0 (l
   first-are : words_of_lem l ≡ take end l ∷ words_behind (drop end l)
   first-are = let size : end - 0 ≡ end = omega arith in next_word l 0 end (omega arith) found ∙ ap (λ (k : ℕ). take k l ∷ words_behind (drop end l)) size
 
-  pub one_word : length l ≤ end → none ≡ said_of (words_of_lem l)
+  pub one_word : length l ≤ end → ◌≡◌ {A = Option Said} None (said_of (words_of_lem l))
   unfolding said_of words_behind
   one_word h = rw (first-are, drop_of_length-le l {i = end} h)
 
@@ -152,39 +148,38 @@ module _ (l : List ℕ) (end : ℕ) (found : end ≡ 0 + index_of 32 (slice 0 (l
         ∙ ap (λ (x : List (List ℕ)). take end l ∷ x) (ap words_behind (drop-cons l end 0 inside) ∙ ap (λ (j : ℕ). words_of_lem (drop j l)) (sym (add-one end)) ∙ next_word l (end + 1) second (omega arith) again)
 
     module _ (t : Bool) (test : t ≡ same (ascii "round") (take end l)) where
-      pub another_word : t ≡ false → none ≡ said_of (words_of_lem l)
+      pub another_word : t ≡ false → ◌≡◌ {A = Option Said} None (said_of (words_of_lem l))
       unfolding said_of pick
       another_word h = rw (words_are, ← test, h)
 
-      module _ (w : List ℕ) (n : Number) (yes : t ≡ true) (w-is : w ≡ take (second - (end + 1)) (drop (end + 1) l)) (number : number_in n ≡ number_of w) where
-        said-is : said_of (words_of_lem l) ≡ said_round (number_in n) (words_behind (drop second l))
+      module _ (w : List ℕ) (n : Option ℕ) (yes : t ≡ true) (w-is : w ≡ take (second - (end + 1)) (drop (end + 1) l)) (number : n ≡ number_of w) where
+        said-is : said_of (words_of_lem l) ≡ said_round n (words_behind (drop second l))
         unfolding said_of pick
         said-is = rw (words_are, ← test, yes, ← w-is, ← number)
 
-        pub no_number : n ≡ NoNumber → none ≡ said_of (words_of_lem l)
+      module _ (w : List ℕ) (yes : t ≡ true) (w-is : w ≡ take (second - (end + 1)) (drop (end + 1) l)) where
+        pub no_number : ◌≡◌ {A = Option ℕ} None (number_of w) → ◌≡◌ {A = Option Said} None (said_of (words_of_lem l))
         unfolding said_round
-        no_number h = sym (said-is ∙ ap (λ (x : Number). said_round (number_in x) (words_behind (drop second l))) h)
+        no_number h = sym (said-is w None yes w-is h)
 
-        module _ (k : ℕ) (r : Cards) (b o : List ℕ) (n-is : n ≡ Value k) (puts : PutsRecord r (are_cards (words_behind (drop second l))) 0 (records_of_words (words_behind (drop second l))) b o) where
-          cards-are : said_of (words_of_lem l) ≡ pick (are_cards (words_behind (drop second l))) (some (said k (records_of_words (words_behind (drop second l))))) none
+        module _ (k : ℕ) (number : ◌≡◌ {A = Option ℕ} (Some k) (number_of w)) where
+          cards-are : said_of (words_of_lem l) ≡ pick (are_cards (words_behind (drop second l))) (Some (said k (records_of_words (words_behind (drop second l))))) None
           unfolding said_round
-          cards-are = said-is ∙ ap (λ (x : Number). said_round (number_in x) (words_behind (drop second l))) n-is
+          cards-are = said-is w (Some k) yes w-is number
 
-          pub no_cards : r ≡ Unreadable → none ≡ said_of (words_of_lem l)
+          pub no_cards : are_cards (words_behind (drop second l)) ≡ false → ◌≡◌ {A = Option Said} None (said_of (words_of_lem l))
           unfolding pick
-          no_cards h =
-              let not : are_cards (words_behind (drop second l)) ≡ false = rw h at puts in
-              sym (cards-are ∙ ap (λ (x : Bool). pick x (some (said k (records_of_words (words_behind (drop second l))))) none) not)
+          no_cards not = sym (cards-are ∙ ap (λ (x : Bool). pick x (Some (said k (records_of_words (words_behind (drop second l))))) None) not)
 
-          pub round_said : (m : ℕ) → r ≡ Bytes m → length l ≤ line_limit → records_room ≤ length b → (some (said k (take m o)) ≡ said_of (words_of_lem l)) × (m ≤ records_room)
+          pub round_said : (m : ℕ) (b o : List ℕ) → PutsRecord (Some m) (are_cards (words_behind (drop second l))) 0 (records_of_words (words_behind (drop second l))) b o
+              → length l ≤ line_limit → records_room ≤ length b → (◌≡◌ {A = Option Said} (Some (said k (take m o))) (said_of (words_of_lem l))) × (m ≤ records_room)
           unfolding pick over
-          round_said m h short large =
+          round_said m b o put short large =
               let ws : List (List ℕ) = words_behind (drop second l) in
-              let put : (are_cards (words_behind (drop second l)) ≡ true) × Appends 0 (records_of_words (words_behind (drop second l))) b m o = rw h at puts in
               let cards : are_cards (words_behind (drop second l)) ≡ true = put.0 in
               let fits : length (records_of_words ws) ≤ records_room = room l second short cards in
               let placed = at-start (records_of_words ws) b o m put.1 (omega arith) in
               let size : m ≡ length (records_of_words ws) = ap (λ (x : Placed). x.next) placed ∙ zero-add (length (records_of_words ws)) in
               let filled : o ≡ over 0 (records_of_words ws) b = ap (λ (x : Placed). x.buffer) placed in
               let here : take m o ≡ records_of_words ws = ap (take m) filled ∙ take_at (records_of_words ws) (drop (0 + length (records_of_words ws)) b) m (sym size) in
-              (sym (cards-are ∙ ap (λ (x : Bool). pick x (some (said k (records_of_words ws))) none) cards ∙ ap (λ (x : List ℕ). some (said k x)) (sym here)), omega arith)
+              (sym (cards-are ∙ ap (λ (x : Bool). pick x (Some (said k (records_of_words ws))) None) cards ∙ ap (λ (x : List ℕ). Some (said k x)) (sym here)), omega arith)

@@ -1,6 +1,5 @@
 -- The lines of the program `presence`, and the text that is printed for each. A line that cannot be read gives `refused 4`.
-use Rattle.std.specs.Prelude.{Bool, true, false, List, [], ◌∷◌, ◌++◌, ℕ, suc, ◌+◌, ◌-◌, ◌/◌, leb, ltb, length, take, drop, get_or, replicate}
-use Rattle.std.proofs.Math.Option.{Option, none, some}
+use Rattle.std.specs.Prelude.{Bool, true, false, List, [], ◌∷◌, ◌++◌, ℕ, suc, ◌+◌, ◌-◌, ◌/◌, leb, ltb, length, take, drop, get_or, replicate, Option, Some, None, Result, Ok, Err}
 use Rattle.octets.specs.Bytes.{index_of}
 use Rattle.errors.specs.Choice.{pick, same}
 use Rattle.errors.specs.Refusals.{round_numbered}
@@ -16,11 +15,9 @@ use Rattle.bench.specs.declared.lines.Line.{Line}
 use Rattle.bench.specs.declared.lines.Line.TheVariants.{Text, OverLong, End}
 use Rattle.presence_list.specs.Names.{identifier_limit, bitrate_offset, last_card_kind, last_bitrate}
 use Rattle.presence_list.specs.Memory.{pieces, length_in}
-use Rattle.presence_list.specs.Steps.{round_of}
-use Rattle.presence_list.specs.declared.list.Answer.{Answer}
-use Rattle.presence_list.specs.declared.list.Answer.TheVariants.{Accepted, Refused}
+use Rattle.presence_list.specs.Steps.{Rounded, round_of}
+use Rattle.presence_list.specs.declared.list.Counts.{Counts}
 use Rattle.presence_list.specs.declared.list.Presence.{Presence}
-use Rattle.presence_list.specs.declared.list.Round.{Round}
 use Rattle.bench.specs.Lines.{feed}
 
 -- the longest line, without its line feed; room for its records, and for any answer and a line feed
@@ -109,13 +106,13 @@ said n p = record { number = n; records = p }
 
 -- `round`, the number, and the cards
 unfoldable pub said_round : Option ℕ → List (List ℕ) → Option Said
-said_round none ws = none
-said_round (some n) ws = pick (are_cards ws) (some (said n (records_of_words ws))) none
+said_round None ws = None
+said_round (Some n) ws = pick (are_cards ws) (Some (said n (records_of_words ws))) None
 
 unfoldable pub said_of : List (List ℕ) → Option Said
-said_of [] = none
-said_of (name ∷ []) = none
-said_of (name ∷ number ∷ cards) = pick (same (ascii "round") name) (said_round (number_of number) cards) none
+said_of [] = None
+said_of (name ∷ []) = None
+said_of (name ∷ number ∷ cards) = pick (same (ascii "round") name) (said_round (number_of number) cards) None
 
 -- ---- what is printed
 
@@ -141,9 +138,9 @@ refused_text e = ascii "refused " ++ decimal_of (round_numbered e).number
 abbrev pub unreadable : List ℕ
 unreadable = refused_text (AtOnce BadArgument)
 
-unfoldable pub text_of : Answer → Presence → List ℕ
-text_of (Accepted came left) l = lists_text (pieces came l.arrived) (pieces left l.departed) (pieces l.state.count l.cards)
-text_of (Refused e) l = refused_text e
+unfoldable pub text_of : Result Counts RoundRefusal → Presence → List ℕ
+text_of (Ok c) l = lists_text (pieces c.arrived l.arrived) (pieces c.departed l.departed) (pieces l.state.count l.cards)
+text_of (Err e) l = refused_text e
 
 -- ---- a line and its answer
 
@@ -155,12 +152,12 @@ pub record LineAnswer : Type 0 where
 abbrev pub line_answer : Presence → List ℕ → LineAnswer
 line_answer l t = record { list = l; text = t }
 
-abbrev pub round_answer : Round → LineAnswer
+abbrev pub round_answer : Rounded → LineAnswer
 round_answer r = line_answer r.list (text_of r.answer r.list)
 
 unfoldable pub on_said : Presence → Option Said → LineAnswer
-on_said l none = line_answer l unreadable
-on_said l (some s) = round_answer (round_of l s.number s.records)
+on_said l None = line_answer l unreadable
+on_said l (Some s) = round_answer (round_of l s.number s.records)
 
 unfoldable pub answer_of : Presence → List ℕ → LineAnswer
 answer_of l line = pick (ltb line_limit (length line)) (line_answer l unreadable) (on_said l (said_of (words_of_lem line)))

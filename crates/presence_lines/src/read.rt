@@ -1,7 +1,7 @@
 // A line taken apart: `round`, the number, and the cards.
 #![tactic(auto, using(errors::specs::Rules::picks), unfolding(errors::specs::Choice::pick, bench::specs::Hex::is_hex_of, bench::specs::WordLaws::words_behind, bench::specs::Words::words_of_lem, crate::specs::Lines::are_cards, crate::specs::Lines::before_colon, crate::specs::Lines::behind_colon, crate::specs::Lines::identified, crate::specs::Lines::is_card, crate::specs::Lines::place_among, crate::specs::Lines::record_of_word, crate::specs::Lines::record_with, crate::specs::Lines::records_of_words, crate::specs::Lines::said_of))]
 
-ghost use Rattle.std.specs.Prelude.{◌≡◌, Bool, ◌≤◌, length, drop};
+ghost use Rattle.std.specs.Prelude.{◌≡◌, Bool, ◌≤◌, ◌<◌, length, drop, MatchOption};
 ghost use Rattle.bench.specs.Hex.{is_hex_of};
 ghost use Rattle.bench.specs.Texts.{Appends};
 ghost use Rattle.bench.specs.Words.{words_of_lem};
@@ -10,9 +10,8 @@ ghost use Rattle.presence_lines.specs.Lines.{line_limit, records_room, place_amo
 ghost use Rattle.presence_lines.specs.Readings.{PutsRecord, read_in, read_bytes};
 ghost use Rattle.presence_list.specs.Names.{identifier_limit};
 
-use bench::number::Number;
-use bench::{Put, hex, number, prefix, text, words};
-use presence_list::{IDENTIFIER_LIMIT, LAST_BITRATE, LAST_CARD_KIND};
+use bench::{hex, number, prefix, text, words};
+use presence_list::IDENTIFIER_LIMIT;
 
 // How many bytes an identifier has at most that can be read, and that a record holds.
 const HEX_LIMIT: usize = 1024;
@@ -22,54 +21,39 @@ pub const HELD: usize = IDENTIFIER_LIMIT as usize;
 // The length in the record of a longer identifier.
 const OVER_LENGTH: u8 = IDENTIFIER_LIMIT + 1;
 
-// The places of the last kind and of the last bitrate among their names.
-const KIND_LIMIT: usize = LAST_CARD_KIND as usize;
+// The names of the kinds and of the bitrates, by their numbers.
+pub const KINDS: &[u8] = b"A T1 B F DEP";
 
-const BITRATE_LIMIT: usize = LAST_BITRATE as usize;
+pub const BITRATES: &[u8] = b"106A 212F 424F 106B 212B 424B 848B";
 
-// A round's number, and the bytes of its records at the start of the lent buffer.
-#[derive(Clone, Copy)]
-pub(crate) enum Read {
-    Round(u32, usize),
-    Unreadable,
+// A round's number, and how many bytes its records have at the start of the lent buffer.
+#[derive(Clone, Copy, Debug, PartialEq, Eq)]
+pub(crate) struct RoundLine {
+    pub number: u32,
+    pub len: usize,
 }
 
-#[derive(Clone, Copy)]
-pub(crate) enum Cards {
-    Bytes(usize),
-    Unreadable,
-}
-
-// The place of the word among the words of a text; how many they are where it is none of them.
-fn index_among(word: &[u8], text: &[u8]) -> usize
-    ensures { result ≡ place_among word.now (words_of_lem text.now) }
+// The place of the word among the words of a text, if it is one of them.
+fn index_among(word: &[u8], text: &[u8]) -> Option<usize>
+    ensures { MatchOption result (place_among word.now (words_of_lem text.now) ≡ length (words_of_lem text.now)) (λ i. (i ≡ place_among word.now (words_of_lem text.now)) × (i < length (words_of_lem text.now))) }
 {
-    let n = words::count(text);
-    let mut i = 0;
-    while i < n {
+    for i in 0..words::count(text) {
         if framing::is_exactly(word, words::word(text, i)) {
-            return i;
+            return Some(i);
         }
-        i += 1;
     }
-    i
+    None
 }
 
-fn before_colon(word: &[u8]) -> &[u8]
-    ensures { result.now ≡ before_colon word.now }
-{
-    let n = octets::scan::find(word, 0, word.len(), b':');
-    &word[..n]
-}
-
-fn behind_colon(word: &[u8]) -> &[u8]
-    ensures { result.now ≡ behind_colon word.now }
+// What stands before and behind the first colon of a word.
+fn at_colon(word: &[u8]) -> (&[u8], &[u8])
+    ensures { (result.0.now ≡ before_colon word.now) × (result.1.now ≡ behind_colon word.now) }
 {
     let n = octets::scan::find(word, 0, word.len(), b':');
     if n < word.len() {
-        &word[n + 1..]
+        (&word[..n], &word[n + 1..])
     } else {
-        &word[n..]
+        (word, &[])
     }
 }
 
@@ -77,12 +61,10 @@ fn behind_colon(word: &[u8]) -> &[u8]
 fn is_identifier(word: &[u8]) -> bool
     ensures { result ≡ is_identifier word.now }
 {
-    if hex::is_hex(word) {
-        return word.len() / 2 <= HEX_LIMIT;
-    }
-    false
+    hex::is_hex(word) && word.len() / 2 <= HEX_LIMIT
 }
 
+// Kept: the fields of a record, in their order.
 fn put_record(
     kind: u8,
     identifier: &[u8],
@@ -113,34 +95,29 @@ fn put_identified(kind: u8, word: &[u8], bitrate: u8, records: &mut [u8], at: us
     if HELD < n {
         return put_record(kind, prefix(0, word), OVER_LENGTH, bitrate, records, at);
     }
-    let Put::Bytes(k) = hex::read(word, &mut identifier) else {
+    let Ok(k) = hex::read(word, &mut identifier) else {
         return at;
     };
     put_record(kind, prefix(k, &identifier), n as u8, bitrate, records, at)
 }
 
-// Puts the record of a card, `KIND:HEX:BITRATE`, into the buffer from a place on.
-fn read_card(word: &[u8], records: &mut [u8], at: usize) -> Cards
+// Puts the record of a card, `KIND:HEX:BITRATE`, into the buffer from a place on, and gives the place behind it.
+fn read_card(word: &[u8], records: &mut [u8], at: usize) -> Option<usize>
     ensures { PutsRecord result (is_card word.now) at (record_of_word word.now) records.old records.new }
 {
-    let rest = behind_colon(word);
-    let kind = index_among(before_colon(word), b"A T1 B F DEP");
-    if KIND_LIMIT < kind {
-        return Cards::Unreadable;
+    let (name, rest) = at_colon(word);
+    let (identifier, rate) = at_colon(rest);
+    let kind = index_among(name, KINDS)?;
+    let bitrate = index_among(rate, BITRATES)?;
+    if !is_identifier(identifier) {
+        return None;
     }
-    let bitrate = index_among(behind_colon(rest), b"106A 212F 424F 106B 212B 424B 848B");
-    if BITRATE_LIMIT < bitrate {
-        return Cards::Unreadable;
-    }
-    let identifier = before_colon(rest);
-    if is_identifier(identifier) {
-        return Cards::Bytes(put_identified(kind as u8, identifier, bitrate as u8, records, at));
-    }
-    Cards::Unreadable
+    Some(put_identified(kind as u8, identifier, bitrate as u8, records, at))
 }
 
-// Puts the records of the cards behind a place of the line into the buffer, each behind the other.
-fn read_cards(line: &[u8], from: usize, records: &mut [u8]) -> Cards
+// Kept: each word is looked for from the end of the one before it; `words::word` would look for it from the line's start.
+// Puts the records of the cards behind a place of the line into the buffer, each behind the other, and gives the place behind them.
+fn read_cards(line: &[u8], from: usize, records: &mut [u8]) -> Option<usize>
     requires { from ≤ length line.now }
     ensures { PutsRecord result (are_cards (words_behind (drop from line.now))) 0 (records_of_words (words_behind (drop from line.now))) records.old records.new }
 {
@@ -149,34 +126,27 @@ fn read_cards(line: &[u8], from: usize, records: &mut [u8]) -> Cards
     let mut len = 0;
     while at < n {
         let end = octets::scan::find(line, at + 1, n, b' ');
-        let Cards::Bytes(next) = read_card(&line[at + 1..end], records, len) else {
-            return Cards::Unreadable;
-        };
-        len = next;
+        len = read_card(&line[at + 1..end], records, len)?;
         at = end;
     }
-    Cards::Bytes(len)
+    Some(len)
 }
 
 // The round that the line says, its records at the start of the lent buffer.
-pub(crate) fn read_line(line: &[u8], records: &mut [u8]) -> Read
+pub(crate) fn read_line(line: &[u8], records: &mut [u8]) -> Option<RoundLine>
     requires { (length line.now ≤ line_limit) × (records_room ≤ length records.old) }
     ensures { (read_in result records.new ≡ said_of (words_of_lem line.now)) × (read_bytes result ≤ records_room) }
 {
     let n = line.len();
     let end = octets::scan::find(line, 0, n, b' ');
     if n <= end {
-        return Read::Unreadable;
+        return None;
     }
     if framing::is_exactly(&line[..end], b"round") {
         let second = octets::scan::find(line, end + 1, n, b' ');
-        let Number::Value(number) = number::read(&line[end + 1..second]) else {
-            return Read::Unreadable;
-        };
-        let Cards::Bytes(len) = read_cards(line, second, records) else {
-            return Read::Unreadable;
-        };
-        return Read::Round(number, len);
+        let number = number::read(&line[end + 1..second])?;
+        let len = read_cards(line, second, records)?;
+        return Some(RoundLine { number, len });
     }
-    Read::Unreadable
+    None
 }

@@ -1,6 +1,6 @@
 -- Document 02, N9, of any list of rounds from empty, the refused ones among them: the list that the code keeps is the one worked out afresh from
 -- the accepted rounds, and each answer, with its arrivals and departures, is the one defined there.
-use Rattle.std.specs.Prelude.{◌≡◌, Bool, ℕ, ◌/◌, ◌%◌, ◌≤◌, ltb, leb, eqb, replicate}
+use Rattle.std.specs.Prelude.{◌≡◌, Bool, ℕ, ◌/◌, ◌%◌, ◌≤◌, ltb, leb, eqb, replicate, Result, Ok, Err}
 use Rattle.std.proofs.Math.Path.{refl, sym, ap, ap₂}
 use Rattle.std.proofs.Common.{◌∙◌, arith}
 use Rattle.std.proofs.Math.Bool.{true, false}
@@ -15,9 +15,6 @@ use Rattle.errors.specs.declared.RoundRefusal.{RoundRefusal}
 use Rattle.errors.specs.declared.RoundRefusal.TheVariants.{AtOnce, StaleRound, ListFull}
 use Rattle.presence_list.specs.declared.list.State.{State}
 use Rattle.presence_list.specs.declared.list.Presence.{Presence}
-use Rattle.presence_list.specs.declared.list.Round.{Round as Result}
-use Rattle.presence_list.specs.declared.list.Admission.{Admission}
-use Rattle.presence_list.specs.declared.list.Admission.TheVariants.{Admitted, Refused as NotAdmitted}
 use Rattle.presence_list.specs.Names.{record_size, card_limit, cards_size}
 use Rattle.presence_list.specs.Keyed.{supersede_all, without, only}
 use Rattle.presence_list.specs.KeyedLaws.{map-all, map-without, all-all, all_sorted}
@@ -32,7 +29,7 @@ use Rattle.presence_list.specs.Lookups.{sorted_ascending}
 use Rattle.presence_list.specs.Admissions.{range_cards_at}
 use Rattle.presence_list.specs.Afresh.{seen_last, last_found, last_present, entries-found, aged-found, aged_unseen, entries-seen, only-all, any_long, every-known, aged_range, entries_range, every-all, all-every}
 use Rattle.presence_list.specs.Presence.{Round, RoundAnswer, accepted, refused, card, any, every, readable, stale, full, listed, present_of, report_of, answer_to, accepted_with, accepted_of, round_answers}
-use Rattle.presence_list.specs.Steps.{list_in_range, stale_at, readable_in, records_of, admission_of, list_after, changed, refused_round, by_admission, accept_of, round_step, as_list, round_of, empty_list}
+use Rattle.presence_list.specs.Steps.{Rounded, list_in_range, stale_at, readable_in, records_of, admission_of, list_after, changed, refused_round, by_admission, accept_of, round_of, empty_list}
 use Rattle.presence_list.specs.Runs.{RoundInput, round_in, present_in, round_answer_in, presence_after, round_answers_in}
 use Rattle.presence_list.specs.Theorem.{Numbered, ListRepresents, RoundAgrees}
 
@@ -95,8 +92,8 @@ module _ (past : Seq Round) (l : Presence) (i : RoundInput) (rep : ListRepresent
       all-every in_range_in next
       (all-all card_in (λ e. in_range_in e ≡ true) (aged es) (kept_records fs) (aged_range es whole-es (every-all in_range_in es rep.records)) (entries_range fs whole-fs fit-fs all_known))
 
-  abbrev result : Result
-  result = as_list (changed es next i.number l.arrived l.departed)
+  abbrev result : Rounded
+  result = changed l es next i.number
 
   lies : pieces (length next) (laid next (replicate cards_size 0)) ≡ next
   lies = pieces-laid next (replicate cards_size 0) (length next) whole-next refl
@@ -153,14 +150,14 @@ readable-known b h = go (eqb (length b % record_size) 0) h
     go false h = cc
 
 module _ (past : Seq Round) (l : Presence) (i : RoundInput) (rep : ListRepresents past l) where
-  abbrev admission : Admission
+  abbrev admission : Result (Unit {0}) RoundRefusal
   admission = admission_of l.state l.cards i.number i.records
 
   whole-records : Whole (records_of i.records)
   whole-records = pieces_whole (length i.records / record_size) i.records (omega arith)
 
   -- a round that is refused leaves the list alone
-  refused-agrees : (e : RoundRefusal) (r : Result) → r ≡ as_list (refused_round l.state l.cards l.arrived l.departed e)
+  refused-agrees : (e : RoundRefusal) (r : Rounded) → r ≡ refused_round l e
       → answer_to past (round_in i) ≡ refused (round_numbered e).number → RoundAgrees past i r
   refused-agrees e r p q =
       record {
@@ -168,13 +165,13 @@ module _ (past : Seq Round) (l : Presence) (i : RoundInput) (rep : ListRepresent
         leaves = rw (q, p) rep;
       }
 
-  not-admitted : (e : RoundRefusal) → admission ≡ NotAdmitted e → round_of l i.number i.records ≡ as_list (refused_round l.state l.cards l.arrived l.departed e)
-  unfolding round_of round_step
-  not-admitted e h = ap (λ (a : Admission). as_list (by_admission a l.state l.cards l.arrived l.departed i.number i.records)) h
+  not-admitted : (e : RoundRefusal) → ◌≡◌ {A = Result (Unit {0}) RoundRefusal} admission (Err e) → round_of l i.number i.records ≡ refused_round l e
+  unfolding round_of
+  not-admitted e h = ap (λ (a : Result (Unit {0}) RoundRefusal). by_admission a l i.number (records_of i.records)) h
 
-  is-admitted : admission ≡ Admitted → round_of l i.number i.records ≡ as_list (accept_of l.state l.cards l.arrived l.departed i.number i.records)
-  unfolding round_of round_step
-  is-admitted h = ap (λ (a : Admission). as_list (by_admission a l.state l.cards l.arrived l.departed i.number i.records)) h
+  is-admitted : ◌≡◌ {A = Result (Unit {0}) RoundRefusal} admission (Ok tt) → round_of l i.number i.records ≡ accept_of l i.number (records_of i.records)
+  unfolding round_of
+  is-admitted h = ap (λ (a : Result (Unit {0}) RoundRefusal). by_admission a l i.number (records_of i.records)) h
 
   module _ (short : any long_in (records_of i.records) ≡ false) (open-to : readable_in i.records ≡ true) (fresh : stale_at l.state i.number ≡ false) where
     abbrev after : Seq (Seq ℕ)
@@ -183,7 +180,7 @@ module _ (past : Seq Round) (l : Presence) (i : RoundInput) (rep : ListRepresent
     all_known : every is_known_in (records_of i.records) ≡ true
     all_known = readable-known i.records open-to
 
-    admits : admission ≡ Admitted
+    admits : ◌≡◌ {A = Result (Unit {0}) RoundRefusal} admission (Ok tt)
     unfolding admission_of pick
     admits = rw (short, rep.range, open-to, fresh)
 
@@ -200,7 +197,7 @@ module _ (past : Seq Round) (l : Presence) (i : RoundInput) (rep : ListRepresent
         refused-agrees ListFull (round_of l i.number i.records) (is-admitted admits ∙ (rw h)) (to_room ∙ (rw (same-room, h)))
     by-room false h =
         let taken : answer_to past (round_in i) ≡ accepted (report_of past (round_in i)) = to_room ∙ (rw (same-room, h)) in
-        let r : round_of l i.number i.records ≡ as_list (changed (pieces l.state.count l.cards) after i.number l.arrived l.departed) =
+        let r : round_of l i.number i.records ≡ changed l (pieces l.state.count l.cards) after i.number =
         is-admitted admits ∙ (rw h) in
         record {
           answered = ap round_answer_in r ∙ says past l i rep short all_known ∙ sym taken;

@@ -1,22 +1,18 @@
 -- What an admitted round shows of the list and the records.
-use Rattle.std.specs.Prelude.{◌≡◌, refl, Bool, true, false, List as Seq, ℕ, ◌≤◌, leb, eqb, length}
-use Rattle.std.proofs.Common.{sym, ap, ap₂, ◌∙◌, arith}
-use borrow.Author.Tests.{leb-true, eqb-true, le-leb, eq-eqb, ne_eqb}
+use Rattle.std.specs.Prelude.{◌≡◌, refl, Bool, true, false, List as Seq, ℕ, ◌≤◌, leb, eqb, length, Result, Ok, Err}
+use Rattle.std.proofs.Common.{arith}
+use borrow.Author.Tests.{leb-true, eqb-true}
 use Rattle.errors.specs.Choice.{pick}
 use Rattle.errors.specs.declared.Refusal.TheVariants.{OverLong, OutOfTurn, BadArgument}
 use Rattle.errors.specs.declared.RoundRefusal.TheVariants.{AtOnce, StaleRound}
-use Rattle.presence_list.specs.declared.list.State.{State}
 use Rattle.errors.specs.declared.RoundRefusal.{RoundRefusal}
-use Rattle.presence_list.specs.declared.list.Answer.{Answer}
-use Rattle.presence_list.specs.declared.list.Answer.TheVariants.{Refused as Failed}
-use Rattle.presence_list.specs.declared.list.Admission.{Admission}
-use Rattle.presence_list.specs.declared.list.Admission.TheVariants.{Admitted, Refused}
+use Rattle.presence_list.specs.declared.list.State.{State}
 use Rattle.presence_list.specs.Names.{card_limit, cards_size}
 use Rattle.presence_list.specs.CardsAt.{CardsAt}
 use Rattle.presence_list.specs.Lookups.{cards_at_in_range}
 use Rattle.presence_list.specs.Memory.{pieces, long_in, in_range_in, ascending}
 use Rattle.presence_list.specs.Presence.{any, every}
-use Rattle.presence_list.specs.Steps.{after_round, by_admission, round_step, list_in_range, records_of, admission_of, readable_in, stale_at}
+use Rattle.presence_list.specs.Steps.{list_in_range, records_of, admission_of, readable_in, stale_at}
 
 -- a choice that is true has a true test, where its other way is false
 chosen : (t u : Bool) → pick t u false ≡ true → (t ≡ true) × (u ≡ true)
@@ -58,35 +54,14 @@ range_few s c h = go (eqb s.begun 0) h
     go true h = let z = eqb-true s.count 0 h in omega arith
     go false h = leb-true s.count card_limit (chosen (leb s.count card_limit) _ (chosen (eqb s.begun 1) _ h).1).0
 
-pub admitted : (s : State) (c : Seq ℕ) (n : ℕ) (b : Seq ℕ) (r : Admission) → r ≡ admission_of s c n b → r ≡ Admitted → (list_in_range s c ≡ true) × (any long_in (records_of b) ≡ false)
+pub admitted : (s : State) (c : Seq ℕ) (n : ℕ) (b : Seq ℕ) → ◌≡◌ {A = Result (Unit {0}) RoundRefusal} (Ok tt) (admission_of s c n b) → (list_in_range s c ≡ true) × (any long_in (records_of b) ≡ false)
 unfolding admission_of pick
-admitted s c n b r p q = go (any long_in (records_of b)) (list_in_range s c) refl refl (sym p ∙ q)
+admitted s c n b p = go (any long_in (records_of b)) (list_in_range s c) refl refl p
   where
     go : (t u : Bool) → any long_in (records_of b) ≡ t → list_in_range s c ≡ u
-        → pick t (Refused (AtOnce OverLong)) (pick u (pick (readable_in b) (pick (stale_at s n) (Refused StaleRound) Admitted) (Refused (AtOnce BadArgument))) (Refused (AtOnce OutOfTurn))) ≡ Admitted
+        → ◌≡◌ {A = Result (Unit {0}) RoundRefusal} (Ok tt)
+        (pick t (Err (AtOnce OverLong)) (pick u (pick (readable_in b) (pick (stale_at s n) (Err StaleRound) (Ok tt)) (Err (AtOnce BadArgument))) (Err (AtOnce OutOfTurn))))
         → (list_in_range s c ≡ true) × (any long_in (records_of b) ≡ false)
-    go true u e f h = absurd (never h)
-      where
-        never : ◌≡◌ {A = Admission} (Refused (AtOnce OverLong)) Admitted → ⊥
-        never h = let z : ◌≡◌ {A = ℕ} 0 1 = cc in omega arith
+    go true u e f h = (cc, cc)
     go false true e f h = (f, e)
-    go false false e f h = absurd (never h)
-      where
-        never : ◌≡◌ {A = Admission} (Refused (AtOnce OutOfTurn)) Admitted → ⊥
-        never h = let z : ◌≡◌ {A = ℕ} 0 1 = cc in omega arith
-
--- a refused round leaves all as it was
-pub left_as : (s : State) (c a d : Seq ℕ) (n : ℕ) (b : Seq ℕ) (t : State) (g : Answer) (r : Admission) (e : RoundRefusal)
-    → (t ≡ s) × (g ≡ Failed e) → r ≡ Refused e → r ≡ admission_of s c n b → after_round t c a d g ≡ round_step s c a d n b
-unfolding round_step
-left_as s c a d n b t g r e p q f =
-    ap₂ (λ (x : State) (y : Answer). after_round x c a d y) p.0 p.1 ∙ ap (λ (x : Admission). by_admission x s c a d n b) (sym q ∙ f)
-
-module _ (s : State) (c : Seq ℕ) where
-  pub range_ascends : (r u : Bool) → (s.begun ≡ 0 → ⊥) → s.begun ≡ 1 → s.count ≤ card_limit → u ≡ every in_range_in (pieces s.count c) → u ≡ true → r ≡ ascending (pieces s.count c) → r ≡ list_in_range s c
-  unfolding list_in_range pick
-  range_ascends r u a b l p q e = rw (ne_eqb s.begun 0 a, eq-eqb s.begun 1 b, le-leb s.count card_limit l, ← p, q) e
-
-  pub range_broken : (u : Bool) → (s.begun ≡ 0 → ⊥) → s.begun ≡ 1 → s.count ≤ card_limit → u ≡ every in_range_in (pieces s.count c) → u ≡ false → false ≡ list_in_range s c
-  unfolding list_in_range pick
-  range_broken u a b l p q = rw (ne_eqb s.begun 0 a, eq-eqb s.begun 1 b, le-leb s.count card_limit l, ← p, q)
+    go false false e f h = (cc, cc)

@@ -1,7 +1,9 @@
 -- What the functions on lists ask and promise.
-use Rattle.std.specs.Prelude.{◌≡◌, List, ℕ, ◌*◌, ◌≤◌, ◌<◌, length}
+use Rattle.std.specs.Prelude.{◌≡◌, true, false, List, ℕ, ◌*◌, ◌≤◌, ◌<◌, length, Result, Ok, Err}
+use Rattle.errors.specs.declared.RoundRefusal.{RoundRefusal}
+use Rattle.errors.specs.declared.RoundRefusal.TheVariants.{ListFull}
 use Rattle.presence_list.specs.Names.{record_size, identifier_limit, card_limit}
-use Rattle.presence_list.specs.Keyed.{All, Sorted}
+use Rattle.presence_list.specs.Keyed.{All, Sorted, place, has}
 use Rattle.presence_list.specs.Memory.{pieces, laid, card_in, length_in}
 
 -- identifiers within the limit
@@ -14,7 +16,12 @@ pub record CardsAt (count : ℕ) (b : List ℕ) : Type 0 where
   pub fit : Fit (pieces count b)
   pub sorted : Sorted card_in (pieces count b)
 
+-- a card's place, and whether it is there
+abbrev pub Searched : Result ℕ ℕ → List ℕ → List (List ℕ) → Type 0
+Searched (Ok i) c es = (i ≡ place card_in c es) × (has card_in c es ≡ true)
+Searched (Err i) c es = (i ≡ place card_in c es) × (has card_in c es ≡ false)
+
 -- a memory with a list put at its start, of so many cards; or their number passes the limit
-pub record PutAll (r : ℕ) (es : List (List ℕ)) (b b' : List ℕ) : Type 0 where
-  pub put : r ≤ card_limit → (r ≡ length es) × (b' ≡ laid es b)
-  pub over : card_limit < r → card_limit < length es
+abbrev pub PutAll : Result ℕ RoundRefusal → List (List ℕ) → List ℕ → List ℕ → Type 0
+PutAll (Ok n) es b b' = (n ≡ length es) × (n ≤ card_limit) × (b' ≡ laid es b)
+PutAll (Err e) es b b' = (e ≡ ListFull) × (card_limit < length es)

@@ -1,6 +1,6 @@
 -- A record as the list keeps it: its card, its fields, its length.
 use Rattle.std.specs.Prelude.{◌≡◌}
-use Rattle.std.proofs.Common.{sym, ◌∙◌, take_all, length-take-le}
+use Rattle.std.proofs.Common.{sym, ◌∙◌, length-take, length-take-le}
 use Rattle.std.proofs.Math.Path.{ap}
 use mathlib.Core.List.{List, [], ◌∷◌, ◌++◌}
 use Prim.Native.Nat.{ℕ, suc, ◌+◌, ◌-◌, ◌≤◌}
@@ -15,8 +15,8 @@ use Rattle.presence_list.specs.CardsAt.{Fit}
 pub length-card : (e : List ℕ) → length e ≡ record_size → length_in e ≤ identifier_limit → length (card_in e) ≡ suc (length_in e)
 length-card e n h = ap length (card-take e (omega arith)) ∙ length-take-le (suc (length_in e)) e (omega arith)
 
-pub whole_record : (f : List ℕ) → length f ≡ record_size → take record_size (drop 0 f) ≡ f
-whole_record f n = take_all record_size f (omega arith)
+pub card_short : (e : List ℕ) → length e ≡ record_size → length (card_in e) ≤ record_size
+card_short e n = let l = length-take (suc (length_in e)) e in let c = ap length (card-take e (omega arith)) in omega arith
 
 module _ (f : List ℕ) (n : length f ≡ record_size) (h : length_in f ≤ identifier_limit) where
   start : List ℕ
@@ -67,13 +67,12 @@ module _ (f : List ℕ) (n : length f ≡ record_size) (h : length_in f ≤ iden
       ∙ take-set-le (suc (length_in f)) start length_offset (length_in f) (omega arith)
       ∙ take_at (card_in f) (drop (length (card_in f)) (replicate record_size 0)) (suc (length_in f)) (length-card f n h)
 
-  pub entry_made : (part e : List ℕ) → part ≡ card_in (take record_size (drop 0 f)) → e ≡ take (length part) part ++ drop (length part) (replicate record_size 0)
-      → set (set e length_offset (get_or f length_offset 0)) bitrate_offset (get_or f bitrate_offset 0) ≡ kept_record f
-  unfolding kept_record start
-  entry_made part e p q =
-      let same : part ≡ card_in f = p ∙ ap card_in (whole_record f n) in
-      ap (λ (x : List ℕ). set (set x length_offset (get_or f length_offset 0)) bitrate_offset (get_or f bitrate_offset 0))
-      (q ∙ ap (λ (x : List ℕ). x ++ drop (length part) (replicate record_size 0)) (take-length part) ∙ ap (λ (x : List ℕ). x ++ drop (length x) (replicate record_size 0)) same)
+pub entry_made : (f part e : List ℕ) → part ≡ card_in f → e ≡ take (length part) part ++ drop (length part) (replicate record_size 0)
+    → set (set e length_offset (get_or f length_offset 0)) bitrate_offset (get_or f bitrate_offset 0) ≡ kept_record f
+unfolding kept_record
+entry_made f part e p q =
+    ap (λ (x : List ℕ). set (set x length_offset (get_or f length_offset 0)) bitrate_offset (get_or f bitrate_offset 0))
+    (q ∙ ap (λ (x : List ℕ). x ++ drop (length part) (replicate record_size 0)) (take-length part) ∙ ap (λ (x : List ℕ). x ++ drop (length x) (replicate record_size 0)) p)
 
 pub entries_whole : (fs : List (List ℕ)) → Whole fs → Fit fs → Whole (kept_records fs)
 unfolding kept_records

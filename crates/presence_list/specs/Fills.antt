@@ -1,5 +1,5 @@
 -- All records of a round put into a list that lies in memory, one after the other.
-use Rattle.std.specs.Prelude.{◌≡◌, refl, Bool, true, false, ℕ, zero, suc, ◌+◌, ◌*◌, ◌-◌, ◌≤◌, ◌<◌, drop, get_or}
+use Rattle.std.specs.Prelude.{◌≡◌, refl, Bool, true, false, ℕ, zero, suc, ◌+◌, ◌≤◌, ◌<◌, drop, get_or, Ok, Err}
 use Rattle.std.proofs.Math.Path.{sym, ap}
 use Rattle.std.proofs.Common.{ap₂, ◌∙◌, take-append-drop, ltb-false}
 use mathlib.Core.List.{List, [], ◌∷◌, ◌++◌}
@@ -7,16 +7,16 @@ use native.Mathlib.Omega.{arith}
 use Rattle.std.proofs.Math.ListN.{length, take}
 use Rattle.std.proofs.Math.Seq.{take_all}
 use Rattle.errors.specs.Choice.{pick}
+use Rattle.errors.specs.declared.RoundRefusal.{RoundRefusal}
 use Rattle.presence_list.specs.Names.{record_size, identifier_limit, card_limit, cards_size}
 use Rattle.presence_list.specs.Keyed.{All, supersede, supersede_all, Sorted}
 use Rattle.presence_list.specs.KeyedLaws.{all_sorted, all_grows, all-all, all_append, supersede_grows}
 use Rattle.presence_list.specs.CardsAt.{Fit, CardsAt, PutAll}
 use Rattle.presence_list.specs.Memory.{pieces, laid, Whole, card_in, length_in, long_in, kept_record, kept_records}
-use Rattle.presence_list.specs.MemoryLaws.{piece_at, length-pieces, pieces_whole, pieces-laid, length-laid, laid_again, laid-pieces}
+use Rattle.presence_list.specs.MemoryLaws.{length-pieces, pieces_whole, pieces-laid, length-laid, laid_again, laid-pieces}
 use Rattle.presence_list.specs.EntryLaws.{entry_length, entries_whole}
 use Rattle.presence_list.specs.Growth.{take_whole}
 use Rattle.presence_list.specs.Presence.{any}
-use Rattle.presence_list.specs.Puts.{record_part}
 use Rattle.presence_list.specs.Turns.{any_at, take_more}
 
 pub not_long : (rs : List (List ℕ)) → any long_in rs ≡ false → Fit rs
@@ -47,53 +47,44 @@ entries_fit [] w f = tt
 entries_fit (r ∷ rs) w f = (rw (entry_length r w.0 f.0) f.0, entries_fit rs w.1 f.1)
 
 -- the list after i records
-pub filled : List ℕ → ℕ → List ℕ → ℕ → ℕ → List (List ℕ)
-filled b count records size i = supersede_all card_in (pieces count b) (kept_records (take i (pieces size records)))
+pub filled : List ℕ → ℕ → List (List ℕ) → ℕ → List (List ℕ)
+filled b count rs i = supersede_all card_in (pieces count b) (kept_records (take i rs))
 
-abbrev pub FilledSoFar : List ℕ → ℕ → List ℕ → ℕ → ℕ → ℕ → List ℕ → Type 0
-FilledSoFar b count records size i n cards =
-    (i ≤ size) × (n ≤ card_limit) × (n ≡ length (filled b count records size i)) × (cards ≡ laid (filled b count records size i) b) × (length cards ≡ length b)
+abbrev pub FilledSoFar : List ℕ → ℕ → List (List ℕ) → ℕ → ℕ → List ℕ → Type 0
+FilledSoFar b count rs i n cards =
+    (i ≤ length rs) × (n ≤ card_limit) × (n ≡ length (filled b count rs i)) × (cards ≡ laid (filled b count rs i) b) × (length cards ≡ length b)
 
-module _ (b : List ℕ) (count : ℕ) (records : List ℕ) (size : ℕ) (cards-at : CardsAt count b) (few : count ≤ card_limit) (room : cards_size ≤ length b) (all : record_size * size ≤ length records)
-    (short : any long_in (pieces size records) ≡ false) where
-  rs : List (List ℕ)
-  rs = pieces size records
-
-  whole-rs : Whole rs
-  unfolding rs
-  whole-rs = pieces_whole size records all
-
+module _ (b : List ℕ) (count : ℕ) (rs : List (List ℕ)) (cards-at : CardsAt count b) (few : count ≤ card_limit) (room : cards_size ≤ length b) (whole-rs : Whole rs)
+    (short : any long_in rs ≡ false) where
   fit-rs : Fit rs
-  unfolding rs
-  fit-rs = not_long (pieces size records) short
+  fit-rs = not_long rs short
 
-  whole-filled : (i : ℕ) → Whole (filled b count records size i)
-  unfolding filled rs
+  whole-filled : (i : ℕ) → Whole (filled b count rs i)
+  unfolding filled
   whole-filled i =
       all-all card_in (λ e. length e ≡ record_size) (pieces count b) (kept_records (take i rs)) (pieces_whole count b cards-at.room)
       (entries_whole (take i rs) (take_whole i rs whole-rs) (take-all_of (λ e. length_in e ≤ identifier_limit) i rs fit-rs))
 
-  fit-filled : (i : ℕ) → Fit (filled b count records size i)
-  unfolding filled rs
+  fit-filled : (i : ℕ) → Fit (filled b count rs i)
+  unfolding filled
   fit-filled i =
       all-all card_in (λ e. length_in e ≤ identifier_limit) (pieces count b) (kept_records (take i rs)) cards-at.fit
       (entries_fit (take i rs) (take_whole i rs whole-rs) (take-all_of (λ e. length_in e ≤ identifier_limit) i rs fit-rs))
 
-  sorted-filled : (i : ℕ) → Sorted card_in (filled b count records size i)
-  unfolding filled rs
+  sorted-filled : (i : ℕ) → Sorted card_in (filled b count rs i)
+  unfolding filled
   sorted-filled i = all_sorted card_in (pieces count b) (kept_records (take i rs)) cards-at.sorted
 
-  next : (i : ℕ) → i < size → filled b count records size (i + 1) ≡ supersede card_in (kept_record (take record_size (drop (record_size * i) records))) (filled b count records size i)
-  unfolding filled rs supersede_all kept_records
+  next : (i : ℕ) → i < length rs → filled b count rs (i + 1) ≡ supersede card_in (kept_record (get_or rs i [])) (filled b count rs i)
+  unfolding filled supersede_all kept_records
   next i h =
-      ap (λ (l : List (List ℕ)). supersede_all card_in (pieces count b) (kept_records l))
-      (take_more rs i [] (let s = length-pieces size records in omega arith) ∙ ap (λ (x : List ℕ). take i rs ++ x ∷ []) (piece_at size i records h))
-      ∙ ap (supersede_all card_in (pieces count b)) (entries-append (take i rs) (take record_size (drop (record_size * i) records) ∷ []))
-      ∙ all_append card_in (pieces count b) (kept_records (take i rs)) (kept_record (take record_size (drop (record_size * i) records)) ∷ [])
+      ap (λ (l : List (List ℕ)). supersede_all card_in (pieces count b) (kept_records l)) (take_more rs i [] h)
+      ∙ ap (supersede_all card_in (pieces count b)) (entries-append (take i rs) (get_or rs i [] ∷ []))
+      ∙ all_append card_in (pieces count b) (kept_records (take i rs)) (kept_record (get_or rs i []) ∷ [])
 
   -- what is put so far is part of what is put at last
-  grows : (i : ℕ) → length (filled b count records size i) ≤ length (supersede_all card_in (pieces count b) (kept_records (pieces size records)))
-  unfolding filled rs
+  grows : (i : ℕ) → length (filled b count rs i) ≤ length (supersede_all card_in (pieces count b) (kept_records rs))
+  unfolding filled
   grows i =
       let parts : supersede_all card_in (pieces count b) (kept_records rs) ≡ supersede_all card_in (supersede_all card_in (pieces count b) (kept_records (take i rs))) (kept_records (drop i rs)) =
       ap (λ (l : List (List ℕ)). supersede_all card_in (pieces count b) (kept_records l)) (sym (take-append-drop i rs))
@@ -103,62 +94,51 @@ module _ (b : List ℕ) (count : ℕ) (records : List ℕ) (size : ℕ) (cards-a
       let e = ap length parts in
       omega arith
 
-  pub filled_none : FilledSoFar b count records size 0 count b
+  pub filled_none : FilledSoFar b count rs 0 count b
   unfolding filled supersede_all kept_records
   filled_none = (omega arith, few, sym (length-pieces count b), sym (laid-pieces count b), refl)
 
-  module _ (i n : ℕ) (cards : List ℕ) (inv : FilledSoFar b count records size i n cards) where
-    so_far : pieces n cards ≡ filled b count records size i
-    so_far = ap (pieces n) inv.3 ∙ pieces-laid (filled b count records size i) b n (whole-filled i) inv.2
+  module _ (i n : ℕ) (cards : List ℕ) (inv : FilledSoFar b count rs i n cards) where
+    so_far : pieces n cards ≡ filled b count rs i
+    so_far = ap (pieces n) inv.3 ∙ pieces-laid (filled b count rs i) b n (whole-filled i) inv.2
 
     pub filled_cards_at : CardsAt n cards
     filled_cards_at =
         record
         { room = let a = inv.1 in let z = inv.4 in omega arith; fit = rw so_far (fit-filled i); sorted = rw so_far (sorted-filled i) }
 
-    pub filled_fit : i < size → length_in (take (record_size * i + record_size - record_size * i) (drop (record_size * i) records)) ≤ identifier_limit
-    unfolding rs
-    filled_fit h =
-        rw (record_part records (record_size * i))
-        (rw (piece_at size i records h) at (ltb-false identifier_limit (length_in (get_or rs i [])) (any_at long_in rs i [] short (let s = length-pieces size records in omega arith))))
+    module _ (part : List ℕ) (h : i < length rs) (p : part ≡ get_or rs i []) where
+      pub filled_fit : length_in part ≤ identifier_limit
+      filled_fit = rw p (ltb-false identifier_limit (length_in (get_or rs i [])) (any_at long_in rs i [] short h))
 
-    module _ (part : List ℕ) (r : ℕ) (cards₁ : List ℕ) (h : i < size) (p : part ≡ take (record_size * i + record_size - record_size * i) (drop (record_size * i) records))
-        (q : (r ≡ length (supersede card_in (kept_record part) (pieces n cards))) × (r ≤ card_limit → cards₁ ≡ laid (supersede card_in (kept_record part) (pieces n cards)) cards)) where
-      step : supersede card_in (kept_record part) (pieces n cards) ≡ filled b count records size (i + 1)
-      step = ap₂ (λ (x : List ℕ) (l : List (List ℕ)). supersede card_in (kept_record x) l) (p ∙ record_part records (record_size * i)) so_far ∙ sym (next i h)
+      step : supersede card_in (kept_record part) (pieces n cards) ≡ filled b count rs (i + 1)
+      step = ap₂ (λ (x : List ℕ) (l : List (List ℕ)). supersede card_in (kept_record x) l) p so_far ∙ sym (next i h)
 
-      longer : length (filled b count records size i) ≤ length (filled b count records size (i + 1))
-      longer = let g = (supersede_grows card_in (kept_record (take record_size (drop (record_size * i) records))) (filled b count records size i)).0 in let e = ap length (next i h) in omega arith
+      longer : length (filled b count rs i) ≤ length (filled b count rs (i + 1))
+      longer = let g = (supersede_grows card_in (kept_record (get_or rs i [])) (filled b count rs i)).0 in let e = ap length (next i h) in omega arith
 
-      pub filled_more : r ≤ card_limit → FilledSoFar b count records size (i + 1) r cards₁
-      filled_more small =
-          let lies : cards₁ ≡ laid (filled b count records size (i + 1)) b =
-          q.1 small
+      pub filled_more : (r : ℕ) (cards₁ : List ℕ) → PutAll (Ok r) (supersede card_in (kept_record part) (pieces n cards)) cards cards₁ → FilledSoFar b count rs (i + 1) r cards₁
+      filled_more r cards₁ q =
+          let lies : cards₁ ≡ laid (filled b count rs (i + 1)) b =
+          q.2
           ∙ ap₂ laid step inv.3
-          ∙ laid_again (filled b count records size i) (filled b count records size (i + 1)) b (whole-filled i) longer in
-          let sized : r ≡ length (filled b count records size (i + 1)) = q.0 ∙ ap length step in (
+          ∙ laid_again (filled b count rs i) (filled b count rs (i + 1)) b (whole-filled i) longer in
+          let sized : r ≡ length (filled b count rs (i + 1)) = q.0 ∙ ap length step in
+          let small = q.1 in (
             omega arith,
             small,
             sized,
             lies,
-            ap length lies ∙ length-laid (filled b count records size (i + 1)) b (whole-filled (i + 1)) (omega arith),
+            ap length lies ∙ length-laid (filled b count rs (i + 1)) b (whole-filled (i + 1)) (omega arith),
           )
 
-      pub filled_over : card_limit < r → PutAll r (supersede_all card_in (pieces count b) (kept_records (pieces size records))) b cards₁
-      filled_over large =
-          record {
-            put = λ z. absurd (omega arith);
-            over = λ z. (let g = grows (i + 1) in let e = q.0 ∙ ap length step in omega arith);
-          }
+      pub filled_over : (r : RoundRefusal) (cards₁ : List ℕ) → PutAll (Err r) (supersede card_in (kept_record part) (pieces n cards)) cards cards₁
+          → PutAll (Err r) (supersede_all card_in (pieces count b) (kept_records rs)) b cards₁
+      filled_over r cards₁ q = (q.0, let g = grows (i + 1) in let e = ap length step in let o = q.1 in omega arith)
 
-    pub filled_all : size ≤ i → PutAll n (supersede_all card_in (pieces count b) (kept_records (pieces size records))) b cards
+    pub filled_all : length rs ≤ i → PutAll (Ok n) (supersede_all card_in (pieces count b) (kept_records rs)) b cards
     unfolding filled
     filled_all h =
-        let full : take i (pieces size records) ≡ pieces size records = take_all i (pieces size records) (let s = length-pieces size records in omega arith) in
-        let same : filled b count records size i ≡ supersede_all card_in (pieces count b) (kept_records (pieces size records)) =
-        ap (λ (l : List (List ℕ)). supersede_all card_in (pieces count b) (kept_records l)) full in
-        let small = inv.1 in
-        record {
-          put = λ z. (inv.2 ∙ ap length same, inv.3 ∙ ap (λ (l : List (List ℕ)). laid l b) same);
-          over = λ z. absurd (omega arith);
-        }
+        let same : filled b count rs i ≡ supersede_all card_in (pieces count b) (kept_records rs) =
+        ap (λ (l : List (List ℕ)). supersede_all card_in (pieces count b) (kept_records l)) (take_all i rs h) in
+        (inv.2 ∙ ap length same, inv.1, inv.3 ∙ ap (λ (l : List (List ℕ)). laid l b) same)

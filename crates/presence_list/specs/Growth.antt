@@ -7,15 +7,13 @@ use mathlib.Core.List.{List, [], ◌∷◌, ◌++◌, append_assoc, append-nil}
 use Prim.Native.Nat.{ℕ, zero, suc, ◌+◌, ◌*◌, ◌≤◌, ◌<◌}
 use native.Mathlib.Omega.{arith}
 use Rattle.std.proofs.Math.ListN.{length, set}
-use Rattle.std.proofs.lemmas.List.{set-append_left}
 use borrow.Author.Tests.{eq-eqb, ne_eqb}
 use Rattle.errors.specs.Choice.{pick}
 use Rattle.presence_list.specs.Names.{record_size, missed_offset}
 use Rattle.presence_list.specs.Keyed.{has, without}
-use Rattle.presence_list.specs.Memory.{pieces, concatenated, laid, put_behind, Whole, missed_in, card_in, aged}
-use Rattle.presence_list.specs.MemoryLaws.{piece_at, length-pieces, pieces_whole, length-joined, joined-append, laid-behind, length-laid}
+use Rattle.presence_list.specs.Memory.{concatenated, laid, put_behind, Whole, missed_in, card_in, aged}
+use Rattle.presence_list.specs.MemoryLaws.{length-joined, joined-append, laid-behind, length-laid}
 use Rattle.presence_list.specs.Turns.{take_more}
-use Rattle.presence_list.specs.Checks.{byte_in_lem}
 
 pub added-laid : (es fs : List (List ℕ)) (b : List ℕ) (n : ℕ) → Whole es → n ≡ length es → put_behind n fs (laid es b) ≡ laid (es ++ fs) b
 unfolding put_behind laid
@@ -40,28 +38,6 @@ added-one n e b h =
     let next : record_size * n + length e ≡ record_size * (n + 1) = omega arith in
     ap₂ (λ (x : List ℕ) (k : ℕ). take (record_size * n) b ++ (x ++ drop k b)) (sym (append-nil e)) next
 
--- a byte of the one that was put
-set-behind : (xs ys : List ℕ) (i a : ℕ) → set (xs ++ ys) (length xs + i) a ≡ xs ++ set ys i a
-set-behind [] ys i a = ap (λ (k : ℕ). set ys k a) (none i)
-  where
-    none : (n : ℕ) → 0 + n ≡ n
-    none n = omega arith
-set-behind (x ∷ xs) ys i a = ap (λ (k : ℕ). set (x ∷ (xs ++ ys)) k a) (one (length xs) i) ∙ ap (λ (l : List ℕ). x ∷ l) (set-behind xs ys i a)
-  where
-    one : (m n : ℕ) → suc m + n ≡ suc (m + n)
-    one m n = omega arith
-
-pub added-set : (n k a : ℕ) (e b : List ℕ) → record_size * n ≤ length b → length e ≡ record_size → k < record_size
-    → set (take (record_size * n) b ++ (e ++ drop (record_size * n + length e) b)) (record_size * n + k) a ≡ put_behind n (set e k a ∷ []) b
-added-set n k a e b room h l =
-    let t : length (take (record_size * n) b) ≡ record_size * n = length-take-le (record_size * n) b room in
-    let d : List ℕ = drop (record_size * n + length e) b in
-    ap (λ (i : ℕ). set (take (record_size * n) b ++ (e ++ d)) (i + k) a) (sym t)
-    ∙ set-behind (take (record_size * n) b) (e ++ d) k a
-    ∙ ap (λ (x : List ℕ). take (record_size * n) b ++ x) (set-append_left e d k a (omega arith))
-    ∙ ap (λ (i : ℕ). take (record_size * n) b ++ (set e k a ++ drop (record_size * n + i) b)) (sym (length-set e k a))
-    ∙ added-one n (set e k a) b (length-set e k a ∙ h)
-
 -- a list of records that is made record by record
 pub record Growing (f : List (List ℕ) → List (List ℕ)) : Type 0 where
   pub none : f [] ≡ []
@@ -75,43 +51,39 @@ take_whole (suc n) [] w = tt
 take_whole (suc n) (e ∷ es) w = (w.0, take_whole n es w.1)
 
 -- what the memory holds of it after i records
-abbrev pub Grown : (List (List ℕ) → List (List ℕ)) → List ℕ → ℕ → ℕ → ℕ → List ℕ → List ℕ → Type 0
-Grown f b count i n out₀ out =
-    (i ≤ count) × (n ≤ i) × (n ≡ length (f (take i (pieces count b)))) × (out ≡ laid (f (take i (pieces count b))) out₀) × (length out ≡ length out₀)
+abbrev pub Grown : (List (List ℕ) → List (List ℕ)) → List (List ℕ) → ℕ → ℕ → List ℕ → List ℕ → Type 0
+Grown f es i n out₀ out = (i ≤ length es) × (n ≤ i) × (n ≡ length (f (take i es))) × (out ≡ laid (f (take i es)) out₀) × (length out ≡ length out₀)
 
-module _ (f : List (List ℕ) → List (List ℕ)) (g : Growing f) (b : List ℕ) (count : ℕ) (out₀ : List ℕ) (room : record_size * count ≤ length b) (out-room : record_size * count ≤ length out₀) where
-  pub grown_none : Grown f b count 0 0 out₀ out₀
+module _ (f : List (List ℕ) → List (List ℕ)) (g : Growing f) (es : List (List ℕ)) (out₀ : List ℕ) (whole : Whole es) (out-room : record_size * length es ≤ length out₀) where
+  pub grown_none : Grown f es 0 0 out₀ out₀
   unfolding laid concatenated
   grown_none = (omega arith, omega arith, ap length (sym g.none), ap (λ (l : List (List ℕ)). laid l out₀) (sym g.none), refl)
 
-  pub grown_more : (i n r : ℕ) (out out₁ e : List ℕ) → Grown f b count i n out₀ out → i < count → e ≡ take record_size (drop (record_size * i) b)
-      → r ≡ n + length (f (e ∷ [])) → out₁ ≡ put_behind n (f (e ∷ [])) out → Grown f b count (i + 1) r out₀ out₁
+  pub grown_more : (i n r : ℕ) (out out₁ e : List ℕ) → Grown f es i n out₀ out → i < length es → e ≡ get_or es i []
+      → r ≡ n + length (f (e ∷ [])) → out₁ ≡ put_behind n (f (e ∷ [])) out → Grown f es (i + 1) r out₀ out₁
   grown_more i n r out out₁ e inv h p q s =
-      let all : List (List ℕ) = pieces count b in
-      let size : length all ≡ count = length-pieces count b in
-      let whole-all : Whole all = pieces_whole count b room in
-      let now : List (List ℕ) = f (take i all) in
-      let next : f (take (i + 1) all) ≡ now ++ f (e ∷ []) =
-      ap f (take_more all i [] (omega arith) ∙ ap (λ (x : List ℕ). take i all ++ x ∷ []) (piece_at count i b h ∙ sym p)) ∙ g.more (take i all) (e ∷ []) in
-      let w : Whole now = g.whole (take i all) (take_whole i all whole-all) in
-      let lays : out₁ ≡ laid (f (take (i + 1) all)) out₀ =
+      let now : List (List ℕ) = f (take i es) in
+      let next : f (take (i + 1) es) ≡ now ++ f (e ∷ []) =
+      ap f (take_more es i [] h ∙ ap (λ (x : List ℕ). take i es ++ x ∷ []) (sym p)) ∙ g.more (take i es) (e ∷ []) in
+      let w : Whole now = g.whole (take i es) (take_whole i es whole) in
+      let lays : out₁ ≡ laid (f (take (i + 1) es)) out₀ =
       s
       ∙ ap (put_behind n (f (e ∷ []))) inv.3
       ∙ added-laid now (f (e ∷ [])) out₀ n w inv.2
       ∙ ap (λ (l : List (List ℕ)). laid l out₀) (sym next) in
-      let counts : r ≡ length (f (take (i + 1) all)) =
+      let counts : r ≡ length (f (take (i + 1) es)) =
       let a = length-append now (f (e ∷ [])) in let m = ap length next in let k = inv.2 in omega arith in
-      let few : length (f (take (i + 1) all)) ≤ i + 1 = let a = g.short (take (i + 1) all) in let t = length-take-le (i + 1) all (omega arith) in omega arith in (
+      let few : length (f (take (i + 1) es)) ≤ i + 1 = let a = g.short (take (i + 1) es) in let t = length-take-le (i + 1) es (omega arith) in omega arith in (
         omega arith,
         omega arith,
         counts,
         lays,
-        ap length lays ∙ length-laid (f (take (i + 1) all)) out₀ (g.whole (take (i + 1) all) (take_whole (i + 1) all whole-all)) (omega arith),
+        ap length lays ∙ length-laid (f (take (i + 1) es)) out₀ (g.whole (take (i + 1) es) (take_whole (i + 1) es whole)) (omega arith),
       )
 
-  pub grown_all : (i n : ℕ) (out : List ℕ) → Grown f b count i n out₀ out → count ≤ i → (n ≡ length (f (pieces count b))) × (out ≡ laid (f (pieces count b)) out₀)
+  pub grown_all : (i n : ℕ) (out : List ℕ) → Grown f es i n out₀ out → length es ≤ i → (n ≡ length (f es)) × (out ≡ laid (f es) out₀)
   grown_all i n out inv h =
-      let full : take i (pieces count b) ≡ pieces count b = take_all i (pieces count b) (let s = length-pieces count b in omega arith) in
+      let full : take i es ≡ es = take_all i es h in
       (inv.2 ∙ ap (λ (l : List (List ℕ)). length (f l)) full, inv.3 ∙ ap (λ (l : List (List ℕ)). laid (f l) out₀) full)
 
 module _ where
@@ -146,13 +118,13 @@ module _ where
   unfolding aged
   aged_grows = record { none = refl; more = aged-more; whole = aged_whole; short = aged_short }
 
-  pub aged_out : (b : List ℕ) (at : ℕ) → (get_or b (at + missed_offset) 0 ≡ 0 → ⊥) → aged (take record_size (drop at b) ∷ []) ≡ []
+  pub aged_out : (e : List ℕ) → (missed_in e ≡ 0 → ⊥) → aged (e ∷ []) ≡ []
   unfolding aged pick
-  aged_out b at h = rw (byte_in_lem b at missed_offset (omega arith), ne_eqb (get_or b (at + missed_offset) 0) 0 h)
+  aged_out e h = rw (ne_eqb (missed_in e) 0 h)
 
-  pub aged_stays : (b : List ℕ) (at : ℕ) → get_or b (at + missed_offset) 0 ≡ 0 → aged (take record_size (drop at b) ∷ []) ≡ set (take record_size (drop at b)) missed_offset 1 ∷ []
+  pub aged_stays : (e : List ℕ) → missed_in e ≡ 0 → aged (e ∷ []) ≡ set e missed_offset 1 ∷ []
   unfolding aged pick
-  aged_stays b at h = rw (byte_in_lem b at missed_offset (omega arith), eq-eqb (get_or b (at + missed_offset) 0) 0 h)
+  aged_stays e h = rw (eq-eqb (missed_in e) 0 h)
 
 module _ (other : List (List ℕ)) where
   without_more : (xs ys : List (List ℕ)) → without card_in other (xs ++ ys) ≡ without card_in other xs ++ without card_in other ys
@@ -187,10 +159,10 @@ module _ (other : List (List ℕ)) where
   unfolding without
   without_grows = record { none = refl; more = without_more; whole = without_whole; short = without_short }
 
-  pub without-known : (e c : List ℕ) (r : Bool) → c ≡ card_in e → r ≡ has card_in c other → r ≡ true → without card_in other (e ∷ []) ≡ []
+  pub without-known : (e : List ℕ) → has card_in (card_in e) other ≡ true → without card_in other (e ∷ []) ≡ []
   unfolding without pick
-  without-known e c r p q t = rw (← p, ← q, t)
+  without-known e t = rw t
 
-  pub without_new : (e c : List ℕ) (r : Bool) → c ≡ card_in e → r ≡ has card_in c other → r ≡ false → without card_in other (e ∷ []) ≡ e ∷ []
+  pub without_new : (e : List ℕ) → has card_in (card_in e) other ≡ false → without card_in other (e ∷ []) ≡ e ∷ []
   unfolding without pick
-  without_new e c r p q t = rw (← p, ← q, t)
+  without_new e t = rw t

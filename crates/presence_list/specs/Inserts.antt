@@ -1,6 +1,8 @@
 -- A record put between those of a list in memory, or in the place of one of them.
 use Rattle.std.specs.Prelude.{◌≡◌, ℕ, suc, ◌+◌, ◌*◌, ◌-◌, ◌≤◌, ◌<◌, length}
-use Rattle.std.proofs.Common.{sym, ◌∙◌, arith, length-append, take-append-drop, drop-drop}
+use Rattle.std.proofs.Common.{sym, ◌∙◌, arith, length-append, length-take-le, take-append-drop, take-take, drop_at, drop-drop}
+use Rattle.std.proofs.lemmas.List.{take-append-le}
+use Rattle.std.specs.List.{copy_within}
 use Rattle.std.proofs.Math.Path.{ap, ap₂}
 use mathlib.Core.List.{List, ◌∷◌, ◌++◌, append_assoc}
 use Rattle.std.proofs.Math.ListN.{take, drop}
@@ -24,22 +26,44 @@ module _ (b e : List ℕ) (p m : ℕ) where
       ∙ append_assoc (take (record_size * p) b) (e ++ take (record_size * m) r) (drop (record_size * (p + m + 1)) b)
       ∙ ap (λ (x : List ℕ). take (record_size * p) b ++ x) (append_assoc e (take (record_size * m) r) (drop (record_size * (p + m + 1)) b))
 
-pub inserted : (b e b₁ b₂ : List ℕ) (count p : ℕ) → p ≤ count → length e ≡ record_size
-    → (take (record_size * p) b₁ ≡ take (record_size * p) b) × (drop (record_size * p + record_size) b₁ ≡ take (record_size * count - record_size * p) (drop (record_size * p) b) ++ drop (record_size * count + record_size) b)
-    → b₂ ≡ take (record_size * p) b₁ ++ (e ++ drop (record_size * p + length e) b₁) → b₂ ≡ laid (take p (pieces count b) ++ e ∷ drop p (pieces count b)) b
-inserted b e b₁ b₂ count p h n s q =
-    let m : ℕ = count - p in
-    let all : count ≡ p + m = omega arith in
-    let apart : record_size * count - record_size * p ≡ record_size * m = omega arith in
-    let end : record_size * count + record_size ≡ record_size * (p + m + 1) = omega arith in
-    let wide : record_size * p + length e ≡ record_size * p + record_size = omega arith in
-    q
-    ∙ ap₂ (λ (x y : List ℕ). x ++ (e ++ y)) s.0
-    (ap (λ (k : ℕ). drop k b₁) wide ∙ s.1 ∙ ap₂ (λ (i j : ℕ). take i (drop (record_size * p) b) ++ drop j b) apart end)
-    ∙ sym (behind b e p m (drop (record_size * p) b))
-    ∙ ap (λ (l : List (List ℕ)). laid l b)
-    (ap₂ (λ (x y : List (List ℕ)). x ++ e ∷ y) (sym (take-pieces p m b)) (sym (drop-pieces p m b))
-    ∙ ap (λ (k : ℕ). take p (pieces k b) ++ e ∷ drop p (pieces k b)) (sym all))
+-- the records from a place on moved up by one
+module _ (b b₁ : List ℕ) (count p : ℕ) (h : p ≤ count) (room : record_size * count + record_size ≤ length b)
+    (e : b₁ ≡ copy_within b (record_size * p) (record_size * count) (record_size * p + record_size)) where
+  abbrev at : ℕ
+  at = record_size * p
+
+  front : length (take (at + record_size) b) ≡ at + record_size
+  front = length-take-le (at + record_size) b (omega arith)
+
+  cut : b₁ ≡ take (at + record_size) b ++ (take (record_size * count - at) (drop at b) ++ drop (at + record_size + (record_size * count - at)) b)
+  cut = e ∙ append_assoc (take (at + record_size) b) (take (record_size * count - at) (drop at b)) (drop (at + record_size + (record_size * count - at)) b)
+
+  stays : take at b₁ ≡ take at b
+  stays =
+      ap (take at) cut
+      ∙ take-append-le at (take (at + record_size) b) (take (record_size * count - at) (drop at b) ++ drop (at + record_size + (record_size * count - at)) b) (let f = front in omega arith)
+      ∙ take-take at (at + record_size) b (omega arith)
+
+  moved : drop (at + record_size) b₁ ≡ take (record_size * count - at) (drop at b) ++ drop (record_size * count + record_size) b
+  moved =
+      let end : at + record_size + (record_size * count - at) ≡ record_size * count + record_size = omega arith in
+      ap (drop (at + record_size)) cut
+      ∙ drop_at (take (at + record_size) b) (take (record_size * count - at) (drop at b) ++ drop (at + record_size + (record_size * count - at)) b) (at + record_size) front
+      ∙ ap (λ (k : ℕ). take (record_size * count - at) (drop at b) ++ drop k b) end
+
+  pub inserted : (e b₂ : List ℕ) → length e ≡ record_size → b₂ ≡ take (record_size * p) b₁ ++ (e ++ drop (record_size * p + record_size) b₁)
+      → b₂ ≡ laid (take p (pieces count b) ++ e ∷ drop p (pieces count b)) b
+  inserted e b₂ n q =
+      let m : ℕ = count - p in
+      let all : count ≡ p + m = omega arith in
+      let apart : record_size * count - record_size * p ≡ record_size * m = omega arith in
+      let end : record_size * count + record_size ≡ record_size * (p + m + 1) = omega arith in
+      q
+      ∙ ap₂ (λ (x y : List ℕ). x ++ (e ++ y)) stays (moved ∙ ap₂ (λ (i j : ℕ). take i (drop (record_size * p) b) ++ drop j b) apart end)
+      ∙ sym (behind b e p m (drop (record_size * p) b))
+      ∙ ap (λ (l : List (List ℕ)). laid l b)
+      (ap₂ (λ (x y : List (List ℕ)). x ++ e ∷ y) (sym (take-pieces p m b)) (sym (drop-pieces p m b))
+      ∙ ap (λ (k : ℕ). take p (pieces k b) ++ e ∷ drop p (pieces k b)) (sym all))
 
 pub replaced : (b e b₂ : List ℕ) (count p : ℕ) → p < count → length e ≡ record_size → record_size * count ≤ length b
     → b₂ ≡ take (record_size * p) b ++ (e ++ drop (record_size * p + length e) b) → b₂ ≡ laid (take p (pieces count b) ++ e ∷ drop (suc p) (pieces count b)) b

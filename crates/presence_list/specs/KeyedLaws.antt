@@ -2,14 +2,14 @@
 use Rattle.std.proofs.Math.Path.{◌≡◌, refl, sym, ap}
 use Rattle.std.proofs.Common.{◌∙◌}
 use Rattle.std.specs.Prelude.{Bool, get_or}
-use Rattle.std.proofs.Math.Bool.{true, false, not}
+use Rattle.std.proofs.Math.Bool.{true, false}
 use mathlib.Core.List.{List, [], ◌∷◌, ◌++◌, map}
 use Prim.Native.Nat.{ℕ, zero, suc, ◌+◌, ◌≤◌, ◌<◌}
 use native.Mathlib.Omega.{arith}
 use Rattle.std.proofs.Math.ListN.{length, take, drop}
-use Rattle.errors.specs.Choice.{pick, same}
+use Rattle.errors.specs.Choice.{pick, same, same_self}
 use Rattle.presence_list.specs.Order.{before}
-use Rattle.presence_list.specs.OrderLaws.{before_trans, first_not, Compared, behind, equal, ahead, compared}
+use Rattle.presence_list.specs.OrderLaws.{before_self, before_trans, first_not, Compared, behind, equal, ahead, compared}
 use Rattle.presence_list.specs.Keyed.{All, supersede, supersede_all, has, without, place, Below, Sorted, only}
 
 module _ {A : Type 0} (key : A → List ℕ) where
@@ -100,52 +100,48 @@ module _ {A : Type 0} (key : A → List ℕ) where
       go true r = omega arith
       go false r = omega arith
 
-  pub place_not : (k : List ℕ) (l : List A) (d : A) (i : ℕ) → i < length l → before (key (get_or l i d)) k ≡ false → place key k l ≤ i
-  unfolding place pick
-  place_not k [] d i h b = omega arith
-  place_not k (y ∷ ys) d zero h b = rw b (omega arith)
-  place_not k (y ∷ ys) d (suc i) h b = go (before (key y) k) (place_not k ys d i (omega arith) b)
-    where
-      go : (t : Bool) → place key k ys ≤ i → pick t (suc (place key k ys)) 0 ≤ suc i
-      go true r = omega arith
-      go false r = omega arith
-
-  below_at : (k : List ℕ) (l : List A) (d : A) (i : ℕ) → i < length l → Below key k l → before k (key (get_or l i d)) ≡ true
+  pub below_at : (k : List ℕ) (l : List A) (d : A) (i : ℕ) → i < length l → Below key k l → before k (key (get_or l i d)) ≡ true
   below_at k [] d i h b = absurd (omega arith)
   below_at k (y ∷ ys) d zero h b = b.0
   below_at k (y ∷ ys) d (suc i) h b = below_at k ys d i (omega arith) b.1
 
-  pub place-behind : (k : List ℕ) (l : List A) (d : A) (i : ℕ) → Sorted key l → i < length l → before (key (get_or l i d)) k ≡ true → i < place key k l
-  unfolding place pick
-  place-behind k [] d i o h b = absurd (omega arith)
-  place-behind k (y ∷ ys) d zero o h b = rw b (omega arith)
-  place-behind k (y ∷ ys) d (suc i) o h b =
-      let r = place-behind k ys d i o.1 (omega arith) b in
-      rw (before_trans (key y) (key (get_or ys i d)) k (below_at (key y) ys d i (omega arith) o.0) b) (omega arith)
+  -- of two, the one that stands before the other comes before it
+  pub sorted_at : (l : List A) (d : A) (i j : ℕ) → Sorted key l → i < j → j < length l → before (key (get_or l i d)) (key (get_or l j d)) ≡ true
+  sorted_at [] d i j o h m = absurd (omega arith)
+  sorted_at (y ∷ ys) d zero zero o h m = absurd (omega arith)
+  sorted_at (y ∷ ys) d zero (suc j) o h m = below_at (key y) ys d j (omega arith) o.0
+  sorted_at (y ∷ ys) d (suc i) zero o h m = absurd (omega arith)
+  sorted_at (y ∷ ys) d (suc i) (suc j) o h m = sorted_at ys d i j o.1 (omega arith) (omega arith)
 
-  -- whether a key is there is seen at its place
-  pub has-at : (k : List ℕ) (l : List A) (d : A) → Sorted key l → place key k l < length l → has key k l ≡ not (before k (key (get_or l (place key k l) d)))
+  -- where a key is
+  pub found_at : (k : List ℕ) (l : List A) (d : A) (i : ℕ) → Sorted key l → i < length l → key (get_or l i d) ≡ k → (i ≡ place key k l) × (has key k l ≡ true)
   unfolding place has pick
-  has-at k [] d o h = absurd (omega arith)
-  has-at k (y ∷ ys) d o h = go (compared k (key y)) (has-at k ys d o.1) h
+  found_at k [] d i o h e = absurd (omega arith)
+  found_at k (y ∷ ys) d zero o h e = rw (e, before_self k, same_self k) (refl, refl)
+  found_at k (y ∷ ys) d (suc i) o h e = go (compared k (key y)) (rw e at (below_at (key y) ys d i (omega arith) o.0)) (found_at k ys d i o.1 (omega arith) e)
     where
-      go : Compared k (key y) → (place key k ys < length ys → has key k ys ≡ not (before k (key (get_or ys (place key k ys) d))))
-          → pick (before (key y) k) (suc (place key k ys)) 0 < suc (length ys)
-          → pick (same k (key y)) true (has key k ys) ≡ not (before k (key (get_or (y ∷ ys) (pick (before (key y) k) (suc (place key k ys)) 0) d)))
-      go (behind p q s) f h = let l : place key k ys < length ys = omega (arith, rw p at h) in rw (p, s) (f l)
-      go (equal e p q s) f h = rw (p, s, q)
-      go (ahead p q s) f h = rw (p, s, q) (has-not-below k ys (below_trans k (key y) ys q o.0))
+      go : Compared k (key y) → before (key y) k ≡ true → (i ≡ place key k ys) × (has key k ys ≡ true)
+          → (suc i ≡ pick (before (key y) k) (suc (place key k ys)) 0) × (pick (same k (key y)) true (has key k ys) ≡ true)
+      go (behind p q s) b r = rw (p, s) (ap suc r.0, r.1)
+      go (equal e p q s) b r = (cc, cc)
+      go (ahead p q s) b r = (cc, cc)
 
-  pub has_not_end : (k : List ℕ) (l : List A) → length l ≤ place key k l → has key k l ≡ false
+  -- and where it would be
+  pub missing_at : (k : List ℕ) (l : List A) (d : A) (i : ℕ) → i ≤ length l → ((j : ℕ) → j < i → before (key (get_or l j d)) k ≡ true)
+      → ((j : ℕ) → i ≤ j → j < length l → before k (key (get_or l j d)) ≡ true) → (i ≡ place key k l) × (has key k l ≡ false)
   unfolding place has pick
-  has_not_end k [] h = refl
-  has_not_end k (y ∷ ys) h = go (compared k (key y)) (has_not_end k ys) h
+  missing_at k [] d i h f g = (omega arith, refl)
+  missing_at k (y ∷ ys) d zero h f g =
+      let n = first_not k (key y) (g 0 (omega arith) (omega arith)) in
+      rw (n.0, n.1) (refl, (missing_at k ys d 0 (omega arith) (λ j l. absurd (omega arith)) (λ j l m. g (suc j) (omega arith) (omega arith))).1)
+  missing_at k (y ∷ ys) d (suc i) h f g =
+      go (compared k (key y)) (f 0 (omega arith)) (missing_at k ys d i (omega arith) (λ j l. f (suc j) (omega arith)) (λ j l m. g (suc j) (omega arith) (omega arith)))
     where
-      go : Compared k (key y) → (length ys ≤ place key k ys → has key k ys ≡ false) → suc (length ys) ≤ pick (before (key y) k) (suc (place key k ys)) 0
-          → pick (same k (key y)) true (has key k ys) ≡ false
-      go (behind p q s) f h = let l : length ys ≤ place key k ys = omega (arith, rw p at h) in rw s (f l)
-      go (equal e p q s) f h = absurd (omega (arith, rw p at h))
-      go (ahead p q s) f h = absurd (omega (arith, rw p at h))
+      go : Compared k (key y) → before (key y) k ≡ true → (i ≡ place key k ys) × (has key k ys ≡ false)
+          → (suc i ≡ pick (before (key y) k) (suc (place key k ys)) 0) × (pick (same k (key y)) true (has key k ys) ≡ false)
+      go (behind p q s) b r = rw (p, s) (ap suc r.0, r.1)
+      go (equal e p q s) b r = (cc, cc)
+      go (ahead p q s) b r = (cc, cc)
 
   -- what supersedes goes to its place
   pub supersede_new : (x : A) (l : List A) → has key (key x) l ≡ false → supersede key x l ≡ take (place key (key x) l) l ++ x ∷ drop (place key (key x) l) l

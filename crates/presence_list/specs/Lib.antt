@@ -20,7 +20,6 @@ pub mod OrderLaws
 pub mod Presence
 pub mod Puts
 pub mod Runs
-pub mod Shifts
 pub mod Sizes
 pub mod Steps
 pub mod Theorem

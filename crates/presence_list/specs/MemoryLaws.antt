@@ -1,8 +1,8 @@
 -- Laws of records that lie one behind the other.
 use Rattle.std.specs.Prelude.{◌≡◌, refl, List, [], ◌∷◌, ◌++◌, ℕ, zero, suc, ◌+◌, ◌*◌, ◌-◌, ◌≤◌, ◌<◌, length, take, drop, get_or}
-use Rattle.std.proofs.Common.{sym, ap, ap₂, ◌∙◌, append_assoc, append-nil, arith, length-append, length-drop, take-append-drop, drop_of_length-le, length-take-le, take_at, drop_at, drop-drop, take-add, take_all}
-use Rattle.std.proofs.Math.Seq.{drop-append-add, take-length}
-use borrow.Rule.Slice.PartMut.{put_mid}
+use Rattle.std.proofs.Common.{sym, ap, ap₂, ◌∙◌, append_assoc, arith, length-append, length-drop, take-append-drop, length-take-le, take_at, drop_at, drop-drop, take-add}
+use Rattle.std.proofs.Math.Seq.{drop-append-add}
+use Rattle.std.specs.Simd.{first_chunks}
 use Rattle.presence_list.specs.Names.{record_size}
 use Rattle.presence_list.specs.Memory.{pieces, concatenated, laid, Whole}
 
@@ -14,26 +14,14 @@ length-pieces (suc n) b = ap suc (length-pieces n (drop record_size b))
 further : (i : ℕ) → record_size + record_size * i ≡ record_size * suc i
 further i = omega arith
 
-pub piece_at : (n i : ℕ) (b : List ℕ) → i < n → get_or (pieces n b) i [] ≡ take record_size (drop (record_size * i) b)
-unfolding pieces
-piece_at zero i b h = absurd (omega arith)
-piece_at (suc n) zero b h = refl
-piece_at (suc n) (suc i) b h =
-    piece_at n i (drop record_size b) (omega arith) ∙ ap (take record_size) (drop-drop (record_size * i) record_size b ∙ ap (λ k. drop k b) (further i))
-
 pub pieces_whole : (n : ℕ) (b : List ℕ) → record_size * n ≤ length b → Whole (pieces n b)
 unfolding pieces
 pieces_whole zero b h = tt
 pieces_whole (suc n) b h = (length-take-le record_size b (omega arith), pieces_whole n (drop record_size b) (rw (length-drop record_size b) (omega arith)))
 
-pub whole_at : (es : List (List ℕ)) (i : ℕ) → Whole es → i < length es → length (get_or es i []) ≡ record_size
-whole_at [] i w h = absurd (omega arith)
-whole_at (e ∷ es) zero w h = w.0
-whole_at (e ∷ es) (suc i) w h = whole_at es i w.1 (omega arith)
-
-pub whole_append : (es fs : List (List ℕ)) → Whole es → Whole fs → Whole (es ++ fs)
-whole_append [] fs w v = v
-whole_append (e ∷ es) fs w v = (w.0, whole_append es fs w.1 v)
+pub whole_each : (es : List (List ℕ)) → ((i : ℕ) → i < length es → length (get_or es i []) ≡ record_size) → Whole es
+whole_each [] h = tt
+whole_each (e ∷ es) h = (h 0 (omega arith), whole_each es (λ i l. h (suc i) (omega arith)))
 
 pub length-joined : (es : List (List ℕ)) → Whole es → length (concatenated es) ≡ record_size * length es
 unfolding concatenated
@@ -108,10 +96,11 @@ pub laid-pieces : (n : ℕ) (b : List ℕ) → laid (pieces n b) b ≡ b
 unfolding laid
 laid-pieces n b = rw (length-pieces n b, joined-pieces n b) (take-append-drop (record_size * n) b)
 
--- a list copied into a memory from a place on
-pub copied : (b p : List ℕ) (s : ℕ) → s + length p ≤ length b → (part : List ℕ)
-    → part ≡ take (length p) p ++ drop (length p) (take (length b - s) (drop s b))
-    → put_mid s (length b - s) b part ≡ take s b ++ (p ++ drop (s + length p) b)
-copied b p s room part e =
-    let rest : length (drop s b) ≤ length b - s = rw (length-drop s b) (omega arith) in
-    rw (e, take-length p, take_all (length b - s) (drop s b), drop_of_length-le (drop s b) {i = length b - s} rest, append-nil, drop-drop (length p) s b)
+-- std's chunks are the pieces
+pub chunks-pieces : (n : ℕ) (b : List ℕ) → first_chunks record_size n b ≡ pieces n b
+unfolding pieces
+chunks-pieces zero b = refl
+chunks-pieces (suc n) b = ap (λ (l : List (List ℕ)). take record_size b ∷ l) (chunks-pieces n (drop record_size b))
+
+pub first_pieces : (n count : ℕ) (b : List ℕ) → count ≤ n → take count (pieces n b) ≡ pieces count b
+first_pieces n count b h = let e : n ≡ count + (n - count) = omega arith in ap (λ (k : ℕ). take count (pieces k b)) e ∙ take-pieces count (n - count) b

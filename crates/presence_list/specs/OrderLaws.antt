@@ -1,6 +1,12 @@
 -- Laws of the order of texts: it is strict, and of two texts one comes first or they are the same.
 use Rattle.std.specs.Prelude.{◌≡◌, refl, Bool, true, false, List, [], ◌∷◌, ℕ, ltb, eqb}
 use Rattle.std.proofs.Common.{sym, ap₂, ◌∙◌, arith, lt-ltb, le-ltb, eq-eqb, ne_eqb, ltb-true, ltb-false}
+use Rattle.std.proofs.lemmas.Cmp.{same_from_slice_cmp, same_from_slice_cmp_tested}
+use Rattle.std.specs.Cmp.Lexicographic.{slice_cmp, slice_partial_cmp}
+use Rattle.std.specs.Ordering.{nat_cmp, is_lt, is_gt, is_some_and}
+use Rattle.std.specs.declared.cmp.Ordering.{Ordering}
+use Rattle.std.proofs.lemmas.Bool.Decides.{nat_tests}
+use Rattle.std.specs.Prelude.{Some}
 use Rattle.errors.specs.Choice.{pick, same}
 use Rattle.presence_list.specs.Order.{before}
 
@@ -80,3 +86,16 @@ first_not k j h = go (compared k j)
     go (behind p q s) = (cc, cc)
     go (equal e p q s) = (cc, cc)
     go (ahead p q s) = (p, s)
+
+-- the library's order is the same
+pub is_before : (a b : List ℕ) (r : Bool) → r ≡ is_some_and is_lt (slice_partial_cmp (λ x y. Some (nat_cmp x y)) a b) → r ≡ before a b
+unfolding before pick
+is_before = same_from_slice_cmp_tested nat_cmp is_lt before refl (λ _ _. refl) (λ _ _. refl) (λ x y xs ys o h. grind (arith, nat_tests))
+
+pub lt_before : (a b : List ℕ) (r : Ordering) → r ≡ slice_cmp nat_cmp a b → is_lt r ≡ before a b
+unfolding before pick
+lt_before = same_from_slice_cmp nat_cmp is_lt before refl (λ _ _. refl) (λ _ _. refl) (λ x y xs ys o h. grind (arith, nat_tests))
+
+pub gt_before : (a b : List ℕ) (r : Ordering) → r ≡ slice_cmp nat_cmp a b → is_gt r ≡ before b a
+unfolding before pick
+gt_before = same_from_slice_cmp nat_cmp is_gt (λ a b. before b a) refl (λ _ _. refl) (λ _ _. refl) (λ x y xs ys o h. grind (arith, nat_tests))

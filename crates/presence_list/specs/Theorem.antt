@@ -6,13 +6,12 @@ use mathlib.Core.List.{List as Seq, [], ◌∷◌, map}
 use Rattle.std.proofs.Math.ListN.{length}
 use Rattle.presence_list.specs.declared.list.State.{State}
 use Rattle.presence_list.specs.declared.list.Presence.{Presence}
-use Rattle.presence_list.specs.declared.list.Round.{Round as Result}
 use Rattle.presence_list.specs.Names.{cards_size}
 use Rattle.presence_list.specs.Keyed.{only}
 use Rattle.presence_list.specs.Memory.{pieces, in_range_in, found_in}
 use Rattle.presence_list.specs.Afresh.{seen_last, last_found}
 use Rattle.presence_list.specs.Presence.{Round, every, present_of, answer_to, accepted_with}
-use Rattle.presence_list.specs.Steps.{list_in_range}
+use Rattle.presence_list.specs.Steps.{Rounded, list_in_range}
 use Rattle.presence_list.specs.Runs.{RoundInput, round_in, present_in, round_answer_in}
 
 -- the numbers of a list whose accepted rounds these are
@@ -30,6 +29,6 @@ pub record ListRepresents (past : Seq Round) (l : Presence) : Type 0 where
   pub last : map found_in (only seen_last (pieces l.state.count l.cards)) ≡ last_found past
 
 -- one round: its answer, and the list after it
-pub record RoundAgrees (past : Seq Round) (i : RoundInput) (r : Result) : Type 0 where
+pub record RoundAgrees (past : Seq Round) (i : RoundInput) (r : Rounded) : Type 0 where
   pub answered : round_answer_in r ≡ answer_to past (round_in i)
   pub leaves : ListRepresents (accepted_with (answer_to past (round_in i)) (round_in i) past) r.list

@@ -9,4 +9,4 @@ mod range;
 mod records;
 
 pub use range::{IDENTIFIER_LIMIT, LAST_BITRATE, LAST_CARD_KIND};
-pub use records::{BITRATE_OFFSET, LENGTH_OFFSET, RECORD_SIZE};
+pub use records::{BITRATE_OFFSET, LENGTH_OFFSET, RECORD_SIZE, Record, first_records};

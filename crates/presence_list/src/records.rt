@@ -1,8 +1,8 @@
 // Records in memory: 20 bytes each, kind, identifier (16 bytes), the identifier's length, bitrate, and whether the card was missed in the
 // last round.
-ghost use Rattle.std.specs.Prelude.{◌≡◌, ◌++◌, ◌+◌, ◌≤◌, length, take, drop};
-ghost use Rattle.presence_list.specs.Names.{record_size, identifier_limit};
-ghost use Rattle.presence_list.specs.Memory.{length_in, card_in, kept_record};
+ghost use Rattle.std.specs.Prelude.{◌≡◌, ◌++◌, ◌+◌, ◌*◌, ◌/◌, ◌≤◌, length, take, drop};
+ghost use Rattle.presence_list.specs.Names.{record_size};
+ghost use Rattle.presence_list.specs.Memory.{pieces, card_in, kept_record};
 
 pub const RECORD_SIZE: usize = 20;
 
@@ -12,31 +12,47 @@ pub const BITRATE_OFFSET: usize = 18;
 
 pub const MISSED_OFFSET: usize = 19;
 
-// Kind and identifier of the record that starts at a place.
-pub(crate) fn card_at(cards: &[u8], at: usize) -> &[u8]
-    requires { (at + record_size ≤ length cards.now) × (length_in (take record_size (drop at cards.now)) ≤ identifier_limit) }
-    ensures { result.now ≡ card_in (take record_size (drop at cards.now)) }
+// A record as it lies in memory.
+pub type Record = [u8; RECORD_SIZE];
+
+// The records of a memory, one behind the other.
+pub(crate) fn records_in(memory: &[u8]) -> &[Record]
+    ensures { result.now ≡ pieces (length memory.now / record_size) memory.now }
 {
-    let n = cards[at + LENGTH_OFFSET] as usize;
-    let end = at + 1 + n;
-    &cards[at..end]
+    let (records, _) = memory.as_chunks::<RECORD_SIZE>();
+    records
 }
 
-// Puts a text into a memory from a place on.
-#[tactic(auto, using(crate::specs::MemoryLaws::copied))]
-pub(crate) fn put_at(text: &[u8], cards: &mut [u8], at: usize)
-    requires { at + length text.now ≤ length cards.old }
-    ensures { cards.new ≡ take at cards.old ++ (text.now ++ drop (at + length text.now) cards.old) }
+// The first `count` of them.
+pub fn first_records(memory: &[u8], count: usize) -> &[Record]
+    requires { record_size * count ≤ length memory.now }
+    ensures { result.now ≡ pieces count memory.now }
 {
-    octets::copy(text, &mut cards[at..]);
+    &records_in(memory)[..count]
+}
+
+// Kind and identifier of a record.
+pub(crate) fn card_of(record: &Record) -> &[u8]
+    ensures { result.now ≡ card_in record.now }
+{
+    let end = usize::from(record[LENGTH_OFFSET]) + 1;
+    &record[..end.min(RECORD_SIZE)]
+}
+
+// Puts a record into a memory as the one at a place.
+pub(crate) fn put_at(record: &Record, memory: &mut [u8], place: usize)
+    requires { record_size * place + record_size ≤ length memory.old }
+    ensures { memory.new ≡ take (record_size * place) memory.old ++ (record.now ++ drop (record_size * place + record_size) memory.old) }
+{
+    let at = RECORD_SIZE * place;
+    memory[at..at + RECORD_SIZE].copy_from_slice(record);
 }
 
 // A lent record as the list keeps it: zeros behind its identifier, and not missed.
-pub(crate) fn entry_of(found: &[u8]) -> [u8; RECORD_SIZE]
-    requires { (length found.now ≡ record_size) × (length_in found.now ≤ identifier_limit) }
+pub(crate) fn entry_of(found: &Record) -> Record
     ensures { result ≡ kept_record found.now }
 {
-    let card = card_at(found, 0);
+    let card = card_of(found);
     let mut entry = [0u8; RECORD_SIZE];
     octets::copy(card, &mut entry);
     entry[LENGTH_OFFSET] = found[LENGTH_OFFSET];

@@ -1,17 +1,16 @@
 -- Read and Write Without Encryption (document 02, N5), each sent through InCommunicateThru: the card's reply stands behind the status byte.
-use Rattle.std.specs.Prelude.{List, [], ℕ, ◌+◌, ◌*◌, length, drop}
+use Rattle.std.specs.Prelude.{List, [], ℕ, ◌+◌, ◌*◌, length, drop, Result, Ok, Err}
 use Rattle.felica.specs.Names.{block_size, blocks_offset}
 use Rattle.felica.specs.Packets.{read_request_of, write_request_of}
 use Rattle.felica.specs.Checks.{read_check, write_check}
-use Rattle.felica.specs.declared.check.Checked.{Checked}
-use Rattle.felica.specs.declared.check.Checked.TheVariants.{Good, Faulty}
+use Rattle.errors.specs.declared.Fault.{Fault}
 use Rattle.protocol.specs.Scripts.{Script, finish, done, refuse, part}
 use Rattle.protocol.specs.Chipset.{in_communicate_thru_of}
 
 -- a reply that is good, or 16, 21 or 20
-abbrev pub by_check : Script → Checked → Script
-by_check s Good = s
-by_check s (Faulty r) = refuse r
+abbrev pub by_check : Script → Result (Unit {0}) Fault → Script
+by_check s (Ok v) = s
+by_check s (Err r) = refuse r
 
 -- where block data starts in a response: behind the status byte, in the card's reply
 abbrev pub response_blocks_offset : ℕ

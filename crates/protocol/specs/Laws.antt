@@ -1,5 +1,5 @@
 -- Laws of tests, of faults, of scripts one behind the other, of events by the order that they answer, of frames, and of a call's lines.
-use Rattle.std.specs.Prelude.{◌≡◌, refl, Bool, true, false, cond, List, [], ◌∷◌, ℕ, ◌+◌, ◌%◌, ◌≤◌, ◌<◌, eqb, ltb, length}
+use Rattle.std.specs.Prelude.{◌≡◌, refl, Bool, true, false, cond, List, [], ◌∷◌, ℕ, ◌+◌, ◌%◌, ◌≤◌, ◌<◌, eqb, ltb, length, Option, Some, None}
 use Rattle.std.proofs.Common.{ap, arith, eq-eqb, ne_eqb}
 use Rattle.framing.specs.Enclose.{length-frame}
 use Rattle.framing.specs.Frames.{ack, data_start_of}
@@ -7,7 +7,7 @@ use Rattle.errors.specs.Choice.{pick, same_self, same_not}
 use Rattle.framing.specs.Parse.{parse_of, payload_of}
 use Rattle.framing.specs.Settings.{rcs956, command_payload}
 use Rattle.framing.specs.declared.FrameType.{FrameType}
-use Rattle.framing.specs.declared.FrameType.TheVariants.{Ack, Error, Data, Nothing}
+use Rattle.framing.specs.declared.FrameType.TheVariants.{Ack, Error, Data}
 use Rattle.framing.specs.declared.LengthEncoding.TheVariants.{NormalOrExtendedBigEndian}
 use Rattle.errors.specs.declared.Fault.{Fault}
 use Rattle.errors.specs.declared.Fault.TheVariants.{Transport, TimeOut, FalseStart, BrokenFrame, Length, FrameKind, Identifier, Code, Status, ShortResponse, NoCard, CrcA, Rate, CardStatus, OtherCard, UidLayout}
@@ -61,11 +61,11 @@ payload_reply_lem code (b ∷ bytes) =
 filling-reply : (frame : ℕ) (packet : List ℕ) (r : Reply) → OfExchange r → OfExchange (filling frame packet r)
 filling-reply frame packet r h = split OfExchange (eqb frame (length packet)) _ _ (λ _. h) (λ _. refl)
 
-frame-reply : (code : ℕ) (packet : List ℕ) (f : FrameType) → OfExchange (frame_reply code packet f)
-frame-reply code packet Nothing = refl
-frame-reply code packet (Ack frame) = filling-reply frame packet _ refl
-frame-reply code packet (Error frame) = filling-reply frame packet _ refl
-frame-reply code packet (Data start len frame) = filling-reply frame packet _ (payload_reply_lem code (payload_of (Data start len frame) packet))
+frame-reply : (code : ℕ) (packet : List ℕ) (f : Option FrameType) → OfExchange (frame_reply code packet f)
+frame-reply code packet None = refl
+frame-reply code packet (Some (Ack frame)) = filling-reply frame packet _ refl
+frame-reply code packet (Some (Error frame)) = filling-reply frame packet _ refl
+frame-reply code packet (Some (Data start len frame)) = filling-reply frame packet _ (payload_reply_lem code (payload_of (Some (Data start len frame)) packet))
 
 pub of_exchange : (code : ℕ) (packet : List ℕ) → OfExchange (reply_of code packet)
 unfolding reply_of

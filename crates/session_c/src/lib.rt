@@ -19,6 +19,7 @@ pub extern "C" fn rcs956_fresh() -> Session
 }
 
 // A call, by its number. An order, an answer or a refusal comes out; bytes stand at the buffer's start.
+// Kept: the parameters of the C interface.
 #[unsafe(no_mangle)]
 pub extern "C" fn rcs956_call(
     session: &mut Session,

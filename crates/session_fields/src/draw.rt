@@ -31,18 +31,16 @@ fn small(x: u64, last: u8) -> u8 {
     if x / 256 % 16 == 0 {
         byte(x)
     } else {
-        byte(x % (last as u64 + 1))
+        byte(x % (u64::from(last) + 1))
     }
 }
 
 // Mostly at most `last`, else any number up to 65,535, or the greatest of all.
 fn filled(x: u64, last: u16) -> usize {
-    if x / 65536 % 32 == 0 {
-        (x % 65536) as usize
-    } else if x / 65536 % 32 == 1 {
-        usize::MAX
-    } else {
-        (x % 65536 % (last as u64 + 1)) as usize
+    match x / 65536 % 32 {
+        0 => (x % 65536) as usize,
+        1 => usize::MAX,
+        _ => (x % 65536 % (u64::from(last) + 1)) as usize,
     }
 }
 
@@ -111,6 +109,7 @@ fn core(seed: u64) -> Core {
 }
 
 // Open in most, not open in a quarter, out of range in few.
+// Kept: each of these draws a field by chances of its own.
 fn opened(x: u64) -> u8 {
     match x % 32 {
         0 => 2,

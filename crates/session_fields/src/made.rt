@@ -103,16 +103,16 @@ fn length(x: u64, frame: usize) -> usize {
 fn response(code: u8, n: u8, status: u8) -> [u8; PACKET_ROOM] {
     let mut bytes = [0u8; PACKET_ROOM];
     let size = n % 32 + 3;
-    let answer = std::num::wrapping_add_u8(code, 1);
-    let sum = std::num::wrapping_add_u8(std::num::wrapping_add_u8(0xD5, answer), status);
-    let last = size as usize + 5;
+    let answer = code.wrapping_add(1);
+    let sum = 0xD5u8.wrapping_add(answer).wrapping_add(status);
+    let last = usize::from(size) + 5;
     bytes[2] = 0xFF;
     bytes[3] = size;
-    bytes[4] = std::num::wrapping_sub_u8(0, size);
+    bytes[4] = size.wrapping_neg();
     bytes[5] = 0xD5;
     bytes[6] = answer;
     bytes[7] = status;
-    bytes[last] = std::num::wrapping_sub_u8(0, sum);
+    bytes[last] = sum.wrapping_neg();
     bytes
 }
 
@@ -142,7 +142,7 @@ fn hand_event(session: Session, seed: u64, buffer: &mut [u8]) -> Step {
 fn unused_bytes(size: usize) -> usize
     ensures { result ≤ 1024 }
 {
-    if size < 1024 { 1024 - size } else { 0 }
+    1024usize.saturating_sub(size)
 }
 
 // Hands the session a call or an event, with a buffer of so many bytes.

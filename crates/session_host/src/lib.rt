@@ -13,6 +13,7 @@ use engine::{by_number, state};
 use outcome::Outcome;
 
 // A call, by its number. An order, an answer or a refusal comes out; bytes stand at the buffer's start.
+// Kept: the parameters of the C entry, which hands on to this function.
 pub fn call(
     session: &mut Session,
     number: u8,
@@ -25,9 +26,8 @@ pub fn call(
 ) -> Outcome
     ensures { report session.new result buffer.new ≡ report_for session.old (host_call number numbers first.now second.now third.now fourth.now buffer.old) }
 {
-    let core = session.core;
     let progress = state::call(
-        core,
+        session.core,
         &mut session.command,
         &mut session.frames,
         &mut session.books,
@@ -39,18 +39,16 @@ pub fn call(
         fourth,
         buffer,
     );
-    let after = progress.core;
-    session.core = after;
-    Outcome::of(progress.output)
+    session.core = progress.core;
+    Outcome::from(progress.output)
 }
 
 // An event, by its number, with a packet's bytes. What comes out is the same.
 pub fn event(session: &mut Session, number: u8, packet: &[u8], buffer: &mut [u8]) -> Outcome
     ensures { report session.new result buffer.new ≡ report_for session.old (host_event number packet.now buffer.old) }
 {
-    let core = session.core;
     let progress = by_number::event(
-        core,
+        session.core,
         &mut session.command,
         &mut session.found,
         &mut session.frames,
@@ -59,7 +57,6 @@ pub fn event(session: &mut Session, number: u8, packet: &[u8], buffer: &mut [u8]
         packet,
         buffer,
     );
-    let after = progress.core;
-    session.core = after;
-    Outcome::of(progress.output)
+    session.core = progress.core;
+    Outcome::from(progress.output)
 }

@@ -3,9 +3,10 @@ ghost use Rattle.std.specs.Prelude.{◌≡◌};
 ghost use Rattle.session_host.specs.Outcomes.{bytes_outcome, time_outcome, lengths_outcome, refusal_outcome, outcome_of};
 
 use engine::running::Output;
-use errors::{Fault, Numbered};
+use errors::Numbered;
 use framing::ACK_SIZE;
 
+// Kept: kinds are numbers, since the C interface names them (include/rcs956.h).
 pub const WRITE_OUTCOME: u8 = 0;
 
 pub const READ_OUTCOME: u8 = 1;
@@ -32,7 +33,7 @@ pub const REFUSED_AT_ONCE_OUTCOME: u8 = 10;
 // of a list how many of its codes were finished; with a read its ms, with a pause its µs; with a write order and an answer the number
 // of bytes at the buffer's start, and with an answer whose UID and ATS are told apart the length of each. What does not apply is 0.
 #[repr(C)]
-#[derive(Clone, Copy)]
+#[derive(Clone, Copy, Debug, Default, PartialEq, Eq)]
 pub struct Outcome {
     pub kind: u8,
     pub refusal: u8,
@@ -45,28 +46,14 @@ pub struct Outcome {
     pub len: usize,
 }
 
-// A call that failed, or a list with so many codes finished: a fault's numbers are worked out at one place for both kinds.
-#[derive(Clone, Copy)]
-struct Failure {
-    kind: u8,
-    fault: Fault,
-    finished: u8,
-}
-
 impl Outcome {
     fn bytes(kind: u8, len: usize) -> Outcome
         ensures { result ≡ bytes_outcome kind len }
     {
         Outcome {
             kind,
-            refusal: 0,
-            status: 0,
-            status2: 0,
-            finished: 0,
-            uid: 0,
-            ats: 0,
-            time: 0,
             len,
+            ..Outcome::default()
         }
     }
 
@@ -74,15 +61,9 @@ impl Outcome {
         ensures { result ≡ lengths_outcome len uid ats }
     {
         Outcome {
-            kind: UID_AND_ATS_OUTCOME,
-            refusal: 0,
-            status: 0,
-            status2: 0,
-            finished: 0,
             uid,
             ats,
-            time: 0,
-            len,
+            ..Outcome::bytes(UID_AND_ATS_OUTCOME, len)
         }
     }
 
@@ -91,14 +72,8 @@ impl Outcome {
     {
         Outcome {
             kind,
-            refusal: 0,
-            status: 0,
-            status2: 0,
-            finished: 0,
-            uid: 0,
-            ats: 0,
             time,
-            len: 0,
+            ..Outcome::default()
         }
     }
 
@@ -111,17 +86,17 @@ impl Outcome {
             status: numbered.status,
             status2: numbered.status2,
             finished,
-            uid: 0,
-            ats: 0,
-            time: 0,
-            len: 0,
+            ..Outcome::default()
         }
     }
+}
 
-    pub fn of(output: Output) -> Outcome
-        ensures { result ≡ outcome_of output }
-    {
-        let failure = match output {
+impl From<Output> for Outcome {
+    ghost from_gives = { λ output r. r ≡ outcome_of output };
+
+    // Kept: the kind, the fault and the count are told apart before the fault is numbered; numbering it at two places costs a call 100 instructions.
+    fn from(output: Output) -> Outcome {
+        let (kind, fault, finished) = match output {
             Output::Ack => return Outcome::bytes(WRITE_OUTCOME, ACK_SIZE),
             Output::Command(len) => return Outcome::bytes(WRITE_OUTCOME, len),
             Output::Read(ms) => return Outcome::timed(READ_OUTCOME, ms),
@@ -131,23 +106,12 @@ impl Outcome {
             Output::Type1(len) => return Outcome::bytes(TYPE1_OUTCOME, len),
             Output::UidAndAts(len, uid, ats) => return Outcome::uid_and_ats(len, uid, ats),
             Output::Nothing => return Outcome::bytes(NONE_OUTCOME, 0),
-            Output::Refused(refusal) => return Outcome::refused(
-                REFUSED_AT_ONCE_OUTCOME,
-                refusal.numbered(),
-                0,
-            ),
-            Output::Failed(fault) => Failure {
-                kind: REFUSED_OUTCOME,
-                fault,
-                finished: 0,
-            },
-            Output::FailedAfter(fault, finished) => Failure {
-                kind: LIST_REFUSED_OUTCOME,
-                fault,
-                finished,
-            },
+            Output::Refused(refusal) => {
+                return Outcome::refused(REFUSED_AT_ONCE_OUTCOME, Numbered::from(refusal), 0);
+            }
+            Output::Failed(fault) => (REFUSED_OUTCOME, fault, 0),
+            Output::FailedAfter(fault, finished) => (LIST_REFUSED_OUTCOME, fault, finished),
         };
-        let fault = failure.fault;
-        Outcome::refused(failure.kind, fault.numbered(), failure.finished)
+        Outcome::refused(kind, Numbered::from(fault), finished)
     }
 }

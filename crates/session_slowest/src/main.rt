@@ -2,15 +2,12 @@
 // lines, and each answer that is no order behind the number of its line.
 #![tactic(auto)]
 
-ghost use Rattle.std.specs.Prelude.{◌≡◌, ◌+◌, min};
+ghost use Rattle.std.specs.Prelude.{◌<◌, length};
 
-use bench::lines::{Line, Unread};
+use bench::lines::Line;
 use bench::{lines, prefix, text};
-use bench_input::slice;
 use bench_session::{BUFFER_SIZE, OUT_ROOM};
 use engine::session::Session;
-use framing::starts_with;
-use octets::scan;
 use slowest_call::lines::answer;
 use slowest_call::script::SCRIPT_ROOM;
 
@@ -20,30 +17,17 @@ const REPORT_ROOM: usize = 4096;
 
 // Whether a printed answer ends a call or refuses: it is no order.
 fn is_end(answer: &[u8]) -> bool {
-    if starts_with(answer, b"done") {
-        return true;
-    }
-    if starts_with(answer, b"none") {
-        return true;
-    }
-    starts_with(answer, b"refused")
+    answer.starts_with(b"done") || answer.starts_with(b"none") || answer.starts_with(b"refused")
 }
 
-// The line from a place on, up to the space before the next semicolon at a place.
-fn line_from(text: &[u8], from: usize, to: usize) -> &[u8] {
-    if to < text.len() {
-        if 0 < to {
-            return slice(text, from, to - 1);
-        }
-    }
-    slice(text, from, to)
-}
-
-// The place behind a semicolon; the text's end where there is none.
-fn behind(to: usize, len: usize) -> usize
-    ensures { result ≡ min (to + 1) len }
+// The part before the first of a byte, and the part behind it; all and nothing where it is not there.
+fn split_at_first(text: &[u8], byte: u8) -> (&[u8], &[u8])
+    ensures { 0 < length text.now → length result.1.now < length text.now }
 {
-    if to < len { to + 1 } else { len }
+    match text.iter().position(|b| *b == byte) {
+        Some(at) => (&text[..at], &text[at + 1..]),
+        None => (text, &[]),
+    }
 }
 
 // An answer that is no order, with its number, behind a place of the report.
@@ -57,24 +41,23 @@ fn put_end(number: u64, answer: &[u8], report: &mut [u8], at: usize) -> usize {
     at
 }
 
-// Plays a script, and reports behind a place.
+// Plays the lines of a script, which stand behind its first word, and reports behind a place.
 fn play(script: &[u8], report: &mut [u8], start: usize) -> usize {
     let mut session = Session::fresh();
     let mut buffer = [0u8; BUFFER_SIZE];
     let mut out = [0u8; OUT_ROOM];
-    let mut from = scan::find(script, 0, script.len(), b' ');
+    let (_, lines) = split_at_first(script, b' ');
+    let mut rest = lines;
     let mut at = start;
     let mut played: u64 = 0;
-    while from < script.len() {
-        let to = scan::find(script, from, script.len(), b';');
-        let line = line_from(script, from + 1, to);
-        let answered = bench_session::answer(session, line, &mut buffer, &mut out);
-        let n = answered.len;
-        let after = answered.session;
-        session = after;
-        played += 1;
-        at = put_end(played, prefix(n, &out), report, at);
-        from = behind(to, script.len());
+    // Kept: each line ends where its semicolon stands; nothing is counted.
+    while !rest.is_empty() {
+        let (line, behind) = split_at_first(rest, b';');
+        let answered = bench_session::answer(session, line.trim_ascii(), &mut buffer, &mut out);
+        session = answered.state;
+        played = played.saturating_add(1);
+        at = put_end(played, prefix(answered.len, &out), report, at);
+        rest = behind;
     }
     let all = text::put(b", of ", report, at);
     text::put_decimal(played, report, all)
@@ -94,18 +77,10 @@ fn report_of(next: Line, line: &[u8], report: &mut [u8]) -> usize {
 }
 
 fn main(rt: HostRuntime) {
-    let mut input = rt.reader();
-    let mut buffer = io::large_buffer();
     let mut line = [0u8; LINE_ROOM];
     let mut report = [0u8; REPORT_ROOM];
-    let mut unread = Unread::nothing();
-    for _ in 0..u64::MAX {
-        let given = lines::next(&mut input, unread, &mut buffer, &mut line);
-        unread = given.unread;
-        let next = given.line;
-        let n = report_of(next, &line, &mut report);
-        if !lines::write(&rt, &report, n) {
-            return;
-        }
-    }
+    lines::for_each(&rt, &mut line, |next, line| {
+        let n = report_of(next, line, &mut report);
+        lines::write(&rt, &report, n)
+    });
 }

@@ -5,7 +5,7 @@ const REFLECTED_POLYNOMIAL: u32 = 0xEDB88320;
 
 const ALL_ONES: u32 = 0xFFFFFFFF;
 
-#[derive(Clone, Copy)]
+#[derive(Clone, Copy, Debug, PartialEq, Eq)]
 pub struct Summary {
     lines: u64,
     bytes: u64,
@@ -14,32 +14,27 @@ pub struct Summary {
 
 // The CRC-32 with one byte more, lowest bit first.
 fn crc_with(crc: u32, byte: u8) -> u32 {
-    let mut crc = crc ^ byte as u32;
-    let mut bits = 8u8;
-    while bits > 0 {
-        if crc % 2 == 1 {
-            crc = crc / 2 ^ REFLECTED_POLYNOMIAL;
-        } else {
-            crc = crc / 2;
+    let mut crc = crc ^ u32::from(byte);
+    for _ in 0..8 {
+        let lowest = crc % 2;
+        crc /= 2;
+        if lowest == 1 {
+            crc ^= REFLECTED_POLYNOMIAL;
         }
-        bits -= 1;
     }
     crc
 }
 
 fn crc_of(crc: u32, text: &[u8]) -> u32 {
-    let mut crc = crc;
-    let mut i = 0;
-    while i < text.len() {
-        crc = crc_with(crc, text[i]);
-        i += 1;
-    }
-    crc
+    text.iter().fold(crc, |crc, byte| crc_with(crc, *byte))
 }
 
 // The first line of the text.
 fn print_first(rt: &impl Print, text: &[u8]) -> Result<()> {
-    let end = octets::scan::find(text, 0, text.len(), b'\n');
+    let end = text
+        .iter()
+        .position(|byte| *byte == b'\n')
+        .unwrap_or(text.len());
     rt.write_all(&text[..end])?;
     rt.print("\n")
 }

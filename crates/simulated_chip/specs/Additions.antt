@@ -1,5 +1,5 @@
 -- A card or a reply added to the chip's memory.
-use Rattle.std.specs.Prelude.{Bool, false, List, ℕ, ◌+◌, ◌*◌, ◌-◌, ◌/◌, ◌%◌, ◌≤◌, ◌<◌, eqb, leb, ltb, length, get_or, set}
+use Rattle.std.specs.Prelude.{Result, Ok, Err, Bool, false, List, ℕ, ◌+◌, ◌*◌, ◌-◌, ◌/◌, ◌%◌, ◌≤◌, ◌<◌, eqb, leb, ltb, length, get_or, set}
 use Rattle.errors.specs.Choice.{pick}
 use Rattle.errors.specs.declared.Refusal.{Refusal}
 use Rattle.errors.specs.declared.Refusal.TheVariants.{OutOfTurn, OverLong}
@@ -15,15 +15,16 @@ use Rattle.chip_protocol.specs.declared.Kind.{Kind}
 use Rattle.chip_protocol.specs.declared.Kind.TheVariants.{TypeA, TypeB, TypeF, Dep}
 use Rattle.simulated_chip.specs.declared.chip.State.{State}
 use Rattle.simulated_chip.specs.declared.chip.Chip.{Chip}
-use Rattle.simulated_chip.specs.declared.add.Addition.{Addition}
-use Rattle.simulated_chip.specs.declared.add.Addition.TheVariants.{Added, Refused}
-use Rattle.simulated_chip.specs.declared.add.ChipAdded.{ChipAdded}
 
 -- ---- whether it is taken
 
+-- that it was added, or a refusal
+abbrev pub Addition : Type 0
+Addition = Result (Unit {0}) Refusal
+
 abbrev pub addition_in : Outcome → Addition
-addition_in (added f) = Added
-addition_in (refuses e) = Refused e
+addition_in (added f) = Ok tt
+addition_in (refuses e) = Err e
 
 -- but for lengths
 unfoldable pub is_sound : ℕ → Kind → Bitrate → List ℕ → Bool
@@ -41,7 +42,7 @@ limit_of_kind kind = pick (eqb kind 1) card_replies most_replies
 
 unfoldable pub lengths_addition : List ℕ → List ℕ → ℕ → ℕ → Addition
 lengths_addition bytes reply count limit =
-    pick (leb (length reply) longest_reply) (pick (leb (length bytes) data_limit) (pick (ltb count limit) Added (Refused OverLong)) (Refused OverLong)) (Refused OverLong)
+    pick (leb (length reply) longest_reply) (pick (leb (length bytes) data_limit) (pick (ltb count limit) (Ok tt) (Err OverLong)) (Err OverLong)) (Err OverLong)
 
 -- what is known of a card or a reply that is taken
 pub record CardAdmitted (count : ℕ) (k : Kind) (l w : List ℕ) : Type 0 where
@@ -92,19 +93,22 @@ pub record AfterAddition : Type 0 where
 abbrev pub after_addition : State → List ℕ → List ℕ → List ℕ → Addition → AfterAddition
 after_addition s c t r a = record { state = s; cards = c; sent = t; replies = r; addition = a }
 
+abbrev pub after_with : Chip → Addition → AfterAddition
+after_with c a = after_addition c.state c.cards c.sent c.replies a
+
 abbrev pub by_addition : AfterAddition → (Refusal → AfterAddition) → Addition → AfterAddition
-by_addition x f Added = x
-by_addition x f (Refused e) = f e
+by_addition x f (Ok t) = x
+by_addition x f (Err e) = f e
 
 module _ (s : State) (cards sent replies : List ℕ) where
   abbrev pub refused_with : Refusal → AfterAddition
-  refused_with e = after_addition s cards sent replies (Refused e)
+  refused_with e = after_addition s cards sent replies (Err e)
 
   unfoldable pub card_put : Kind → Bitrate → List ℕ → List ℕ → AfterAddition
   card_put k r l w =
       after_addition (record { count = s.count + 1; found = s.found; on = s.on })
       (put_card_of (card_size * s.count) (kind_number k) (br_ty r) (first_count k) l cards)
-      (first_sent k (card_replies * s.count) sent) (first_reply k (card_replies * s.count) w replies) Added
+      (first_sent k (card_replies * s.count) sent) (first_reply k (card_replies * s.count) w replies) (Ok tt)
 
   -- a chip out of range first, then 4 and 3 as `add_card` has them
   unfoldable pub add_card_in : Kind → Bitrate → List ℕ → List ℕ → AfterAddition
@@ -123,7 +127,7 @@ module _ (s : State) (cards sent replies : List ℕ) where
   unfoldable pub reply_put : List ℕ → List ℕ → AfterAddition
   reply_put bytes reply =
       after_addition s (set cards (card_size * (s.count - 1) + reply_count_place) (last_replies + 1)) (put_text (sent_size * next_place) bytes sent)
-      (put_text (reply_size * next_place) reply replies) Added
+      (put_text (reply_size * next_place) reply replies) (Ok tt)
 
   unfoldable pub add_reply_in : List ℕ → List ℕ → AfterAddition
   add_reply_in bytes reply =
@@ -131,10 +135,17 @@ module _ (s : State) (cards sent replies : List ℕ) where
       (by_addition (reply_put bytes reply) refused_with (addition_in (add_reply (cards_in s.count cards sent replies) bytes reply)))
       (refused_with OutOfTurn)
 
--- ---- the same by value
+-- ---- the same of the whole chip
+
+pub record ChipAdded : Type 0 where
+  pub chip : Chip
+  pub addition : Addition
+
+abbrev pub added_by : Chip → Addition → ChipAdded
+added_by c a = record { chip = c; addition = a }
 
 abbrev pub chip_added : AfterAddition → ChipAdded
-chip_added x = record { chip = record { cards = x.cards; sent = x.sent; replies = x.replies; state = x.state }; addition = x.addition }
+chip_added x = added_by (record { cards = x.cards; sent = x.sent; replies = x.replies; state = x.state }) x.addition
 
 unfoldable pub add_card_of : Chip → Kind → Bitrate → List ℕ → List ℕ → ChipAdded
 add_card_of c k r l w = chip_added (add_card_in c.state c.cards c.sent c.replies k r l w)

@@ -1,12 +1,13 @@
 -- What holds of n numbers from i on, and the list of what each of them has.
-use Rattle.std.specs.Prelude.{◌≡◌, Bool, true, false, eqb, length}
-use Rattle.std.proofs.Math.Path.{refl, sym, ap}
+use Rattle.std.specs.Prelude.{◌≡◌, Bool, true, false, ◌&&◌, eqb, length}
+use Rattle.std.proofs.Math.Path.{refl, ap}
 use Rattle.std.proofs.Common.{ap₂, ◌∙◌, eqb-true}
 use Rattle.std.proofs.lemmas.Bool.{false≢true, eqb-false}
 use mathlib.Core.List.{List, [], ◌∷◌, ◌++◌}
-use Prim.Native.Nat.{ℕ, zero, suc, ◌+◌, ◌-◌, ◌≤◌, ◌<◌}
+use Prim.Native.Nat.{ℕ, zero, suc, ◌+◌, ◌≤◌, ◌<◌}
 use Rattle.std.proofs.Math.Numerals.{add-one}
 use native.Mathlib.Omega.{arith}
+use Rattle.std.specs.List.{range_with_len, list_all}
 use Rattle.errors.specs.Choice.{pick}
 
 unfoldable pub all_from : (ℕ → Bool) → ℕ → ℕ → Bool
@@ -16,27 +17,6 @@ all_from p (suc n) i = pick (p i) (all_from p n (suc i)) false
 unfoldable pub list_from : {A : Type 0} → (ℕ → A) → ℕ → ℕ → List A
 list_from f zero i = []
 list_from f (suc n) i = f i ∷ list_from f n (suc i)
-
--- one more
-pub more : (n i : ℕ) → i < n → n - i ≡ suc (n - suc i)
-more n i h = omega arith
-
--- ---- a loop that tests them, i being the next
-module _ (p : ℕ → Bool) (n i : ℕ) (r : Bool) (so_far : r ≡ all_from p (n - i) i) where
-  pub all_turn : i < n → p i ≡ true → r ≡ all_from p (n - (i + 1)) (i + 1)
-  unfolding all_from pick
-  all_turn h k = so_far ∙ ap (λ (m : ℕ). all_from p m i) (more n i h) ∙ rw (k, add-one i)
-
-  pub all_not : i < n → p i ≡ false → false ≡ r
-  unfolding all_from pick
-  all_not h k = sym (so_far ∙ ap (λ (m : ℕ). all_from p m i) (more n i h) ∙ rw k)
-
-  pub all_end : n ≤ i → true ≡ r
-  unfolding all_from
-  all_end h = sym (so_far ∙ ap (λ (m : ℕ). all_from p m i) none)
-    where
-      none : n - i ≡ 0
-      none = omega arith
 
 -- each of them
 pub all-at : (p : ℕ → Bool) (n i k : ℕ) → all_from p n i ≡ true → i ≤ k → k < i + n → p k ≡ true
@@ -50,23 +30,22 @@ all-at p (suc n) i k e low high = go (p i) (eqb k i) refl refl e (all-at p n (su
     go true false h d e again = again e (let z = eqb-false k i d in omega arith) (omega arith)
     go false u h d e again = absurd (false≢true e)
 
+-- as the library says it of a range
+pub all_range : (p : ℕ → Bool) (n i : ℕ) → list_all p (range_with_len i n) ≡ all_from p n i
+unfolding all_from pick
+all_range p zero i = refl
+all_range p (suc n) i = go (p i) (ap (λ (j : ℕ). list_all p (range_with_len j n)) (add-one i) ∙ all_range p n (suc i))
+  where
+    go : (t : Bool) → list_all p (range_with_len (i + 1) n) ≡ all_from p n (suc i) → (t && list_all p (range_with_len (i + 1) n)) ≡ pick t (all_from p n (suc i)) false
+    go true e = e
+    go false e = refl
+
 -- ---- their list
 module _ {A : Type 0} (f : ℕ → A) where
   pub length_from : (n i : ℕ) → length (list_from f n i) ≡ n
   unfolding list_from
   length_from zero i = refl
   length_from (suc n) i = ap suc (length_from n (suc i))
-
-  pub from_next : (n i : ℕ) → i < n → list_from f (n - i) i ≡ f i ∷ list_from f (n - suc i) (suc i)
-  unfolding list_from
-  from_next n i h = ap (λ (m : ℕ). list_from f m i) (more n i h)
-
-  pub from_end : (n i : ℕ) → n ≤ i → list_from f (n - i) i ≡ []
-  unfolding list_from
-  from_end n i h = ap (λ (m : ℕ). list_from f m i) none
-    where
-      none : n - i ≡ 0
-      none = omega arith
 
   pub from_last : (n i : ℕ) → list_from f (suc n) i ≡ list_from f n i ++ (f (i + n) ∷ [])
   unfolding list_from

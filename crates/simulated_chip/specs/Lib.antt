@@ -1,7 +1,6 @@
 pub mod Counted
 pub mod Memory
 pub mod Range
-pub mod MemoryLaws
 pub mod RangeLaws
 pub mod SearchLaws
 pub mod Responses

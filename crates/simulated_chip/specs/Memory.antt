@@ -1,7 +1,7 @@
 -- The chip's memory: cards, bytes sent and replies, each at its place, and the definitions' state that stands there. A text is its length in two bytes,
 -- low byte first, and its bytes. A card is kind, BrTy, how many replies it has, and its list data as a text; its replies are the nine from nine times
 -- its place on.
-use Rattle.std.specs.Prelude.{Bool, true, false, List, ◌∷◌, ◌++◌, ℕ, zero, suc, ◌+◌, ◌*◌, ◌/◌, ◌%◌, eqb, length, take, drop, get_or}
+use Rattle.std.specs.Prelude.{Option as Found, Some, None, Bool, true, false, List, ◌∷◌, ◌++◌, ℕ, zero, suc, ◌+◌, ◌*◌, ◌/◌, ◌%◌, eqb, length, take, drop, get_or}
 use Rattle.std.proofs.Math.Option.{Option, none, some}
 use Rattle.errors.specs.Choice.{pick}
 use Rattle.targets.specs.declared.Bitrate.{Bitrate}
@@ -88,7 +88,20 @@ cards_in n cards sent replies = list_from (λ (i : ℕ). stored_card i cards sen
 unfoldable pub is_stored_at : ℕ → ℕ → ℕ → List ℕ → Bool
 is_stored_at kind code at cards = pick (eqb (get_or cards at 0) kind) (eqb (get_or cards (at + br_ty_place) 0) code) false
 
--- ---- places: the number behind one, 0 for none
+-- the replies of a card
+abbrev pub card_replies_in : ℕ → Chip → List StatedReply
+card_replies_in i c = stated_from (get_or c.cards (card_size * i + reply_count_place) 0) (card_replies * i) c.sent c.replies
+
+-- ---- places: what a search found; in the chip's numbers the number behind one, 0 for none
+
+abbrev pub place_of : Found ℕ → Option ℕ
+place_of None = none
+place_of (Some n) = some n
+
+-- the reply at such a place
+abbrev pub reply_found : Found ℕ → List ℕ → Option (List ℕ)
+reply_found None replies = none
+reply_found (Some j) replies = some (reply_at j replies)
 
 abbrev pub place_in : ℕ → Option ℕ
 place_in zero = none
@@ -97,11 +110,6 @@ place_in (suc n) = some n
 abbrev pub place_number : Option ℕ → ℕ
 place_number none = zero
 place_number (some n) = suc n
-
--- the reply at such a place
-abbrev pub reply_in : ℕ → List ℕ → Option (List ℕ)
-reply_in zero replies = none
-reply_in (suc j) replies = some (reply_at j replies)
 
 -- ---- the chip
 
@@ -118,6 +126,10 @@ numbers_of count s = record { count = count; found = place_number s.found; on = 
 
 abbrev pub chip_state : Chip → ChipState
 chip_state c = state_in c.state c.cards c.sent c.replies
+
+-- the cards of its field
+abbrev pub field_in : Chip → List Card
+field_in c = (chip_state c).field
 
 abbrev pub fresh_numbers : State
 fresh_numbers = record { count = 0; found = 0; on = 0 }

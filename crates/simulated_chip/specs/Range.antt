@@ -6,6 +6,7 @@ use Rattle.chip_protocol.specs.Names.{longest_list_data, longest_reply, most_car
 use Rattle.simulated_chip.specs.Memory.{card_size, sent_size, reply_size, card_replies, places, br_ty_place, reply_count_place, list_data_place, text_length}
 use Rattle.simulated_chip.specs.Counted.{all_from}
 use Rattle.simulated_chip.specs.declared.chip.State.{State}
+use Rattle.simulated_chip.specs.declared.chip.Chip.{Chip}
 
 -- the last kind, DEP, and the last BrTy, 106B
 abbrev pub last_kind : ℕ
@@ -38,3 +39,6 @@ in_range s cards sent replies =
     pick (leb s.count most_cards)
     (pick (leb s.found s.count)
     (pick (leb s.on 1) (pick (cards_in_range cards) (pick (sent_in_range sent) (replies_in_range replies) false) false) false) false) false
+
+abbrev pub chip_in_range : Chip → Bool
+chip_in_range c = in_range c.state c.cards c.sent c.replies

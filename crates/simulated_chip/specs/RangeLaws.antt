@@ -1,30 +1,16 @@
--- The turns of the loops that test a range, and what a chip in range has.
-use Rattle.std.specs.Prelude.{◌≡◌, refl, Bool, true, false, List, ℕ, ◌+◌, ◌*◌, ◌-◌, ◌≤◌, ◌<◌, leb, length, drop, get_or}
-use Rattle.std.proofs.Math.Path.{sym}
-use Rattle.std.proofs.Common.{ap, ◌∙◌, arith, length-drop, length-take-le}
+-- The tests of a range, and what a chip in range has.
+use Rattle.std.specs.Prelude.{◌≡◌, refl, Bool, true, false, List, ℕ, ◌+◌, ◌*◌, ◌≤◌, ◌<◌, leb, length, drop, get_or}
+use Rattle.std.proofs.Common.{arith, length-drop, length-take-le}
 use Rattle.std.proofs.lemmas.Bool.{false≢true}
-use borrow.Author.Tests.{le-leb, lt-leb, leb-true}
+use borrow.Author.Tests.{leb-true}
 use Rattle.errors.specs.Choice.{pick}
+use Rattle.protocol.specs.Starts.{data_limit}
 use Rattle.chip_protocol.specs.Names.{longest_list_data, longest_reply, most_cards}
-use Rattle.simulated_chip.specs.Counted.{all_from, all_turn, all_not, all-at}
-use Rattle.simulated_chip.specs.Memory.{card_size, reply_size, card_replies, places, br_ty_place, reply_count_place, list_data_place, text_length, text_at_of}
-use Rattle.simulated_chip.specs.Range.{last_kind, last_br_ty, card_in_range, cards_in_range, texts_in_range, sent_in_range, replies_in_range, in_range}
+use Rattle.simulated_chip.specs.Counted.{all-at}
+use Rattle.simulated_chip.specs.Memory.{card_size, sent_size, reply_size, card_replies, places, br_ty_place, reply_count_place, list_data_place, text_length, text_at_of}
+use Rattle.simulated_chip.specs.Range.{last_kind, last_br_ty, card_in_range, cards_in_range, texts_in_range, sent_in_range, replies_in_range, in_range, chip_in_range}
 use Rattle.simulated_chip.specs.declared.chip.State.{State}
-
-module _ (size limit : ℕ) (b : List ℕ) (i n : ℕ) (h : i < places) (e : n ≡ text_length (size * i) b) (r : Bool)
-    (so_far : r ≡ all_from (λ (k : ℕ). leb (text_length (size * k) b) limit) (places - i) i) where
-  pub texts_turn : n ≤ limit → r ≡ all_from (λ (k : ℕ). leb (text_length (size * k) b) limit) (places - (i + 1)) (i + 1)
-  texts_turn k = all_turn _ places i r so_far h (ap (λ (m : ℕ). leb m limit) (sym e) ∙ le-leb n limit k)
-
-  pub texts_not : limit < n → false ≡ r
-  texts_not k = all_not _ places i r so_far h (ap (λ (m : ℕ). leb m limit) (sym e) ∙ lt-leb n limit k)
-
-pub card-tested : (cards : List ℕ) (at n : ℕ) → get_or cards at 0 ≤ last_kind → get_or cards (at + br_ty_place) 0 ≤ last_br_ty → get_or cards (at + reply_count_place) 0 ≤ card_replies
-    → n ≡ text_length (at + list_data_place) cards → leb n longest_list_data ≡ card_in_range at cards
-unfolding card_in_range pick
-card-tested cards at n a b d e =
-    rw (le-leb (get_or cards at 0) last_kind a, le-leb (get_or cards (at + br_ty_place) 0) last_br_ty b, le-leb (get_or cards (at + reply_count_place) 0) card_replies d)
-    (ap (λ (m : ℕ). leb m longest_list_data) e)
+use Rattle.simulated_chip.specs.declared.chip.Chip.{Chip}
 
 -- ---- what a range says of each card and text
 
@@ -100,37 +86,25 @@ in_range_lem s cards sent replies h =
       replies_fit = f.1;
     }
 
--- the tests, one after the other
-module _ (s : State) (cards sent replies : List ℕ) where
-  pub range_count : most_cards < s.count → false ≡ in_range s cards sent replies
-  unfolding in_range pick
-  range_count h = rw (lt-leb s.count most_cards h)
+-- ---- the same of the whole chip
 
-  module _ (few : s.count ≤ most_cards) where
-    pub range_found : s.count < s.found → false ≡ in_range s cards sent replies
-    unfolding in_range pick
-    range_found h = rw (le-leb s.count most_cards few, lt-leb s.found s.count h)
+module _ (c : Chip) (ranged : chip_in_range c ≡ true) where
+  pub ranges : InRange c.state c.cards c.sent c.replies
+  ranges = in_range_lem c.state c.cards c.sent c.replies ranged
 
-    module _ (found : s.found ≤ s.count) where
-      pub range_on : 1 < s.on → false ≡ in_range s cards sent replies
-      unfolding in_range pick
-      range_on h = rw (le-leb s.count most_cards few, le-leb s.found s.count found, lt-leb s.on 1 h)
+  pub few_cards : c.state.count ≤ most_cards
+  few_cards = ranges.numbers.count
 
-      module _ (on : s.on ≤ 1) where
-        numbered : in_range s cards sent replies ≡ pick (cards_in_range cards) (pick (sent_in_range sent) (replies_in_range replies) false) false
-        unfolding in_range pick
-        numbered = rw (le-leb s.count most_cards few, le-leb s.found s.count found, le-leb s.on 1 on)
+  module _ (i : ℕ) (h : i < c.state.count) where
+    pub card_fits : CardRange (card_size * i) c.cards
+    card_fits = let f = few_cards in card_range c.cards i ranges.numbers.cards_fit (omega arith)
 
-        module _ (t : Bool) (cards-are : t ≡ cards_in_range cards) where
-          pub range_cards : t ≡ false → false ≡ in_range s cards sent replies
-          unfolding pick
-          range_cards h = sym (numbered ∙ rw (← cards-are, h))
+    pub list_data_fits : length c.cards ≡ most_cards * card_size → ShortText (card_size * i + list_data_place) longest_list_data c.cards
+    list_data_fits l = let f = few_cards in list_data_text c.cards i l ranges.numbers.cards_fit (omega arith)
 
-          module _ (cards_fit_lem : t ≡ true) (u : Bool) (sent-are : u ≡ sent_in_range sent) where
-            pub range_sent : u ≡ false → false ≡ in_range s cards sent replies
-            unfolding pick
-            range_sent h = sym (numbered ∙ rw (← cards-are, cards_fit_lem, ← sent-are, h))
+  module _ (j : ℕ) (h : j < places) where
+    pub sent_fits : text_length (sent_size * j) c.sent ≤ data_limit
+    sent_fits = text_range sent_size data_limit c.sent j ranges.sent_fit h
 
-            pub range_replies : u ≡ true → (r : Bool) → r ≡ replies_in_range replies → r ≡ in_range s cards sent replies
-            unfolding pick
-            range_replies h r e = e ∙ sym (numbered ∙ rw (← cards-are, cards_fit_lem, ← sent-are, h))
+    pub reply_fits : length c.replies ≡ places * reply_size → ShortText (reply_size * j) longest_reply c.replies
+    reply_fits l = reply_text c.replies j l ranges.replies_fit h

@@ -1,22 +1,26 @@
--- The turns of the loops that search a card or a reply.
-use Rattle.std.specs.Prelude.{◌≡◌, refl, Bool, ℕ, zero, suc, ◌+◌, ◌*◌, ◌-◌, ◌≤◌, ◌<◌, length, drop, get_or}
+-- Laws of the search for a card or a reply.
+use Rattle.std.specs.Prelude.{Option as Found, option_map, MatchOption, IfSome, is_some, Some, None, cond, ltb, ◌≡◌, refl, Bool, ℕ, zero, suc, ◌+◌, ◌*◌, ◌≤◌, ◌<◌, length, drop, get_or}
+use Rattle.std.specs.List.{range_with_len, position_from, position_or_len, find}
+use Rattle.std.proofs.lemmas.Iterator.Adapters.{position_from-zero, option_map_id}
 use Rattle.std.proofs.Math.Path.{sym, ap}
-use Rattle.std.proofs.Common.{ap₂, ◌∙◌, arith, length-drop}
+use Rattle.std.proofs.Common.{ap₂, ◌∙◌, arith}
 use Rattle.std.proofs.Math.Bool.{true, false}
 use mathlib.Core.List.{List}
-use Rattle.std.proofs.Math.Option.{Option, none}
+use Rattle.std.proofs.Math.Option.{Option, none, some}
 use Rattle.std.proofs.Math.Numerals.{add-one}
+use Rattle.std.proofs.lemmas.Bool.{false≢true}
 use borrow.Author.Tests.{eq-eqb, ne_eqb}
 use Rattle.errors.specs.Choice.{pick, same}
 use Rattle.chip_protocol.specs.Names.{most_cards, initiator_offset, br_ty_offset, type_a_initiator, type_b_initiator, type_f_initiator}
-use Rattle.simulated_chip.specs.Counted.{list_from, from_next, from_end}
-use Rattle.chip_protocol.specs.Field.{StatedReply, Card, kind_number, br_ty, is_at, reply_to}
-use Rattle.chip_protocol.specs.Chip.{first_from, first_place_of, searched, listed_place, partner_place}
-use Rattle.simulated_chip.specs.Memory.{card_size, sent_size, text_at_of, kind_at, bitrate_at, is_stored_at, stored_card, stated_at, reply_in, place_in}
-use Rattle.simulated_chip.specs.Range.{last_kind, last_br_ty, cards_in_range}
-use Rattle.simulated_chip.specs.RangeLaws.{card_range}
+use Rattle.simulated_chip.specs.Counted.{list_from}
+use Rattle.chip_protocol.specs.Field.{Card, kind_number, br_ty, is_at, reply_to, is_stated}
+use Rattle.chip_protocol.specs.Chip.{first_from, first_place_of, searched, listed_place}
+use Rattle.simulated_chip.specs.Memory.{card_size, sent_size, places, text_at_of, kind_at, bitrate_at, is_stored_at, stored_card, field_in, card_replies, reply_count_place, card_replies_in, stated_from, reply_at, reply_found, place_of}
+use Rattle.simulated_chip.specs.Range.{last_kind, last_br_ty, cards_in_range, chip_in_range}
+use Rattle.simulated_chip.specs.RangeLaws.{card_range, ranges, few_cards}
 use Rattle.chip_protocol.specs.declared.Kind.{Kind}
-use Rattle.chip_protocol.specs.declared.Kind.TheVariants.{Dep}
+use Rattle.chip_protocol.specs.declared.Kind.TheVariants.{TypeA, TypeB, TypeF}
+use Rattle.simulated_chip.specs.declared.chip.Chip.{Chip}
 
 pub kind_back : (n : ℕ) → n ≤ last_kind → kind_number (kind_at n) ≡ n
 unfolding kind_at pick
@@ -36,66 +40,59 @@ br_ty_back (suc (suc (suc (suc n)))) h = absurd (omega arith)
 
 -- ---- a card
 
-pub at_stored : (cards : List ℕ) (i kind code : ℕ) → cards_in_range cards ≡ true → i < most_cards → kind ≤ last_kind → (t : Bool) → t ≡ is_stored_at kind code (card_size * i) cards
-    → (sent replies : List ℕ) → is_at (kind_at kind) code (stored_card i cards sent replies) ≡ t
+at_stored : (cards : List ℕ) (i : ℕ) (k : Kind) (code : ℕ) → cards_in_range cards ≡ true → i < most_cards → (t : Bool) → t ≡ is_stored_at (kind_number k) code (card_size * i) cards
+    → (sent replies : List ℕ) → is_at k code (stored_card i cards sent replies) ≡ t
 unfolding is_at is_stored_at
-at_stored cards i kind code h k l t e sent replies =
-    let r = card_range cards i h k in
-    rw (kind_back (get_or cards (card_size * i) 0) r.kind, kind_back kind l, br_ty_back (get_or cards (card_size * i + 1) 0) r.br_ty) (sym e)
+at_stored cards i k code h few t e sent replies =
+    let r = card_range cards i h few in
+    rw (kind_back (get_or cards (card_size * i) 0) r.kind, br_ty_back (get_or cards (card_size * i + 1) 0) r.br_ty) (sym e)
 
-pub first-start : (k : Kind) (code : ℕ) (f : ℕ → Card) (n : ℕ) → first_from 0 k code (list_from f n 0) ≡ first_from 0 k code (list_from f (n - 0) 0)
-first-start k code f n = ap (λ (m : ℕ). first_from 0 k code (list_from f m 0)) count
+-- the place that the library finds in a range is that of the definition
+position_is : (k : Kind) (code : ℕ) (f : ℕ → Card) (test : ℕ → Bool) (n i : ℕ) → ((j : ℕ) → j < i + n → is_at k code (f j) ≡ test j)
+    → place_of (position_from test i (range_with_len i n)) ≡ first_from i k code (list_from f n i)
+unfolding first_from list_from pick
+position_is k code f test zero i h = refl
+position_is k code f test (suc n) i h =
+    rw (h i (omega arith))
+    (go (test i) (ap (λ (j : ℕ). place_of (position_from test j (range_with_len j n))) (add-one i) ∙ position_is k code f test n (suc i) (λ j q. h j (omega arith))))
   where
-    count : n ≡ n - 0
-    count = omega arith
+    go : (t : Bool) → place_of (position_from test (i + 1) (range_with_len (i + 1) n)) ≡ first_from (suc i) k code (list_from f n (suc i))
+        → place_of (cond t (Some i) (position_from test (i + 1) (range_with_len (i + 1) n))) ≡ pick t (some i) (first_from (suc i) k code (list_from f n (suc i)))
+    go true e = refl
+    go false e = e
 
-module _ (k : Kind) (code : ℕ) (f : ℕ → Card) (n i : ℕ) (o : Option ℕ) (so_far : o ≡ first_from i k code (list_from f (n - i) i)) where
-  pub first_turn : i < n → is_at k code (f i) ≡ false → o ≡ first_from (i + 1) k code (list_from f (n - (i + 1)) (i + 1))
-  unfolding first_from pick
-  first_turn h e = so_far ∙ ap (first_from i k code) (from_next f n i h) ∙ rw (e, add-one i)
+abbrev pub stored_test : Chip → Kind → ℕ → ℕ → Bool
+stored_test c k code i = is_stored_at (kind_number k) code (card_size * i) c.cards
 
-  pub first_here : i < n → is_at k code (f i) ≡ true → place_in (i + 1) ≡ o
-  unfolding first_from pick
-  first_here h e = sym (so_far ∙ ap (first_from i k code) (from_next f n i h) ∙ rw (e, add-one i))
-
-  pub first-end : n ≤ i → place_in 0 ≡ o
-  unfolding first_from
-  first-end h = sym (so_far ∙ ap (first_from i k code) (from_end f n i h))
+pub first_found : (c : Chip) (k : Kind) (code : ℕ) (r : Found ℕ) → chip_in_range c ≡ true
+    → r ≡ cond (ltb (position_or_len (stored_test c k code) (range_with_len 0 c.state.count)) (length (range_with_len 0 c.state.count))) (Some (position_or_len (stored_test c k code) (range_with_len 0 c.state.count))) None
+    → place_of r ≡ first_place_of k code (field_in c)
+first_found c k code r ranged e =
+    ap place_of (e ∙ position_from-zero (stored_test c k code) (range_with_len 0 c.state.count))
+    ∙ position_is k code (λ (i : ℕ). stored_card i c.cards c.sent c.replies) (stored_test c k code) c.state.count 0
+    (λ j q. let f = few_cards c ranged in at_stored c.cards j k code (ranges c ranged).numbers.cards_fit (omega arith) _ refl c.sent c.replies)
 
 -- ---- a reply
 
-module _ (sent replies bytes : List ℕ) (n i : ℕ) (o : Option (List ℕ)) (so_far : o ≡ reply_to (list_from (λ (j : ℕ). stated_at j sent replies) (n - i) i) bytes) where
-  pub reply_turn : i < n → (text : List ℕ) → text ≡ text_at_of (sent_size * i) sent → (t : Bool) → t ≡ same text bytes → t ≡ false → o ≡ reply_to (list_from (λ (j : ℕ). stated_at j sent replies) (n - (i + 1)) (i + 1)) bytes
-  unfolding reply_to pick
-  reply_turn h text p t q k =
-      let e : same (text_at_of (sent_size * i) sent) bytes ≡ false = ap (λ (l : List ℕ). same l bytes) (sym p) ∙ sym q ∙ k in
-      so_far ∙ ap (λ (l : List StatedReply). reply_to l bytes) (from_next (λ (j : ℕ). stated_at j sent replies) n i h) ∙ rw (e, add-one i)
+abbrev pub sent_test : List ℕ → List ℕ → ℕ → Bool
+sent_test sent bytes j = same (text_at_of (sent_size * j) sent) bytes
 
-  pub reply_here : i < n → (text : List ℕ) → text ≡ text_at_of (sent_size * i) sent → (t : Bool) → t ≡ same text bytes → t ≡ true → reply_in (i + 1) replies ≡ o
-  unfolding reply_to pick
-  reply_here h text p t q k =
-      let e : same (text_at_of (sent_size * i) sent) bytes ≡ true = ap (λ (l : List ℕ). same l bytes) (sym p) ∙ sym q ∙ k in
-      sym (so_far ∙ ap (λ (l : List StatedReply). reply_to l bytes) (from_next (λ (j : ℕ). stated_at j sent replies) n i h) ∙ rw (e, add-one i))
-
-  pub reply-end : n ≤ i → reply_in 0 replies ≡ o
-  unfolding reply_to
-  reply-end h = sym (so_far ∙ ap (λ (l : List StatedReply). reply_to l bytes) (from_end (λ (j : ℕ). stated_at j sent replies) n i h))
-
--- ---- the initiator data's length
-
-pub initiator_none : (b : List ℕ) → length b < initiator_offset → 0 ≡ length (drop initiator_offset b)
-initiator_none b h = rw (length-drop initiator_offset b) (omega arith)
-
-pub initiator_some : (b : List ℕ) → length b - initiator_offset ≡ length (drop initiator_offset b)
-initiator_some b = sym (length-drop initiator_offset b)
-
--- the replies from the first on
-pub replies-left : (sent replies bytes : List ℕ) (n first : ℕ)
-    → reply_to (list_from (λ (j : ℕ). stated_at j sent replies) n first) bytes ≡ reply_to (list_from (λ (j : ℕ). stated_at j sent replies) (first + n - first) first) bytes
-replies-left sent replies bytes n first = ap (λ (m : ℕ). reply_to (list_from (λ (j : ℕ). stated_at j sent replies) m first) bytes) count
+pub reply_is : (sent replies bytes : List ℕ) (n i : ℕ) → reply_found (find (sent_test sent bytes) (range_with_len i n)) replies ≡ reply_to (stated_from n i sent replies) bytes
+unfolding reply_to list_from pick
+reply_is sent replies bytes zero i = refl
+reply_is sent replies bytes (suc n) i =
+    go (sent_test sent bytes i) (ap (λ (j : ℕ). reply_found (find (sent_test sent bytes) (range_with_len j n)) replies) (add-one i) ∙ reply_is sent replies bytes n (suc i))
   where
-    count : n ≡ first + n - first
-    count = omega arith
+    go : (t : Bool) → reply_found (find (sent_test sent bytes) (range_with_len (i + 1) n)) replies ≡ reply_to (stated_from n (suc i) sent replies) bytes
+        → reply_found (cond t (Some i) (find (sent_test sent bytes) (range_with_len (i + 1) n))) replies ≡ pick t (some (reply_at i replies)) (reply_to (stated_from n (suc i) sent replies) bytes)
+    go true e = refl
+    go false e = e
+
+pub reply_searched : (c : Chip) (card : ℕ) (bytes : List ℕ) (first n : ℕ) (r : Found ℕ) → first ≡ card_replies * card → n ≡ get_or c.cards (card_size * card + reply_count_place) 0
+    → option_map (λ (x : ℕ). x) r ≡ find (sent_test c.sent bytes) (range_with_len first n) → reply_to (card_replies_in card c) bytes ≡ reply_found r c.replies
+reply_searched c card bytes first n r p q e =
+    sym (ap (λ (o : Found ℕ). reply_found o c.replies) (sym (option_map_id r) ∙ e) ∙ reply_is c.sent c.replies bytes n first
+    ∙ ap₂ (λ (m i : ℕ). reply_to (stated_from m i c.sent c.replies) bytes) q p)
 
 -- ---- which search it is
 
@@ -103,24 +100,31 @@ module _ (f : List Card) (b : List ℕ) (code n : ℕ) (o : Option ℕ) (coded :
   asked : o ≡ searched f code n → o ≡ listed_place f b
   asked e = e ∙ ap₂ (searched f) coded counted
 
-  pub listed_a : n ≡ type_a_initiator → o ≡ first_place_of (kind_at 0) code f → o ≡ listed_place f b
-  unfolding searched kind_at pick
+  pub listed_a : n ≡ type_a_initiator → o ≡ first_place_of TypeA code f → o ≡ listed_place f b
+  unfolding searched pick
   listed_a h e = asked (rw (eq-eqb n type_a_initiator h) e)
 
-  module _ (not_a : n ≡ type_a_initiator → ⊥) where
-    pub listed_b : n ≡ type_b_initiator → o ≡ first_place_of (kind_at 1) code f → o ≡ listed_place f b
-    unfolding searched kind_at pick
-    listed_b h e = asked (rw (ne_eqb n type_a_initiator not_a, eq-eqb n type_b_initiator h) e)
+  pub listed_b : n ≡ type_b_initiator → o ≡ first_place_of TypeB code f → o ≡ listed_place f b
+  unfolding searched pick
+  listed_b h e = asked (rw h e)
 
-    module _ (not-b : n ≡ type_b_initiator → ⊥) where
-      pub listed_f : n ≡ type_f_initiator → o ≡ first_place_of (kind_at 2) code f → o ≡ listed_place f b
-      unfolding searched kind_at pick
-      listed_f h e = asked (rw (ne_eqb n type_a_initiator not_a, ne_eqb n type_b_initiator not-b, eq-eqb n type_f_initiator h) e)
+  pub listed_f : n ≡ type_f_initiator → o ≡ first_place_of TypeF code f → o ≡ listed_place f b
+  unfolding searched pick
+  listed_f h e = asked (rw h e)
 
-      pub listed_none : (n ≡ type_f_initiator → ⊥) → o ≡ none → o ≡ listed_place f b
-      unfolding searched pick
-      listed_none not_f e = asked (rw (ne_eqb n type_a_initiator not_a, ne_eqb n type_b_initiator not-b, ne_eqb n type_f_initiator not_f) e)
+  pub listed_none : (n ≡ type_a_initiator → ⊥) → (n ≡ type_b_initiator → ⊥) → (n ≡ type_f_initiator → ⊥) → o ≡ none → o ≡ listed_place f b
+  unfolding searched pick
+  listed_none not_a not-b not_f e = asked (rw (ne_eqb n type_a_initiator not_a, ne_eqb n type_b_initiator not-b, ne_eqb n type_f_initiator not_f) e)
 
-pub partner-found : (f : List Card) (b : List ℕ) (code : ℕ) (o : Option ℕ) → code ≡ get_or b br_ty_offset 0 → o ≡ first_place_of (kind_at 3) code f → o ≡ partner_place f b
-unfolding kind_at pick
-partner-found f b code o coded e = e ∙ ap (λ (k : ℕ). first_place_of Dep k f) coded
+-- what is found in a range is below its end
+pub below_places : (r : Found ℕ) (first end : ℕ) → end ≤ places → (N : Type 0) (Y Z : ℕ → Type 0) → MatchOption r N (λ i. (first ≤ i) × (i < end) × Y i × Z i) → IfSome r (λ j. j < places)
+below_places None first end h N Y Z m = tt
+below_places (Some i) first end h N Y Z m = let k = m.1 in omega arith
+
+pub some_stated : (r : Found ℕ) (replies : List ℕ) (o : Option (List ℕ)) → o ≡ reply_found r replies → is_some r ≡ true → is_stated o ≡ true
+some_stated None replies o e h = absurd (false≢true h)
+some_stated (Some j) replies o e h = ap is_stated e
+
+pub none_stated : (r : Found ℕ) (replies : List ℕ) (o : Option (List ℕ)) → o ≡ reply_found r replies → is_some r ≡ false → o ≡ none
+none_stated None replies o e h = e
+none_stated (Some j) replies o e h = absurd (false≢true (sym h))

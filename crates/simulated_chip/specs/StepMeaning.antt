@@ -1,5 +1,5 @@
 -- What a step on the memory means: the step of the definitions' chip, and a chip that stays in range.
-use Rattle.std.specs.Prelude.{◌≡◌, refl, Bool, eqb, length, take, drop, get_or}
+use Rattle.std.specs.Prelude.{◌≡◌, Some, None, Ok, Err, refl, Bool, eqb, length, take, drop, get_or}
 use Rattle.std.proofs.Math.Path.{sym, ap}
 use Rattle.std.proofs.Common.{ap₂, ◌∙◌, arith}
 use Rattle.std.proofs.Math.Bool.{true, false}
@@ -19,18 +19,16 @@ use Rattle.simulated_chip.specs.Counted.{length_from}
 use Rattle.simulated_chip.specs.Memory.{stored_card, place_in, place_number, bit, state_in, numbers_of}
 use Rattle.simulated_chip.specs.Range.{in_range}
 use Rattle.simulated_chip.specs.RangeLaws.{in_range_lem}
-use Rattle.simulated_chip.specs.Steps.{AfterStep, command_step, received_step, step_in}
+use Rattle.simulated_chip.specs.Steps.{Answer, AfterStep, command_step, received_step, step_in}
 use Rattle.chip_protocol.specs.declared.Kind.{Kind}
 use Rattle.chip_protocol.specs.declared.Kind.TheVariants.{TypeA, TypeB, TypeF, Dep}
 use Rattle.simulated_chip.specs.declared.chip.State.{State}
-use Rattle.simulated_chip.specs.declared.chip.Answer.{Answer}
-use Rattle.simulated_chip.specs.declared.chip.Answer.TheVariants.{Nothing, Packets, Refused}
 
 -- the packets that an answer stands for, with the buffer beside it
 abbrev pub packets_in : Answer → List ℕ → List (List ℕ)
-packets_in Nothing b = []
-packets_in (Packets n) b = ack ∷ take n b ∷ []
-packets_in (Refused e) b = []
+packets_in (Ok None) b = []
+packets_in (Ok (Some n)) b = ack ∷ take n b ∷ []
+packets_in (Err e) b = []
 
 -- ---- places that a search finds
 

@@ -46,6 +46,7 @@ pub const SENT_MEMORY_SIZE: usize = PLACES * SENT_SIZE;
 pub const REPLY_MEMORY_SIZE: usize = PLACES * REPLY_SIZE;
 
 // The kinds in memory.
+// Kept: numbers and no enum, since they stand in the chip's memory, which C lends.
 pub const TYPE_A_NUMBER: u8 = 0;
 
 pub const TYPE_B_NUMBER: u8 = 1;
@@ -93,6 +94,7 @@ pub const IN_JUMP_FOR_DEP_CODE: u8 = 0x56;
 pub const FIRMWARE_VERSION: [u8; 4] = [0x33, 0x01, 0x30, 0x07];
 
 // Status bytes.
+// Kept: status bytes of the manual, which stand in packets.
 pub const SUCCESS_STATUS: u8 = 0x00;
 
 pub const TIMEOUT_STATUS: u8 = 0x01;

@@ -1,105 +1,112 @@
-// The search for a card in the field, and for a card's reply. A place is told by the number behind it, and 0 is none.
-#![tactic(auto, using(errors::specs::Rules::picks), unfolding(errors::specs::Choice::pick, chip_protocol::specs::Field::reply_to, crate::specs::Memory::is_stored_at, crate::specs::Memory::kind_at))]
+// The search for a card in the field, and for a card's reply.
+#![tactic(auto, using(errors::specs::Rules::picks, crate::specs::RangeLaws::few_cards), unfolding(errors::specs::Choice::pick, chip_protocol::specs::Field::reply_to, crate::specs::Memory::is_stored_at))]
 
-ghost use Rattle.std.specs.Prelude.{◌≡◌, List, Bool, ℕ, ◌+◌, ◌≤◌, length, drop};
-ghost use Rattle.chip_protocol.specs.Names.{most_cards, initiator_offset};
-ghost use Rattle.simulated_chip.specs.Memory.{card_size, kind_at, is_stored_at, cards_in, place_in, places, stated_from, reply_in};
-ghost use Rattle.simulated_chip.specs.Range.{last_kind, cards_in_range, sent_in_range};
-ghost use Rattle.chip_protocol.specs.Field.{reply_to};
+ghost use Rattle.std.specs.Prelude.{◌≡◌, ◌+◌, ◌*◌, ◌≤◌, ◌<◌, length, drop, get_or, IfSome, MatchOption};
+ghost use Rattle.std.proofs.Math.Option.{none, some};
+ghost use Rattle.chip_protocol.specs.Names.{initiator_offset, longest_list_data, longest_reply};
+ghost use Rattle.chip_protocol.specs.Field.{kind_number, reply_to};
 ghost use Rattle.chip_protocol.specs.Chip.{first_place_of, listed_place, partner_place};
+ghost use Rattle.simulated_chip.specs.Memory.{card_size, card_replies, reply_count_place, is_stored_at, field_in, place_of, text_at_of, list_data_place, card_replies_in, places, reply_found};
 
-use super::memory::{byte_at, text_at};
+use super::Kind;
+use super::memory::text_at;
 use super::names::{
-    BR_TY_OFFSET, CARD_SIZE, CARDS_SIZE, DEP_NUMBER, INITIATOR_OFFSET, SEARCH_BR_TY_OFFSET,
-    SENT_MEMORY_SIZE, SENT_SIZE, TYPE_A_INITIATOR, TYPE_A_NUMBER, TYPE_B_INITIATOR, TYPE_B_NUMBER,
-    TYPE_F_INITIATOR, TYPE_F_NUMBER,
+    BR_TY_OFFSET, CARD_SIZE, INITIATOR_OFFSET, LIST_DATA_OFFSET, REPLY_COUNT_OFFSET, REPLY_LIMIT,
+    REPLY_SIZE, SEARCH_BR_TY_OFFSET, SENT_SIZE, TYPE_A_INITIATOR, TYPE_B_INITIATOR,
+    TYPE_F_INITIATOR,
 };
+use super::range::Ranged;
 
 // Whether the card that starts at a place is of the kind, at the bitrate that has this code.
-fn is_at(cards: &[u8], at: usize, kind: u8, code: u8) -> bool
+fn is_at(cards: &[u8], at: usize, kind: Kind, code: u8) -> bool
     requires { at + card_size ≤ length cards.now }
-    ensures { result ≡ is_stored_at kind code at cards.now }
+    ensures { result ≡ is_stored_at (kind_number kind) code at cards.now }
 {
-    if cards[at] == kind {
-        return cards[at + BR_TY_OFFSET] == code;
-    }
-    false
-}
-
-// The first card of the kind, at the bitrate that has this code.
-fn first_place(cards: &[u8; CARDS_SIZE], count: usize, kind: u8, code: u8) -> usize
-    requires { (count ≤ most_cards) × (kind ≤ last_kind) × (cards_in_range cards.now ≡ Bool.true) }
-    ensures { (result ≤ count) × ((sent replies : List ℕ) → place_in result ≡ first_place_of (kind_at kind) code (cards_in count cards.now sent replies)) }
-{
-    let mut i = 0;
-    while i < count {
-        if is_at(cards, CARD_SIZE * i, kind, code) {
-            return i + 1;
-        }
-        i += 1;
-    }
-    0
+    cards[at] == u8::from(kind) && cards[at + BR_TY_OFFSET] == code
 }
 
 // How long the initiator data is.
 fn initiator_length(bytes: &[u8]) -> usize
     ensures { result ≡ length (drop initiator_offset bytes.now) }
 {
-    if bytes.len() < INITIATOR_OFFSET {
-        return 0;
-    }
-    bytes.len() - INITIATOR_OFFSET
+    bytes.len().saturating_sub(INITIATOR_OFFSET)
 }
 
-// InListPassiveTarget.
-pub(crate) fn listed_place(cards: &[u8; CARDS_SIZE], count: usize, bytes: &[u8]) -> usize
-    requires { (count ≤ most_cards) × (cards_in_range cards.now ≡ Bool.true) }
-    ensures { (result ≤ count) × ((sent replies : List ℕ) → place_in result ≡ listed_place (cards_in count cards.now sent replies) bytes.now) }
+// The code of the bitrate that a search has.
+fn code_searched(bytes: &[u8]) -> u8
+    ensures { result ≡ get_or bytes.now 1 0 }
 {
-    let code = byte_at(bytes, SEARCH_BR_TY_OFFSET);
-    let initiator = initiator_length(bytes);
-    if initiator == TYPE_A_INITIATOR {
-        return first_place(cards, count, TYPE_A_NUMBER, code);
-    }
-    if initiator == TYPE_B_INITIATOR {
-        return first_place(cards, count, TYPE_B_NUMBER, code);
-    }
-    if initiator == TYPE_F_INITIATOR {
-        return first_place(cards, count, TYPE_F_NUMBER, code);
-    }
-    0
+    bytes.get(SEARCH_BR_TY_OFFSET).copied().unwrap_or(0)
 }
 
-// InJumpForDEP.
-pub(crate) fn partner_place(cards: &[u8; CARDS_SIZE], count: usize, bytes: &[u8]) -> usize
-    requires { (count ≤ most_cards) × (cards_in_range cards.now ≡ Bool.true) }
-    ensures { (result ≤ count) × ((sent replies : List ℕ) → place_in result ≡ partner_place (cards_in count cards.now sent replies) bytes.now) }
-{
-    first_place(
-        cards,
-        count,
-        DEP_NUMBER,
-        byte_at(bytes, SEARCH_BR_TY_OFFSET),
-    )
-}
+impl<'a> Ranged<'a> {
+    // The first card of the kind, at the bitrate that has this code.
+    fn first_place(self, kind: Kind, code: u8) -> Option<usize>
+        ensures count { IfSome result (λ i. i < self.entry.chip.now.state.count) }
+        ensures place { place_of result ≡ first_place_of kind code (field_in self.entry.chip.now) }
+    {
+        let chip = self.chip;
+        (0..usize::from(chip.state.count)).position(|i| is_at(
+            &chip.cards,
+            CARD_SIZE * i,
+            kind,
+            code,
+        ))
+    }
 
-// The first of `count` replies, from the one at `first` on, that is to these bytes.
-pub(crate) fn reply_place(
-    sent: &[u8; SENT_MEMORY_SIZE],
-    first: usize,
-    count: usize,
-    bytes: &[u8],
-) -> usize
-    requires { (first + count ≤ places) × (sent_in_range sent.now ≡ Bool.true) }
-    ensures { (result ≤ places) × ((replies : List ℕ) → reply_in result replies ≡ reply_to (stated_from count first sent.now replies) bytes.now) }
-{
-    let mut i = first;
-    let end = first + count;
-    while i < end {
-        if framing::is_exactly(bytes, text_at(sent, SENT_SIZE * i)) {
-            return i + 1;
+    // InListPassiveTarget.
+    pub(crate) fn listed_place(self, bytes: &[u8]) -> Option<usize>
+        ensures count { IfSome result (λ i. i < self.entry.chip.now.state.count) }
+        ensures place { place_of result ≡ listed_place (field_in self.entry.chip.now) bytes.now }
+    {
+        let code = code_searched(bytes);
+        match initiator_length(bytes) {
+            TYPE_A_INITIATOR => self.first_place(Kind::TypeA, code),
+            TYPE_B_INITIATOR => self.first_place(Kind::TypeB, code),
+            TYPE_F_INITIATOR => self.first_place(Kind::TypeF, code),
+            _ => None,
         }
-        i += 1;
     }
-    0
+
+    // InJumpForDEP.
+    pub(crate) fn partner_place(self, bytes: &[u8]) -> Option<usize>
+        ensures count { IfSome result (λ i. i < self.entry.chip.now.state.count) }
+        ensures place { place_of result ≡ partner_place (field_in self.entry.chip.now) bytes.now }
+    {
+        self.first_place(Kind::Dep, code_searched(bytes))
+    }
+
+    // The list data of a card.
+    pub(crate) fn list_data(self, card: usize) -> &'a [u8]
+        requires { card < self.chip.now.state.count }
+        ensures text { result.now ≡ text_at_of (card_size * card + list_data_place) self.entry.chip.now.cards }
+        ensures short { length result.now ≤ longest_list_data }
+    {
+        text_at(&self.chip.cards, CARD_SIZE * card + LIST_DATA_OFFSET)
+    }
+
+    // The place of the first of a card's replies that is to these bytes.
+    pub(crate) fn reply_place(self, card: usize, bytes: &[u8]) -> Option<usize>
+        requires { card < self.chip.now.state.count }
+        ensures reply { reply_to (card_replies_in card self.entry.chip.now) bytes.now ≡ reply_found result self.entry.chip.now.replies }
+        ensures few { IfSome result (λ j. j < places) }
+    {
+        let chip = self.chip;
+        let first = REPLY_LIMIT * card;
+        let count = usize::from(chip.cards[CARD_SIZE * card + REPLY_COUNT_OFFSET]);
+        (first..first + count).find(|&i| framing::is_exactly(
+            bytes,
+            text_at(&chip.sent, SENT_SIZE * i),
+        ))
+    }
+
+    // The first of a card's replies that is to these bytes.
+    pub(crate) fn reply(self, card: usize, bytes: &[u8]) -> Option<&'a [u8]>
+        requires { card < self.chip.now.state.count }
+        ensures stated { MatchOption result (reply_to (card_replies_in card self.entry.chip.now) bytes.now ≡ none) (λ r. reply_to (card_replies_in card self.entry.chip.now) bytes.now ≡ some r.now) }
+        ensures short { IfSome result (λ r. length r.now ≤ longest_reply) }
+    {
+        let place = self.reply_place(card, bytes)?;
+        Some(text_at(&self.chip.replies, REPLY_SIZE * place))
+    }
 }

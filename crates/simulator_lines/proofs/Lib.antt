@@ -1,3 +1,2 @@
-pub mod RequestLaws
 pub mod RingLaws
 pub mod PlayLaws

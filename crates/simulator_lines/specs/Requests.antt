@@ -1,5 +1,5 @@
 -- What a line of the program `simulator` asks for: a line of `chip` but `frame`, the trace on or off, or a call of `session`. An event is no line here.
-use Rattle.std.specs.Prelude.{ℕ, Bool, true, false, List, length, nat_lt}
+use Rattle.std.specs.Prelude.{Option, Some, None, ℕ, Bool, true, false, List, length, nat_lt}
 use Rattle.errors.specs.Choice.{pick, same}
 use Rattle.targets.specs.Bitrates.{ascii}
 use Rattle.bench_input.specs.Arguments.{line_limit, word_at}
@@ -7,7 +7,7 @@ use Rattle.bench_input.specs.Readings.{input_in}
 use Rattle.bench_input.specs.Table.{Said, calls, happens, unreadable, input_of}
 use Rattle.bench_input.specs.declared.Input.TheVariants.{Call as CallInput}
 use Rattle.simulator_lines.specs.declared.request.Request.{Request}
-use Rattle.simulator_lines.specs.declared.request.Request.TheVariants.{Field, Trace, Call, Unreadable}
+use Rattle.simulator_lines.specs.declared.request.Request.TheVariants.{Field, Trace, Call}
 
 pub data Asked : Type 0 where
   changes_field : Asked
@@ -32,8 +32,8 @@ asked_of l =
     (pick (same (ascii "trace off") l) (traces false) (on_said (input_of l)))))
 
 -- the same of what was read, with the bytes of a call's arguments in b
-abbrev pub asked_in : List ℕ → Request → Asked
-asked_in b Field = changes_field
-asked_in b (Trace t) = traces t
-asked_in b (Call number n e) = starts (input_in b (CallInput number n e))
-asked_in b Unreadable = nothing
+abbrev pub asked_in : List ℕ → Option Request → Asked
+asked_in b (Some Field) = changes_field
+asked_in b (Some (Trace t)) = traces t
+asked_in b (Some (Call number n e)) = starts (input_in b (Some (CallInput number n e)))
+asked_in b None = nothing

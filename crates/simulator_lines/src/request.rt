@@ -14,41 +14,34 @@ pub enum Request {
     Field,
     Trace(bool),
     Call(u8, Numbers, Ends),
-    Unreadable,
 }
 
 fn is_field_name(word: &[u8]) -> bool
     ensures { result ≡ is_field_name_of word.now }
 {
-    if framing::is_exactly(word, b"fresh") {
-        return true;
-    }
-    if framing::is_exactly(word, b"card") {
-        return true;
-    }
-    framing::is_exactly(word, b"reply")
+    framing::is_exactly(word, b"fresh")
+        || framing::is_exactly(word, b"card")
+        || framing::is_exactly(word, b"reply")
 }
 
 // What the line asks for; the byte strings of a call stand in the array. Where it is no call, all bytes of the array are free.
-pub(crate) fn read(line: &[u8], bytes: &mut [u8; BYTES_ROOM]) -> Request
+pub(crate) fn read(line: &[u8], bytes: &mut [u8; BYTES_ROOM]) -> Option<Request>
     ensures { asked_in bytes.new result ≡ asked_of line.now }
 {
     if LINE_LIMIT < line.len() {
-        return Request::Unreadable;
+        return None;
     }
     if is_field_name(words::word(line, 0)) {
-        return Request::Field;
+        return Some(Request::Field);
     }
     if framing::is_exactly(line, b"trace on") {
-        return Request::Trace(true);
+        return Some(Request::Trace(true));
     }
     if framing::is_exactly(line, b"trace off") {
-        return Request::Trace(false);
+        return Some(Request::Trace(false));
     }
-    let input = bench_input::read(line, bytes);
-    match input {
-        Input::Call(number, numbers, ends) => Request::Call(number, numbers, ends),
-        Input::Event(_, _) => Request::Unreadable,
-        Input::Unreadable => Request::Unreadable,
+    match bench_input::read(line, bytes)? {
+        Input::Call(number, numbers, ends) => Some(Request::Call(number, numbers, ends)),
+        Input::Event(_, _) => None,
     }
 }

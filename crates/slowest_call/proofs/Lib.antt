@@ -1,5 +1,4 @@
 mod LineLaws
-mod PlaceLaws
 mod ScriptLaws
 -- the theorem; the same of a machine, of the engine and the host's entries
 pub mod Theorem

@@ -2,7 +2,7 @@
 use mathlib.Core.Path.{◌≡◌, refl, sym, ap, ap₂, ◌∙◌}
 use mathlib.Core.Bool.{Bool, true, false, false≢true}
 use mathlib.Core.List.{List, [], ◌∷◌, ◌++◌}
-use mathlib.Core.Option.{Option, none, some}
+use Rattle.std.specs.Prelude.{Option, None, Some}
 use Prim.Native.Nat.{ℕ, ◌+◌, ◌≤◌, ◌<◌}
 use native.Mathlib.Nat.{zero-add}
 use native.Mathlib.Omega.{arith}
@@ -18,18 +18,16 @@ use Rattle.framing.specs.Build.{Left, left}
 use Rattle.targets.specs.Bitrates.{ascii}
 use Rattle.bench.specs.DecimalLaws.{decimal_short}
 use Rattle.bench.specs.Lines.{feed}
-use Rattle.bench.specs.Numbers.{number_of, number_in}
+use Rattle.bench.specs.Numbers.{number_of}
 use Rattle.bench.specs.TextLaws.{both-put, appended, at-start}
-use Rattle.bench.specs.Texts.{returned, over, placed, placed_at, put_at, decimal_of, Appends}
+use Rattle.bench.specs.Texts.{over, placed, placed_at, put_at, decimal_of, Appends}
 use Rattle.bench.specs.Words.{words_of_lem}
-use Rattle.bench.specs.declared.Put.{Put}
-use Rattle.bench.specs.declared.Put.TheVariants.{Bytes, Refused}
 use Rattle.bench.specs.declared.lines.Line.{Line}
 use Rattle.bench.specs.declared.lines.Line.TheVariants.{Text, OverLong as LongLine, End}
-use Rattle.bench.specs.declared.number.Number.{Number}
 use Rattle.slowest_call.specs.Kinds.{Kind, kinds}
 use Rattle.slowest_call.specs.Tables.{kind_in}
-use Rattle.slowest_call.specs.declared.table.KindFound.{KindFound}
+use Rattle.std.specs.Prelude.{Result, Ok, Err}
+use Rattle.errors.specs.Refusals.{returned}
 use Rattle.slowest_call.specs.Texts.{script_text, kind_named_of, kind_count, kind_at, idle_limit, script_limit, script_room, script_of, refused_text, text_by, answer_text, line_text}
 use Rattle.slowest_call.proofs.ScriptLaws.{script_short}
 
@@ -59,10 +57,10 @@ refused_shown e m b o₁ o₂ r₁ r₂ c p q size =
 -- ---- the cases of a line
 
 -- what was found by a word of the line
-pub kind_by : (l w : List ℕ) (r : KindFound) (k : Option Kind) → w ≡ get_or (words_of_lem l) 0 [] → kind_in r ≡ kind_named_of kinds w → kind_in r ≡ k → kind_named_of kinds (get_or (words_of_lem l) 0 []) ≡ k
+pub kind_by : (l w : List ℕ) (r : Option ℕ) (k : Option Kind) → w ≡ get_or (words_of_lem l) 0 [] → kind_in r ≡ kind_named_of kinds w → kind_in r ≡ k → kind_named_of kinds (get_or (words_of_lem l) 0 []) ≡ k
 kind_by l w r k e f g = ap (kind_named_of kinds) (sym e) ∙ sym f ∙ g
 
-pub number_by : (l w : List ℕ) (r : Number) (n : Option ℕ) → w ≡ get_or (words_of_lem l) 1 [] → number_in r ≡ number_of w → number_in r ≡ n → number_of (get_or (words_of_lem l) 1 []) ≡ n
+pub number_by : (l w : List ℕ) (r : Option ℕ) (n : Option ℕ) → w ≡ get_or (words_of_lem l) 1 [] → r ≡ number_of w → r ≡ n → number_of (get_or (words_of_lem l) 1 []) ≡ n
 number_by l w r n e f g = ap number_of (sym e) ∙ sym f ∙ g
 
 module _ (l : List ℕ) where
@@ -85,14 +83,14 @@ module _ (l : List ℕ) where
     shown-other h s = shown_by _ _ b o r (not-two h) s
 
     module _ (two : length (words_of_lem l) ≡ 2) where
-      pub shown_no_kind : kind_named_of kinds name ≡ none → Shown (refused_text BadArgument) b r o → Shown (answer_text l) b r o
+      pub shown_no_kind : kind_named_of kinds name ≡ None → Shown (refused_text BadArgument) b r o → Shown (answer_text l) b r o
       shown_no_kind e s = shown_by _ _ b o r (ap (λ k. text_by k (number_of number)) (sym e) ∙ by-words two) s
 
-      module _ (n : ℕ) (kind : kind_named_of kinds name ≡ some (kind_at n)) where
-        pub shown_no_number : number_of number ≡ none → Shown (refused_text BadArgument) b r o → Shown (answer_text l) b r o
+      module _ (n : ℕ) (kind : kind_named_of kinds name ≡ Some (kind_at n)) where
+        pub shown_no_number : number_of number ≡ None → Shown (refused_text BadArgument) b r o → Shown (answer_text l) b r o
         shown_no_number e s = shown_by _ _ b o r (ap₂ text_by (sym kind) (sym e) ∙ by-words two) s
 
-        module _ (idle : ℕ) (many : number_of number ≡ some idle) (within : n < kind_count) where
+        module _ (idle : ℕ) (many : number_of number ≡ Some idle) (within : n < kind_count) where
           by-script : pick (ltb idle_limit idle) (refused_text OverLong) (script_text (kind_at n) idle) ≡ answer_text l
           by-script = ap₂ text_by (sym kind) (sym many) ∙ by-words two
 
@@ -115,7 +113,7 @@ module _ (l : List ℕ) where
           unfolding script_of pick
           by_kind = rw (lt-ltb n kind_count within)
 
-          pub shown-script : (p : Put) → left (returned p) o ≡ script_of n idle b → p ≡ Bytes r → Shown (answer_text l) b r o
+          pub shown-script : (p : Result ℕ Refusal) → left (returned p) o ≡ script_of n idle b → p ≡ Ok r → Shown (answer_text l) b r o
           unfolding returned pick isAnswered place_in
           shown-script p e d = shown_by _ _ b o r by-script (go (ltb idle_limit idle) refl (ap (λ x. left (returned x) o) (sym d) ∙ e ∙ by_kind))
             where
@@ -127,7 +125,7 @@ module _ (l : List ℕ) where
                   (ap₂ placed (m ∙ sym (zero-add (length t))) (ap (λ x. x.buffer) f), omega (arith, script_short n idle within (ltb-false idle_limit idle q)))
 
           -- a script that is refused leaves the buffer as it was
-          pub refused_script : (p : Put) (e : Refusal) (a : List ℕ) → left (returned p) a ≡ script_of n idle b → p ≡ Refused e → Shown (refused_text e) a r o → Shown (answer_text l) b r o
+          pub refused_script : (p : Result ℕ Refusal) (e : Refusal) (a : List ℕ) → left (returned p) a ≡ script_of n idle b → p ≡ Err e → Shown (refused_text e) a r o → Shown (answer_text l) b r o
           unfolding returned pick isAnswered numberedIn refused_text
           refused_script p e a f d s = shown_by _ _ b o r by-script (go (ltb idle_limit idle) (ap (λ x. left (returned x) a) (sym d) ∙ f ∙ by_kind))
             where

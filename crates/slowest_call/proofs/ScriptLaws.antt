@@ -2,7 +2,7 @@
 use mathlib.Core.Path.{◌≡◌, refl, sym, ap, ◌∙◌}
 use mathlib.Core.Bool.{Bool, true, false, cond, not, false≢true}
 use mathlib.Core.List.{List, [], ◌∷◌, ◌++◌, append_assoc, append-nil, map}
-use mathlib.Core.Option.{Option, none, some}
+use Rattle.std.specs.Prelude.{Option, None, Some}
 use Prim.Native.Nat.{ℕ, zero, suc, ◌+◌, ◌*◌, ◌≤◌, ◌<◌}
 use native.Mathlib.Numerals.{add-one}
 use native.Mathlib.Omega.{arith}
@@ -18,9 +18,7 @@ use Rattle.bench.specs.Hex.{digit_of, digits_of_lem, hex_of}
 use Rattle.errors.specs.Choice.{pick, same, in_range}
 use Rattle.framing.specs.Lists.{both}
 use Rattle.protocol.specs.Calls.{is_opening}
-use Rattle.bench.specs.Numbers.{digit_value_of, all_decimal, number_from, is_number, number_of, number_in}
-use Rattle.bench.specs.declared.number.Number.{Number}
-use Rattle.bench.specs.declared.number.Number.TheVariants.{Value, Unreadable}
+use Rattle.bench.specs.Numbers.{digit_value_of, all_decimal, number_from, is_number, number_of}
 use Rattle.bench_input.specs.Lines.{both_parts}
 use Rattle.bench.specs.DecimalLaws.{decimal_short}
 use Rattle.bench.specs.TextLaws.{none_put, appended, both_appended, then_put, at-start}
@@ -89,25 +87,21 @@ unfolding fields_for
 leading_at [] = refl
 leading_at (k ∷ ks) = ap (field_at (fields_for (k ∷ ks))) (four (length ks) 0) ∙ leading_at ks
 
-module _ (t : List ℕ) (known : fields_of t ≡ run_fields) where
-  pub leading-field : (w : List ℕ) (k : ℕ) → w ≡ get_or (fields_of t) k [] → k ≡ 4 * kind_count + 0 → w ≡ leading_text
-  leading-field w k e h = e ∙ ap (λ l. get_or l k []) known ∙ ap (field_at run_fields) h ∙ leading_at kinds
+pub leading-field : (w : List ℕ) (k : ℕ) → w ≡ get_or run_fields k [] → k ≡ 4 * kind_count + 0 → w ≡ leading_text
+leading-field w k e h = e ∙ ap (field_at run_fields) h ∙ leading_at kinds
 
-  module _ (n : ℕ) (within : n < kind_count) (w : List ℕ) (k : ℕ) (is : w ≡ get_or (fields_of t) k []) where
-    there : w ≡ field_at run_fields k
-    there = is ∙ ap (λ l. get_or l k []) known
+module _ (n : ℕ) (within : n < kind_count) (w : List ℕ) (k : ℕ) (is : w ≡ field_at run_fields k) where
+  pub name-field : k ≡ 4 * n + 0 → w ≡ name_of (kind_at n)
+  name-field h = is ∙ ap (field_at run_fields) h ∙ (fields_at kinds n within).name
 
-    pub name-field : k ≡ 4 * n + 0 → w ≡ name_of (kind_at n)
-    name-field h = there ∙ ap (field_at run_fields) h ∙ (fields_at kinds n within).name
+  pub most-field : k ≡ 4 * n + 1 → w ≡ decimal_of (most (kind_at n))
+  most-field h = is ∙ ap (field_at run_fields) h ∙ (fields_at kinds n within).most
 
-    pub most-field : k ≡ 4 * n + 1 → w ≡ decimal_of (most (kind_at n))
-    most-field h = there ∙ ap (field_at run_fields) h ∙ (fields_at kinds n within).most
+  pub wait_field : k ≡ 4 * n + 2 → w ≡ wait_text (kind_at n)
+  wait_field h = is ∙ ap (field_at run_fields) h ∙ (fields_at kinds n within).wait
 
-    pub wait_field : k ≡ 4 * n + 2 → w ≡ wait_text (kind_at n)
-    wait_field h = there ∙ ap (field_at run_fields) h ∙ (fields_at kinds n within).wait
-
-    pub behind-field : k ≡ 4 * n + 3 → w ≡ behind_text (kind_at n)
-    behind-field h = there ∙ ap (field_at run_fields) h ∙ (fields_at kinds n within).behind
+  pub behind-field : k ≡ 4 * n + 3 → w ≡ behind_text (kind_at n)
+  behind-field h = is ∙ ap (field_at run_fields) h ∙ (fields_at kinds n within).behind
 
 -- ---- the kind of a name
 
@@ -115,15 +109,15 @@ pub named_none : (w : List ℕ) → kind_named_of kinds w ≡ kind_named_of (dro
 named_none w = refl
 
 module _ (w : List ℕ) (n : ℕ) (within : n < kind_count) where
-  at-kind : kind_named_of (drop n kinds) w ≡ pick (same (name_of (kind_at n)) w) (some (kind_at n)) (kind_named_of (drop (n + 1) kinds) w)
+  at-kind : kind_named_of (drop n kinds) w ≡ pick (same (name_of (kind_at n)) w) (Some (kind_at n)) (kind_named_of (drop (n + 1) kinds) w)
   unfolding kind_named_of
   at-kind = rw (drop-cons kinds n opening_kind within, add-one)
 
   module _ (searched : kind_named_of kinds w ≡ kind_named_of (drop n kinds) w) (t : Bool) (f : List ℕ) (tested : t ≡ same f w) (is : f ≡ name_of (kind_at n)) where
-    decided : kind_named_of kinds w ≡ pick t (some (kind_at n)) (kind_named_of (drop (n + 1) kinds) w)
-    decided = searched ∙ at-kind ∙ ap (λ b. pick b (some (kind_at n)) (kind_named_of (drop (n + 1) kinds) w)) (ap (λ x. same x w) (sym is) ∙ sym tested)
+    decided : kind_named_of kinds w ≡ pick t (Some (kind_at n)) (kind_named_of (drop (n + 1) kinds) w)
+    decided = searched ∙ at-kind ∙ ap (λ b. pick b (Some (kind_at n)) (kind_named_of (drop (n + 1) kinds) w)) (ap (λ x. same x w) (sym is) ∙ sym tested)
 
-    pub named_here : t ≡ true → some (kind_at n) ≡ kind_named_of kinds w
+    pub named_here : t ≡ true → Some (kind_at n) ≡ kind_named_of kinds w
     unfolding pick
     named_here e = sym (decided ∙ rw e)
 
@@ -131,7 +125,7 @@ module _ (w : List ℕ) (n : ℕ) (within : n < kind_count) where
     unfolding pick
     named_later e = decided ∙ rw e
 
-pub named_nowhere : (w : List ℕ) (n : ℕ) → kind_named_of kinds w ≡ kind_named_of (drop n kinds) w → kind_count ≤ n → none ≡ kind_named_of kinds w
+pub named_nowhere : (w : List ℕ) (n : ℕ) → kind_named_of kinds w ≡ kind_named_of (drop n kinds) w → kind_count ≤ n → None ≡ kind_named_of kinds w
 unfolding kind_named_of
 named_nowhere w n e h = sym (e ∙ ap (λ l. kind_named_of l w) (drop_of_length-le kinds {i = n} h))
 
@@ -181,31 +175,31 @@ all_read : all_of is_read_as kinds ≡ true
 unfolding is_read_as is_number number_from all_decimal digit_value_of decimal_of decimal_under pick in_range
 all_read = refl
 
-most_read : (n : ℕ) → n < kind_count → number_of (decimal_of (most (kind_at n))) ≡ some (most (kind_at n))
+most_read : (n : ℕ) → n < kind_count → number_of (decimal_of (most (kind_at n))) ≡ Some (most (kind_at n))
 unfolding is_read_as number_of pick
 most_read n h =
     let k : Kind = kind_at n in
     let p = both_parts (is_number (decimal_of (most k))) (eqb (number_from 0 (decimal_of (most k))) (most k)) (all-at is_read_as kinds n all_read h) in
-    rw p.0 (ap some (eqb-true (number_from 0 (decimal_of (most k))) (most k) p.1))
+    rw p.0 (ap Some (eqb-true (number_from 0 (decimal_of (most k))) (most k) p.1))
 
 or_zero : Option ℕ → ℕ
-or_zero none = 0
-or_zero (some n) = n
+or_zero None = 0
+or_zero (Some n) = n
 
-module _ (n : ℕ) (within : n < kind_count) (w : List ℕ) (r : Number) (is : w ≡ decimal_of (most (kind_at n))) (read : number_in r ≡ number_of w) where
-  as-most : number_in r ≡ some (most (kind_at n))
+module _ (n : ℕ) (within : n < kind_count) (w : List ℕ) (r : Option ℕ) (is : w ≡ decimal_of (most (kind_at n))) (read : r ≡ number_of w) where
+  as-most : r ≡ Some (most (kind_at n))
   as-most = read ∙ ap number_of is ∙ most_read n within
 
-  pub most-value : (v : ℕ) → r ≡ Value v → v ≡ most (kind_at n)
+  pub most-value : (v : ℕ) → r ≡ Some v → v ≡ most (kind_at n)
   unfolding or_zero
-  most-value v e = ap or_zero (ap number_in (sym e) ∙ as-most)
+  most-value v e = ap or_zero (sym e ∙ as-most)
 
-  pub most_there : r ≡ Unreadable → ⊥
-  most_there e = false≢true (ap isThere (ap number_in (sym e) ∙ as-most))
+  pub most_there : r ≡ None → ⊥
+  most_there e = false≢true (ap isThere (sym e ∙ as-most))
     where
       isThere : Option ℕ → Bool
-      isThere none = false
-      isThere (some n) = true
+      isThere None = false
+      isThere (Some n) = true
 
 -- ---- lines joined
 

@@ -1,6 +1,6 @@
 -- What the code has of the runs: a table as a text, four fields for each kind and the lines that open the reader behind all of them.
 use Rattle.std.specs.Prelude.{cond, List, [], ◌∷◌, ◌++◌, map, ℕ, zero, suc, ◌<◌}
-use Rattle.std.proofs.Math.Option.{Option, none, some}
+use Rattle.std.specs.Prelude.{Option, None, Some}
 use Rattle.framing.specs.Frames.{ack}
 use Rattle.exchange.specs.Exchange.{pkt}
 use Rattle.protocol.specs.Calls.{is_opening}
@@ -12,8 +12,6 @@ use Rattle.bench.specs.Words.{ahead}
 use Rattle.slowest_call.specs.Fields.{fields_of}
 use Rattle.slowest_call.specs.Kinds.{Kind, opening_kind, kinds, most, slowest, leading_events}
 use Rattle.slowest_call.specs.Texts.{event_line, call_line, separator, joined_behind, joined, name_of, kind_count, kind_at}
-use Rattle.slowest_call.specs.declared.table.KindFound.{KindFound}
-use Rattle.slowest_call.specs.declared.table.KindFound.TheVariants.{Number, Nothing}
 
 -- the lines up to the wait of the last command, and those behind it
 abbrev pub wait_text : Kind → List ℕ
@@ -46,13 +44,13 @@ run_text k idle = wait_text k ++ acks_text idle ++ behind_text k
 
 -- ---- the kind that was found
 
-abbrev pub kind_in : KindFound → Option Kind
-kind_in (Number n) = some (kind_at n)
-kind_in Nothing = none
+abbrev pub kind_in : Option ℕ → Option Kind
+kind_in (Some n) = Some (kind_at n)
+kind_in None = None
 
-abbrev pub KindWithin : KindFound → Type 0
-KindWithin (Number n) = n < kind_count
-KindWithin Nothing = Unit {0}
+abbrev pub KindWithin : Option ℕ → Type 0
+KindWithin (Some n) = n < kind_count
+KindWithin None = Unit {0}
 
 -- to unfold this is to unfold the table's texts
 unfoldable pub written : Unit {0}

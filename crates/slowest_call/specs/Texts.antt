@@ -1,6 +1,6 @@
 -- The runs as lines of the bench program `session`, and what the program `slowest` prints for a line.
 use Rattle.std.specs.Prelude.{cond, List, [], ◌∷◌, ◌++◌, map, ℕ, ◌+◌, eqb, ltb, length, get_or, take}
-use Rattle.std.proofs.Math.Option.{Option, none, some}
+use Rattle.std.specs.Prelude.{Option, None, Some}
 use Rattle.errors.specs.Choice.{pick, same}
 use Rattle.errors.specs.Refusals.{answered, refused, numbered}
 use Rattle.errors.specs.declared.Refusal.{Refusal}
@@ -119,8 +119,8 @@ name_of read_without_encryption_kind = ascii "read_without_encryption"
 name_of write_without_encryption_kind = ascii "write_without_encryption"
 
 unfoldable pub kind_named_of : List Kind → List ℕ → Option Kind
-kind_named_of [] w = none
-kind_named_of (k ∷ ks) w = pick (same (name_of k) w) (some k) (kind_named_of ks w)
+kind_named_of [] w = None
+kind_named_of (k ∷ ks) w = pick (same (name_of k) w) (Some k) (kind_named_of ks w)
 
 -- a kind's number is its place in `kinds`
 abbrev pub kind_count : ℕ
@@ -155,9 +155,9 @@ refused_text r = ascii "refused " ++ decimal_of (numbered r).number
 
 -- of a kind and a number of idle reads, where both can be read
 abbrev pub text_by : Option Kind → Option ℕ → List ℕ
-text_by none idle = refused_text BadArgument
-text_by (some k) none = refused_text BadArgument
-text_by (some k) (some idle) = pick (ltb idle_limit idle) (refused_text OverLong) (script_text k idle)
+text_by None idle = refused_text BadArgument
+text_by (Some k) None = refused_text BadArgument
+text_by (Some k) (Some idle) = pick (ltb idle_limit idle) (refused_text OverLong) (script_text k idle)
 
 -- a line: a call's word and a number
 unfoldable pub answer_text : List ℕ → List ℕ

@@ -7,8 +7,7 @@ use Rattle.errors.specs.Refusals.{by_status}
 use Rattle.errors.specs.declared.Fault.{Fault}
 use Rattle.errors.specs.declared.Fault.TheVariants.{Transport, TimeOut, FalseStart, BrokenFrame, Length, FrameKind, Identifier, Code, Status, ShortResponse, NoCard, CrcA, Rate, CardStatus, OtherCard, UidLayout}
 use Rattle.errors.specs.declared.Refusal.TheVariants.{Bitrate as BadBitrate}
-use Rattle.felica.specs.declared.check.Checked.{Checked}
-use Rattle.felica.specs.declared.check.Checked.TheVariants.{Good, Faulty}
+use Rattle.std.specs.Prelude.{Result, Ok, Err}
 use Rattle.targets.specs.Bitrates.{Choice, chosen, no_code_of, by_bitrate, by_code_of}
 use Rattle.targets.specs.declared.Bitrate.{Bitrate}
 use Rattle.protocol.specs.Scripts.{Script, if_else, ask}
@@ -69,9 +68,9 @@ most_status f a (CardStatus s t) n h k = k
 most_status f a OtherCard n h k = k
 most_status f a UidLayout n h k = k
 
-pub most_check : (s : Script) (c : Checked) (n : ℕ) → Most s n → Most (by_check s c) n
-most_check s Good n h = h
-most_check s (Faulty r) n h = tt
+pub most_check : (s : Script) (c : Result (Unit {0}) Fault) (n : ℕ) → Most s n → Most (by_check s c) n
+most_check s (Ok v) n h = h
+most_check s (Err r) n h = tt
 
 pub start_if : (o t : Bool) (x y : Start) (n : ℕ) → MostStarted o x n → MostStarted o y n → MostStarted o (cond t x y) n
 start_if o true x y n h k = h

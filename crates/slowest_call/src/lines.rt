@@ -4,11 +4,10 @@ ghost use Rattle.bench.specs.Texts.{placed, placed_at};
 ghost use Rattle.slowest_call.specs.Texts.{script_limit, script_room, refused_text, answer_text, line_text};
 
 use super::script::{SCRIPT_ROOM, script};
-use super::table::{KindFound, RUN_TABLE, kind_named};
-use bench::lines::{Line, Unread};
-use bench::number::Number;
-use bench::{Put, lines, number, prefix, text, words};
-use errors::Refusal;
+use super::table::{RUN_TABLE, Runs};
+use bench::lines::Line;
+use bench::{lines, number, prefix, text, words};
+use errors::{Numbered, Refusal};
 
 // The longest line, without its line feed.
 pub const LINE_LIMIT: usize = 8192;
@@ -18,7 +17,7 @@ fn put_refused(refusal: Refusal, out: &mut [u8; SCRIPT_ROOM]) -> usize
     ensures { (placed result out.new ≡ placed_at 0 (refused_text refusal) out.old) × (result ≤ script_limit) }
 {
     let at = text::put(b"refused ", out, 0);
-    text::put_decimal(refusal.numbered().number as u64, out, at)
+    text::put_decimal(Numbered::from(refusal).number as u64, out, at)
 }
 
 // The text that is printed for a line, at the start of `out`.
@@ -28,15 +27,16 @@ pub fn answer(line: &[u8], out: &mut [u8; SCRIPT_ROOM]) -> usize
     if words::count(line) != 2 {
         return put_refused(Refusal::BadArgument, out);
     }
-    let KindFound::Number(kind) = kind_named(&RUN_TABLE, words::word(line, 0)) else {
+    let runs = Runs { table: &RUN_TABLE };
+    let Some(kind) = runs.kind_named(words::word(line, 0)) else {
         return put_refused(Refusal::BadArgument, out);
     };
-    let Number::Value(idle) = number::read(words::word(line, 1)) else {
+    let Some(idle) = number::read(words::word(line, 1)) else {
         return put_refused(Refusal::BadArgument, out);
     };
     match script(kind, idle, out) {
-        Put::Bytes(n) => n,
-        Put::Refused(refusal) => put_refused(refusal, out),
+        Ok(n) => n,
+        Err(refusal) => put_refused(refusal, out),
     }
 }
 
@@ -60,18 +60,10 @@ pub fn reply(next: Line, line: &[u8], out: &mut [u8; SCRIPT_ROOM]) -> usize
 // Answers standard input line by line on standard output. `lines::next` has the contract of a line, by the bytes that come, and `reply`
 // that of the text for it; free is what the operating system reads and writes.
 pub fn run<R: Input + Print>(rt: &R) {
-    let mut input = rt.reader();
-    let mut buffer = io::large_buffer();
     let mut line = [0u8; LINE_LIMIT];
     let mut out = [0u8; SCRIPT_ROOM];
-    let mut unread = Unread::nothing();
-    for _ in 0..u64::MAX {
-        let given = lines::next(&mut input, unread, &mut buffer, &mut line);
-        unread = given.unread;
-        let next = given.line;
-        let n = reply(next, &line, &mut out);
-        if !lines::write(rt, &out, n) {
-            return;
-        }
-    }
+    lines::for_each(rt, &mut line, |next, line| {
+        let n = reply(next, line, &mut out);
+        lines::write(rt, &out, n)
+    });
 }

@@ -61,25 +61,30 @@ pub(crate) const RUN_TABLE: [u8; 3918] = *b"\
     pkt 0000FF02FED5131800 ; ok ; pkt 0000FF00FF00 ; pkt 0000FF02FED5191200 ; ok ; slept ; ok ; pkt 0000FF00FF00 ; \
     pkt 0000FF03FDD509002200|";
 
+// The table as a text of which the fields are known.
+#[derive(Clone, Copy)]
+pub(crate) struct Runs<'a> {
+    pub(crate) table: &'a [u8],
+    ghost fields: { fields_of table.now ≡ run_fields },
+}
+
 // Where the k-th field starts, counted from 0: behind the k-th `|`, or the table's end where it has fewer.
 fn field_start(table: &[u8], k: usize) -> usize
     ensures { (result ≤ length table.now) × (get_or (fields_of (drop result table.now)) 0 [] ≡ get_or (fields_of table.now) k []) }
 {
     let mut at = 0;
-    let mut left = k;
-    while left > 0 {
+    for _ in 0..k {
         let end = scan::find(table, at, table.len(), b'|');
         if end == table.len() {
             return end;
         }
         at = end + 1;
-        left -= 1;
     }
     at
 }
 
 // The k-th field; the empty part where there are fewer.
-pub(crate) fn field(table: &[u8], k: usize) -> &[u8]
+fn field(table: &[u8], k: usize) -> &[u8]
     ensures { result.now ≡ get_or (fields_of table.now) k [] }
 {
     let from = field_start(table, k);
@@ -87,24 +92,22 @@ pub(crate) fn field(table: &[u8], k: usize) -> &[u8]
     &table[from..to]
 }
 
-// The number of a kind.
-#[derive(Clone, Copy)]
-pub enum KindFound {
-    Number(u8),
-    Nothing,
-}
-
-// The kind of a name.
-pub(crate) fn kind_named(table: &[u8], name: &[u8]) -> KindFound
-    requires { fields_of table.now ≡ run_fields }
-    ensures { (kind_in result ≡ kind_named_of kinds name.now) × KindWithin result }
-{
-    let mut n: u8 = 0;
-    while n < KIND_COUNT {
-        if is_exactly(name, field(table, 4 * n as usize)) {
-            return KindFound::Number(n);
-        }
-        n += 1;
+impl<'a> Runs<'a> {
+    pub(crate) fn field(&self, k: usize) -> &'a [u8]
+        ensures { result.now ≡ get_or run_fields k [] }
+    {
+        field(self.table, k)
     }
-    KindFound::Nothing
+
+    // The kind of a name.
+    pub(crate) fn kind_named(&self, name: &[u8]) -> Option<u8>
+        ensures { (kind_in result ≡ kind_named_of kinds name.now) × KindWithin result }
+    {
+        for kind in 0..KIND_COUNT {
+            if is_exactly(name, self.field(4 * kind as usize)) {
+                return Some(kind);
+            }
+        }
+        None
+    }
 }

@@ -1,26 +1,20 @@
 -- What the code's commands and decisions say.
-use Rattle.std.specs.Prelude.{◌≡◌, List, [], ◌∷◌, ◌++◌, ℕ, ◌+◌, ◌≤◌, length, take, drop}
-use Rattle.errors.specs.Choice.{pick}
+use Rattle.std.specs.Prelude.{◌≡◌, List, ◌++◌, ℕ, ◌+◌, ◌≤◌, length, take, drop}
 use Rattle.protocol.specs.Scripts.{Answer, done, type1, uid_and_ats, nothing, refused, refused_after}
 use Rattle.stages.specs.Stages.{cmd, send, keep, next, put, pause, ends}
 use Rattle.stages.specs.Stages as stages
 use Rattle.stages.specs.declared.Command.{Command}
+use Rattle.stages.specs.Few.{few}
+use Rattle.stages.specs.declared.Data.{Data}
+use Rattle.stages.specs.declared.Data.TheVariants.{Pending, Own}
 use Rattle.stages.specs.declared.Decision.{Decision}
 use Rattle.stages.specs.declared.Decision.TheVariants.{Send, Keep, Next, Put, Pause, Done, Part, Type1, UidAndAts, Nothing, Refused, RefusedAfter}
-use Rattle.stages.specs.declared.Head.{Head}
 use Rattle.stages.specs.declared.Layout.{Layout}
-use Rattle.stages.specs.declared.Tail.{Tail}
-
-abbrev pub head_bytes : Head → List ℕ
-head_bytes h = h.0 ∷ h.1 ∷ h.2 ∷ []
-
-abbrev pub tail_bytes : Tail → List ℕ
-tail_bytes t = t.0 ∷ t.1 ∷ t.2 ∷ t.3 ∷ t.4 ∷ t.5 ∷ t.6 ∷ t.7 ∷ t.8 ∷ t.9 ∷ t.10 ∷ t.11 ∷ []
 
 -- the bytes of a layout, where f are the found bytes and b is the response
 abbrev pub layout_bytes : List ℕ → List ℕ → Layout → List ℕ
 layout_bytes f b l =
-    take l.kept f ++ (take l.head_len (head_bytes l.head) ++ (take l.len (drop l.start b) ++ take l.tail_len (tail_bytes l.tail)))
+    take l.kept f ++ (few l.head ++ (take l.len (drop l.start b) ++ few l.tail))
 
 -- so many found bytes are kept at most, and so many bytes has the response in a packet at most
 abbrev pub found_limit : ℕ
@@ -42,10 +36,8 @@ fixed_limit = 12
 -- each part lies in its bytes, and the found bytes and a buffer have room for them all
 pub record Fitting (f b : List ℕ) (l : Layout) : Type 0 where
   pub kept : l.kept ≤ length f
-  pub head : l.head_len ≤ head_limit
   pub part : l.start + l.len ≤ length b
-  pub tail : l.tail_len ≤ tail_limit
-  pub room : length f ≤ found_limit → length b ≤ response_limit → l.kept + (l.head_len + (l.len + l.tail_len)) ≤ found_limit
+  pub room : length f ≤ found_limit → length b ≤ response_limit → l.kept + (length (few l.head) + (l.len + length (few l.tail))) ≤ found_limit
 
 -- a layout of these bytes
 pub record Lays (f b : List ℕ) (r : Layout) (bytes : List ℕ) : Type 0 where
@@ -56,7 +48,7 @@ abbrev pub decision_in : List ℕ → List ℕ → Decision → stages.Decision
 decision_in f b (Send n) = send n
 decision_in f b (Keep n l) = keep n (layout_bytes f b l)
 decision_in f b (Next n c l) = next n c (layout_bytes f b l)
-decision_in f b (Put n h) = put n (head_bytes h)
+decision_in f b (Put n h) = put n h
 decision_in f b (Pause us n) = pause us n
 decision_in f b (Done l) = ends (done (layout_bytes f b l))
 decision_in f b (Part start n) = ends (done (take n (drop start b)))
@@ -93,16 +85,25 @@ pub record AnswerRefines (b : List ℕ) (r : Decision) (a : Answer ℕ) : Type 0
 abbrev pub Always : Decision → stages.Decision → Type 0
 Always r d = (f b : List ℕ) → DecisionRefines f b r d
 
--- a command, where `pending` is the pending one
+-- the data of a command, where `pending` is the pending one, and that it is within its bytes
+abbrev pub data_in : Data → List ℕ → List ℕ
+data_in Pending pending = pending
+data_in (Own own) pending = few own
+
+abbrev pub DataFits : Data → Type 0
+DataFits Pending = Unit
+DataFits (Own own) = length (few own) ≤ fixed_limit
+
+-- a command
 abbrev pub command_in : Command → List ℕ → stages.Command
-command_in c pending = cmd c.code c.clock (pick c.is_pending pending (take c.len c.bytes))
+command_in c pending = cmd c.code c.clock (data_in c.bytes pending)
 
 -- the same, and the data is within the bytes
 pub record Sends (c : Command) (pending : List ℕ) (m : stages.Command) : Type 0 where
   pub is : command_in c pending ≡ m
-  pub fits : c.len ≤ fixed_limit
+  pub fits : DataFits c.bytes
 
 -- whatever the pending command is
 pub record Commands (c : Command) (f : List ℕ → stages.Command) : Type 0 where
   pub is : (pending : List ℕ) → command_in c pending ≡ f pending
-  pub fits : c.len ≤ fixed_limit
+  pub fits : DataFits c.bytes

@@ -1,7 +1,6 @@
 -- Laws of layouts and decisions.
-use Rattle.std.specs.Prelude.{◌≡◌, refl, Bool, true, false, List, [], ◌∷◌, ◌++◌, ℕ, zero, suc, ◌+◌, ◌-◌, ◌≤◌, ◌<◌, eqb, length, take, drop, get_or}
+use Rattle.std.specs.Prelude.{◌≡◌, refl, Bool, true, false, List, [], ◌++◌, ℕ, eqb, length, take}
 use Rattle.std.proofs.Common.{sym, ap, ◌∙◌, append-nil, arith, eq-eqb, ne_eqb, lt-ltb, le-ltb, length-drop, drop_of_length-le, take_all}
-use Rattle.std.proofs.Math.ListN.{get_or-eq_default}
 use Rattle.std.proofs.Math.Seq.{take-length}
 use Rattle.errors.specs.Choice.{pick}
 use Rattle.errors.specs.declared.Fault.{Fault}
@@ -9,63 +8,13 @@ use Rattle.errors.specs.declared.Fault.TheVariants.{Status}
 use Rattle.protocol.specs.Scripts.{Answer, done, type1, uid_and_ats, nothing, refused, refused_after}
 use Rattle.stages.specs.Stages.{send, keep, next, put, pause, ends, refuse}
 use Rattle.stages.specs.Stages as stages
-use Rattle.stages.specs.Decided.{head_bytes, tail_bytes, Lays, DecisionRefines, AnswerRefines, Sends, Commands, found_limit, response_limit, tail_limit}
+use Rattle.stages.specs.Decided.{Lays, DecisionRefines, AnswerRefines, Sends, Commands}
 use Rattle.stages.specs.declared.Command.{Command}
 use Rattle.stages.specs.declared.Decision.{Decision}
-use Rattle.stages.specs.declared.Decision.TheVariants.{Send, Keep, Next, Put, Pause, Done, Part, Type1, UidAndAts, Nothing, Refused, RefusedAfter}
-use Rattle.stages.specs.declared.Head.{Head}
+use Rattle.stages.specs.declared.Decision.TheVariants.{Send, Keep, Next, Put, Pause, Done, Type1, UidAndAts, Nothing, Refused, RefusedAfter}
 use Rattle.stages.specs.declared.Layout.{Layout}
-use Rattle.stages.specs.declared.Tail.{Tail}
-
--- ---- a byte at a place
-
-pub any_default : (l : List ℕ) (i d e : ℕ) → i < length l → get_or l i d ≡ get_or l i e
-any_default [] i d e h = absurd (omega arith)
-any_default (x ∷ l) zero d e h = refl
-any_default (x ∷ l) (suc i) d e h = any_default l i d e (omega arith)
-
-pub default_behind : (l : List ℕ) (i d : ℕ) → length l ≤ i → d ≡ get_or l i d
-default_behind l i d h = sym (get_or-eq_default l d {n = i} h)
 
 -- ---- layouts
-
-abbrev laid : ℕ → Head → ℕ → ℕ → ℕ → Tail → ℕ → Layout
-laid k h n s m t j = record { kept = k; head = h; head_len = n; start = s; len = m; tail = t; tail_len = j }
-
-module _ (f b : List ℕ) (h : Head) (t : Tail) where
-  pub lays_part : (s n : ℕ) → s + n ≤ length b → Lays f b (laid 0 h 0 s n t 0) (take n (drop s b))
-  lays_part s n p =
-      record {
-        is = append-nil (take n (drop s b));
-        fits = record { kept = omega arith; head = omega arith; part = p; tail = omega arith; room = λ u v. omega arith };
-      }
-
-  pub lays_headed : (k s n : ℕ) → k ≤ 3 → k ≤ s + 2 → s ≤ length b → n ≡ length b - s → Lays f b (laid 0 h k s n t 0) (take k (head_bytes h) ++ drop s b)
-  lays_headed k s n p q r e =
-      let all : take n (drop s b) ≡ drop s b = take_all n (drop s b) (rw (length-drop s b) (omega arith)) in
-      record {
-        is = ap (λ l. take k (head_bytes h) ++ l) (append-nil (take n (drop s b)) ∙ all);
-        fits = record { kept = omega arith; head = p; part = omega arith; tail = omega arith; room = λ u v. omega arith };
-      }
-
-  pub lays_tailed : (s n j : ℕ) → s + n ≤ length b → j ≤ tail_limit → (length b ≤ response_limit → n + j ≤ found_limit) → Lays f b (laid 0 h 0 s n t j) (take n (drop s b) ++ take j (tail_bytes t))
-  lays_tailed s n j p q r =
-      record { is = refl; fits = record { kept = omega arith; head = omega arith; part = p; tail = q; room = λ u v. omega (arith, r v) } }
-
-  pub lays_behind : (k s n : ℕ) → k ≤ length f → s + n ≤ length b → (length f ≤ found_limit → length b ≤ response_limit → k + n ≤ found_limit)
-      → Lays f b (laid k h 0 s n t 0) (take k f ++ take n (drop s b))
-  lays_behind k s n p q r =
-      record {
-        is = ap (λ l. take k f ++ l) (append-nil (take n (drop s b)));
-        fits = record { kept = p; head = omega arith; part = q; tail = omega arith; room = λ u v. omega (arith, r u v) };
-      }
-
-  pub lays_marked : (k s n : ℕ) → k ≤ length f → s + n ≤ length b → k + (n + 1) ≤ found_limit → Lays f b (laid k h 1 s n t 0) (take k f ++ (h.0 ∷ take n (drop s b)))
-  lays_marked k s n p q r =
-      record {
-        is = ap (λ l. take k f ++ (h.0 ∷ l)) (append-nil (take n (drop s b)));
-        fits = record { kept = p; head = omega arith; part = q; tail = omega arith; room = λ u v. omega arith };
-      }
 
 pub lays_found : (f b : List ℕ) (r : Layout) → Lays f b r (take (length f) f ++ []) → Lays f b r f
 lays_found f b r e = rw (append-nil (take (length f) f), take-length f) at e
@@ -91,7 +40,7 @@ module _ (f b : List ℕ) where
   pub decision_next : (n c : ℕ) (l : Layout) (bytes : List ℕ) → Lays f b l bytes → DecisionRefines f b (Next n c l) (next n c bytes)
   decision_next n c l bytes h = record { is = ap (next n c) h.is; fits = h.fits }
 
-  pub decision_put : (n : ℕ) (h : Head) → DecisionRefines f b (Put n h) (put n (head_bytes h))
+  pub decision_put : (n : ℕ) (h : List ℕ) → DecisionRefines f b (Put n h) (put n h)
   decision_put n h = record { is = refl; fits = tt }
 
   pub decision_pause : (us n : ℕ) → DecisionRefines f b (Pause us n) (pause us n)
@@ -99,20 +48,6 @@ module _ (f b : List ℕ) where
 
   pub decision_done : (l : Layout) (bytes : List ℕ) → Lays f b l bytes → DecisionRefines f b (Done l) (ends (done bytes))
   decision_done l bytes h = record { is = ap (λ x. ends (done x)) h.is; fits = h.fits }
-
-  pub decision_part : (s n : ℕ) → s + n ≤ length b → DecisionRefines f b (Part s n) (ends (done (take n (drop s b))))
-  decision_part s n h = record { is = refl; fits = h }
-
-  -- of the response from a place on, and of one that ends before it
-  pub decision_rest : (s n : ℕ) → s ≤ length b → n ≡ length b - s → DecisionRefines f b (Part s n) (ends (done (drop s b)))
-  decision_rest s n h e =
-      let all : take n (drop s b) ≡ drop s b = take_all n (drop s b) (rw (length-drop s b) (omega arith)) in
-      record { is = ap (λ x. ends (done x)) all; fits = omega arith }
-
-  pub decision_none : (s : ℕ) → length b < s → DecisionRefines f b (Part 0 0) (ends (done (drop s b)))
-  decision_none s h =
-      let z : drop s b ≡ [] = drop_of_length-le b {i = s} (omega arith) in
-      record { is = ap (λ x. ends (done x)) (sym z); fits = omega arith }
 
   pub decision_type1 : (l : Layout) (bytes : List ℕ) → Lays f b l bytes → DecisionRefines f b (Type1 l) (ends (type1 bytes))
   decision_type1 l bytes h = record { is = ap (λ x. ends (type1 x)) h.is; fits = h.fits }

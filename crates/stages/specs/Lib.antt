@@ -3,5 +3,6 @@ pub mod Stages
 pub mod Put
 pub mod Starts
 pub mod Bitrates
+pub mod Few
 pub mod Decided
 pub mod Laws

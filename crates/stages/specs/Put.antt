@@ -1,6 +1,9 @@
 -- Lists of bytes that are put at the start of an array.
-use Rattle.std.specs.Prelude.{◌≡◌, refl, List, [], ◌++◌, ℕ, ◌+◌, ◌-◌, ◌≤◌, ◌<◌, length, take, drop}
-use Rattle.std.proofs.Common.{sym, ap, ap₂, ◌∙◌, subst, append_assoc, arith, length-append, length-take, take-append-drop, drop-drop, length-take-le, take-take}
+use Rattle.std.specs.Prelude.{◌≡◌, refl, List, [], ◌∷◌, ◌++◌, ℕ, zero, suc, ◌+◌, ◌-◌, ◌≤◌, ◌<◌, min, length, take, drop, get_or}
+use Rattle.std.specs.List.{flat_map}
+use Rattle.std.proofs.Common.{Bor, sym, ap, ap₂, ◌∙◌, subst, append_assoc, append-nil, add-one, take_all, arith, length-drop, length-append, length-take, take-append-drop, drop-drop, length-take-le, take-take}
+use Rattle.std.proofs.lemmas.Grind.{flat_map-append}
+use Rattle.std.proofs.lemmas.List.Folds.{length-flat_map-take}
 use borrow.Rule.Slice.PartMut.{put_mid}
 use Rattle.std.proofs.Math.Seq.{take-length, take-append_seam, drop-append-add}
 use Rattle.framing.specs.Copied.{copied}
@@ -21,10 +24,11 @@ pub record AppendsPart (part t₀ t₁ : List ℕ) (len r : ℕ) : Type 0 where
   pub puts : (l c : List ℕ) → len + length part ≤ length t₀ → Puts t₀ len l c → Puts t₁ r (l ++ part) c
   pub left : length t₀ < len + length part → (r ≡ len) × (t₁ ≡ t₀)
 
--- n is the sum m, or both are over the limit
-pub record Sum (n m : ℕ) : Type 0 where
-  pub within : n ≤ data_limit → n ≡ m
-  pub over : data_limit < n → data_limit < m
+-- lists, one behind the other
+abbrev pub joined : List (Bor (List ℕ)) → List ℕ
+joined [] = []
+joined (l ∷ []) = l.now
+joined (l ∷ m ∷ r) = l.now ++ joined (m ∷ r)
 
 -- the list l has been put at the start of c₀, which is c₁ now, and n is its length; one over the limit of 512 has not, and n is over it too
 pub record Joins (n : ℕ) (c₀ c₁ l : List ℕ) : Type 0 where
@@ -85,15 +89,49 @@ module _ (n : ℕ) (c₀ c₁ l : List ℕ) where
   pub joins_over : data_limit < length l → data_limit < n → c₁ ≡ c₀ → Joins n c₀ c₁ l
   joins_over h k e = record { within = λ m. absurd (omega arith); over = λ _. (k, e) }
 
-pub sum_none : Sum 0 0
-sum_none = record { within = λ _. refl; over = λ h. absurd (omega arith) }
+-- ---- lists, one behind the other
 
-module _ (n m p : ℕ) (h : Sum n m) where
-  pub sum_over : data_limit < n → Sum n (m + p)
-  sum_over k = record { within = λ l. absurd (omega arith); over = λ l. omega (arith, h.over k) }
+pub joined_flat : (ls : List (Bor (List ℕ))) → joined ls ≡ flat_map (λ l. l.now) ls
+joined_flat [] = refl
+joined_flat (l ∷ []) = sym (append-nil l.now)
+joined_flat (l ∷ m ∷ r) = ap (λ x. l.now ++ x) (joined_flat (m ∷ r))
 
-  pub sum_passed : n ≤ data_limit → data_limit - n < p → Sum (data_limit + 1) (m + p)
-  sum_passed k l = record { within = λ r. absurd (omega arith); over = λ r. omega (arith, h.within k) }
+-- one list more
+pub flat_next : (ls : List (Bor (List ℕ))) (i : ℕ) (d : Bor (List ℕ)) → i < length ls
+    → flat_map (λ l. l.now) (take i ls) ++ (get_or ls i d).now ≡ flat_map (λ l. l.now) (take (i + 1) ls)
+flat_next ls i d h = rw add-one (go ls i h)
+  where
+    go : (ls : List (Bor (List ℕ))) (i : ℕ) → i < length ls → flat_map (λ l. l.now) (take i ls) ++ (get_or ls i d).now ≡ flat_map (λ l. l.now) (take (suc i) ls)
+    go [] i h = absurd (omega arith)
+    go (l ∷ ls) zero h = sym (append-nil l.now)
+    go (l ∷ ls) (suc i) h = append_assoc l.now (flat_map (λ l. l.now) (take i ls)) (get_or ls i d).now ∙ ap (λ x. l.now ++ x) (go ls i (omega arith))
 
-  pub sum_more : n ≤ data_limit → p ≤ data_limit - n → Sum (n + p) (m + p)
-  sum_more k l = record { within = λ r. omega (arith, h.within k); over = λ r. absurd (omega arith) }
+-- all of them
+pub flat_all : (ls : List (Bor (List ℕ))) (i : ℕ) → length ls ≤ i → flat_map (λ l. l.now) (take i ls) ≡ joined ls
+flat_all ls i h = ap (flat_map (λ l. l.now)) (take_all i ls h) ∙ sym (joined_flat ls)
+
+-- so many bytes have those that were taken, and the next
+pub flat_within : (ls : List (Bor (List ℕ))) (i : ℕ) (d : Bor (List ℕ)) → i < length ls
+    → length (flat_map (λ l. l.now) (take i ls)) + length (get_or ls i d).now ≤ length (joined ls)
+flat_within ls i d h = rw (joined_flat ls) (length-flat_map-take (λ (l : Bor (List ℕ)). l.now) ls i d h)
+
+-- the length stays
+pub puts_length : (b : List ℕ) (n : ℕ) (l c : List ℕ) → length l ≤ length c → Puts b n l c → length b ≡ length c
+puts_length b n l c h p = ap length p.is ∙ length-append l (drop (length l) c) ∙ rw (length-drop (length l) c) (omega arith)
+
+-- one list more was put
+module _ (ls : List (Bor (List ℕ))) (i : ℕ) (d : Bor (List ℕ)) (h : i < length ls) where
+  pub put_next : (t₀ t₁ c : List ℕ) (n r : ℕ) → length (joined ls) ≤ length c → AppendsPart (get_or ls i d).now t₀ t₁ n r
+      → Puts t₀ n (flat_map (λ l. l.now) (take i ls)) c → Puts t₁ r (flat_map (λ l. l.now) (take (i + 1) ls)) c
+  put_next t₀ t₁ c n r few a p =
+      let room = flat_within ls i d h in
+      let same = puts_length t₀ n _ c (omega (arith, room, few)) p in
+      subst (λ l. Puts t₁ r l c) (flat_next ls i d h) (a.puts _ c (omega (arith, room, few, same, p.count)) p)
+
+-- the sum of lengths, where it is a number of the machine's
+pub longer : (ls : List (Bor (List ℕ))) (l : Bor (List ℕ)) (m n : ℕ) → n ≡ min (length (flat_map (λ p. p.now) ls)) m
+    → min (n + length l.now) m ≡ min (length (flat_map (λ p. p.now) (ls ++ l ∷ []))) m
+longer ls l m n e =
+    let s : length (flat_map (λ p. p.now) (ls ++ l ∷ [])) ≡ length (flat_map (λ p. p.now) ls) + length l.now =
+    ap length (flat_map-append (λ p. p.now) ls (l ∷ []) ∙ ap (λ x. flat_map (λ p. p.now) ls ++ x) (append-nil l.now)) ∙ length-append (flat_map (λ p. p.now) ls) l.now in
+    omega (arith, e, s)

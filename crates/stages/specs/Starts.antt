@@ -1,5 +1,5 @@
 -- How a call starts.
-use Rattle.std.specs.Prelude.{◌≡◌, Bool, List, ℕ, ◌≤◌, ◌<◌, length}
+use Rattle.std.specs.Prelude.{◌≡◌, Bool, List, ℕ, ◌≤◌, ◌<◌, length, Result, Ok, Err}
 use Rattle.std.proofs.Math.Path.{refl}
 use Rattle.std.proofs.Math.Bool.{true, false}
 use Rattle.std.proofs.Common.{arith}
@@ -35,26 +35,26 @@ asserted t s = pick t s (refuses BadArgument)
 -- ---- what the code's starts say
 
 -- the start, with the array of the pending command before and after it
-pub data Starts : code.Start → List ℕ → List ℕ → Start → Type 0 where
-  starts_refused : (r : Refusal) (c : List ℕ) → Starts (variants.Refused r) c c (refuses r)
+pub data Starts : Result code.Start Refusal → List ℕ → List ℕ → Start → Type 0 where
+  starts_refused : (r : Refusal) (c : List ℕ) → Starts (Err r) c c (refuses r)
   starts_command : (f : First) (c₀ c₁ l : List ℕ) → length l ≤ data_limit → Puts c₁ f.len l c₀
-      → Starts (variants.Command f) c₀ c₁ (sends f.kind (cmd f.code f.clock l))
-  starts_staged : (kind n : ℕ) (c₀ c₁ l : List ℕ) → length l ≤ data_limit → Puts c₁ n l c₀ → Starts (variants.Staged kind n) c₀ c₁ (staged kind l)
+      → Starts (Ok (variants.Command f)) c₀ c₁ (sends f.kind (cmd f.code f.clock l))
+  starts_staged : (kind n : ℕ) (c₀ c₁ l : List ℕ) → length l ≤ data_limit → Puts c₁ n l c₀ → Starts (Ok (variants.Staged kind n)) c₀ c₁ (staged kind l)
 
 -- what is put by is within the limit
-abbrev pub StartFits : code.Start → Type 0
-StartFits (variants.Command f) = f.len ≤ data_limit
-StartFits (variants.Staged kind n) = n ≤ data_limit
-StartFits (variants.Refused r) = Unit
+abbrev pub StartFits : Result code.Start Refusal → Type 0
+StartFits (Ok (variants.Command f)) = f.len ≤ data_limit
+StartFits (Ok (variants.Staged kind n)) = n ≤ data_limit
+StartFits (Err r) = Unit
 
 -- ---- laws
 
-pub starts_fit : {r : code.Start} {c₀ c₁ : List ℕ} {s : Start} → Starts r c₀ c₁ s → StartFits r
+pub starts_fit : {r : Result code.Start Refusal} {c₀ c₁ : List ℕ} {s : Start} → Starts r c₀ c₁ s → StartFits r
 starts_fit (starts_refused r c) = tt
 starts_fit (starts_command f c₀ c₁ l h p) = omega (arith, p.count)
 starts_fit (starts_staged kind n c₀ c₁ l h p) = omega (arith, p.count)
 
-module _ (r : code.Start) (c₀ c₁ : List ℕ) (a b : Start) (t : Bool) where
+module _ (r : Result code.Start Refusal) (c₀ c₁ : List ℕ) (a b : Start) (t : Bool) where
   pub starts_true : t ≡ true → Starts r c₀ c₁ a → Starts r c₀ c₁ (pick t a b)
   unfolding pick
   starts_true h e = rw h e
@@ -63,17 +63,22 @@ module _ (r : code.Start) (c₀ c₁ : List ℕ) (a b : Start) (t : Bool) where
   unfolding pick
   starts_false h e = rw h e
 
+-- refused at once where a test fails
+pub starts_not : (r : Refusal) (c : List ℕ) (t : Bool) (s : Start) → t ≡ false → Starts (Err r) c c (pick t s (refuses r))
+unfolding pick
+starts_not r c t s h = rw h (starts_refused r c)
+
 -- within the limit or over it, as the bytes were put
 module _ (n : ℕ) (c₀ c₁ l : List ℕ) (h : Joins n c₀ c₁ l) where
-  pub over-limit : data_limit < n → (s : Start) → Starts (variants.Refused OverLong) c₀ c₁ (pick (ltb data_limit (length l)) (refuses OverLong) s)
+  pub over-limit : data_limit < n → (s : Start) → Starts (Err OverLong) c₀ c₁ (pick (ltb data_limit (length l)) (refuses OverLong) s)
   unfolding pick
   over-limit k s = go (ltb data_limit (length l)) refl
     where
-      go : (t : Bool) → ltb data_limit (length l) ≡ t → Starts (variants.Refused OverLong) c₀ c₁ (pick t (refuses OverLong) s)
+      go : (t : Bool) → ltb data_limit (length l) ≡ t → Starts (Err OverLong) c₀ c₁ (pick t (refuses OverLong) s)
       go true e = rw (h.over (ltb-true data_limit (length l) e)).1 (starts_refused OverLong c₀)
       go false e = let m = ltb-false data_limit (length l) e in absurd (omega (arith, m, (h.within m).count))
 
-  pub within_limit : n ≤ data_limit → (r : code.Start) (s : Start) → (length l ≤ data_limit → Puts c₁ n l c₀ → Starts r c₀ c₁ s)
+  pub within_limit : n ≤ data_limit → (r : Result code.Start Refusal) (s : Start) → (length l ≤ data_limit → Puts c₁ n l c₀ → Starts r c₀ c₁ s)
       → Starts r c₀ c₁ (pick (ltb data_limit (length l)) (refuses OverLong) s)
   unfolding pick
   within_limit k r s f = go (ltb data_limit (length l)) refl
@@ -82,7 +87,7 @@ module _ (n : ℕ) (c₀ c₁ l : List ℕ) (h : Joins n c₀ c₁ l) where
       go true e = absurd (omega (arith, (h.over (ltb-true data_limit (length l) e)).0))
       go false e = let m = ltb-false data_limit (length l) e in f m (h.within m)
 
-module _ (r : code.Start) (c₀ c₁ : List ℕ) where
+module _ (r : Result code.Start Refusal) (c₀ c₁ : List ℕ) where
   -- data within the limit is sent
   pub short_command : (kind : ℕ) (c : Command) → length c.bytes ≤ data_limit → Starts r c₀ c₁ (limited kind c) → Starts r c₀ c₁ (sends kind c)
   unfolding limited pick
@@ -106,7 +111,7 @@ pub record Commanded (f : First) (c₀ c₁ : List ℕ) (s : Start) : Type 0 whe
   pub is : s ≡ sends f.kind (cmd f.code f.clock bytes)
   pub puts : Puts c₁ f.len bytes c₀
 
-pub commanded : {f : First} {c₀ c₁ : List ℕ} {s : Start} → Starts (variants.Command f) c₀ c₁ s → Commanded f c₀ c₁ s
+pub commanded : {f : First} {c₀ c₁ : List ℕ} {s : Start} → Starts (Ok (variants.Command f)) c₀ c₁ s → Commanded f c₀ c₁ s
 commanded (starts_command f c₀ c₁ l h p) = record { bytes = l; few = h; is = refl; puts = p }
 
 pub record Staged (kind n : ℕ) (c₀ c₁ : List ℕ) (s : Start) : Type 0 where
@@ -115,12 +120,12 @@ pub record Staged (kind n : ℕ) (c₀ c₁ : List ℕ) (s : Start) : Type 0 whe
   pub is : s ≡ staged kind bytes
   pub puts : Puts c₁ n bytes c₀
 
-pub as_staged : {kind n : ℕ} {c₀ c₁ : List ℕ} {s : Start} → Starts (variants.Staged kind n) c₀ c₁ s → Staged kind n c₀ c₁ s
+pub as_staged : {kind n : ℕ} {c₀ c₁ : List ℕ} {s : Start} → Starts (Ok (variants.Staged kind n)) c₀ c₁ s → Staged kind n c₀ c₁ s
 as_staged (starts_staged kind n c₀ c₁ l h p) = record { bytes = l; few = h; is = refl; puts = p }
 
 pub record AtOnce (r : Refusal) (c₀ c₁ : List ℕ) (s : Start) : Type 0 where
   pub is : s ≡ refuses r
   pub same : c₁ ≡ c₀
 
-pub at_once_lem : {r : Refusal} {c₀ c₁ : List ℕ} {s : Start} → Starts (variants.Refused r) c₀ c₁ s → AtOnce r c₀ c₁ s
+pub at_once_lem : {r : Refusal} {c₀ c₁ : List ℕ} {s : Start} → Starts (Err r) c₀ c₁ s → AtOnce r c₀ c₁ s
 at_once_lem (starts_refused r c) = record { is = refl; same = refl }

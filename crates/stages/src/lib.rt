@@ -1,40 +1,44 @@
 // A call as stages: how it starts, the command of each stage, and what is decided on a reply. Every call is made of these.
 #![tactic(auto)]
 
+pub mod few;
 pub mod put;
 pub mod start;
 
 ghost use Rattle.std.specs.Prelude.{List, ◌∷◌, ◌++◌, ◌≡◌, ℕ, ◌+◌, ◌≤◌, length, take, drop, get_or};
-ghost use Rattle.stages.specs.Decided.{Lays, head_bytes, tail_bytes, Commands, found_limit, response_limit, fixed_limit, tail_limit};
+ghost use Rattle.stages.specs.Decided.{Lays, Commands, found_limit, response_limit, fixed_limit, head_limit, tail_limit};
 ghost use Rattle.stages.specs.Stages.{cmd};
 
 use errors::Fault;
+use few::Few;
 
 // The most bytes of data that a stage has by itself.
 pub const FIXED_LIMIT: usize = 12;
 
-// The command of a stage: its code, its clock in ms, whether its data is the pending command, the bytes of any other data, and how many
-// they are. Bytes behind them are free, and so are all bytes and their number beside the pending command: nothing reads them.
-#[derive(Clone, Copy)]
+// The data of a stage's command: the pending command, or bytes of its own.
+#[derive(Clone, Copy, Debug, PartialEq, Eq)]
+pub enum Data {
+    Pending,
+    Own(Few<FIXED_LIMIT>),
+}
+
+// The command of a stage: its code, its clock in ms, and its data.
+#[derive(Clone, Copy, Debug, PartialEq, Eq)]
 pub struct Command {
     pub code: u8,
     pub clock: u32,
-    pub is_pending: bool,
-    pub bytes: [u8; FIXED_LIMIT],
-    pub len: usize,
+    pub bytes: Data,
 }
 
 impl Command {
-    // With data of its own: the first `len` bytes.
-    pub fn fixed(code: u8, clock: u32, bytes: [u8; FIXED_LIMIT], len: usize) -> Command
-        ensures { len ≤ fixed_limit → Commands result (λ pending. cmd code clock (take len bytes)) }
+    // With data of its own.
+    pub fn fixed(code: u8, clock: u32, bytes: &[u8]) -> Command
+        ensures { length bytes.now ≤ fixed_limit → Commands result (λ pending. cmd code clock bytes.now) }
     {
         Command {
             code,
             clock,
-            is_pending: false,
-            bytes,
-            len,
+            bytes: Data::Own(Few::new(bytes)),
         }
     }
 
@@ -45,57 +49,38 @@ impl Command {
         Command {
             code,
             clock,
-            is_pending: true,
-            bytes: [0; FIXED_LIMIT],
-            len: 0,
+            bytes: Data::Pending,
         }
     }
 }
 
-// Bytes of the engine's own, or in another order than they came. An enum cannot hold an array.
-#[derive(Clone, Copy)]
-pub struct Head(pub u8, pub u8, pub u8);
+// The most bytes of a layout's head, and of its tail.
+pub const HEAD_LIMIT: usize = 3;
 
-#[derive(Clone, Copy)]
-pub struct Tail(
-    pub u8,
-    pub u8,
-    pub u8,
-    pub u8,
-    pub u8,
-    pub u8,
-    pub u8,
-    pub u8,
-    pub u8,
-    pub u8,
-    pub u8,
-    pub u8,
-);
+pub const TAIL_LIMIT: usize = 12;
 
-// Bytes put together: the first `kept` found bytes, the first `head_len` bytes of `head`, `len` bytes of the response from `start` on,
-// and the first `tail_len` bytes of `tail`. The contracts fix the bytes. How they divide is free, and so are the bytes of `head` and
-// `tail` behind their lengths, which nothing reads.
-#[derive(Clone, Copy)]
+// Bytes put together: the first `kept` found bytes, `head`, `len` bytes of the response from `start` on, and `tail`. The contracts fix
+// the bytes. How they divide is free.
+#[derive(Clone, Copy, Debug, PartialEq, Eq)]
 pub struct Layout {
     pub kept: usize,
-    pub head: Head,
-    pub head_len: usize,
+    pub head: Few<HEAD_LIMIT>,
     pub start: usize,
     pub len: usize,
-    pub tail: Tail,
-    pub tail_len: usize,
+    pub tail: Few<TAIL_LIMIT>,
 }
 
 // What follows a reply or a failure: the command of a stage; the same, with bytes that become the found bytes; the same with another
 // cursor, the second number; the command of a stage with three bytes that become the pending command; a pause in µs, and then the
 // command of a stage; or the end of the call. `Part` is the answer of a part of the response, by its start and its length. With Type A's
 // bytes the lengths of the UID and the ATS among them may be given, and a list's refusal says how many of its codes were finished.
-#[derive(Clone, Copy)]
+// Kept: twelve ways to go on, of which only some are an answer or a fault: a Result would be opened only to go on with the others.
+#[derive(Clone, Copy, Debug, PartialEq, Eq)]
 pub enum Decision {
     Send(u8),
     Keep(u8, Layout),
     Next(u8, u8, Layout),
-    Put(u8, Head),
+    Put(u8, [u8; HEAD_LIMIT]),
     Pause(u32, u8),
     Done(Layout),
     Part(usize, usize),
@@ -110,57 +95,57 @@ pub enum Decision {
 pub fn byte_or(bytes: &[u8], at: usize, other: u8) -> u8
     ensures { result ≡ get_or bytes.now at other }
 {
-    if at < bytes.len() { bytes[at] } else { other }
+    bytes.get(at).copied().unwrap_or(other)
 }
 
 impl Layout {
+    // No bytes.
+    const EMPTY: Layout = Layout {
+        kept: 0,
+        head: Few {
+            bytes: [0; HEAD_LIMIT],
+            len: 0,
+        },
+        start: 0,
+        len: 0,
+        tail: Few {
+            bytes: [0; TAIL_LIMIT],
+            len: 0,
+        },
+    };
+
     // A part of the response.
     pub fn part(start: usize, len: usize) -> Layout
         ensures { (f b : List ℕ) → start + len ≤ length b → Lays f b result (take len (drop start b)) }
     {
         Layout {
-            kept: 0,
-            head: Head(0, 0, 0),
-            head_len: 0,
             start,
             len,
-            tail: Tail(0, 0, 0, 0, 0, 0, 0, 0, 0, 0, 0, 0),
-            tail_len: 0,
+            ..Layout::EMPTY
         }
     }
 
     // Some bytes, and the response from a place on.
-    pub fn headed(head: Head, head_len: usize, response: &[u8], start: usize) -> Layout
-        ensures { (f : List ℕ) → head_len ≤ 3 → head_len ≤ start + 2 → start ≤ length response.now → Lays f response.now result (take head_len (head_bytes head) ++ drop start response.now) }
+    pub fn headed(head: &[u8], response: &[u8], start: usize) -> Layout
+        ensures { (f : List ℕ) → length head.now ≤ head_limit → length head.now ≤ start + 2 → start ≤ length response.now → Lays f response.now result (head.now ++ drop start response.now) }
     {
-        let len = if start <= response.len() {
-            response.len() - start
-        } else {
-            0
-        };
         Layout {
-            kept: 0,
-            head,
-            head_len,
+            head: Few::new(head),
             start,
-            len,
-            tail: Tail(0, 0, 0, 0, 0, 0, 0, 0, 0, 0, 0, 0),
-            tail_len: 0,
+            len: response.len().saturating_sub(start),
+            ..Layout::EMPTY
         }
     }
 
     // A part of the response, and some bytes behind it.
-    pub fn tailed(start: usize, len: usize, tail: Tail, tail_len: usize) -> Layout
-        ensures { (f b : List ℕ) → start + len ≤ length b → tail_len ≤ tail_limit → (length b ≤ response_limit → len + tail_len ≤ found_limit) → Lays f b result (take len (drop start b) ++ take tail_len (tail_bytes tail)) }
+    pub fn tailed(start: usize, len: usize, tail: &[u8]) -> Layout
+        ensures { (f b : List ℕ) → start + len ≤ length b → length tail.now ≤ tail_limit → (length b ≤ response_limit → len + length tail.now ≤ found_limit) → Lays f b result (take len (drop start b) ++ tail.now) }
     {
         Layout {
-            kept: 0,
-            head: Head(0, 0, 0),
-            head_len: 0,
             start,
             len,
-            tail,
-            tail_len,
+            tail: Few::new(tail),
+            ..Layout::EMPTY
         }
     }
 
@@ -170,12 +155,9 @@ impl Layout {
     {
         Layout {
             kept,
-            head: Head(0, 0, 0),
-            head_len: 0,
             start,
             len,
-            tail: Tail(0, 0, 0, 0, 0, 0, 0, 0, 0, 0, 0, 0),
-            tail_len: 0,
+            ..Layout::EMPTY
         }
     }
 
@@ -185,12 +167,10 @@ impl Layout {
     {
         Layout {
             kept,
-            head: Head(mark, 0, 0),
-            head_len: 1,
+            head: Few::new(&[mark]),
             start,
             len,
-            tail: Tail(0, 0, 0, 0, 0, 0, 0, 0, 0, 0, 0, 0),
-            tail_len: 0,
+            ..Layout::EMPTY
         }
     }
 

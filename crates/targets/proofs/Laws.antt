@@ -1,4 +1,8 @@
 -- The laws that the proofs of `bitrate_code` and `code` cite; those of the other functions are in RateLaws.
+use Rattle.std.specs.Prelude.{Result, Ok, Err}
+use Rattle.std.specs.Result.{IsErrAnd}
+use Rattle.std.specs.Char.{is_ascii_digit}
+use Rattle.std.proofs.lemmas.Result.{err_from_is_err_and}
 use mathlib.Core.Bool.{Bool, true, false, cond, ◌&&◌, true≢false}
 use mathlib.Core.List.{List, [], ◌∷◌}
 use mathlib.Core.Path.{◌≡◌, refl, sym, ◌∙◌, ap}
@@ -7,19 +11,14 @@ use native.Mathlib.Omega.{arith}
 use borrow.Author.Tests.{leb-true}
 use lib.Dec.{eqb, leb}
 use lib.ListN.{length, take, get_or}
-use lib.Seq.{length-take-le, take_all}
-use denote.Enum.Declared.{tag_of}
-use types.Run.{OneOf, miss}
-use Rattle.targets.specs.contracts.Bitrate.{the_type}
-use Rattle.errors.specs.Refusals.{answered, numbered, plain, refused}
+use lib.Seq.{take_all}
+use Rattle.errors.specs.Refusals.{answered, numbered, plain, refused, returned}
 use Rattle.errors.specs.declared.Refusal.{Refusal}
 use Rattle.targets.specs.declared.Bitrate.{Bitrate}
 use Rattle.targets.specs.declared.Bitrate.TheVariants.{B106A, B212F, B424F, B106B, B212B, B424B, B848B, Other}
-use Rattle.targets.specs.declared.Parsed.{Parsed}
-use Rattle.targets.specs.declared.Parsed.TheVariants.{Send, Refused}
 use Rattle.errors.specs.Choice.{same, same_is, same_not, in_range}
-use Rattle.targets.specs.Form.{all_digits, is_digit}
-use Rattle.targets.specs.Bitrates.{send_length, is_rate, is_bitrate, send_part_of, code_of, rate_number, ascii, choice_of, choice_on, chosen, no_code_of, parsed}
+use Rattle.targets.specs.Form.{all_digits, is_digit, IsDigit}
+use Rattle.targets.specs.Bitrates.{send_length, is_rate, is_bitrate, send_part_of, code_of, rate_number, ascii, choice_of, choice_on, coded, chosen, no_code_of}
 
 pub and_l : (a b : Bool) → (a && b) ≡ true → a ≡ true
 and_l true b e = refl
@@ -31,32 +30,50 @@ and_r false b e = absurd (true≢false (sym e))
 
 -- ---- three digits
 
-pub digit_least : (b : ℕ) (r : Bool) → r ≡ is_digit b → r ≡ true → 48 ≤ b
+digit_least : (b : ℕ) → is_digit b ≡ true → 48 ≤ b
 unfolding in_range
-digit_least b r e h = leb-true 48 b (and_l (leb 48 b) (leb b 57) (sym e ∙ h))
+digit_least b h = leb-true 48 b (and_l (leb 48 b) (leb b 57) h)
 
 digit_most : (b : ℕ) → is_digit b ≡ true → b ≤ 57
 unfolding in_range
 digit_most b h = leb-true b 57 (and_r (leb 48 b) (leb b 57) h)
 
-module _ (a b c : ℕ) (p : Bool) (first : p ≡ is_digit a) where
-  pub first_none : p ≡ false → 0 ≡ rate_number a b c
+pub no_digit : (b : ℕ) (r : Bool) → r ≡ is_ascii_digit b → r ≡ false → is_digit b ≡ false
+unfolding in_range
+no_digit b r e h = sym e ∙ h
+
+pub a_digit : (b : ℕ) (r : Bool) → r ≡ is_ascii_digit b → r ≡ true → IsDigit b (b - 48)
+unfolding in_range
+a_digit b r e h =
+    let d : is_digit b ≡ true = sym e ∙ h in
+    record { is = d; at = omega (arith, digit_least b d); small = omega (arith, digit_most b d) }
+
+module _ (a b c : ℕ) where
+  no_number : (p q r : Bool) → is_digit a ≡ p → is_digit b ≡ q → is_digit c ≡ r → (p && (q && r)) ≡ false → rate_number a b c ≡ 0
   unfolding rate_number
-  first_none h = rw (sym first ∙ h)
+  no_number p q r e f g h = rw (e, f, g, h)
 
-  module _ (is : p ≡ true) (q : Bool) (second : q ≡ is_digit b) where
-    pub second_none : q ≡ false → 0 ≡ rate_number a b c
-    unfolding rate_number
-    second_none h = rw (sym first ∙ is, sym second ∙ h)
+  pub first_none : is_digit a ≡ false → rate_number a b c ≡ 0
+  first_none h = no_number false _ _ h refl refl refl
 
-    module _ (too : q ≡ true) (r : Bool) (third : r ≡ is_digit c) where
-      pub third_none : r ≡ false → 0 ≡ rate_number a b c
-      unfolding rate_number
-      third_none h = rw (sym first ∙ is, sym second ∙ too, sym third ∙ h)
+  pub second_none : is_digit b ≡ false → rate_number a b c ≡ 0
+  second_none h = go (is_digit a) refl
+    where
+      go : (p : Bool) → is_digit a ≡ p → rate_number a b c ≡ 0
+      go true e = no_number true false _ e h refl refl
+      go false e = first_none e
 
-      pub three_digits : r ≡ true → 100 * (a - 48) + 10 * (b - 48) + (c - 48) ≡ rate_number a b c
-      unfolding rate_number
-      three_digits h = rw (sym first ∙ is, sym second ∙ too, sym third ∙ h)
+  pub third_none : is_digit c ≡ false → rate_number a b c ≡ 0
+  third_none h = go (is_digit a) (is_digit b) refl refl
+    where
+      go : (p q : Bool) → is_digit a ≡ p → is_digit b ≡ q → rate_number a b c ≡ 0
+      go true true e f = no_number true true false e f h refl
+      go true false e f = second_none f
+      go false q e f = first_none e
+
+  pub three_digits : (x y z : ℕ) → IsDigit a x → IsDigit b y → IsDigit c z → 100 * x + 10 * y + z ≡ rate_number a b c
+  unfolding rate_number
+  three_digits x y z d e f = rw (d.is, e.is, f.is) (omega (arith, d.at, e.at, f.at))
 
 -- the digits that write a number
 digits_of : (a b c k : ℕ) → rate_number a b c ≡ k → 1 ≤ k → (a ≡ 48 + k / 100) × (b ≡ 48 + k / 10 % 10) × (c ≡ 48 + k % 10)
@@ -66,9 +83,9 @@ digits_of a b c k h some = go (is_digit a) (is_digit b) (is_digit c) refl refl r
     go : (p q r : Bool) → is_digit a ≡ p → is_digit b ≡ q → is_digit c ≡ r → cond (p && (q && r)) (100 * (a - 48) + 10 * (b - 48) + (c - 48)) 0 ≡ k
         → (a ≡ 48 + k / 100) × (b ≡ 48 + k / 10 % 10) × (c ≡ 48 + k % 10)
     go true true true e f g n =
-        let la = digit_least a true (sym e) refl in
-        let lb = digit_least b true (sym f) refl in
-        let lc = digit_least c true (sym g) refl in
+        let la = digit_least a e in
+        let lb = digit_least b f in
+        let lc = digit_least c g in
         let ma = digit_most a e in
         let mb = digit_most b f in
         let mc = digit_most c g in
@@ -161,14 +178,14 @@ front_four (a ∷ b ∷ []) h = absurd (omega arith)
 front_four (a ∷ b ∷ c ∷ []) h = absurd (omega arith)
 front_four (a ∷ b ∷ c ∷ d ∷ t) h = refl
 
-pub refused_too : (t : List ℕ) (r : Parsed) (e : Refusal) → r ≡ Refused e → parsed r ≡ send_part_of t → no_code_of (plain 5) ≡ choice_of t
-unfolding send_part_of choice_of
-refused_too t r e is known = go (is_bitrate t) (ap parsed (sym is) ∙ known)
+pub refused_too : (t : List ℕ) (r : Result ℕ Refusal) (e : Refusal) → r ≡ Err e → returned r ≡ send_part_of t → no_code_of (numbered e) ≡ choice_of t
+unfolding send_part_of choice_of returned
+refused_too t r e is known = go (is_bitrate t) (ap returned (sym is) ∙ known)
   where
     go : (b : Bool) → refused (numbered e) ≡ cond b (answered (send_length t)) (refused (plain 5))
-        → no_code_of (plain 5) ≡ choice_on t (cond b (answered (send_length t)) (refused (plain 5)))
+        → no_code_of (numbered e) ≡ choice_on t (cond b (answered (send_length t)) (refused (plain 5)))
     go true h = cc
-    go false h = refl
+    go false h = cc
 
 -- what an answer of the send part's length says
 pub sent : (t : List ℕ) (n : ℕ) → answered n ≡ send_part_of t → (is_bitrate t ≡ true) × (n ≡ send_length t)
@@ -180,39 +197,29 @@ sent t n e = go (is_bitrate t) e
     go false h = (cc, cc)
 
 -- A text that is parsed, with a send part of n bytes.
-module _ (t : List ℕ) (r : Parsed) (n : ℕ) (is : r ≡ Send n) (known : parsed r ≡ send_part_of t) where
+module _ (t : List ℕ) (r : Result ℕ Refusal) (n : ℕ) (is : r ≡ Ok n) (known : returned r ≡ send_part_of t) where
   same_known : answered n ≡ send_part_of t
-  same_known = ap parsed (sym is) ∙ known
+  unfolding returned
+  same_known = ap returned (sym is) ∙ known
 
   pub sent_le : n ≤ length t
   sent_le = omega (arith, (sent t n same_known).1, send_le t)
 
-  pub sent_code : (x : Bitrate) → x ≡ code_of (take n t) → chosen x ≡ choice_of t
+  pub part_code : (x : Bitrate) → x ≡ code_of (take n t) → chosen x ≡ choice_of t
   unfolding choice_of
-  sent_code x e = rw (e, ← same_known)
+  part_code x e = rw (e, ← same_known)
 
-  pub other_length : (n ≡ 4 → ⊥) → chosen Other ≡ choice_of t
-  other_length h =
-      let k : length (take n t) ≡ 4 → ⊥ = rw (length-take-le n t sent_le) h in
-      sent_code Other (other length (take n t) k k k k k k k)
+-- A refusal of the parse is the answer.
+pub refused_on : (t : List ℕ) (r : Result ℕ Refusal) (e : Refusal) (x : Result Bitrate Refusal) → r ≡ Err e → returned r ≡ send_part_of t → IsErrAnd x (λ y. y ≡ e) → coded x ≡ choice_of t
+refused_on t r e x is known h = let w = err_from_is_err_and x h in rw (w.1, w.2) (refused_too t r e is known)
 
-  module _ (four : n ≡ 4) where
-    four-long : 4 ≤ length t
-    four-long = omega (arith, sent_le)
+-- One of the seven texts.
+pub whole_code : (t : List ℕ) (x : Bitrate) → x ≡ code_of t → (x ≡ Other → ⊥) → chosen x ≡ choice_of t
+whole_code t x e n = rw e (known_choice t (λ h. n (e ∙ h)))
 
-    pub four-place : (k : ℕ) → k < 4 → k < length t
-    four-place k h = omega (arith, four-long)
+-- A text of four bytes, and of another length.
+pub four_text : (t : List ℕ) (x : Bitrate) → length t ≡ 4 → x ≡ code_of (get_or t 0 0 ∷ get_or t 1 0 ∷ get_or t 2 0 ∷ get_or t 3 0 ∷ []) → x ≡ code_of t
+four_text t x h e = e ∙ ap code_of (sym (front_four t (omega (arith, h))) ∙ take_all 4 t (omega (arith, h)))
 
-    pub four_code : (x : Bitrate) → x ≡ code_of (get_or t 0 0 ∷ get_or t 1 0 ∷ get_or t 2 0 ∷ get_or t 3 0 ∷ []) → chosen x ≡ choice_of t
-    four_code x e = sent_code x (rw (four, front_four t four-long) e)
-
--- A text of four bytes whose code is none of Other.
-pub known_code : (t : List ℕ) (x : Bitrate) → length t ≡ 4 → x ≡ code_of (get_or t 0 0 ∷ get_or t 1 0 ∷ get_or t 2 0 ∷ get_or t 3 0 ∷ [])
-    → OneOf (0 ∷ 1 ∷ 2 ∷ 3 ∷ 4 ∷ 5 ∷ 6 ∷ []) (tag_of the_type x) → chosen x ≡ choice_of t
-known_code t x four e h =
-    let whole : take 4 t ≡ t = take_all 4 t (omega (arith, four)) in
-    let is : x ≡ code_of t = e ∙ ap code_of (sym (front_four t (omega (arith, four))) ∙ whole) in
-    rw is (known_choice t (λ n. not-other (rw (is ∙ n) at h)))
-  where
-    not-other : OneOf (0 ∷ 1 ∷ 2 ∷ 3 ∷ 4 ∷ 5 ∷ 6 ∷ []) (tag_of the_type Other) → ⊥
-    not-other h = miss (0 ∷ 1 ∷ 2 ∷ 3 ∷ 4 ∷ 5 ∷ 6 ∷ []) 7 tt h
+pub other_text : (t : List ℕ) → (length t ≡ 4 → ⊥) → Other ≡ code_of t
+other_text t h = other length t h h h h h h h

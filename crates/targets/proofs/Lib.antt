@@ -1,4 +1,3 @@
 mod Exact
 mod Laws
 mod RateLaws
-mod TypeALaws

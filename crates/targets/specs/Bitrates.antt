@@ -1,18 +1,15 @@
 -- What the functions answer. That `is_rate` and `send_part_of` take exactly the texts of `Form` is proved in `proofs/Exact`.
-use Rattle.std.specs.Prelude.{Bool, cond, ◌&&◌, ◌||◌, List, [], ◌∷◌, ◌++◌, ◌≡◌, ℕ, ◌+◌, ◌-◌, ◌*◌, ◌≤◌, leb, eqb, length, take, drop, get_or}
+use Rattle.std.specs.Prelude.{Bool, cond, ◌&&◌, ◌||◌, List, [], ◌∷◌, ◌++◌, ◌≡◌, ℕ, ◌+◌, ◌-◌, ◌*◌, ◌≤◌, leb, eqb, length, take, drop, get_or, Result, Ok, Err}
 use Rattle.std.proofs.Math.Option.{Option, none, some}
 use Prim.Native.Char.{code}
 use Prim.Native.String.{String, [] as empty, ◌∷◌ as ◌then◌}
 use Rattle.errors.specs.Choice.{same}
 use Rattle.errors.specs.declared.Numbered.{Numbered}
+use Rattle.errors.specs.declared.Refusal.{Refusal}
 use Rattle.errors.specs.declared.Refusal.TheVariants.{Bitrate as BadBitrate}
 use Rattle.errors.specs.Refusals.{Returned, answered, refused, numbered}
 use Rattle.targets.specs.declared.Bitrate.{Bitrate}
 use Rattle.targets.specs.declared.Bitrate.TheVariants.{B106A, B212F, B424F, B106B, B212B, B424B, B848B, Other}
-use Rattle.targets.specs.declared.Coded.{Coded}
-use Rattle.targets.specs.declared.Coded.TheVariants.{Code, Refused as Uncoded}
-use Rattle.targets.specs.declared.Parsed.{Parsed}
-use Rattle.targets.specs.declared.Parsed.TheVariants.{Send, Refused}
 use Rattle.targets.specs.Form.{Rate, all_digits, is_capital, is_digit}
 
 -- One rate, as a test: at least two bytes, all digits but the last, and that a capital letter.
@@ -28,11 +25,7 @@ send_length (b ∷ bs) = cond (eqb b 47) 0 (send_length bs + 1)
 unfoldable pub is_bitrate : List ℕ → Bool
 is_bitrate t = is_rate (take (send_length t) t) && (eqb (send_length t) (length t) || is_rate (drop (send_length t + 1) t))
 
--- `Parsed`: the length of the send part, or refusal 5.
-abbrev pub parsed : Parsed → Returned
-parsed (Send n) = answered n
-parsed (Refused e) = refused (numbered e)
-
+-- The length of the send part, or refusal 5.
 unfoldable pub send_part_of : List ℕ → Returned
 send_part_of t = cond (is_bitrate t) (answered (send_length t)) (refused (numbered BadBitrate))
 
@@ -57,14 +50,14 @@ code_of s =
     (cond (same s (ascii "848B")) B848B
     Other))))))
 
--- `Coded`: the code of the send part, or refusal 5.
+-- The code of the send part, or refusal 5.
 pub data Choice : Type 0 where
   chosen : Bitrate → Choice
   no_code_of : Numbered → Choice
 
-abbrev pub coded : Coded → Choice
-coded (Code b) = chosen b
-coded (Uncoded e) = no_code_of (numbered e)
+abbrev pub coded : Result Bitrate Refusal → Choice
+coded (Ok b) = chosen b
+coded (Err e) = no_code_of (numbered e)
 
 abbrev pub choice_on : List ℕ → Returned → Choice
 choice_on t (answered n) = chosen (code_of (take n t))
@@ -86,8 +79,11 @@ by_code_of r (some code) f = f code
 abbrev pub code_or : {S : Type 0} → S → (Bitrate → Option ℕ) → List ℕ → (ℕ → S) → S
 code_or r takes text f = by_bitrate r (choice_of text) (λ b. by_code_of r (takes b) f)
 
--- `rate_length`: the rate that a text starts with has n bytes; where n is under 2 there is none.
+-- `rate_length`: the rate that a text starts with has n bytes; or it starts with none.
 pub record StartsWithRate (t : List ℕ) (n : ℕ) : Type 0 where
+  pub rated : Rate (take n t)
   pub within : n ≤ length t
-  pub rated : 2 ≤ n → Rate (take n t)
   pub only : (s u : List ℕ) → Rate s → t ≡ s ++ u → length s ≡ n
+
+abbrev pub NoRate : List ℕ → Type 0
+NoRate t = (s u : List ℕ) → Rate s → t ≡ s ++ u → ⊥

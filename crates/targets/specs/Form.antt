@@ -1,10 +1,16 @@
 -- A bitrate text, as document 01 writes it. A text is the list of its bytes.
-use Rattle.std.specs.Prelude.{Bool, true, ◌&&◌, List, [], ◌∷◌, ◌++◌, ◌≡◌, ℕ, ◌≤◌, length}
+use Rattle.std.specs.Prelude.{Bool, true, ◌&&◌, List, [], ◌∷◌, ◌++◌, ◌≡◌, ℕ, ◌+◌, ◌≤◌, length}
 use Rattle.errors.specs.Choice.{in_range}
 
 -- `0` to `9`
 abbrev pub is_digit : ℕ → Bool
 is_digit b = in_range 48 57 b
+
+-- the byte b is the digit that writes the number n
+pub record IsDigit (b n : ℕ) : Type 0 where
+  pub is : is_digit b ≡ true
+  pub at : b ≡ 48 + n
+  pub small : n ≤ 9
 
 -- `A` to `Z`
 abbrev pub is_capital : ℕ → Bool

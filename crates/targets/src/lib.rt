@@ -3,21 +3,15 @@
 
 pub mod type_a;
 
-ghost use Rattle.std.specs.Prelude.{[], ◌∷◌, ◌≡◌};
-ghost use Rattle.targets.specs.Bitrates.{choice_of, coded, code_of, is_rate, parsed, rate_number, send_part_of, StartsWithRate};
-ghost use Rattle.errors.specs.Choice.{in_range};
+ghost use Rattle.std.specs.Prelude.{[], ◌∷◌, ◌≡◌, Bool, MatchOption};
+ghost use Rattle.targets.specs.Bitrates.{choice_of, coded, code_of, is_rate, rate_number, send_part_of, NoRate, StartsWithRate};
+ghost use Rattle.targets.specs.Form.{is_digit, IsDigit};
+ghost use Rattle.errors.specs.Refusals.{returned};
 
 use errors::Refusal;
 
-// The length of a text's send part, which the text starts with.
-#[derive(Clone, Copy)]
-pub enum Parsed {
-    Send(usize),
-    Refused(Refusal),
-}
-
 // The send parts that the calls tell apart; any other well-formed one is Other.
-#[derive(Clone, Copy)]
+#[derive(Clone, Copy, Debug, PartialEq, Eq)]
 pub enum Bitrate {
     B106A,
     B212F,
@@ -29,36 +23,16 @@ pub enum Bitrate {
     Other,
 }
 
-#[derive(Clone, Copy)]
-pub enum Coded {
-    Code(Bitrate),
-    Refused(Refusal),
-}
-
-// The byte stands between the two, both included.
-#[tactic(auto, unfolding(errors::specs::Choice::in_range))]
-fn in_range(byte: u8, low: u8, high: u8) -> bool
-    ensures { result ≡ in_range low high byte }
+// The length of the rate that the text starts with: the digits and a capital letter behind them.
+fn rate_length(text: &[u8]) -> Option<usize>
+    ensures { MatchOption result (NoRate text.now) (StartsWithRate text.now) }
 {
-    low <= byte && byte <= high
-}
-
-// The length of the digits that the text starts with and a capital letter behind them; 0 where none follows.
-#[tactic(auto, using(crate::proofs::RateLaws::letter_next, crate::proofs::RateLaws::no_letter, crate::proofs::RateLaws::digits_more, crate::proofs::RateLaws::no_more), unfolding(crate::specs::Form::all_digits))]
-fn rate_length(text: &[u8]) -> usize
-    ensures { StartsWithRate text.now result }
-{
-    let mut i = 0;
-    while i < text.len() {
-        if !in_range(text[i], b'0', b'9') {
-            if in_range(text[i], b'A', b'Z') {
-                return i + 1;
-            }
-            return 0;
-        }
-        i += 1;
+    let digits = text.iter().position(|b| !b.is_ascii_digit())?;
+    if digits > 0 && text[digits].is_ascii_uppercase() {
+        Some(digits + 1)
+    } else {
+        None
     }
-    0
 }
 
 // One rate: one or more digits, then one capital letter.
@@ -66,95 +40,89 @@ fn rate_length(text: &[u8]) -> usize
 pub fn is_valid_bitrate(text: &[u8]) -> bool
     ensures { result ≡ is_rate text.now }
 {
-    let n = rate_length(text);
-    if n < 2 { false } else { n == text.len() }
+    rate_length(text).is_some_and(|n| n == text.len())
 }
 
-// One rate, or two with `/` between; the send part is the first.
-#[tactic(auto, using(crate::proofs::RateLaws::no_send, crate::proofs::RateLaws::send_alone, crate::proofs::RateLaws::no_slash, crate::proofs::RateLaws::send_both, crate::proofs::RateLaws::receive_bad))]
-pub fn parse(text: &[u8]) -> Parsed
-    ensures { parsed result ≡ send_part_of text.now }
+// One rate, or two with `/` between; the send part is the first, and its length is the answer.
+#[tactic(auto, using(crate::proofs::RateLaws::no_send, crate::proofs::RateLaws::send_alone, crate::proofs::RateLaws::no_slash, crate::proofs::RateLaws::receive_bad, crate::proofs::RateLaws::send_both), unfolding(errors::specs::Refusals::returned))]
+pub fn parse(text: &[u8]) -> Result<usize, Refusal>
+    ensures { returned result ≡ send_part_of text.now }
 {
-    let n = rate_length(text);
-    if n < 2 {
-        return Parsed::Refused(Refusal::Bitrate);
-    }
+    let Some(n) = rate_length(text) else {
+        return Err(Refusal::Bitrate);
+    };
     if n == text.len() {
-        return Parsed::Send(n);
+        return Ok(n);
     }
     if text[n] != b'/' {
-        return Parsed::Refused(Refusal::Bitrate);
+        return Err(Refusal::Bitrate);
     }
     if is_valid_bitrate(&text[n + 1..]) {
-        Parsed::Send(n)
+        Ok(n)
     } else {
-        Parsed::Refused(Refusal::Bitrate)
+        Err(Refusal::Bitrate)
     }
 }
 
-// The number that three digits write; 0, which no bitrate has, where one is no digit.
-#[tactic(auto, using(crate::proofs::Laws::digit_least, crate::proofs::Laws::first_none, crate::proofs::Laws::second_none, crate::proofs::Laws::third_none, crate::proofs::Laws::three_digits))]
-fn bitrate_number(a: u8, b: u8, c: u8) -> u16
-    ensures { result ≡ rate_number a b c }
+// The number that a digit writes.
+#[tactic(auto, using(crate::proofs::Laws::no_digit, crate::proofs::Laws::a_digit))]
+fn digit(byte: u8) -> Option<u8>
+    ensures { MatchOption result (is_digit byte ≡ Bool.false) (IsDigit byte) }
 {
-    if !in_range(a, b'0', b'9') {
-        return 0;
+    if byte.is_ascii_digit() {
+        Some(byte - b'0')
+    } else {
+        None
     }
-    if !in_range(b, b'0', b'9') {
-        return 0;
-    }
-    if !in_range(c, b'0', b'9') {
-        return 0;
-    }
-    100 * ((a - b'0') as u16) + 10 * ((b - b'0') as u16) + (c - b'0') as u16
+}
+
+// The number that three digits write.
+fn bitrate_number(a: u8, b: u8, c: u8) -> Option<u16>
+    ensures { MatchOption result (rate_number a b c ≡ 0) (λ n. n ≡ rate_number a b c) }
+{
+    Some(100 * u16::from(digit(a)?) + 10 * u16::from(digit(b)?) + u16::from(digit(c)?))
 }
 
 // The code of a rate of three digits, by its number and its suffix.
+#[tactic(auto, using(crate::proofs::Laws::no_code))]
 fn bitrate_code(a: u8, b: u8, c: u8, suffix: u8) -> Bitrate
     ensures { result ≡ code_of (a ∷ b ∷ c ∷ suffix ∷ []) }
 {
-    let number = bitrate_number(a, b, c);
-    match number {
-        106 => match suffix {
-            b'A' => Bitrate::B106A,
-            b'B' => Bitrate::B106B,
-            _ => Bitrate::Other,
-        },
-        212 => match suffix {
-            b'B' => Bitrate::B212B,
-            b'F' => Bitrate::B212F,
-            _ => Bitrate::Other,
-        },
-        424 => match suffix {
-            b'B' => Bitrate::B424B,
-            b'F' => Bitrate::B424F,
-            _ => Bitrate::Other,
-        },
-        848 => match suffix {
-            b'B' => Bitrate::B848B,
-            _ => Bitrate::Other,
-        },
+    let Some(number) = bitrate_number(a, b, c) else {
+        return Bitrate::Other;
+    };
+    match (number, suffix) {
+        (106, b'A') => Bitrate::B106A,
+        (106, b'B') => Bitrate::B106B,
+        (212, b'B') => Bitrate::B212B,
+        (212, b'F') => Bitrate::B212F,
+        (424, b'B') => Bitrate::B424B,
+        (424, b'F') => Bitrate::B424F,
+        (848, b'B') => Bitrate::B848B,
         _ => Bitrate::Other,
     }
 }
 
+// The code of a send part, by its text.
+#[tactic(auto, using(crate::proofs::Laws::other_text, crate::proofs::Laws::four_text))]
+fn send_code(send: &[u8]) -> Bitrate
+    ensures { result ≡ code_of send.now }
+{
+    let [a, b, c, suffix] = send else {
+        return Bitrate::Other;
+    };
+    bitrate_code(*a, *b, *c, *suffix)
+}
+
 // The code of the send part. The calls compare texts, so `0106A` is not `106A`. One of the seven texts is well-formed and needs no parse.
-#[tactic(auto, using(crate::proofs::Laws::refused_too, crate::proofs::Laws::other_length, crate::proofs::Laws::four_code, crate::proofs::Laws::known_code))]
-pub fn code(text: &[u8]) -> Coded
+#[tactic(auto, using(crate::proofs::Laws::whole_code))]
+pub fn code(text: &[u8]) -> Result<Bitrate, Refusal>
     ensures { coded result ≡ choice_of text.now }
 {
-    if text.len() == 4 {
-        let rate = bitrate_code(text[0], text[1], text[2], text[3]);
-        match rate {
-            Bitrate::Other => {}
-            _ => return Coded::Code(rate),
-        }
+    let whole = send_code(text);
+    if whole != Bitrate::Other {
+        return Ok(whole);
     }
-    let Parsed::Send(n) = parse(text) else {
-        return Coded::Refused(Refusal::Bitrate);
-    };
-    if n != 4 {
-        return Coded::Code(Bitrate::Other);
-    }
-    Coded::Code(bitrate_code(text[0], text[1], text[2], text[3]))
+    let n = parse(text)?;
+    Ok(send_code(&text[..n]))
 }

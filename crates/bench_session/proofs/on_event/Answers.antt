@@ -7,4 +7,4 @@ returns-in_default c = unchanged_is _ _ _ c.unreadable.ensures.0 c.unreadable.en
 
 pub returns : goal.returns
 returns c =
-    rw (← c.slice.ensures) (event_some _ _ _ _ _ c.event_by.ensures _ _ c.in-Is.is c.event.ensures)
+    rw (← c.slice.ensures) (event_some _ _ _ _ _ c.event_by.ensures _ _ c.in-Some.is c.event.ensures)

@@ -16,10 +16,6 @@ use Rattle.calls.proofs.decided.Goals as goal
 no_bytes : (f b : List ℕ) (r : Decision) → ((bs : List ℕ) → 0 ≤ length bs → AnswerRefines bs r (done [])) → DecisionRefines f b r (ends (done []))
 no_bytes f b r h = (h b (omega arith)).decision f
 
-pub returns-in-1 : goal.returns-in-1
-unfolding decided_of pick
-returns-in-1 c = rw c.in-1.is c.decided.ensures
-
 pub returns-in-2 : goal.returns-in-2
 unfolding decided_of pick
 returns-in-2 c = rw c.in-2.is (c.get_firmware_version_response.ensures.decision _)
@@ -72,10 +68,6 @@ pub returns-in-16 : goal.returns-in-16
 unfolding decided_of pick
 returns-in-16 c = rw c.in-16.is (c.type1_response.ensures.decision _)
 
-pub returns-in-17 : goal.returns-in-17
-unfolding decided_of pick
-returns-in-17 c = rw c.in-17.is c.decided-in-17.ensures
-
 pub returns-in-18 : goal.returns-in-18
 unfolding decided_of pick
 returns-in-18 c = rw c.in-18.is (c.decided-in-18.ensures _)
@@ -83,18 +75,6 @@ returns-in-18 c = rw c.in-18.is (c.decided-in-18.ensures _)
 pub returns-in-19 : goal.returns-in-19
 unfolding decided_of pick
 returns-in-19 c = rw c.in-19.is (c.decided-in-19.ensures _)
-
-pub returns-in-20 : goal.returns-in-20
-unfolding decided_of pick
-returns-in-20 c = rw c.in-20.is c.decided-in-20.ensures
-
-pub returns-in-21 : goal.returns-in-21
-unfolding decided_of pick
-returns-in-21 c = rw c.in-21.is c.decided-in-21.ensures
-
-pub returns-in-22 : goal.returns-in-22
-unfolding decided_of pick
-returns-in-22 c = rw c.in-22.is c.decided-in-22.ensures
 
 pub returns-in-23 : goal.returns-in-23
 unfolding decided_of pick

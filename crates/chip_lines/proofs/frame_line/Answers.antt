@@ -7,6 +7,6 @@ returns-in_default c = search (answer_false, not_hex, unread_answers, rules) dep
 
 pub returns : goal.returns
 returns c =
-    answer_true _ _ _ _ _ _ _ _ (is_hex _ _ _ _ c.read.ensures c.room-written.ensures c.requires _ c.in-Bytes.is)
-    (step_answers _ _ _ _ _ _ _ _ _ _ _ _ _ c.step-step.ensures c.packet_room-buffer.ensures c.put_sent-len.ensures
-    (hex_bytes _ _ _ _ c.read.ensures c.room-written.ensures c.requires _ c.in-Bytes.is _ c.prefix.ensures))
+    answer_true _ _ _ _ _ _ _ _ (is_hex _ _ _ _ c.read.ensures c.room-written.ensures c.requires _ c.in-Ok.is)
+    (step_answers _ _ _ _ _ _ _ _ _ _ c.step-answer.ensures c.packet_room-buffer.ensures c.put_sent.ensures
+    (hex_bytes _ _ _ _ c.read.ensures c.room-written.ensures c.requires _ c.in-Ok.is _ c.prefix.ensures))

@@ -14,8 +14,8 @@ returns-in_default-read c = search (answer_true, answer_false, is_hex, not_hex, 
 pub returns : goal.returns
 unfolding reply_line_of
 returns c =
-    answer_true _ _ _ _ _ _ _ _ (is_hex _ _ _ _ c.read.ensures c.room-bytes.ensures c.requires.0 _ c.in-Bytes.is)
-    (answer_true _ _ _ _ _ _ _ _ (is_hex _ _ _ _ c.read-2.ensures c.room-reply.ensures c.requires.1 _ c.in-Bytes-read.is)
-    (reply_answers _ _ _ _ _ _ _ _ _ _ _ _ _ _ _ _ c.add_reply-effect.ensures c.put_addition-len.ensures
-    (hex_bytes _ _ _ _ c.read.ensures c.room-bytes.ensures c.requires.0 _ c.in-Bytes.is _ c.prefix.ensures)
-    (hex_bytes _ _ _ _ c.read-2.ensures c.room-reply.ensures c.requires.1 _ c.in-Bytes-read.is _ c.prefix-2.ensures)))
+    answer_true _ _ _ _ _ _ _ _ (is_hex _ _ _ _ c.read.ensures c.room-bytes.ensures c.requires.0 _ c.in-Ok.is)
+    (answer_true _ _ _ _ _ _ _ _ (is_hex _ _ _ _ c.read-2.ensures c.room-reply.ensures c.requires.1 _ c.in-Ok-read.is)
+    (reply_answers _ _ _ _ _ _ _ _ _ _ c.add_reply-added.ensures c.put_addition.ensures
+    (hex_bytes _ _ _ _ c.read.ensures c.room-bytes.ensures c.requires.0 _ c.in-Ok.is _ c.prefix.ensures)
+    (hex_bytes _ _ _ _ c.read-2.ensures c.room-reply.ensures c.requires.1 _ c.in-Ok-read.is _ c.prefix-2.ensures)))

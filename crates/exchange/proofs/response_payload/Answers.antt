@@ -1,31 +1,14 @@
-use Rattle.exchange.proofs.Found.{other-kind, other_length, other_payload, its_payload}
-use Rattle.framing.specs.Lists.{Bytes}
-use Rattle.exchange.specs.Responses.{data_within}
-use Rattle.std.proofs.Common.{sym, ◌∙◌, arith, rules}
+use Rattle.std.proofs.Common.{◌∙◌}
+use Rattle.exchange.specs.Responses.{responds, by_payload}
+use Rattle.exchange.proofs.Found.{fails_too}
 use Rattle.exchange.proofs.response_payload.Goals as goal
 
-pub returns-in_default : goal.returns-in_default
-returns-in_default c = search (other-kind, rules)
+pub returns-in_err-payload : goal.returns-in_err-payload
+returns-in_err-payload c = fails_too _ _ _ _ c.from_residual.ensures.1 (c.in_err-payload.ensures _)
 
-pub returns-then-frame-packet : goal.returns-then-frame-packet
-returns-then-frame-packet c = search (other_length, rules)
+pub returns-in_err-check_payload : goal.returns-in_err-check_payload
+returns-in_err-check_payload c =
+    fails_too _ _ _ _ c.from_residual-in_err-check_payload.ensures.1 (by_payload _ _ _ c.in_ok-payload.ensures ∙ rw c.code_of.ensures at c.in_err-check_payload.ensures)
 
-pub overflow_add-end : goal.overflow_add-end
-overflow_add-end c =
-    let p = c.args.packet.now in
-    let bytes : Bytes p = λ k. (c.shared_slice_known-1.given k).fits in
-    let inside = data_within _ p bytes _ _ _ (sym c.parse.ensures ∙ c.in-Data.is) in
-    omega arith
-
-pub slice_bounds-payload-end : goal.slice_bounds-payload-end
-slice_bounds-payload-end c =
-    let p = c.args.packet.now in
-    let bytes : Bytes p = λ k. (c.shared_slice_known-1.given k).fits in
-    let inside = data_within _ p bytes _ _ _ (sym c.parse.ensures ∙ c.in-Data.is) in
-    omega arith
-
-pub returns-then-is_response : goal.returns-then-is_response
-returns-then-is_response c = search (its_payload, rules)
-
-pub returns-else-is_response : goal.returns-else-is_response
-returns-else-is_response c = search (other_payload, rules)
+pub returns : goal.returns
+returns c = responds _ _ _ c.in_ok-payload.ensures (rw c.code_of.ensures at c.in_ok-check_payload.ensures)

@@ -1,17 +1,15 @@
-use Rattle.framing.specs.Enclose.{build_copied}
-use Rattle.framing.specs.Build.{returned}
+use Rattle.errors.specs.Refusals.{returned}
+use Rattle.framing.specs.Enclose.{build_copied, build_refused}
 use Rattle.std.proofs.Common.{sym, ◌∙◌}
-use Rattle.framing.specs.Enclose.{build_refused}
+use Rattle.std.proofs.lemmas.Result.{err_from_is_err_and}
 use Rattle.framing.proofs.build.Goals as goal
 
-pub returns-in-At : goal.returns-in-At
+pub returns-in_err-start : goal.returns-in_err-start
 unfolding returned
-returns-in-At c =
-    let x = sym c.in-At.is ∙ c.room_for.ensures in
-    build_copied _ _ _ _ _ _ x c.copy.ensures.after c.enclose.ensures
+returns-in_err-start c =
+    let p = err_from_is_err_and c.from_residual.result c.from_residual.ensures.1 in
+    rw (p.1, p.2) (build_refused _ _ _ _ (sym c.in_err-start.was ∙ c.room_for.ensures.place))
 
-pub returns-in-Refused : goal.returns-in-Refused
+pub returns : goal.returns
 unfolding returned
-returns-in-Refused c =
-    let x = sym c.in-Refused.is ∙ c.room_for.ensures in
-    build_refused _ _ _ _ x
+returns c = build_copied _ _ _ _ _ _ (sym c.in_ok-start.was ∙ c.room_for.ensures.place) c.copy.ensures.after c.enclose.ensures

@@ -1,6 +1,10 @@
--- The step on the list's parts, and the outcome of what it answered.
-use Rattle.presence_c.specs.Outcomes.{round_reported}
+-- What the list's round answers, in numbers.
+use Rattle.std.proofs.Common.{ap, ◌∙◌}
+use Rattle.presence_list.specs.Steps.{Rounded}
+use Rattle.presence_c.specs.Outcomes.{report, reported, report_for}
+use Rattle.presence_c.specs.declared.outcome.Outcome.{Outcome}
 use Rattle.presence_c.proofs.presence_round.Goals as goal
 
 pub returns : goal.returns
-returns c = round_reported _ c.round-step.result c.args.list.now _ _ _ _ _ c.of.ensures c.round-step.ensures
+unfolding report_for
+returns c = ap (λ (o : Outcome). report c.round.new.self o) c.from.ensures ∙ ap (λ (r : Rounded). reported r) c.round.ensures

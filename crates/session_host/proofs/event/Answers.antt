@@ -3,4 +3,4 @@ use Rattle.session_host.specs.Steps.{event_reported}
 use Rattle.session_host.proofs.event.Goals as goal
 
 pub returns : goal.returns
-returns c = event_reported _ c.event-progress.result c.args.session.now _ _ _ _ _ _ _ c.of.ensures c.event-progress.ensures
+returns c = event_reported _ c.event-progress.result c.args.session.now _ _ _ _ _ _ _ c.from.ensures c.event-progress.ensures

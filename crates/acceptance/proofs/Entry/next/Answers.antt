@@ -1,19 +1,12 @@
-use mathlib.Core.Path.{sym, ◌∙◌}
-use native.Mathlib.Omega.{arith}
+use Rattle.std.proofs.Common.{arith}
 use Rattle.acceptance.proofs.OrderLaws.{step_within, step-over, step_end}
 use Rattle.acceptance.proofs.Entry.next.Goals as goal
 
-pub returns-then-setting : goal.returns-then-setting
-returns-then-setting c =
-    let behind = c.payload_behind.ensures in
-    step_end _ behind.1 (sym c.in-Nothing.is ∙ behind.0) (omega arith) (omega arith)
+pub returns-in-Some : goal.returns-in-Some
+returns-in-Some c = step_within _ _ (omega arith) c.in-Some.ensures.0
 
-pub returns-in-Next : goal.returns-in-Next
-returns-in-Next c =
-    let behind = c.payload_behind.ensures in
-    step_within _ _ (omega arith) (sym c.in-Next.is ∙ behind.0)
+pub returns-in-None : goal.returns-in-None
+returns-in-None c = step_end _ c.in-None.ensures.1 c.in-None.ensures.0 (omega arith) (omega arith)
 
-pub returns-else-setting : goal.returns-else-setting
-returns-else-setting c =
-    let behind = c.payload_behind.ensures in
-    step-over _ behind.1 (sym c.in-Nothing.is ∙ behind.0) (omega arith)
+pub returns-in-None-2 : goal.returns-in-None-2
+returns-in-None-2 c = step-over _ c.in-None-2.ensures.1 c.in-None-2.ensures.0 (omega arith)

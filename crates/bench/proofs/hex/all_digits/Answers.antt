@@ -1,12 +1,12 @@
-use Rattle.std.proofs.Common.{rules}
-use Rattle.bench.specs.HexLaws.{digits_more, digits_stop, digits_end}
+use Rattle.std.proofs.Common.{◌∙◌, sym, nat_lt, rules}
+use Rattle.std.proofs.lemmas.Iterator.{YieldsList-from_slice}
+use Rattle.std.proofs.lemmas.Iterator.Search.{all_from_yields_List}
+use borrow.Author.Tests.{tests}
+use Rattle.bench.specs.Hex.{value_of}
+use Rattle.bench.specs.HexLaws.{digits_all}
 use Rattle.bench.proofs.hex.all_digits.Goals as goal
 
-pub returns-then-value-ge16 : goal.returns-then-value-ge16
-returns-then-value-ge16 c = search (digits_stop, rules)
-
-pub loop-i-preserved : goal.loop-i-preserved
-loop-i-preserved c = record { within = search rules; rest = search (digits_more, rules) }
-
 pub returns : goal.returns
-returns c = search (digits_end, rules)
+returns c =
+    all_from_yields_List (λ d. nat_lt (value_of d) 16) _ _ _ c.all.ensures.ran (YieldsList-from_slice c.args.word.now cc) (λ x b q k. search (rules, tests))
+    ∙ sym (digits_all c.args.word.now)

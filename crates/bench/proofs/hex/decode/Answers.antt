@@ -12,7 +12,7 @@ overflow_add-out c =
     omega arith
 
 pub loop-i-preserved : goal.loop-i-preserved
-loop-i-preserved c = record { pairs = search rules; within = search rules; size = search rules; put = search (pairs_turn, rules) }
+loop-i-preserved c = record { size = search rules; put = search (pairs_turn, rules) }
 
 pub returns : goal.returns
 returns c = search (pairs_done, rules)

@@ -1,5 +1,5 @@
 use Rattle.std.proofs.Common.{rules}
-use Rattle.bench.specs.Texts.{returned}
+use Rattle.errors.specs.Refusals.{returned}
 use Rattle.bench.specs.HexLaws.{read_bad, read_short, read_done}
 use Rattle.bench.proofs.hex.read.Goals as goal
 

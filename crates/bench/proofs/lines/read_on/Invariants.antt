@@ -5,4 +5,4 @@ use Rattle.bench.proofs.NextLaws.{Sofar}
 use Rattle.bench.proofs.lines.read_on.Given as goal
 
 abbrev pub invariant-loop : goal.invariant-loop
-invariant-loop g l = (t s : List ℕ) → NoFeed t → Begun t s l.start l.initial.line → Sofar t s l.len l.line
+invariant-loop g l = (t s : List ℕ) → NoFeed t → Begun t s l.fn.start l.initial.line → Sofar t s l.len l.line

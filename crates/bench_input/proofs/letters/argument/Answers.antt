@@ -1,7 +1,4 @@
 use Rattle.bench_input.proofs.letters.argument.Goals as goal
 
-pub returns-then-letter-lt97 : goal.returns-then-letter-lt97
-returns-then-letter-lt97 c = c.with_string.ensures
-
 pub returns-else-letter-lt97 : goal.returns-else-letter-lt97
 returns-else-letter-lt97 c = c.with_number.ensures _

@@ -4,6 +4,6 @@ use Rattle.bench.specs.TextLaws.{appended, when_true}
 use Rattle.bench_session.specs.Outputs.{done_text}
 use Rattle.bench_session.proofs.output.put_done.Goals as goal
 
-pub returns-then-bytes-eq0 : goal.returns-then-bytes-eq0
+pub returns-then-is_empty : goal.returns-then-is_empty
 unfolding done_text
-returns-then-bytes-eq0 c = search (when_true, appended, steps, rules) depth 8
+returns-then-is_empty c = search (when_true, appended, steps, rules) depth 8

@@ -1,14 +1,11 @@
+use Rattle.std.proofs.Common.{rules}
 use Rattle.protocol.specs.Calls.{device, read_without_encryption}
 use Rattle.protocol.specs.Arguments.{flag, ms_of}
-use Rattle.calls.specs.BlockStarts.{long_refused, read_started}
+use Rattle.calls.proofs.Rules.{long_refused}
 use Rattle.calls.proofs.start.read_blocks.Goals as goal
 
-pub returns-then-is_long_wait : goal.returns-then-is_long_wait
-returns-then-is_long_wait c =
+pub returns-in_err-timeout : goal.returns-in_err-timeout
+returns-in_err-timeout c =
     let a = c.args in
-    long_refused _ _ (device (read_without_encryption a.idm.now a.numbers.word a.blocks.now (ms_of (flag a.numbers.y) a.numbers.ms))) a.numbers.y a.numbers.ms _ _ c.is_set-given.ensures c.is_long_wait.ensures c.if-is_long_wait.true (c.refused.ensures _)
-
-pub returns : goal.returns
-returns c =
-    let a = c.args in
-    read_started _ _ _ a.idm.now a.blocks.now a.numbers.word a.numbers.y a.numbers.ms c.block_timeout-timeout.result _ _ c.is_set-given.ensures c.is_long_wait.ensures c.if-is_long_wait.false c.block_timeout-timeout.ensures c.read_without_encryption.ensures
+    let n = a.numbers in
+    long_refused _ _ (device (read_without_encryption a.idm.now n.word a.blocks.now (ms_of (flag n.y) n.ms))) n.y n.ms _ _ c.is_set.ensures (search rules) c.in_err-timeout.ensures

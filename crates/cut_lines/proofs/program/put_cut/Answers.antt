@@ -7,13 +7,13 @@ use Rattle.cut_lines.specs.Readings.{answer_in}
 use Rattle.cut_lines.proofs.CutLaws.{written_from, written_refused}
 use Rattle.cut_lines.proofs.program.put_cut.Goals as goal
 
-pub returns-in-From : goal.returns-in-From
-returns-in-From c = λ room. written_from _ _ _ _ room _ _ (ap answer_in (sym c.in-From.is) ∙ c.cut.ensures) c.slice.ensures c.put.ensures
+pub returns-in-Ok : goal.returns-in-Ok
+returns-in-Ok c = λ room. written_from _ _ _ _ room _ _ (ap answer_in (sym c.in-Ok.is) ∙ c.cut.ensures) c.slice.ensures c.put.ensures
 
-pub returns-in-OverLong : goal.returns-in-OverLong
+pub returns-in-Err-OverLong : goal.returns-in-Err-OverLong
 unfolding written_for decimal_of decimal_under pick
-returns-in-OverLong c = λ room. written_refused _ _ _ _ room 3 _ (ap answer_in (sym c.in-OverLong.is) ∙ c.cut.ensures) refl (omega arith) c.put-in-OverLong.ensures
+returns-in-Err-OverLong c = λ room. written_refused _ _ _ _ room 3 _ (rw c.in-Err-OverLong.field-0-is at (ap answer_in (sym c.in-Err-OverLong.is) ∙ c.cut.ensures)) refl (omega arith) c.put-in-Err-OverLong.ensures
 
-pub returns-in-NoRefusal : goal.returns-in-NoRefusal
+pub returns-in-Err-NoRefusal : goal.returns-in-Err-NoRefusal
 unfolding written_for decimal_of decimal_under pick
-returns-in-NoRefusal c = λ room. written_refused _ _ _ _ room 29 _ (ap answer_in (sym c.in-NoRefusal.is) ∙ c.cut.ensures) refl (omega arith) c.put-in-NoRefusal.ensures
+returns-in-Err-NoRefusal c = λ room. written_refused _ _ _ _ room 29 _ (rw c.in-Err-NoRefusal.field-0-is at (ap answer_in (sym c.in-Err-NoRefusal.is) ∙ c.cut.ensures)) refl (omega arith) c.put-in-Err-NoRefusal.ensures

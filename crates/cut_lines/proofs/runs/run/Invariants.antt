@@ -1,4 +1,4 @@
-use Rattle.std.proofs.Common.{◌-◌, ◌<◌, ◌≤◌, List}
+use Rattle.std.proofs.Common.{◌<◌, ◌≤◌, List, length}
 use Rattle.engine.specs.Relation.{SessionRepresents}
 use Rattle.bench_input.specs.Table.{Said}
 use Rattle.cut_script.specs.Bench.{bench}
@@ -8,7 +8,4 @@ use Rattle.cut_lines.proofs.runs.run.Given as goal
 
 abbrev pub invariant-loop-m : goal.invariant-loop-m
 invariant-loop-m l =
-    (l.from ≤ l.m) × (l.m < l.entries.count) × ((xs : List Said) → Holds l.entries l.bytes xs → SessionRepresents l.session (reached bench xs l.from l.m))
-
-abbrev pub decreases-loop-m : goal.decreases-loop-m
-decreases-loop-m l = l.entries.count - l.m
+    (l.from ≤ l.m) × (l.m < length l.entries) × ((xs : List Said) → Holds l.entries l.bytes xs → SessionRepresents l.session (reached bench xs l.from l.m))

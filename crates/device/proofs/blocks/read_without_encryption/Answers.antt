@@ -1,13 +1,6 @@
-use Rattle.std.proofs.Common.{rules}
 use Rattle.device.specs.Blocks.{read_first, thru_clock, read_few}
-use mathlib.Core.Path.{◌≡◌}
-use lib.ListN.{length}
-use Rattle.protocol.specs.Starts.{data_limit}
 use Rattle.device.proofs.blocks.read_without_encryption.Goals as goal
 
 pub returns : goal.returns
 unfolding read_first
-returns c =
-    let l = c.args.command.now in
-    let n : length l ≡ data_limit = search rules in
-    thru_clock _ _ _ _ _ _ _ _ c.clock-ms.ensures (c.start_built.ensures _ _ _ _ (read_few _ _ l _ n) c.build_read_request-built.ensures)
+returns c = thru_clock _ _ _ _ _ _ _ _ c.clock-ms.ensures (c.start_built.ensures _ _ _ _ (read_few _ _ c.args.command.now _ c.told-command) c.build_read_request-built.ensures)

@@ -5,4 +5,4 @@ use Rattle.discovery.proofs.dep.jump.Goals as goal
 
 pub returns : goal.returns
 unfolding dep_first
-returns c = let a = c.args in short_staged _ _ _ _ _ (jump_few a.atr_req.now a.code c.requires.1) (same_staged _ _ _ _ _ _ (jump_data_lem a.atr_req.now a.code _ c.requires.0 c.given.ensures) (c.staged.ensures _ _ _ c.put_all-n.ensures))
+returns c = let a = c.args in short_staged _ _ _ _ _ (jump_few a.atr_req.now a.code c.requires.1) (same_staged _ _ _ _ _ _ (jump_data_lem a.atr_req.now a.code _ c.requires.0 c.given.ensures) c.staged.ensures)

@@ -1,17 +1,8 @@
-use Rattle.std.proofs.Common.{rules}
-use Rattle.stages.specs.Stages.{with_length}
-use Rattle.stages.specs.Laws.{decided, decision_false, decision_keep}
+use Rattle.stages.specs.Laws.{decision_nothing}
 use Rattle.discovery.specs.Decisions.{listed_type1_of}
 use Rattle.discovery.proofs.type_a.listed_type1.Goals as goal
+use Rattle.discovery.specs.Laws.{two_enough}
 
-pub returns-then-byte_or-eq0 : goal.returns-then-byte_or-eq0
-unfolding listed_type1_of with_length
-returns-then-byte_or-eq0 c = λ f. search (decided, rules) depth 8
-
-pub returns-then-response-lt2 : goal.returns-then-response-lt2
-unfolding listed_type1_of with_length
-returns-then-response-lt2 c = λ f. search (decided, rules) depth 8
-
-pub returns-else-response-lt2 : goal.returns-else-response-lt2
-unfolding listed_type1_of with_length
-returns-else-response-lt2 c = λ f. decision_false _ _ _ _ _ _ (search (decided, rules)) (decision_false _ _ _ _ _ _ (search (decided, rules)) (decision_keep _ _ _ _ _ (c.sens_res.ensures f)))
+pub returns : goal.returns
+unfolding listed_type1_of
+returns c = λ f. two_enough _ _ _ _ _ _ (c.by_target.ensures f _ _ (decision_nothing _ _) (λ r long e. rw e.2 at e.1 f))

@@ -7,10 +7,6 @@ pub returns-in-0 : goal.returns-in-0
 unfolding pick split_decision
 returns-in-0 c = rw c.in-0.is (c.listed.ensures _)
 
-pub returns-in-5 : goal.returns-in-5
-unfolding pick split_decision
-returns-in-5 c = rw c.in-5.is c.rx_mode_written.ensures
-
 pub returns-in_default : goal.returns-in_default
 unfolding split_decision pick
 returns-in_default c =

@@ -1,13 +1,9 @@
 use Rattle.std.proofs.Common.{rules}
 use Rattle.errors.specs.Rules.{same-value}
-use Rattle.stages.specs.Laws.{decided, decision_false}
+use Rattle.stages.specs.Laws.{decision_false}
 use Rattle.discovery.specs.Decisions.{split_written}
 use Rattle.discovery.specs.SplitLaws.{decision_lengths}
 use Rattle.discovery.proofs.type_a_split.rx_mode_written.Goals as goal
-
-pub returns-then-any_nonzero : goal.returns-then-any_nonzero
-unfolding split_written
-returns-then-any_nonzero c = search (same-value, decided, rules) depth 8
 
 pub returns-else-any_nonzero : goal.returns-else-any_nonzero
 unfolding split_written

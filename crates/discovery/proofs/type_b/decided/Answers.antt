@@ -1,16 +1,11 @@
 use Rattle.errors.specs.Choice.{pick}
 use borrow.Author.Tests.{ne_eqb}
-use Rattle.stages.specs.Laws.{decision_send}
 use Rattle.discovery.specs.Decisions.{type_b_decision}
 use Rattle.discovery.proofs.type_b.decided.Goals as goal
 
 pub returns-in-0 : goal.returns-in-0
 unfolding pick type_b_decision
 returns-in-0 c = λ f. rw c.in-0.is (c.listed_b.ensures _)
-
-pub returns-in-1 : goal.returns-in-1
-unfolding pick type_b_decision
-returns-in-1 c = λ f. rw c.in-1.is (decision_send _ _ _)
 
 pub returns-in_default : goal.returns-in_default
 unfolding pick type_b_decision

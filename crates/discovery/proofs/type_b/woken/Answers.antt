@@ -6,7 +6,3 @@ use Rattle.discovery.proofs.type_b.woken.Goals as goal
 pub returns-then-byte_or-eq0 : goal.returns-then-byte_or-eq0
 unfolding woken_up
 returns-then-byte_or-eq0 c = λ f. decision_true _ _ _ _ _ _ (search (decided, rules)) (c.from.ensures.decision f)
-
-pub returns-else-byte_or-eq0 : goal.returns-else-byte_or-eq0
-unfolding woken_up
-returns-else-byte_or-eq0 c = λ f. search (decided, rules) depth 8

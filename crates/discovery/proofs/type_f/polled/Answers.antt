@@ -1,18 +1,9 @@
 use Rattle.std.proofs.Common.{rules}
-use native.Mathlib.Omega.{arith}
 use Rattle.stages.specs.Stages.{with_length}
 use Rattle.discovery.specs.Decisions.{polled}
 use Rattle.stages.specs.Laws.{decided, decision_false}
-use Rattle.discovery.specs.Laws.{short_either, not_short}
+use Rattle.discovery.specs.Laws.{not_short}
 use Rattle.discovery.proofs.type_f.polled.Goals as goal
-
-pub returns-then-byte_or-eq0 : goal.returns-then-byte_or-eq0
-unfolding polled with_length
-returns-then-byte_or-eq0 c = λ f. search (decided, rules) depth 8
-
-pub returns-then-response-lt-PMM_END : goal.returns-then-response-lt-PMM_END
-unfolding polled
-returns-then-response-lt-PMM_END c = λ f. decision_false _ _ _ _ _ _ (search (decided, rules)) (short_either _ _ _ _ (omega arith))
 
 pub returns-else-response-lt-PMM_END : goal.returns-else-response-lt-PMM_END
 unfolding polled with_length

@@ -14,7 +14,7 @@ slice_bounds-event-start c = let few = extra_few _ _ _ c.extra_zeros-extra.ensur
 
 pub event-progress-requires : goal.event-progress-requires
 unfolding valid
-event-progress-requires c = (both_left _ _ (sym c.is_valid.ensures ∙ c.if-is_valid.true), c.requires.0, c.requires.1)
+event-progress-requires c = both_left _ _ (sym c.is_valid.ensures ∙ c.if-is_valid.true)
 
 pub book-requires : goal.book-requires
 book-requires c =

@@ -1,25 +1,17 @@
-use Rattle.std.proofs.Common.{◌≡◌, ◌+◌, suc, arith, ◌∙◌, eq-eqb, ne_eqb}
-use Rattle.octets.specs.Bytes.{index_of, slice}
-use Rattle.octets.proofs.ScanLaws.{not_here, here, nothing_left}
+use Rattle.std.proofs.Common.{rules, ◌≡◌, ◌≢◌}
+use borrow.Author.Tests.{tests}
+use Rattle.std.proofs.lemmas.Iterator.{IsFirst-from_position, YieldsList-from_slice}
+use Rattle.octets.proofs.ScanLaws.{found, not_found}
 use Rattle.octets.proofs.scan.find.Goals as goal
 
-pub loop-at-preserved : goal.loop-at-preserved
-loop-at-preserved c =
-    let w = c.loop-at.invariant in
-    let n : index_of c.args.byte (slice c.loop-at.at c.args.to c.args.bytes.now) ≡ suc (index_of c.args.byte (slice (c.loop-at.at + 1) c.args.to c.args.bytes.now)) =
-    not_here c.args.byte c.loop-at.at c.args.to c.args.bytes.now c.loop-at-test.true c.requires.within (ne_eqb _ _ c.if-bytes-at.true) in
-    record { from_on = omega arith; up_to = omega arith; same = w.same ∙ omega (arith, n) }
+pub returns-in-Some-clause-place : goal.returns-in-Some-clause-place
+returns-in-Some-clause-place c =
+    let a = c.args in
+    let f = IsFirst-from_position _ _ _ (λ y. y ≡ a.byte) (λ y. y ≢ a.byte) c.in-Some.ensures.ran (YieldsList-from_slice _ cc) (λ x q k. search (rules, tests)) (λ x q k. search (rules, tests)) in
+    found a.byte a.from a.to a.bytes.now c.requires.order c.in-Some.at f.0 f.1 f.2
 
-pub returns-else-bytes-at : goal.returns-else-bytes-at
-returns-else-bytes-at c =
-    let w = c.loop-at.invariant in
-    let n : index_of c.args.byte (slice c.loop-at.at c.args.to c.args.bytes.now) ≡ 0 =
-    here c.args.byte c.loop-at.at c.args.to c.args.bytes.now c.loop-at-test.true c.requires.within (eq-eqb _ _ c.if-bytes-at.false) in
-    omega (arith, w.same, n)
-
-pub returns-after-loop-at : goal.returns-after-loop-at
-returns-after-loop-at c =
-    let w = c.loop-at.invariant in
-    let n : index_of c.args.byte (slice c.loop-at.at c.args.to c.args.bytes.now) ≡ 0 =
-    nothing_left c.args.byte c.loop-at.at c.args.to c.args.bytes.now c.loop-at-test.false in
-    omega (arith, w.same, n)
+pub returns-in-None-clause-place : goal.returns-in-None-clause-place
+returns-in-None-clause-place c =
+    let a = c.args in
+    let f = IsFirst-from_position _ _ _ (λ y. y ≡ a.byte) (λ y. y ≢ a.byte) c.in-None.ensures.ran (YieldsList-from_slice _ cc) (λ x q k. search (rules, tests)) (λ x q k. search (rules, tests)) in
+    not_found a.byte a.from a.to a.bytes.now c.requires.order c.requires.within f

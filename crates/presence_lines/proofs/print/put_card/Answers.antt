@@ -4,5 +4,6 @@ use Rattle.presence_lines.proofs.print.put_card.Goals as goal
 
 pub returns : goal.returns
 returns c =
-    card-done c.args.cards.now c.args.i _ _ _ _ _ _ _ _ _ _ _ _ _
-    c.put-second.ensures c.put-third.ensures c.put-fourth.ensures c.put.ensures c.word.ensures c.prefix.ensures refl
+    let w = rw c.from-kind.ensures at c.word.ensures in
+    let p = rw c.from-length.ensures at c.prefix.ensures in
+    card-done c.args.card.now _ _ _ _ _ _ _ _ _ _ _ _ _ c.put-second.ensures c.put-third.ensures c.put-fourth.ensures c.put.ensures w p refl

@@ -1,13 +1,11 @@
-use Rattle.std.proofs.Common.{rules}
-use Rattle.presence_list.specs.Memory.{pieces}
 use Rattle.presence_lines.proofs.PrintLaws.{cards_none, cards_turn, cards_all}
 use Rattle.presence_lines.proofs.print.put_cards.Goals as goal
 
-pub loop-i-init : goal.loop-i-init
-loop-i-init c = (search rules, cards_none _ (pieces c.args.count c.args.cards.now) _ _, search rules)
+pub loop-card-init : goal.loop-card-init
+loop-card-init c = cards_none _ c.args.cards.now _ _
 
-pub loop-i-preserved : goal.loop-i-preserved
-loop-i-preserved c = (search rules, search (cards_turn, rules), search rules)
+pub loop-card-preserved : goal.loop-card-preserved
+loop-card-preserved c = cards_turn _ _ c.args.cards.now _ _ _ _ _ _ _ _ c.loop-card-test.true c.loop-card.invariant c.put_card-behind.ensures c.put_bitrate-next.ensures
 
 pub returns : goal.returns
-returns c = search (cards_all, rules)
+returns c = cards_all _ _ _ _ _ _ _ c.loop-card-test.false c.loop-card.invariant

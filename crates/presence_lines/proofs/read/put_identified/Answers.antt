@@ -9,4 +9,4 @@ returns-in_default c =
 
 pub returns : goal.returns
 returns c =
-    identified_read _ _ _ _ _ _ _ _ _ _ c.read.ensures c.if-n-gt-HELD.false refl _ _ _ c.in-Bytes.is c.prefix-2.ensures refl c.put_record-2.ensures
+    identified_read _ _ _ _ _ _ _ _ _ _ c.read.ensures c.if-n-gt-HELD.false refl _ _ _ c.in-Ok.is c.prefix-2.ensures refl c.put_record-2.ensures

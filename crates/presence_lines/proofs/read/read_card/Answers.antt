@@ -1,26 +1,35 @@
-use Rattle.presence_lines.proofs.ReadLaws.{no_kind, no_rate, no_identifier, card-put, identifier_hex}
+use Rattle.std.proofs.Common.{arith}
+use Rattle.presence_lines.proofs.ReadLaws.{no_kind, few_kinds, no_rate, few_rates, card-put}
 use Rattle.presence_lines.proofs.read.read_card.Goals as goal
 
-pub returns-then-kind-gt-KIND_LIMIT : goal.returns-then-kind-gt-KIND_LIMIT
-returns-then-kind-gt-KIND_LIMIT c =
-    no_kind _ _ _ _ c.behind_colon-rest.ensures c.before_colon.ensures c.index_among-kind.ensures c.if-kind-gt-KIND_LIMIT.true
+pub returns-in_err-kind : goal.returns-in_err-kind
+returns-in_err-kind c =
+    let w = c.at_colon.ensures in
+    let r = c.at_colon-2.ensures in
+    rw c.from_residual.ensures (no_kind _ _ _ _ _ w.0 w.1 r.0 r.1 c.in_err-kind.ensures)
 
-pub returns-then-bitrate-gt-BITRATE_LIMIT : goal.returns-then-bitrate-gt-BITRATE_LIMIT
-returns-then-bitrate-gt-BITRATE_LIMIT c =
-    no_rate _ _ _ _ c.behind_colon-rest.ensures c.before_colon.ensures c.index_among-kind.ensures
-    _ _ c.if-kind-gt-KIND_LIMIT.false c.behind_colon.ensures c.index_among-bitrate.ensures c.if-bitrate-gt-BITRATE_LIMIT.true
+pub returns-in_err-bitrate : goal.returns-in_err-bitrate
+returns-in_err-bitrate c =
+    let w = c.at_colon.ensures in
+    let r = c.at_colon-2.ensures in
+    rw c.from_residual-in_err-bitrate.ensures (no_rate _ _ _ _ _ w.0 w.1 r.0 r.1 _ c.in_ok-kind.ensures c.in_err-bitrate.ensures)
 
-pub put_identified-requires : goal.put_identified-requires
-put_identified-requires c = identifier_hex _ _ c.is_identifier.ensures c.if-is_identifier.true
+pub overflow_cast-kind : goal.overflow_cast-kind
+overflow_cast-kind c =
+    let w = c.at_colon.ensures in
+    let r = c.at_colon-2.ensures in
+    let k = few_kinds _ _ _ _ _ w.0 w.1 r.0 r.1 _ c.in_ok-kind.ensures in
+    omega arith
 
-pub returns-then-is_identifier : goal.returns-then-is_identifier
-returns-then-is_identifier c =
-    card-put _ _ _ _ c.behind_colon-rest.ensures c.before_colon.ensures c.index_among-kind.ensures
-    _ _ c.if-kind-gt-KIND_LIMIT.false c.behind_colon.ensures c.index_among-bitrate.ensures
-    _ _ c.if-bitrate-gt-BITRATE_LIMIT.false c.before_colon-identifier.ensures c.is_identifier.ensures _ _ _ _ c.if-is_identifier.true c.put_identified.ensures
+pub overflow_cast-bitrate : goal.overflow_cast-bitrate
+overflow_cast-bitrate c =
+    let w = c.at_colon.ensures in
+    let r = c.at_colon-2.ensures in
+    let m = few_rates _ _ _ _ _ w.0 w.1 r.0 r.1 _ c.in_ok-kind.ensures _ c.in_ok-bitrate.ensures in
+    omega arith
 
 pub returns : goal.returns
 returns c =
-    no_identifier _ _ _ _ c.behind_colon-rest.ensures c.before_colon.ensures c.index_among-kind.ensures
-    _ _ c.if-kind-gt-KIND_LIMIT.false c.behind_colon.ensures c.index_among-bitrate.ensures
-    _ _ c.if-bitrate-gt-BITRATE_LIMIT.false c.before_colon-identifier.ensures c.is_identifier.ensures c.if-is_identifier.false
+    let w = c.at_colon.ensures in
+    let r = c.at_colon-2.ensures in
+    card-put _ _ _ _ _ w.0 w.1 r.0 r.1 _ c.in_ok-kind.ensures _ c.in_ok-bitrate.ensures _ c.is_identifier.ensures _ _ _ _ c.if-not-is_identifier.false c.put_identified.ensures

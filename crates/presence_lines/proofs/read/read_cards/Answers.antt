@@ -1,27 +1,19 @@
-use Rattle.std.proofs.Common.{rules}
-use mathlib.Core.Path.{refl}
-use native.Mathlib.Omega.{arith}
-use Rattle.presence_lines.proofs.ReadLaws.{found_within, filled_none, filled_all, filled_not, filled_more}
+use Rattle.std.proofs.Common.{rules, refl, arith}
+use Rattle.presence_lines.proofs.ReadLaws.{filled_none, filled_all, filled_not, filled_more}
 use Rattle.presence_lines.proofs.read.read_cards.Goals as goal
 
 pub loop-at-init : goal.loop-at-init
 loop-at-init c = (search rules, search rules, search rules, filled_none _ _)
 
-pub slice_bounds-read_card-end : goal.slice_bounds-read_card-end
-slice_bounds-read_card-end c =
-    let e = found_within _ _ _ _ c.args.line.now (omega arith) (omega arith) c.find-end.ensures in
-    search rules
-
-pub returns-in_default : goal.returns-in_default
-returns-in_default c =
-    filled_not _ _ _ _ _ _ c.loop-at.invariant.3 _ _ c.loop-at-test.true c.find-end.ensures refl _ _ c.read_card.ensures c.in_default.is
+pub returns-in_err-len : goal.returns-in_err-len
+returns-in_err-len c = rw c.from_residual.ensures (filled_not _ _ _ _ _ _ c.loop-at.invariant.3 _ _ c.loop-at-test.true c.find-end.ensures.place refl c.in_err-len.ensures)
 
 pub loop-at-preserved : goal.loop-at-preserved
 loop-at-preserved c = (
   refl,
-  found_within _ _ _ _ c.args.line.now (omega arith) (omega arith) c.find-end.ensures,
+  c.find-end.ensures.bounds.1,
   search rules,
-  filled_more _ _ _ _ _ _ c.loop-at.invariant.3 _ _ c.loop-at-test.true c.find-end.ensures refl _ _ _ c.read_card.ensures c.in-Bytes.is,
+  filled_more _ _ _ _ _ _ c.loop-at.invariant.3 _ _ c.loop-at-test.true c.find-end.ensures.place refl _ _ c.in_ok-len.ensures,
 )
 
 pub returns : goal.returns

@@ -1,12 +1,19 @@
-use Rattle.simulated_chip.specs.StepLaws.{packet-put, error_put}
+use Rattle.std.proofs.Common.{rules}
+use Rattle.simulated_chip.specs.StepLaws.{packet-put, packet_ok, error_put, error_ok}
 use Rattle.simulated_chip.proofs.chip.put_packet.Goals as goal
 
-pub returns-in-Bytes : goal.returns-in-Bytes
-returns-in-Bytes c =
+pub unwrap-requires : goal.unwrap-requires
+unwrap-requires c =
     let p = c.requires in
-    packet-put _ _ _ _ _ _ _ p.0 p.1 p.2 c.in-Bytes.is c.build_response.ensures _ c.built_length.ensures
+    packet_ok _ c.args.out.now _ _ _ p.0 c.in-Ok.n c.build_response.ensures (search rules) (rw (c.in-Ok.is) at p.1)
 
-pub returns-in-SyntaxError : goal.returns-in-SyntaxError
-returns-in-SyntaxError c =
+pub returns-in-Ok : goal.returns-in-Ok
+returns-in-Ok c =
     let p = c.requires in
-    error_put _ _ _ _ _ _ _ p.0 c.in-SyntaxError.is c.format.ensures c.build.ensures _ c.built_length-in-SyntaxError.ensures
+    packet-put _ _ _ _ _ p.0 c.in-Ok.n c.build_response.ensures (search rules) (rw (c.in-Ok.is) at p.1) _ _ c.in-Ok.is c.unwrap.ensures
+
+pub unwrap-requires-in-Err : goal.unwrap-requires-in-Err
+unwrap-requires-in-Err c = let p = c.requires in error_ok 0 c.args.out.now _ _ _ p.0 _ c.format.ensures c.build.ensures
+
+pub returns-in-Err : goal.returns-in-Err
+returns-in-Err c = let p = c.requires in error_put _ _ _ _ _ p.0 _ c.format.ensures c.build.ensures _ _ _ c.in-Err.is c.unwrap-in-Err.ensures

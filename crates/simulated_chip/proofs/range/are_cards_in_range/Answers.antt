@@ -1,15 +1,13 @@
-use Rattle.std.proofs.Common.{rules}
-use mathlib.Core.Path.{sym, ◌∙◌}
-use Rattle.simulated_chip.specs.Counted.{all_turn, all_not, all_end}
+use Rattle.std.proofs.Common.{rules, ℕ, ◌*◌, ◌∙◌, arith}
+use Rattle.std.proofs.lemmas.Iterator.{YieldsList-from_range}
+use Rattle.std.proofs.lemmas.Iterator.Search.{all_from_yields_List}
+use Rattle.chip_protocol.specs.Names.{most_cards}
+use Rattle.simulated_chip.specs.Memory.{card_size}
+use Rattle.simulated_chip.specs.Range.{card_in_range}
+use Rattle.simulated_chip.specs.Counted.{all_range}
 use Rattle.simulated_chip.proofs.range.are_cards_in_range.Goals as goal
 
-pub loop-i-preserved : goal.loop-i-preserved
-loop-i-preserved c =
-    (search rules, all_turn _ _ _ _ c.loop-i.invariant.1 c.loop-i-test.true (sym c.is_card_in_range.ensures ∙ c.if-is_card_in_range.true))
-
-pub returns-else-is_card_in_range : goal.returns-else-is_card_in_range
-returns-else-is_card_in_range c =
-    all_not _ _ _ _ c.loop-i.invariant.1 c.loop-i-test.true (sym c.is_card_in_range.ensures ∙ c.if-is_card_in_range.false)
-
 pub returns : goal.returns
-returns c = all_end _ _ _ _ c.loop-i.invariant.1 c.loop-i-test.false
+returns c =
+    all_from_yields_List (λ (i : ℕ). card_in_range (card_size * i) c.args.cards.now) _ _ _ c.all.ensures.ran (YieldsList-from_range 0 most_cards most_cards (cc) (omega arith)) (λ x b q k. search rules)
+    ∙ all_range _ most_cards 0

@@ -1,6 +1,6 @@
 use mathlib.Core.Path.{refl}
 use Rattle.std.proofs.Common.{rules}
-use Rattle.bench.specs.Texts.{returned}
+use Rattle.errors.specs.Refusals.{returned}
 use Rattle.slowest_call.specs.Tables.{written}
 use Rattle.slowest_call.proofs.ScriptLaws.{no_kind, too_many, script-done}
 use Rattle.slowest_call.proofs.script.script.Goals as goal
@@ -13,9 +13,9 @@ pub returns-then-idle-gt-IDLE_LIMIT : goal.returns-then-idle-gt-IDLE_LIMIT
 unfolding returned
 returns-then-idle-gt-IDLE_LIMIT c = search (too_many, rules)
 
-pub put_script-requires : goal.put_script-requires
+pub invariant_of-runs : goal.invariant_of-runs
 unfolding written
-put_script-requires c = (refl, search rules)
+invariant_of-runs c = record { fields = refl }
 
 pub returns : goal.returns
 unfolding returned

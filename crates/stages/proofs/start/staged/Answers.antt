@@ -6,6 +6,6 @@ pub returns-then-len-gt-DATA_LIMIT : goal.returns-then-len-gt-DATA_LIMIT
 unfolding staged_limited
 returns-then-len-gt-DATA_LIMIT c = λ x y l h. over-limit _ x y l h (omega arith) _
 
-pub returns-else-len-gt-DATA_LIMIT : goal.returns-else-len-gt-DATA_LIMIT
+pub returns : goal.returns
 unfolding staged_limited
-returns-else-len-gt-DATA_LIMIT c = λ x y l h. within_limit _ x y l h (omega arith) _ _ (λ k p. starts_staged _ _ x y l k p)
+returns c = λ x y l h. within_limit _ x y l h (omega arith) _ _ (λ k p. starts_staged _ _ x y l k p)

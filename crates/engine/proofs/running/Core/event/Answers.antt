@@ -8,9 +8,9 @@ pub returns-then-call-eq-NO_CALL_KIND : goal.returns-then-call-eq-NO_CALL_KIND
 unfolding transitioned_of
 returns-then-call-eq-NO_CALL_KIND c = search (no_call, c.refused.ensures, rules)
 
-pub returns-in-Unfit : goal.returns-in-Unfit
+pub returns-in_default : goal.returns-in_default
 unfolding transitioned_of
-returns-in-Unfit c = search (does_not_fit, c.refused-in-Unfit.ensures, rules)
+returns-in_default c = search (does_not_fit, c.refused-in_default.ensures, rules)
 
 pub returns-then-buffer-lt-BUFFER_NEED : goal.returns-then-buffer-lt-BUFFER_NEED
 unfolding transitioned_of
@@ -20,8 +20,8 @@ pub returns-then-is_long : goal.returns-then-is_long
 unfolding transitioned_of
 returns-then-is_long c = search (packet_long, c.refused-then-is_long.ensures, rules)
 
-pub send-next-requires : goal.send-next-requires
-send-next-requires c = search (valid_command, rules)
+pub send-requires : goal.send-requires
+send-requires c = search (valid_command, rules)
 
 pub replied-requires : goal.replied-requires
 replied-requires c = search (response_short, valid-found, valid_command, rules)
@@ -32,7 +32,7 @@ returns-in-Orders c = search (goes_through, c.ordered.ensures, rules)
 
 pub returns-in-Sends : goal.returns-in-Sends
 unfolding transitioned_of
-returns-in-Sends c = search (goes_through, c.send-next.ensures, rules)
+returns-in-Sends c = search (goes_through, c.send.ensures, rules)
 
 pub returns-in-Ends : goal.returns-in-Ends
 unfolding transitioned_of

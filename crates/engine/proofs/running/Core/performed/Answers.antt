@@ -1,5 +1,4 @@
 use mathlib.Core.Path.{subst}
-use native.Mathlib.Omega.{arith}
 use Rattle.std.specs.Prelude.{take}
 use Rattle.stages.specs.Decided.{layout_bytes, DecisionFits}
 use Rattle.engine.specs.Core.{performs_of}
@@ -7,28 +6,13 @@ use Rattle.engine.specs.Laws.{part_copied, done_copied, type1_copied, lengths_co
 use Rattle.engine.proofs.Ends.{goes_on}
 use Rattle.engine.proofs.running.Core.performed.Goals as goal
 
-pub overflow_add-end : goal.overflow_add-end
-overflow_add-end c = let a = c.args in let p = c.requires in let n = subst (DecisionFits (take a.self.found a.found.now) a.response.now) c.in-Part.is p.1 in omega (arith, n, p.0)
-
-pub slice_bounds-append-count : goal.slice_bounds-append-count
-slice_bounds-append-count c = let a = c.args in let n = subst (DecisionFits (take a.self.found a.found.now) a.response.now) c.in-Part.is c.requires.1 in omega (arith, n)
-
-pub slice_bounds-append-start : goal.slice_bounds-append-start
-slice_bounds-append-start c = let a = c.args in let n = subst (DecisionFits (take a.self.found a.found.now) a.response.now) c.in-Part.is c.requires.1 in omega (arith, n)
-
-pub slice_bounds-append-end : goal.slice_bounds-append-end
-slice_bounds-append-end c = let a = c.args in let n = subst (DecisionFits (take a.self.found a.found.now) a.response.now) c.in-Part.is c.requires.1 in omega (arith, n)
-
-pub continued-next-requires : goal.continued-next-requires
-continued-next-requires c = c.requires
-
 pub returns-in-Part : goal.returns-in-Part
 unfolding performs_of
 returns-in-Part c =
     let a = c.args in
     let p = c.requires in
     let n = subst (DecisionFits (take a.self.found a.found.now) a.response.now) c.in-Part.is p.1 in
-    rw c.in-Part.is (part_copied a.self _ a.response.now a.buffer.now _ _ _ c.in-Part.start c.in-Part.len n p.0 p.2.4 c.append-len.ensures (c.ended.ensures _ _))
+    rw c.in-Part.is (part_copied a.self _ a.response.now a.buffer.now _ _ _ c.in-Part.start c.in-Part.len n p.0 p.2.2 c.append-len.ensures (c.ended.ensures _ _))
 
 pub returns-in-Done : goal.returns-in-Done
 unfolding performs_of
@@ -64,4 +48,4 @@ unfolding performs_of
 returns-in-RefusedAfter c = rw c.in-RefusedAfter.is (c.ended-in-RefusedAfter.ensures _ _)
 
 pub returns-in_default : goal.returns-in_default
-returns-in_default c = c.continued-next.ensures (goes_on c.args.decision c.in_default.not-Done c.in_default.not-Part c.in_default.not-Type1 c.in_default.not-UidAndAts c.in_default.not-Nothing c.in_default.not-Refused c.in_default.not-RefusedAfter)
+returns-in_default c = c.continued.ensures (goes_on c.args.decision c.in_default.not-Done c.in_default.not-Part c.in_default.not-Type1 c.in_default.not-UidAndAts c.in_default.not-Nothing c.in_default.not-Refused c.in_default.not-RefusedAfter)

@@ -1,6 +1,0 @@
-use Rattle.chipset.specs.Commands.{first_of}
-use Rattle.chipset.proofs.registers.read_register.Goals as goal
-
-pub returns : goal.returns
-unfolding first_of
-returns c = c.of_registers.ensures

@@ -1,0 +1,9 @@
+use Rattle.std.proofs.Common.{rules, refl, ◌≡◌, length}
+use Rattle.protocol.specs.Session.{buffer_need}
+use Rattle.simulator_lines.proofs.PlayLaws.{next_turn}
+use Rattle.simulator_lines.proofs.play.Simulator.on_next.Goals as goal
+
+pub returns : goal.returns
+returns g c = λ output asked p h.
+    let room : length c.args.self.now.buffer ≡ buffer_need = search rules in
+    next_turn c.args.self.now output _ _ _ p _ c.event-step.ensures h room _ _ _ asked refl c.next_event-event.ensures c.next-packet.ensures c.drop_next.ensures
