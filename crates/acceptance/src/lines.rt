@@ -61,7 +61,7 @@ pub fn put_lines(step: Result<Option<Entry>, Refusal>, out: &mut [u8]) -> Block
     let mut len = 0;
     let mut count = 0;
     let mut step = step;
-    // Kept: goes on by the entry that comes next; nothing is counted.
+    // Kept: the next entry comes of the one before it, and how many there were is part of the answer.
     while let Some(entry) = step.unwrap_or(None) {
         if out.len() - len < LONGEST_LINE {
             break;

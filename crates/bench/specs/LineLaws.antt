@@ -27,6 +27,15 @@ whole_slice b = take-length b
 pub found-feed : (b : List ℕ) (r : ℕ) → r ≡ 0 + index_of feed (bytes.slice 0 (length b) b) → r ≡ before_feed b
 found-feed b r e = e ∙ rw (zero-add, whole_slice b)
 
+pub feed_within : (b : List ℕ) → before_feed b ≤ length b
+unfolding index_of index_after
+feed_within [] = omega arith
+feed_within (x ∷ b) = go (eqb x feed) (feed_within b)
+  where
+    go : (t : Bool) → before_feed b ≤ length b → index_after t (before_feed b) ≤ suc (length b)
+    go true h = omega arith
+    go false h = omega arith
+
 pub none_before : (b : List ℕ) → NoFeed (take (before_feed b) b)
 unfolding index_of index_after
 none_before [] = refl

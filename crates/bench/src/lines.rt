@@ -148,7 +148,7 @@ fn read_on<R: Read>(
     ensures { (t l : List ℕ) → NoFeed t → Begun t l start line.old → NextLine t l result.line line.new (unread_in result.unread buffer.new) }
 {
     let mut len = start;
-    // Kept: reads until a line feed or the end comes.
+    // Kept: the input may have any length and a loop must end, so it counts turns, up to a number that no run comes to.
     for _ in 0..u64::MAX {
         let to = fill(input, buffer);
         if to == 0 {
@@ -210,7 +210,7 @@ pub fn for_each<R: std::io::Input, F: FnMut(Line, &[u8]) -> bool>(
     let mut input = rt.reader();
     let mut buffer = io::large_buffer();
     let mut unread = Unread::nothing();
-    // Kept: the one loop over the lines, for all programs.
+    // Kept: the input may have any length and a loop must end, so it counts turns, up to a number that no run comes to.
     for _ in 0..u64::MAX {
         let given = next(&mut input, unread, &mut buffer, line);
         unread = given.unread;

@@ -231,3 +231,15 @@ module _ (t : Line) (l b : List ℕ) where
   pub reply-end : t ≡ End → placed 0 b ≡ placed_at 0 (line_reply t l) b
   unfolding line_reply over
   reply-end h = rw h
+
+-- the buffer keeps its length
+pub reply_room : (t : Line) (l b o : List ℕ) (r : ℕ) → placed r o ≡ placed_at 0 (line_reply t l) b → length b ≡ answer_room → length o ≡ answer_room
+unfolding line_reply
+reply_room t l b o r e room =
+    let size : length o ≡ length (over 0 (line_reply t l) b) = ap (λ (x : Placed). length x.buffer) e in
+    omega (arith, size, long_over (line_reply t l) b, short t)
+  where
+    short : (t : Line) → length (line_reply t l) ≤ 262193
+    short (Text n) = omega (arith, length-append (answer_of (take n l)) (feed ∷ []), answer-fits (take n l))
+    short OverLong = omega arith
+    short End = omega arith

@@ -152,7 +152,7 @@ fn four_words(name: &[u8], idm: &[u8], pair: &[u8], word: &[u8], out: &mut [u8])
     unreadable(out)
 }
 
-// Kept: the words of a line, as they stand in it.
+// Kept: a struct of these would be built by the callers and opened here, which is no plainer.
 fn five_words(
     name: &[u8],
     idm: &[u8],
@@ -205,6 +205,7 @@ pub fn answer(line: &[u8], out: &mut [u8; ANSWER_ROOM]) -> usize
 }
 
 // The answer to a line that stands at the start of `line`, with its line feed; nothing at the end of the input.
+// Kept: a bound `Fn` may not name the length of the array that a reply is put into, so each program has its own, by its own definition.
 pub fn reply(next: Line, line: &[u8], out: &mut [u8; ANSWER_ROOM]) -> usize
     ensures { placed result out.new ≡ placed_at 0 (line_reply next line.now) out.old }
 {

@@ -34,7 +34,7 @@ fn unreadable(session: Session) -> Step
 }
 
 // What the engine does with a call, whose byte strings stand one behind the other.
-// Kept: the arguments of a call, as `Session::call` takes them.
+// Kept: a struct of these would be built by the callers and opened here, which is no plainer.
 fn called(
     session: Session,
     number: u8,
@@ -100,6 +100,7 @@ pub fn answer(
 }
 
 // The answer to a line that stands at the start of `line`, with its line feed; nothing at the end of the input.
+// Kept: a bound `Fn` may not name the length of the array that a reply is put into, so each program has its own, by its own definition.
 pub fn reply(
     session: Session,
     next: Line,
@@ -128,6 +129,7 @@ pub fn reply(
 
 // Answers standard input line by line on standard output. `lines::next` has the contract of a line, by the bytes that come, and `reply`
 // that of the text for it; free is what the operating system reads and writes.
+// Kept: each program hands its own state and its own step to `for_each`.
 pub fn run<R: std::io::Input + Print>(rt: &R) {
     let mut line = [0u8; LINE_LIMIT];
     let mut buffer = [0u8; BUFFER_SIZE];

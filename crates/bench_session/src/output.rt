@@ -51,15 +51,15 @@ fn put_lengths(bytes: &[u8], uid: u8, ats: u8, out: &mut [u8]) -> usize
     ensures { Appends 0 (lengths_text bytes.now uid ats) out.old result out.new }
 {
     let at = put_named(b"done ", bytes, out);
-    let behind = put_number(b" uid ", uid as u64, out, at);
-    put_number(b" ats ", ats as u64, out, behind)
+    let behind = put_number(b" uid ", u64::from(uid), out, at);
+    put_number(b" ats ", u64::from(ats), out, behind)
 }
 
 // A refusal's number, and the status of 15 or both status flags of 20.
 fn put_refused(numbered: Numbered, out: &mut [u8]) -> usize
     ensures { Appends 0 (refused_text numbered) out.old result out.new }
 {
-    let at = put_number(b"refused ", numbered.number as u64, out, 0);
+    let at = put_number(b"refused ", u64::from(numbered.number), out, 0);
     if numbered.number == STATUS_NUMBER {
         let status = [numbered.status];
         let next = text::put(b" ", out, at);
@@ -78,7 +78,7 @@ fn put_list_refused(numbered: Numbered, finished: u8, out: &mut [u8]) -> usize
     ensures { Appends 0 (list_refused_text numbered finished) out.old result out.new }
 {
     let at = put_refused(numbered, out);
-    put_number(b" finished ", finished as u64, out, at)
+    put_number(b" finished ", u64::from(finished), out, at)
 }
 
 fn put_output(output: Output, bytes: &[u8], out: &mut [u8]) -> usize
@@ -87,9 +87,9 @@ fn put_output(output: Output, bytes: &[u8], out: &mut [u8]) -> usize
     match output {
         Output::Ack => put_named(b"write ", prefix(ACK_SIZE, bytes), out),
         Output::Command(n) => put_named(b"write ", prefix(n, bytes), out),
-        Output::Read(ms) => put_number(b"read ", ms as u64, out, 0),
+        Output::Read(ms) => put_number(b"read ", u64::from(ms), out, 0),
         Output::Drain => text::put(b"drain", out, 0),
-        Output::Pause(us) => put_number(b"pause ", us as u64, out, 0),
+        Output::Pause(us) => put_number(b"pause ", u64::from(us), out, 0),
         Output::Done(n) => put_done(prefix(n, bytes), out),
         Output::Type1(n) => put_type1(prefix(n, bytes), out),
         Output::UidAndAts(n, uid, ats) => put_lengths(prefix(n, bytes), uid, ats, out),

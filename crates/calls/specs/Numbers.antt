@@ -1,5 +1,6 @@
 -- The calls by their numbers: which number of the struct, and which list of bytes, is which argument of `reader_calls`.
-use Rattle.std.specs.Prelude.{List, [], ◌∷◌, map, ◌≡◌, refl, ℕ, zero, suc, ◌+◌, ◌≤◌, length, get_or}
+use Rattle.std.specs.Prelude.{List, [], ◌∷◌, map, ◌≡◌, refl, ℕ, zero, suc, ◌+◌, ◌≤◌, ◌<◌, length, get_or}
+use Rattle.std.proofs.Common.{arith}
 use Rattle.std.proofs.Math.ListN.{get_or-eq_default}
 use Rattle.protocol.specs.Calls.{ReaderCall, Call, opening, reader, unknown, reader_calls}
 use Rattle.calls.specs.declared.start.Numbers.{Numbers}
@@ -29,6 +30,16 @@ abbrev pub block_calls : ℕ
 block_calls = 26
 
 -- ---- laws
+
+-- a number that is none of the keys of a match
+pub beyond : (k n : ℕ) → k ≤ n → (n ≡ k → ⊥) → k + 1 ≤ n
+beyond k n h ne = omega (arith, h, ne)
+
+-- a number below an initiator's that is none of 1 to 8
+pub not_among : (n : ℕ) → n < initiator_calls → (n ≡ 1 → ⊥) → (n ≡ 2 → ⊥) → (n ≡ 3 → ⊥) → (n ≡ 4 → ⊥) → (n ≡ 5 → ⊥) → (n ≡ 6 → ⊥) → (n ≡ 7 → ⊥) → (n ≡ 8 → ⊥) → n ≡ 0
+not_among zero h a b c d e f g k = refl
+not_among (suc n) h a b c d e f g k =
+    absurd (omega (arith, beyond 8 (suc n) (beyond 7 (suc n) (beyond 6 (suc n) (beyond 5 (suc n) (beyond 4 (suc n) (beyond 3 (suc n) (beyond 2 (suc n) (beyond 1 (suc n) (omega arith) a) b) c) d) e) f) g) k))
 
 -- a number behind the last
 pub no_call : (number : ℕ) (n : Numbers) (first second third fourth : List ℕ) → 1 + length (calls_by n first second third fourth) ≤ number → call_of number n first second third fourth ≡ reader unknown

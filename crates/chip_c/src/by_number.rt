@@ -1,5 +1,5 @@
 // A kind and a bitrate by their numbers.
-// Kept: C hands over numbers, and a From between u8 and a type of another crate may not be written here.
+// Kept: C hands over numbers, and a From would put C's numbers into the crate of the type.
 ghost use Rattle.std.specs.Prelude.{◌≡◌};
 ghost use Rattle.simulated_chip.specs.Memory.{kind_at};
 ghost use Rattle.chip_c.specs.Numbers.{rate_by_of, bitrate_by_of};
@@ -21,7 +21,7 @@ pub fn kind_by(number: u8) -> Kind
 
 // A bitrate has its code's number; no other number is one that a kind takes.
 #[tactic(auto, unfolding(errors::specs::Choice::pick, crate::specs::Numbers::rate_by_of))]
-// Kept: C hands over numbers, and Bitrate is of another crate.
+// Kept: C hands over numbers, and a From would put C's numbers into `targets`.
 fn rate_by(number: u8) -> Bitrate
     ensures { result ≡ rate_by_of number }
 {

@@ -90,7 +90,7 @@ fn fresh_line(chip: &mut Chip, out: &mut [u8]) -> usize
 }
 
 // A card more in the field.
-// Kept: the words of a line, as they stand in it.
+// Kept: a struct of these would be built by the callers and opened here, which is no plainer.
 fn card_line(
     chip: &mut Chip,
     kind: Kind,

@@ -150,6 +150,12 @@ found-line s at stop e = e ∙ rw (take-length s)
 pub line-part : (s : List ℕ) (at stop : ℕ) → stop ≡ at + before_feed (drop at s) → take (stop - at) (drop at s) ≡ take (before_feed (drop at s)) (drop at s)
 line-part s at stop e = let q : stop - at ≡ before_feed (drop at s) = omega arith in ap (λ k. take k (drop at s)) q
 
+pub line-inside : (s : List ℕ) (at stop : ℕ) → stop ≡ at + before_feed (drop at s) → at < length s → stop ≤ length s
+line-inside s at stop e h =
+    let l = length-drop at s in
+    let b = size_bounds (drop at s) (omega arith) in
+    omega (arith, text_short (drop at s))
+
 pub line-fits : (s : List ℕ) (at k n m : ℕ) → length s ≤ n → m ≡ n → at < length s → at + length (take k (drop at s)) ≤ m
 line-fits s at k n m h e l = let p = length-take k (drop at s) in let q = length-drop at s in omega arith
 

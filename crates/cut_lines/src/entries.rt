@@ -77,7 +77,7 @@ pub(crate) fn read(
 {
     let mut n = 0;
     let mut at = 0;
-    // Kept: each line begins where the one before it ended; nothing is counted.
+    // Kept: a line begins where the one before it ended; n is the next entry's place, and part of the answer.
     while at < script.len() {
         if n == LINE_COUNT_LIMIT {
             return None;

@@ -22,7 +22,7 @@ fn room() -> [u8; INPUT_ROOM]
 // Reads what is left of the input. A loop has to end: it counts its turns up to a number that no run comes to.
 fn read_rest<R: Read>(input: &mut R) {
     let mut rest = io::large_buffer();
-    // Kept: reads of a fixed buffer until none comes, not lines.
+    // Kept: the input may have any length and a loop must end, so it counts turns, up to a number that no run comes to.
     for _ in 0..u64::MAX {
         if lines::read_full(input, &mut rest) == 0 {
             return;

@@ -65,7 +65,7 @@ pub(crate) fn begin(frames: &mut [u32; CALLER_COUNT], books: &mut [u8; BOOKS_SIZ
 }
 
 // One command frame more, up to the ceiling.
-// Kept: the ceiling has a name, which the contract gives.
+// Kept: `saturating_add` would stop at the same number, but only since the ceiling is the type's last one; the count stops at the ceiling that document 01 names.
 fn one_more(frames: u32) -> u32
     ensures { result ≡ one_more_of frames }
 {

@@ -29,7 +29,7 @@ const SLEPT_EVENT: u8 = 6;
 
 // The event of a number, where it has one.
 #[tactic(auto, unfolding(crate::specs::Numbers::known_in, crate::specs::Numbers::event_by_of))]
-// Kept: Event is of another crate, so that no TryFrom may be written here.
+// Kept: Event is of `exchange`, and a TryFrom there would put C's numbers into it.
 pub fn event_by(number: u8) -> Option<Event>
     ensures { (packet : List ℕ) → known_in result packet ≡ event_by_of number packet }
 {

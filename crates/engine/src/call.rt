@@ -56,7 +56,7 @@ impl End {
         match self {
             End::ResetDone => Ok(&packet[..0]),
             End::Arrived => {
-                let payload = exchange::response_payload(packet, &[code])?;
+                let payload = exchange::checked_payload(packet, &[code])?;
                 Ok(&payload[2..])
             }
             End::Failed(fault) => Err(fault),
@@ -149,7 +149,7 @@ impl Call {
         }
     }
 
-    // Kept: this and `on_opening_ack` order different things behind an ACK, each by a definition of its own.
+    // Kept: `on_opening_ack` differs in the order and the phase, and each meets a definition of its own; one function that takes order and phase would be no plainer than the two.
     fn on_reset_ack(self, exchange: Exchange, event: Event) -> Option<Transition>
         ensures { (code : ℕ) (p : List ℕ) → transition_in code p result ≡ reset_ack_transition self exchange (event_of event p) }
     {

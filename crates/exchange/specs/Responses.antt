@@ -179,6 +179,11 @@ unfolding fault_of reply_of
 not_response code packet fault e =
     record { reply = e; first = ap (fault_in fault) (sym e ∙ frame-refuses code packet (parse_of rcs956 packet) (ap is_response e)) }
 
+-- where there is no response, the part at its place is empty
+pub none_there : (code : ℕ) (packet : List ℕ) (fault : Fault) → Fails code packet fault → [] ≡ part_at (response_span code packet) packet
+unfolding response_span
+none_there code packet fault f = rw f.reply refl
+
 module _ (code : ℕ) (packet payload : List ℕ) (fills : Fills packet payload) where
   pub by_payload : reply_of code packet ≡ payload_reply code payload
   unfolding reply_of payload_of

@@ -5,7 +5,7 @@ ghost use Rattle.std.specs.Prelude.{◌≡◌, ℕ, List, slice_index, Bool, Mat
 ghost use Rattle.exchange.specs.Packets.{failed, payload_reply};
 ghost use Rattle.exchange.specs.Exchange.{advance as advance_of, sending, reading, waiting, cancelling, rejecting, draining, on_packet};
 ghost use Rattle.exchange.specs.Steps.{exchange_at, phase_in, event_of, result_in, SameCommand, Handled, sending_phase};
-ghost use Rattle.exchange.specs.Spans.{is_response, frame_length, payload_fault, fault_of};
+ghost use Rattle.exchange.specs.Spans.{is_response, frame_length, part_at, response_span, payload_fault, fault_of};
 ghost use Rattle.exchange.specs.Responses.{Fills, Unfilled, Responds, Fails};
 
 use errors::Fault;
@@ -244,12 +244,22 @@ fn check_payload(payload: &[u8], code: u8) -> Result<(), Fault>
 }
 
 // Step 5: the payload (identifier, code and response) of an intact response to a command, whose code stands at its start; or the packet's fault.
-pub fn response_payload<'p, 'c>(packet: &'p [u8], command: &'c [u8]) -> Result<&'p [u8], Fault>
+pub fn checked_payload<'p, 'c>(packet: &'p [u8], command: &'c [u8]) -> Result<&'p [u8], Fault>
     ensures { MatchResult result (λ payload. Responds (slice_index command.now 0) packet.now payload.now) (λ fault. Fails (slice_index command.now 0) packet.now fault) }
 {
     let payload = filling_payload(packet)?;
     check_payload(payload, code_of(command))?;
     Ok(payload)
+}
+
+// The same for whoever takes the payload alone: the empty part where the packet is no such response.
+pub fn response_payload<'p, 'c>(packet: &'p [u8], command: &'c [u8]) -> &'p [u8]
+    ensures { result.now ≡ part_at (response_span (slice_index command.now 0) packet.now) packet.now }
+{
+    match checked_payload(packet, command) {
+        Ok(payload) => payload,
+        Err(_) => &packet[..0],
+    }
 }
 
 // The fault of a payload that is no response.

@@ -48,7 +48,7 @@ fn head(len: u8, code: u8, idm: &[u8; IDM_SIZE], flag1: u8, flag2: u8) -> [u8; F
 }
 
 // Writes a reply: what stands behind its flags is the number of blocks and their data, or nothing.
-// Kept: the fields of a reply, in their order.
+// Kept: a struct of these would be built by the callers and opened here, which is no plainer.
 fn put_reply(
     code: u8,
     idm: &[u8; IDM_SIZE],

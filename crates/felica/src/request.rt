@@ -58,7 +58,7 @@ fn fitting<'i>(idm: &'i [u8], blocks: &[u8]) -> Option<&'i [u8; IDM_SIZE]>
 }
 
 // Writes the request at the buffer's start; the rest of the buffer keeps its bytes.
-// Kept: the fields of a request, in their order.
+// Kept: a struct of these would be built by the callers and opened here, which is no plainer.
 fn put_request(
     code: u8,
     idm: &[u8; IDM_SIZE],

@@ -3,12 +3,12 @@ use mathlib.Core.Path.{◌≡◌, refl, sym, ap, ◌∙◌}
 use mathlib.Core.Bool.{Bool, true, false}
 use mathlib.Core.List.{List, [], ◌∷◌, ◌++◌}
 use Rattle.std.specs.Prelude.{Option, Some, None, Result, Ok, Err}
-use Prim.Native.Nat.{ℕ, ◌≤◌, ◌<◌}
+use Prim.Native.Nat.{ℕ, ◌+◌, ◌-◌, ◌≤◌, ◌<◌}
 use native.Mathlib.Nat.{zero-add}
 use native.Mathlib.Omega.{arith}
 use borrow.Author.Tests.{lt-ltb, le-ltb}
 use lib.Dec.{ltb}
-use lib.ListN.{length, take, length-append}
+use lib.ListN.{length, take, length-append, length-drop}
 use Rattle.errors.specs.Choice.{pick}
 use Rattle.errors.specs.declared.Refusal.TheVariants.{BadArgument}
 use Rattle.errors.specs.declared.RoundRefusal.{RoundRefusal}
@@ -17,7 +17,7 @@ use Rattle.bench.specs.TextLaws.{then_put, at-start}
 use Rattle.bench.specs.Texts.{over, Placed, placed, put_at, Appends}
 use Rattle.bench.specs.Words.{words_of_lem}
 use Rattle.bench.specs.declared.lines.Line.{Line}
-use Rattle.bench.specs.declared.lines.Line.TheVariants.{Text, OverLong}
+use Rattle.bench.specs.declared.lines.Line.TheVariants.{Text, OverLong, End}
 use Rattle.presence_list.specs.MemoryLaws.{length-pieces}
 use Rattle.presence_list.specs.Sizes.{FewAfter}
 use Rattle.presence_list.proofs.Sizes.{few_after}
@@ -25,7 +25,7 @@ use Rattle.presence_list.specs.Steps.{Rounded, rounded, round_of}
 use Rattle.presence_list.specs.declared.list.Counts.{Counts}
 use Rattle.presence_list.specs.declared.list.Presence.{Presence}
 use Rattle.presence_lines.proofs.PrintLaws.{lists_short, refused_short}
-use Rattle.presence_lines.specs.Lines.{line_limit, answer_room, unreadable, text_of, Said, said, said_of, LineAnswer, on_said, answer_of, after_line, printed, line_reply}
+use Rattle.presence_lines.specs.Lines.{line_limit, answer_room, unreadable, text_of, Said, said, said_of, LineAnswer, on_said, answer_of, AfterLine, after_line, printed, line_reply}
 use Rattle.presence_lines.specs.Readings.{read_in}
 use Rattle.presence_lines.specs.declared.read.RoundLine.{RoundLine}
 use Rattle.bench.specs.Lines.{feed}
@@ -97,3 +97,21 @@ module _ (l x : Presence) (t : Line) (line o o₁ o₂ : List ℕ) (m r : ℕ) (
   pub reply_long : t ≡ OverLong → x ≡ l → Appends 0 unreadable o m o₁ → placed r o₂ ≡ put_at m (feed ∷ []) o₁ → after_line x r o₂ ≡ line_reply l t line o
   unfolding line_reply
   reply_long h p d e = rw h (printed-done _ x m r o o₁ o₂ (omega (arith, refused_short (AtOnce BadArgument))) room p d e)
+
+-- the buffer keeps its length
+long_over : (t b : List ℕ) → length (over 0 t b) ≡ length t + (length b - length t)
+unfolding over
+long_over t b = simp (length-append, length-drop) (omega arith)
+
+printed_room : (a : LineAnswer) (o : List ℕ) → length a.text ≤ 8000 → length o ≡ answer_room → length (printed a o).out ≡ answer_room
+unfolding printed
+printed_room a o h e = omega (arith, long_over (a.text ++ (feed ∷ [])) o, length-append a.text (feed ∷ []))
+
+pub reply_room : (l x : Presence) (t : Line) (line o o' : List ℕ) (r : ℕ) → after_line x r o' ≡ line_reply l t line o → length o ≡ answer_room → length o' ≡ answer_room
+unfolding line_reply
+reply_room l x t line o o' r e room = ap (λ (y : AfterLine). length y.out) e ∙ go t
+  where
+    go : (t : Line) → length (line_reply l t line o).out ≡ answer_room
+    go (Text n) = printed_room (answer_of l (take n line)) o (answer_short l (take n line)) room
+    go OverLong = printed_room _ o (omega (arith, refused_short (AtOnce BadArgument))) room
+    go End = room

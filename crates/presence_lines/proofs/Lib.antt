@@ -2,3 +2,4 @@ mod AnswerLaws
 mod PrintLaws
 mod ReadLaws
 mod RoundLaws
+mod PlaceLaws

@@ -62,6 +62,7 @@ fn answer(list: &mut Presence, line: &[u8], out: &mut [u8]) -> usize
 }
 
 // The answer to a line that stands at the start of `line`, with its line feed; nothing at the end of the input.
+// Kept: a bound `Fn` may not name the length of the array that a reply is put into, so each program has its own, by its own definition.
 pub fn reply(list: &mut Presence, next: Line, line: &[u8], out: &mut [u8; ANSWER_ROOM]) -> usize
     ensures { after_line list.new result out.new ≡ line_reply list.old next line.now out.old }
 {
@@ -80,6 +81,7 @@ pub fn reply(list: &mut Presence, next: Line, line: &[u8], out: &mut [u8; ANSWER
 
 // Answers standard input line by line on standard output. `lines::next` has the contract of a line, by the bytes that come, and `reply`
 // that of the text for it; free is what the operating system reads and writes.
+// Kept: each program hands its own state and its own step to `for_each`.
 pub fn run<R: Input + Print>(rt: &R) {
     let mut line = [0u8; LINE_LIMIT];
     let mut out = [0u8; ANSWER_ROOM];

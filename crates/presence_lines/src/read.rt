@@ -64,7 +64,7 @@ fn is_identifier(word: &[u8]) -> bool
     hex::is_hex(word) && word.len() / 2 <= HEX_LIMIT
 }
 
-// Kept: the fields of a record, in their order.
+// Kept: a struct of these would be built by the callers and opened here, which is no plainer.
 fn put_record(
     kind: u8,
     identifier: &[u8],

@@ -23,7 +23,8 @@ pub struct Tally {
     long: u64,
 }
 
-// Kept: one for both kinds of refusals, by `Into`.
+// The number of a refusal or a fault.
+// Kept: each type's own From gives the number; this makes it an index.
 fn refusal_number(refusal: impl Into<Numbered>) -> usize {
     usize::from(refusal.into().number)
 }
@@ -72,25 +73,10 @@ fn is_in_range(session: &Session) -> bool {
         && core_in_range(session.core)
 }
 
-// The call and the exchange, and how many bytes there are for them, are the same.
-fn same_core(before: Core, after: Core) -> bool {
-    let a = before.call;
-    let b = after.call;
-    before.command == after.command
-        && before.found == after.found
-        && before.exchange == after.exchange
-        && a.kind == b.kind
-        && a.stage == b.stage
-        && a.cursor == b.cursor
-        && a.phase == b.phase
-}
-
 // All but the bytes of the command and those that were found.
-// Kept: arrays of a session beside one another, by `==`.
+// Kept: it leaves two fields out, so the derived `==` of a session says more.
 fn same(before: &Session, after: &Session) -> bool {
-    before.books == after.books
-        && before.frames == after.frames
-        && same_core(before.core, after.core)
+    before.books == after.books && before.frames == after.frames && before.core == after.core
 }
 
 // Refused with 1 or 2.
@@ -126,16 +112,15 @@ fn outcomes(rt: &impl Print, counts: &[u64; OUTCOMES]) -> Result<()> {
 }
 
 fn refusals(rt: &impl Print, counts: &[u64; OUTCOMES]) -> Result<()> {
-    for k in 1..=22 {
-        let count = counts[k];
+    for (k, count) in counts.iter().enumerate().skip(1).take(22) {
         println!(rt; "refused {k} {count}")?;
     }
     Ok(())
 }
 
 fn refusals_met(rt: &impl Print, counts: &[u64; OUTCOMES]) -> Result<()> {
-    for k in 1..=6 {
-        let met = u64::from(counts[k] > 0);
+    for (k, count) in counts.iter().enumerate().skip(1).take(6) {
+        let met = u64::from(*count > 0);
         println!(rt; "calls refused {k}, met {met}")?;
     }
     Ok(())

@@ -108,24 +108,12 @@ fn core(seed: u64) -> Core {
     }
 }
 
-// Open in most, not open in a quarter, out of range in few.
-// Kept: each of these draws a field by chances of its own.
-fn opened(x: u64) -> u8 {
+// 0 up to a place of 32, else 1; out of range in few. A session is open in most, and its mode is either.
+fn flag(x: u64, last_zero: u64) -> u8 {
     match x % 32 {
         0 => 2,
         1 => 255,
-        2..=9 => 0,
-        _ => 1,
-    }
-}
-
-// Off or padded in most, out of range in few.
-fn mode(x: u64) -> u8 {
-    match x % 32 {
-        0 => 2,
-        1 => 255,
-        2..=16 => 0,
-        _ => 1,
+        place => u8::from(place > last_zero),
     }
 }
 
@@ -140,8 +128,8 @@ pub(crate) fn caller(x: u64) -> u8 {
 
 fn books(seed: u64) -> [u8; BOOKS_SIZE] {
     [
-        opened(drawn(seed, 9)),
-        mode(drawn(seed, 14)),
+        flag(drawn(seed, 9), 9),
+        flag(drawn(seed, 14), 16),
         caller(drawn(seed, 15)),
     ]
 }

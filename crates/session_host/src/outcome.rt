@@ -94,7 +94,7 @@ impl Outcome {
 impl From<Output> for Outcome {
     ghost from_gives = { λ output r. r ≡ outcome_of output };
 
-    // Kept: the kind, the fault and the count are told apart before the fault is numbered; numbering it at two places costs a call 100 instructions.
+    // Kept: one match tells kind, fault and count apart, and the fault is numbered once, behind it; two arms that number it are no plainer, and cost a call 100 instructions.
     fn from(output: Output) -> Outcome {
         let (kind, fault, finished) = match output {
             Output::Ack => return Outcome::bytes(WRITE_OUTCOME, ACK_SIZE),

@@ -16,7 +16,7 @@ use errors::Refusal;
 use targets::Bitrate;
 
 // Puts a card to a place.
-// Kept: the bytes of a slot, put once.
+// Kept: a struct of these would be built by the callers and opened here, which is no plainer.
 fn put_card(cards: &mut [u8], at: usize, kind: u8, code: u8, count: u8, list_data: &[u8])
     requires { (length list_data.now ≤ longest_list_data) × (at + card_size ≤ length cards.old) }
     ensures { cards.new ≡ put_card_of at kind code count list_data.now cards.old }

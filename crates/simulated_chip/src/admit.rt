@@ -15,7 +15,7 @@ use targets::Bitrate;
 use targets::type_a::is_type2;
 
 // The code of a bitrate in memory.
-// Kept: Bitrate and u8 are both of other crates, so that no From may be written here.
+// Kept: a From stands in the crate of one of its types; Bitrate is of `targets`, which knows no number of a chip.
 pub(crate) fn br_ty(bitrate: Bitrate) -> u8
     ensures { result ≡ br_ty bitrate }
 {

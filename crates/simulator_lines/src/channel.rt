@@ -120,7 +120,7 @@ impl Unread {
 
 impl Channel {
     // An empty field, and nothing unread.
-    pub fn fresh() -> Channel {
+    pub(crate) fn fresh() -> Channel {
         Channel {
             chip: Chip::fresh(),
             unread: Unread::nothing(),

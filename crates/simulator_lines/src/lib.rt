@@ -22,7 +22,7 @@ use request::Request;
 
 impl Simulator {
     // A reader that nothing was asked of, and an empty field.
-    pub fn fresh() -> Simulator {
+    pub(crate) fn fresh() -> Simulator {
         Simulator {
             session: Session::fresh(),
             channel: Channel::fresh(),
@@ -69,6 +69,7 @@ impl Simulator {
     }
 
     // The answer to a line that stands at the start of `line`, with its line feed; nothing at the end of the input. How long it is.
+    // Kept: the simulator holds its answer's array itself, so its reply is a method, beside the functions of the other programs.
     fn reply(&mut self, rt: &impl Print, next: Line, line: &[u8]) -> usize {
         match next {
             Line::Text(n) => {
@@ -85,6 +86,7 @@ impl Simulator {
 }
 
 // Answers standard input line by line on standard output.
+// Kept: each program hands its own state and its own step to `for_each`.
 pub fn run<R: std::io::Input + Print>(rt: &R) {
     let mut line = [0u8; LINE_LIMIT];
     let mut simulator = Simulator::fresh();

@@ -1,4 +1,5 @@
 mod LineLaws
+mod PlaceLaws
 mod ScriptLaws
 -- the theorem; the same of a machine, of the engine and the host's entries
 pub mod Theorem

@@ -41,6 +41,7 @@ pub fn answer(line: &[u8], out: &mut [u8; SCRIPT_ROOM]) -> usize
 }
 
 // The answer to a line that stands at the start of `line`, with its line feed; nothing at the end of the input.
+// Kept: a bound `Fn` may not name the length of the array that a reply is put into, so each program has its own, by its own definition.
 pub fn reply(next: Line, line: &[u8], out: &mut [u8; SCRIPT_ROOM]) -> usize
     ensures { (placed result out.new ≡ placed_at 0 (line_text next line.now) out.old) × (length out.old ≡ script_room → length out.new ≡ script_room) }
 {
@@ -59,6 +60,7 @@ pub fn reply(next: Line, line: &[u8], out: &mut [u8; SCRIPT_ROOM]) -> usize
 
 // Answers standard input line by line on standard output. `lines::next` has the contract of a line, by the bytes that come, and `reply`
 // that of the text for it; free is what the operating system reads and writes.
+// Kept: each program hands its own state and its own step to `for_each`.
 pub fn run<R: Input + Print>(rt: &R) {
     let mut line = [0u8; LINE_LIMIT];
     let mut out = [0u8; SCRIPT_ROOM];
