@@ -1,6 +1,7 @@
 -- Laws of the words of a line: what the scans of `words` find, place by place.
-use Rattle.std.specs.Prelude.{◌≡◌, refl, Bool, true, false, cond, Option, Some, None, unwrap_or, option_map, slice_get, ◌==◌, List, [], ◌∷◌, ℕ, zero, suc, ◌+◌, ◌-◌, ◌≤◌, ◌<◌, eqb, length, get_or, take, drop}
-use Rattle.std.proofs.Common.{sym, ap, ◌∙◌, arith, drop_of_length-le, drop-cons, drop-drop}
+use Rattle.std.specs.Prelude.{◌≡◌, refl, Bool, true, false, cond, Option, Some, None, unwrap_or, option_map, slice_get, ◌==◌, List, [], ◌∷◌, ◌++◌, ℕ, zero, suc, ◌+◌, ◌-◌, ◌≤◌, ◌<◌, eqb, length, get_or, take, drop}
+use Rattle.std.proofs.Common.{sym, ap, ◌∙◌, add-one, arith, drop_of_length-le, drop-cons, drop-drop}
+use borrow.Author.Tests.{eq-eqb, ne_eqb}
 use denote.Ref.{Bor}
 use Rattle.std.specs.List.{slice_split, onto_first}
 use Rattle.std.proofs.Math.Seq.{take-length}
@@ -22,6 +23,42 @@ later-ahead : (b k : ℕ) (ws : List (List ℕ)) → get_or (ahead b ws) (suc k)
 unfolding ahead
 later-ahead b k [] = refl
 later-ahead b k (w ∷ ws) = refl
+
+-- a line has a first word
+some_word : (l : List ℕ) → 0 < length (words_of_lem l)
+unfolding words_of_lem pick
+some_word [] = omega arith
+some_word (b ∷ l) = go (some_word l) (eqb b 32)
+  where
+    go : 0 < length (words_of_lem l) → (t : Bool) → 0 < length (pick t ([] ∷ words_of_lem l) (ahead b (words_of_lem l)))
+    go h true = omega arith
+    go h false = omega (arith, length-ahead b (words_of_lem l) h)
+
+module _ (l : List ℕ) (i : ℕ) where
+  at-space : i < length l → get_or l i 0 ≡ 32 → words_of_lem (drop i l) ≡ [] ∷ words_of_lem (drop (i + 1) l)
+  unfolding words_of_lem pick
+  at-space h e = rw (drop-cons l i 0 h, eq-eqb (get_or l i 0) 32 e, add-one)
+
+  at_other : i < length l → (get_or l i 0 ≡ 32 → ⊥) → words_of_lem (drop i l) ≡ ahead (get_or l i 0) (words_of_lem (drop (i + 1) l))
+  unfolding words_of_lem pick
+  at_other h e = rw (drop-cons l i 0 h, ne_eqb (get_or l i 0) 32 e, add-one)
+
+  at-end : length l ≤ i → words_of_lem (drop i l) ≡ [] ∷ []
+  unfolding words_of_lem
+  at-end h = rw (drop_of_length-le l {i = i} h)
+
+  -- n words were passed before place i
+  module _ (n : ℕ) (passed : n + length (words_of_lem (drop i l)) ≡ length (words_of_lem l) + 1) where
+    pub count_space : (m : ℕ) → i < length l → get_or l i 0 ≡ 32 → m ≡ n + 1 → m + length (words_of_lem (drop (i + 1) l)) ≡ length (words_of_lem l) + 1
+    count_space m h e g = let f = ap length (at-space h e) in omega arith
+
+    pub count-other : (m : ℕ) → i < length l → (get_or l i 0 ≡ 32 → ⊥) → m ≡ n → m + length (words_of_lem (drop (i + 1) l)) ≡ length (words_of_lem l) + 1
+    count-other m h e g =
+        let f = ap length (at_other h e) ∙ length-ahead (get_or l i 0) (words_of_lem (drop (i + 1) l)) (some_word (drop (i + 1) l)) in
+        omega arith
+
+    pub count-end : length l ≤ i → n ≡ length (words_of_lem l)
+    count-end h = let f = ap length (at-end h) in omega arith
 
 ahead-onto : (b : ℕ) (ws : List (List ℕ)) → ahead b ws ≡ onto_first b ws
 unfolding ahead
@@ -70,6 +107,10 @@ word_short (b ∷ l) k = go (word_short l) (eqb b 32) k
     go h true (suc j) = omega (arith, h j)
     go h false zero = omega (arith, h 0, ap length (first-ahead b (words_of_lem l)))
     go h false (suc j) = omega (arith, h (suc j), ap length (later-ahead b j (words_of_lem l)))
+
+-- a word that begins at a place, of which nothing is taken yet
+pub end-begin : (l : List ℕ) (s : ℕ) → take (s - s) (drop s l) ++ get_or (words_of_lem (drop s l)) 0 [] ≡ get_or (words_of_lem (drop s l)) 0 []
+end-begin l s = let z : s - s ≡ 0 = omega arith in rw z
 
 -- the words behind the first, where a space and they are left
 unfoldable pub words_behind : List ℕ → List (List ℕ)

@@ -4,12 +4,18 @@ use Rattle.std.proofs.Common.{sym, ap, ◌∙◌, eq-eqb, ne_eqb, arith}
 use Rattle.errors.specs.declared.Fault.{Fault}
 use Rattle.errors.specs.Rules.{same-value}
 use Rattle.exchange.specs.Packets.{is_empty, failed, reply_of}
-use Rattle.exchange.specs.Exchange.{pending, ended, ExchangeResult}
-use Rattle.exchange.specs.Steps.{exchange_at, phase_in, order_of, Handled, draining_phase}
+use Rattle.exchange.specs.Exchange.{Event, ExchangePhase, pending, ended, unfit, ExchangeResult, advance}
+use Rattle.exchange.specs.Steps.{exchange_at, phase_in, order_of, result_in, SameCommand, Handled, draining_phase}
 use Rattle.exchange.specs.declared.Order.{Order as CodeOrder}
 use Rattle.exchange.specs.declared.Exchange.{Exchange}
 use Rattle.exchange.specs.declared.Advanced.{Advanced}
-use Rattle.exchange.specs.declared.Advanced.TheVariants.{Pending, Arrived, Failed}
+use Rattle.exchange.specs.declared.Advanced.TheVariants.{Unfit, Pending, Arrived, Failed}
+
+pub cond_true : {A : Type 0} (x a b : A) (t : Bool) → t ≡ true → x ≡ a → x ≡ cond t a b
+cond_true x a b t h e = rw h e
+
+pub cond_false : {A : Type 0} (x a b : A) (t : Bool) → t ≡ false → x ≡ b → x ≡ cond t a b
+cond_false x a b t h e = rw h e
 
 pub empty : (p : List ℕ) → length p ≡ 0 → is_empty p ≡ true
 empty [] h = refl
@@ -36,5 +42,19 @@ module _ (x : Exchange) (packet : List ℕ) (r : Advanced) where
 
   pub arrives : r ≡ Arrived → Handled x packet (ended (reply_of x.code packet)) r
   arrives e = rw e (record { result = refl; kept = tt })
+
+pub stays : (x : Exchange) (packet : List ℕ) (to : ExchangeResult) → unfit ≡ to → Handled x packet to Unfit
+stays x packet to e = record { result = e; kept = tt }
+
+-- a handler's promises are those of `advance` in the handler's phase
+pub in_phase : (x : Exchange) (k : ℕ) (event : Event) (packet : List ℕ) (r : Advanced) → x.phase ≡ k
+    → Handled x packet (advance (phase_in (exchange_at k x.code x.clock)) event) r
+    → (result_in x packet r ≡ advance (phase_in x) event) × SameCommand x r
+unfolding phase_in
+in_phase x k event packet r e f =
+    let same : phase_in (exchange_at k x.code x.clock) ≡ phase_in x = ap (λ (n : ℕ). phase_in (exchange_at n x.code x.clock)) (sym e) in
+    (f.result ∙ ap (λ (s : ExchangePhase). advance s event) same, f.kept)
+
+pub ruleset cases = (cond_true, cond_false, same-value, eq-eqb, ne_eqb)
 
 pub ruleset step_rules = (on_true, on_false, same-value, empty, not_empty, eq-eqb, ne_eqb, goes_on, fails, arrives)

@@ -1,12 +1,12 @@
 -- Laws of packets put together in a buffer.
 use Rattle.std.specs.Prelude.{◌≡◌, refl, Bool, eqb, leb, take, get_or}
-use Rattle.std.proofs.Common.{sym, ◌∙◌, arith, drop-drop, take_at}
+use Rattle.std.proofs.Common.{sym, ◌∙◌, arith, Fits, drop-drop, take_at}
 use Rattle.std.proofs.Math.Path.{ap, ap₂}
 use Rattle.std.proofs.Math.Bool.{true}
 use mathlib.Core.List.{List, [], ◌∷◌, ◌++◌, append_assoc}
 use Prim.Native.Nat.{ℕ, suc, ◌+◌, ◌*◌, ◌/◌, ◌%◌, ◌≤◌, ◌<◌}
 use borrow.Author.Tests.{lt-ltb, le-ltb, leb-true, eqb-true, eq-eqb}
-use Rattle.std.specs.Int.{w16, to_le_bytes}
+use Rattle.std.specs.Int.{w16, w64, to_le_bytes}
 use Rattle.std.proofs.Math.ListN.{length, drop, length-append}
 use Rattle.std.proofs.Math.Seq.{drop-append-add}
 use Rattle.errors.specs.Choice.{pick}
@@ -180,6 +180,9 @@ module _ (idm blocks : List ℕ) (r : Bool) (known : r ≡ request_fits idm bloc
 
   pub fits_some : 1 ≤ length blocks
   fits_some = (fits idm blocks r known good).some
+
+  pub fits_product : Fits w64 (block_size * length blocks)
+  fits_product = record { fits = omega (arith, fits_few) }
 
 module _ (idm blocks bytes : List ℕ) (r : Bool) (known : r ≡ write_fits_of idm blocks bytes) (good : r ≡ true) where
   pub write_idm : length idm ≡ idm_size

@@ -1,6 +1,6 @@
 -- Rules by which `search` follows a definition's tests where a call answered the number that is tested.
-use Rattle.std.specs.Prelude.{◌≡◌, true, false, List, ℕ, ◌≤◌, ◌<◌, eqb, leb, length, get_or}
-use Rattle.std.proofs.Common.{sym, ◌∙◌, le-leb, eq-eqb, ne_eqb}
+use Rattle.std.specs.Prelude.{◌≡◌, Bool, true, false, List, ℕ, ◌≤◌, ◌<◌, eqb, leb, length, get_or}
+use Rattle.std.proofs.Common.{sym, ap, ◌∙◌, le-leb, eq-eqb, ne_eqb}
 use Rattle.std.proofs.lemmas.Bool.{lt-leb}
 use Rattle.std.proofs.Math.ListN.{get_or-eq_default}
 use Rattle.framing.specs.Rules.{steps}
@@ -14,6 +14,9 @@ module _ (r x k : ℕ) (known : r ≡ x) where
 
   pub known_ne : (r ≡ k → ⊥) → eqb x k ≡ false
   known_ne h = ne_eqb x k (λ e. h (known ∙ e))
+
+  pub known_is : (t : Bool) → t ≡ eqb r k → t ≡ eqb x k
+  known_is t e = e ∙ ap (λ n. eqb n k) known
 
   pub known_least : k ≤ r → leb k x ≡ true
   known_least h = rw known at (le-leb k r h)

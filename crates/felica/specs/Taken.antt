@@ -1,14 +1,16 @@
--- Laws of requests taken apart.
+-- Laws of packets taken apart.
 use Rattle.std.specs.Prelude.{◌≡◌, refl, Bool, true, false, List, ℕ, zero, suc, ◌+◌, ◌*◌, ◌-◌, ◌/◌, ◌≤◌, eqb, leb, length, take, drop, get_or, Some, None}
 use Rattle.std.proofs.Math.Path.{sym, ap}
-use Rattle.std.proofs.Common.{ap₂, ◌∙◌, length-take, length-drop}
+use Rattle.std.proofs.Common.{ap₂, ◌∙◌, Fits, length-take, length-drop}
 use native.Mathlib.Omega.{arith}
-use borrow.Author.Tests.{eq-eqb, le-leb, leb-true, eqb-true}
+use borrow.Author.Tests.{eq-eqb, ne_eqb, le-leb, leb-true, eqb-true}
+use Rattle.std.specs.Int.{w64}
 use Rattle.errors.specs.Choice.{pick}
+use Rattle.framing.specs.Lists.{both}
 use Rattle.framing.specs.Valid.{both_left, both_right}
-use Rattle.felica.specs.Names.{block_size, most_blocks, element_size, code_offset, services_offset, service_low_offset, service_high_offset, request_head}
+use Rattle.felica.specs.Names.{block_size, most_blocks, element_size, code_offset, services_offset, service_low_offset, service_high_offset, request_head, flags_end}
 use Rattle.felica.specs.Packets.{read_code, write_code}
-use Rattle.felica.specs.Fields.{idm_in, service_in, count_in, list_in, block_data_in, numbers_in, is_block_list_of, asks_blocks, is_request_of, request_of, reads, writes, no_request, four_in, asked_in, parsed_request, numbers_of, request_in}
+use Rattle.felica.specs.Fields.{idm_in, service_in, count_in, list_in, block_data_in, numbers_in, is_block_list_of, asks_blocks, is_request_of, request_of, reads, writes, no_request, four_in, asked_in, parsed_request, numbers_of, request_in, has_blocks_of}
 use Rattle.felica.specs.Lists.{few_numbers}
 use Rattle.felica.specs.declared.request.Asked.{Asked}
 use Rattle.felica.specs.declared.request.Request.TheVariants.{Read, Write}
@@ -22,6 +24,12 @@ small s (suc (suc zero)) h k = omega arith
 small s (suc (suc (suc zero))) h k = omega arith
 small s (suc (suc (suc (suc zero)))) h k = omega arith
 small s (suc (suc (suc (suc (suc n))))) h k = absurd (omega arith)
+
+pub product_fits : (s n : ℕ) → s ≤ block_size → n ≤ most_blocks → Fits w64 ((element_size + s) * n)
+product_fits s n h k = record { fits = omega (arith, small s n h k) }
+
+pub sum_fits : (s n : ℕ) → s ≤ block_size → n ≤ most_blocks → Fits w64 (request_head + (element_size + s) * n)
+sum_fits s n h k = record { fits = omega (arith, small s n h k) }
 
 pub list_within : (p : List ℕ) (s n : ℕ) → length p ≡ request_head + (element_size + s) * n → n ≤ most_blocks → request_head + element_size * n ≤ length p
 list_within p s zero e h = omega (arith, e)
@@ -80,3 +88,13 @@ parsed_fields p = go (is_request_of read_code 0 p) (is_request_of write_code blo
     go true u e f = ap (reads (idm_in p) (service_in p)) (numbers-asked read_code 0 p e)
     go false true e f = ap (λ l. writes (idm_in p) (service_in p) l (block_data_in (count_in p) p)) (numbers-asked write_code block_size p f)
     go false false e f = refl
+
+-- ---- replies
+
+-- the first byte is not the number of bytes
+pub not_length : (p : List ℕ) (n : ℕ) (rest : Bool) → flags_end ≤ length p → n ≡ get_or p 0 0 → (n ≡ length p → ⊥)
+    → false ≡ both (leb flags_end (length p)) (both (eqb (get_or p 0 0) (length p)) rest)
+not_length p n rest h e ne = rw (le-leb flags_end (length p) h, ne_eqb (get_or p 0 0) (length p) (λ k. ne (e ∙ k)))
+
+pub known_blocks : (p : List ℕ) (n m : ℕ) (r : Bool) → n ≡ m → r ≡ has_blocks_of n p → r ≡ has_blocks_of m p
+known_blocks p n m r e h = h ∙ ap (λ k. has_blocks_of k p) e

@@ -244,6 +244,13 @@ module _ (p : List ℕ) (n : ℕ) (zeros : (k : ℕ) → k < n → slice_index p
           let mark : slice_index_or p (suc (suc (n - 2))) 0 ≡ start_end = ap (λ j. slice_index p j) here ∙ sym e ∙ eqb-true b start_end f in
           sym (extra_is p (n - 2) (padded-from (n - 2) p (λ j l. zeros j (omega arith)) mark) (ltb-false most_zeros (n - 2) k))
 
+  pub another : slice_index_or p n 0 ≡ 0 → (k : ℕ) → k < n + 1 → slice_index p k ≡ 0
+  another e k l = go (nat_le n k) refl
+    where
+      go : (t : Bool) → nat_le n k ≡ t → slice_index p k ≡ 0
+      go false f = zeros k (leb-false n k f)
+      go true f = let last : k ≡ n = omega (arith, leb-true n k f) in subst (λ j. slice_index p j ≡ 0) (sym last) e
+
   pub all-zeros : (end : ℕ) → end ≡ min (length p) (most_zeros + sof_size) → end ≤ n → 0 ≡ extra_zeros_of p
   all-zeros end at-end l = sym (extra_none p (λ z m h. absurd (go z m (mark_behind z p h) (nat_le n (suc (suc z))) refl)))
     where

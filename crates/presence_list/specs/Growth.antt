@@ -7,6 +7,7 @@ use mathlib.Core.List.{List, [], ◌∷◌, ◌++◌, append_assoc, append-nil}
 use Prim.Native.Nat.{ℕ, zero, suc, ◌+◌, ◌*◌, ◌≤◌, ◌<◌}
 use native.Mathlib.Omega.{arith}
 use Rattle.std.proofs.Math.ListN.{length, set}
+use Rattle.std.proofs.lemmas.List.{set-append_left}
 use borrow.Author.Tests.{eq-eqb, ne_eqb}
 use Rattle.errors.specs.Choice.{pick}
 use Rattle.presence_list.specs.Names.{record_size, missed_offset}
@@ -37,6 +38,28 @@ unfolding put_behind concatenated
 added-one n e b h =
     let next : record_size * n + length e ≡ record_size * (n + 1) = omega arith in
     ap₂ (λ (x : List ℕ) (k : ℕ). take (record_size * n) b ++ (x ++ drop k b)) (sym (append-nil e)) next
+
+-- a byte of the one that was put
+set-behind : (xs ys : List ℕ) (i a : ℕ) → set (xs ++ ys) (length xs + i) a ≡ xs ++ set ys i a
+set-behind [] ys i a = ap (λ (k : ℕ). set ys k a) (none i)
+  where
+    none : (n : ℕ) → 0 + n ≡ n
+    none n = omega arith
+set-behind (x ∷ xs) ys i a = ap (λ (k : ℕ). set (x ∷ (xs ++ ys)) k a) (one (length xs) i) ∙ ap (λ (l : List ℕ). x ∷ l) (set-behind xs ys i a)
+  where
+    one : (m n : ℕ) → suc m + n ≡ suc (m + n)
+    one m n = omega arith
+
+pub added-set : (n k a : ℕ) (e b : List ℕ) → record_size * n ≤ length b → length e ≡ record_size → k < record_size
+    → set (take (record_size * n) b ++ (e ++ drop (record_size * n + length e) b)) (record_size * n + k) a ≡ put_behind n (set e k a ∷ []) b
+added-set n k a e b room h l =
+    let t : length (take (record_size * n) b) ≡ record_size * n = length-take-le (record_size * n) b room in
+    let d : List ℕ = drop (record_size * n + length e) b in
+    ap (λ (i : ℕ). set (take (record_size * n) b ++ (e ++ d)) (i + k) a) (sym t)
+    ∙ set-behind (take (record_size * n) b) (e ++ d) k a
+    ∙ ap (λ (x : List ℕ). take (record_size * n) b ++ x) (set-append_left e d k a (omega arith))
+    ∙ ap (λ (i : ℕ). take (record_size * n) b ++ (set e k a ++ drop (record_size * n + i) b)) (sym (length-set e k a))
+    ∙ added-one n (set e k a) b (length-set e k a ∙ h)
 
 -- a list of records that is made record by record
 pub record Growing (f : List (List ℕ) → List (List ℕ)) : Type 0 where

@@ -2,7 +2,7 @@
 use Rattle.std.proofs.Math.Path.{◌≡◌, refl, sym, ap}
 use Rattle.std.proofs.Common.{◌∙◌}
 use Rattle.std.specs.Prelude.{Bool, get_or}
-use Rattle.std.proofs.Math.Bool.{true, false}
+use Rattle.std.proofs.Math.Bool.{true, false, not}
 use mathlib.Core.List.{List, [], ◌∷◌, ◌++◌, map}
 use Prim.Native.Nat.{ℕ, zero, suc, ◌+◌, ◌≤◌, ◌<◌}
 use native.Mathlib.Omega.{arith}
@@ -100,10 +100,52 @@ module _ {A : Type 0} (key : A → List ℕ) where
       go true r = omega arith
       go false r = omega arith
 
+  pub place_not : (k : List ℕ) (l : List A) (d : A) (i : ℕ) → i < length l → before (key (get_or l i d)) k ≡ false → place key k l ≤ i
+  unfolding place pick
+  place_not k [] d i h b = omega arith
+  place_not k (y ∷ ys) d zero h b = rw b (omega arith)
+  place_not k (y ∷ ys) d (suc i) h b = go (before (key y) k) (place_not k ys d i (omega arith) b)
+    where
+      go : (t : Bool) → place key k ys ≤ i → pick t (suc (place key k ys)) 0 ≤ suc i
+      go true r = omega arith
+      go false r = omega arith
+
   pub below_at : (k : List ℕ) (l : List A) (d : A) (i : ℕ) → i < length l → Below key k l → before k (key (get_or l i d)) ≡ true
   below_at k [] d i h b = absurd (omega arith)
   below_at k (y ∷ ys) d zero h b = b.0
   below_at k (y ∷ ys) d (suc i) h b = below_at k ys d i (omega arith) b.1
+
+  pub place-behind : (k : List ℕ) (l : List A) (d : A) (i : ℕ) → Sorted key l → i < length l → before (key (get_or l i d)) k ≡ true → i < place key k l
+  unfolding place pick
+  place-behind k [] d i o h b = absurd (omega arith)
+  place-behind k (y ∷ ys) d zero o h b = rw b (omega arith)
+  place-behind k (y ∷ ys) d (suc i) o h b =
+      let r = place-behind k ys d i o.1 (omega arith) b in
+      rw (before_trans (key y) (key (get_or ys i d)) k (below_at (key y) ys d i (omega arith) o.0) b) (omega arith)
+
+  -- whether a key is there is seen at its place
+  pub has-at : (k : List ℕ) (l : List A) (d : A) → Sorted key l → place key k l < length l → has key k l ≡ not (before k (key (get_or l (place key k l) d)))
+  unfolding place has pick
+  has-at k [] d o h = absurd (omega arith)
+  has-at k (y ∷ ys) d o h = go (compared k (key y)) (has-at k ys d o.1) h
+    where
+      go : Compared k (key y) → (place key k ys < length ys → has key k ys ≡ not (before k (key (get_or ys (place key k ys) d))))
+          → pick (before (key y) k) (suc (place key k ys)) 0 < suc (length ys)
+          → pick (same k (key y)) true (has key k ys) ≡ not (before k (key (get_or (y ∷ ys) (pick (before (key y) k) (suc (place key k ys)) 0) d)))
+      go (behind p q s) f h = let l : place key k ys < length ys = omega (arith, rw p at h) in rw (p, s) (f l)
+      go (equal e p q s) f h = rw (p, s, q)
+      go (ahead p q s) f h = rw (p, s, q) (has-not-below k ys (below_trans k (key y) ys q o.0))
+
+  pub has_not_end : (k : List ℕ) (l : List A) → length l ≤ place key k l → has key k l ≡ false
+  unfolding place has pick
+  has_not_end k [] h = refl
+  has_not_end k (y ∷ ys) h = go (compared k (key y)) (has_not_end k ys) h
+    where
+      go : Compared k (key y) → (length ys ≤ place key k ys → has key k ys ≡ false) → suc (length ys) ≤ pick (before (key y) k) (suc (place key k ys)) 0
+          → pick (same k (key y)) true (has key k ys) ≡ false
+      go (behind p q s) f h = let l : length ys ≤ place key k ys = omega (arith, rw p at h) in rw s (f l)
+      go (equal e p q s) f h = absurd (omega (arith, rw p at h))
+      go (ahead p q s) f h = absurd (omega (arith, rw p at h))
 
   -- of two, the one that stands before the other comes before it
   pub sorted_at : (l : List A) (d : A) (i j : ℕ) → Sorted key l → i < j → j < length l → before (key (get_or l i d)) (key (get_or l j d)) ≡ true

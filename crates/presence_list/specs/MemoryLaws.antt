@@ -14,10 +14,26 @@ length-pieces (suc n) b = ap suc (length-pieces n (drop record_size b))
 further : (i : ℕ) → record_size + record_size * i ≡ record_size * suc i
 further i = omega arith
 
+pub piece_at : (n i : ℕ) (b : List ℕ) → i < n → get_or (pieces n b) i [] ≡ take record_size (drop (record_size * i) b)
+unfolding pieces
+piece_at zero i b h = absurd (omega arith)
+piece_at (suc n) zero b h = refl
+piece_at (suc n) (suc i) b h =
+    piece_at n i (drop record_size b) (omega arith) ∙ ap (take record_size) (drop-drop (record_size * i) record_size b ∙ ap (λ k. drop k b) (further i))
+
 pub pieces_whole : (n : ℕ) (b : List ℕ) → record_size * n ≤ length b → Whole (pieces n b)
 unfolding pieces
 pieces_whole zero b h = tt
 pieces_whole (suc n) b h = (length-take-le record_size b (omega arith), pieces_whole n (drop record_size b) (rw (length-drop record_size b) (omega arith)))
+
+pub whole_at : (es : List (List ℕ)) (i : ℕ) → Whole es → i < length es → length (get_or es i []) ≡ record_size
+whole_at [] i w h = absurd (omega arith)
+whole_at (e ∷ es) zero w h = w.0
+whole_at (e ∷ es) (suc i) w h = whole_at es i w.1 (omega arith)
+
+pub whole_append : (es fs : List (List ℕ)) → Whole es → Whole fs → Whole (es ++ fs)
+whole_append [] fs w v = v
+whole_append (e ∷ es) fs w v = (w.0, whole_append es fs w.1 v)
 
 pub whole_each : (es : List (List ℕ)) → ((i : ℕ) → i < length es → length (get_or es i []) ≡ record_size) → Whole es
 whole_each [] h = tt

@@ -1,5 +1,5 @@
 -- Records put into a list that lies in memory.
-use Rattle.std.specs.Prelude.{◌≡◌, refl, true, false, ℕ, suc, ◌+◌, ◌*◌, ◌≤◌, ◌<◌, take, drop, Ok, Err}
+use Rattle.std.specs.Prelude.{◌≡◌, refl, true, false, ℕ, suc, ◌+◌, ◌-◌, ◌*◌, ◌≤◌, ◌<◌, take, drop, Ok, Err}
 use Rattle.std.proofs.Common.{sym, ◌∙◌, arith, length-append, length-drop, length-set, length-take-le}
 use Rattle.std.proofs.Math.Path.{ap}
 use mathlib.Core.List.{List, [], ◌∷◌, ◌++◌}
@@ -15,6 +15,13 @@ use Rattle.presence_list.specs.EntryLaws.{entry_whole, entry_card}
 use Rattle.presence_list.specs.Growth.{added_none, added-one, aged_out, aged_stays, without-known, without_new}
 use Rattle.presence_list.specs.Inserts.{replaced}
 use Rattle.presence_list.specs.Keyed.{without}
+
+-- the part of the size of a record from a place on
+pub record_part : (b : List ℕ) (at : ℕ) → take (at + record_size - at) (drop at b) ≡ take record_size (drop at b)
+record_part b at = ap (λ (k : ℕ). take k (drop at b)) (same at)
+  where
+    same : (n : ℕ) → n + record_size - n ≡ record_size
+    same n = omega arith
 
 -- a record that is put behind others, or not
 module _ (e out : List ℕ) (n : ℕ) where

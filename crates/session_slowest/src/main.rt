@@ -2,12 +2,14 @@
 // lines, and each answer that is no order behind the number of its line.
 #![tactic(auto)]
 
-ghost use Rattle.std.specs.Prelude.{◌<◌, length};
+ghost use Rattle.std.specs.Prelude.{◌≡◌, ◌+◌, ◌<◌, length, take, drop};
+ghost use Rattle.octets.specs.Bytes.{index_of};
 
 use bench::lines::Line;
 use bench::{lines, prefix, text};
 use bench_session::{BUFFER_SIZE, OUT_ROOM};
 use engine::session::Session;
+use octets::scan;
 use slowest_call::lines::answer;
 use slowest_call::script::SCRIPT_ROOM;
 
@@ -22,11 +24,14 @@ fn is_end(answer: &[u8]) -> bool {
 
 // The part before the first of a byte, and the part behind it; all and nothing where it is not there.
 fn split_at_first(text: &[u8], byte: u8) -> (&[u8], &[u8])
-    ensures { 0 < length text.now → length result.1.now < length text.now }
+    ensures shorter { 0 < length text.now → length result.1.now < length text.now }
+    ensures parts { (result.0.now ≡ take (index_of byte text.now) text.now) × (result.1.now ≡ drop (index_of byte text.now + 1) text.now) }
 {
-    match text.iter().position(|b| *b == byte) {
-        Some(at) => (&text[..at], &text[at + 1..]),
-        None => (text, &[]),
+    let at = scan::find(text, 0, text.len(), byte);
+    if at < text.len() {
+        (&text[..at], &text[at + 1..])
+    } else {
+        (text, &[])
     }
 }
 

@@ -7,7 +7,7 @@ ghost use Rattle.chip_protocol.specs.Add.{wake_up_reply};
 ghost use Rattle.simulated_chip.specs.Memory.{card_size, places};
 ghost use Rattle.simulated_chip.specs.Additions.{put_card_of, first_count, first_sent, first_reply, after_with, added_by, CardAdmitted, card_put, ReplyAdmitted, reply_put, add_card_of, add_reply_of};
 
-use super::admit::{admit_card, br_ty};
+use super::admit::{admit_card, br_ty, kind_number};
 use super::chip::{Chip, State};
 use super::memory::put_text;
 use super::names::{CARD_SIZE, REPLY_MEMORY_SIZE, REPLY_SIZE, SENT_MEMORY_SIZE, SENT_SIZE};
@@ -66,7 +66,7 @@ impl Chip {
         put_card(
             &mut self.cards,
             CARD_SIZE * n,
-            u8::from(kind),
+            kind_number(kind),
             br_ty(bitrate),
             first,
             list_data,

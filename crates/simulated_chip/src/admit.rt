@@ -2,7 +2,7 @@
 #![tactic(auto, using(errors::specs::Rules::picks, crate::specs::RangeLaws::few_cards), unfolding(errors::specs::Choice::pick, chip_protocol::specs::Add::add_card, crate::specs::Additions::is_protocol_byte_of, crate::specs::Additions::is_sound, crate::specs::Additions::is_type2_in, crate::specs::Additions::lengths_addition, crate::specs::Additions::limit_of_kind))]
 
 ghost use Rattle.std.specs.Prelude.{◌≡◌, Bool, List, ◌*◌, ◌<◌, length};
-ghost use Rattle.chip_protocol.specs.Field.{Card, br_ty, is_bitrate_of, least_list_data, protocol_fits, crc_fits};
+ghost use Rattle.chip_protocol.specs.Field.{Card, kind_number, br_ty, is_bitrate_of, least_list_data, protocol_fits, crc_fits};
 ghost use Rattle.chip_protocol.specs.Add.{wake_up_reply, add_card, add_reply};
 ghost use Rattle.simulated_chip.specs.Memory.{card_size, field_in};
 ghost use Rattle.simulated_chip.specs.Additions.{is_sound, addition_in, is_protocol_byte_of, is_type2_in, limit_of_kind, lengths_addition};
@@ -13,6 +13,19 @@ use super::{Kind, names};
 use errors::Refusal;
 use targets::Bitrate;
 use targets::type_a::is_type2;
+
+// The number of a kind in memory.
+// Kept: a From stands in the crate of one of its types; Kind is of `chip_protocol`, which has no code.
+pub(crate) fn kind_number(kind: Kind) -> u8
+    ensures { result ≡ kind_number kind }
+{
+    match kind {
+        Kind::TypeA => names::TYPE_A_NUMBER,
+        Kind::TypeB => names::TYPE_B_NUMBER,
+        Kind::TypeF => names::TYPE_F_NUMBER,
+        Kind::Dep => names::DEP_NUMBER,
+    }
+}
 
 // The code of a bitrate in memory.
 // Kept: a From stands in the crate of one of its types; Bitrate is of `targets`, which knows no number of a chip.

@@ -9,6 +9,7 @@ ghost use Rattle.chip_protocol.specs.Chip.{first_place_of, listed_place, partner
 ghost use Rattle.simulated_chip.specs.Memory.{card_size, card_replies, reply_count_place, is_stored_at, field_in, place_of, text_at_of, list_data_place, card_replies_in, places, reply_found};
 
 use super::Kind;
+use super::admit::kind_number;
 use super::memory::text_at;
 use super::names::{
     BR_TY_OFFSET, CARD_SIZE, INITIATOR_OFFSET, LIST_DATA_OFFSET, REPLY_COUNT_OFFSET, REPLY_LIMIT,
@@ -22,7 +23,7 @@ fn is_at(cards: &[u8], at: usize, kind: Kind, code: u8) -> bool
     requires { at + card_size ≤ length cards.now }
     ensures { result ≡ is_stored_at (kind_number kind) code at cards.now }
 {
-    cards[at] == u8::from(kind) && cards[at + BR_TY_OFFSET] == code
+    cards[at] == kind_number(kind) && cards[at + BR_TY_OFFSET] == code
 }
 
 // How long the initiator data is.

@@ -1,5 +1,5 @@
 -- A table as a text: its fields, each of which ends with `|` (124).
-use Rattle.std.specs.Prelude.{◌≡◌, refl, Bool, true, false, List, [], ◌∷◌, ℕ, suc, ◌+◌, ◌-◌, ◌≤◌, ◌<◌, eqb, ltb, length, take, drop}
+use Rattle.std.specs.Prelude.{◌≡◌, refl, Bool, true, false, List, [], ◌∷◌, ℕ, zero, suc, ◌+◌, ◌-◌, ◌≤◌, ◌<◌, eqb, ltb, length, take, drop}
 use Rattle.std.proofs.Math.Path.{sym, ap}
 use Rattle.std.proofs.Common.{◌∙◌, arith, ltb-true, ltb-false, drop_of_length-le, length-drop, drop-drop}
 use Rattle.std.proofs.Math.ListN.{get_or}
@@ -51,6 +51,12 @@ one_field (b ∷ l) h = go (eqb b 124) h (one_field l)
         let f = again (omega arith) in
         (first-ahead b (fields_of l) ∙ ap (λ x. b ∷ x) f.0, λ k. later-ahead b k (fields_of l) ∙ f.1 k)
 
+-- nothing has no fields
+no_fields : (n : ℕ) → get_or (fields_of []) n [] ≡ []
+unfolding fields_of
+no_fields zero = refl
+no_fields (suc n) = refl
+
 -- the field that starts at a place ends at the next `|`, or at the table's end
 module _ (l : List ℕ) (at end : ℕ) (within : at ≤ length l) (found : end ≡ at + index_of 124 (slice at (length l) l)) where
   distance : end ≡ at + index_of 124 (drop at l)
@@ -91,6 +97,13 @@ module _ (l : List ℕ) (at end : ℕ) (within : at ≤ length l) (found : end �
     unfolding fields_of
     no_field h =
         ap (λ x. get_or (fields_of x) 0 []) (drop_of_length-le l {i = end} (omega arith)) ∙ sym ((last-field h).1 (left - 1)) ∙ ap (λ k. get_or (fields_of (drop at l)) k []) (one_less left more) ∙ is_field
+
+    -- nor is there any behind it
+    pub none_behind : end ≡ length l → (j : ℕ) → get_or (fields_of (drop end l)) j [] ≡ w
+    none_behind h j = all_empty j ∙ sym (all_empty 0) ∙ no_field h
+      where
+        all_empty : (n : ℕ) → get_or (fields_of (drop end l)) n [] ≡ []
+        all_empty n = ap (λ x. get_or (fields_of x) n []) (drop_of_length-le l {i = end} (omega arith)) ∙ no_fields n
 
 pub field_here : (l : List ℕ) (at left : ℕ) (w : List ℕ) → get_or (fields_of (drop at l)) left [] ≡ w → left ≤ 0 → get_or (fields_of (drop at l)) 0 [] ≡ w
 field_here l at left w e h = let z : left ≡ 0 = omega arith in ap (λ k. get_or (fields_of (drop at l)) k []) (sym z) ∙ e

@@ -1,6 +1,6 @@
 // The runs, four fields for each kind: its name, its most events, its lines up to the wait of its last command, and those behind that
 // wait. The last field of all has the lines that open the reader. Each field ends with `|`.
-ghost use Rattle.std.specs.Prelude.{◌≡◌, [], ◌≤◌, length, get_or, drop};
+ghost use Rattle.std.specs.Prelude.{◌≡◌, [], ℕ, ◌+◌, ◌≤◌, length, get_or, drop};
 ghost use Rattle.slowest_call.specs.Fields.{fields_of};
 ghost use Rattle.slowest_call.specs.Kinds.{kinds};
 ghost use Rattle.slowest_call.specs.Texts.{kind_named_of};
@@ -10,6 +10,9 @@ use framing::is_exactly;
 use octets::scan;
 
 pub(crate) const KIND_COUNT: u8 = 27;
+
+// How many fields a kind has.
+const FIELD_COUNT: usize = 4;
 
 pub(crate) const RUN_TABLE: [u8; 3918] = *b"\
     open|39|open ; ok ; time ; ok ; pkt 0000FF00FF00 ; late ; ok ; ok ; slept ; ok ; pkt 0000FF00FF00 ; \
@@ -68,11 +71,12 @@ pub(crate) struct Runs<'a> {
     ghost fields: { fields_of table.now ≡ run_fields },
 }
 
-// Where the k-th field starts, counted from 0: behind the k-th `|`, or the table's end where it has fewer.
-fn field_start(table: &[u8], k: usize) -> usize
-    ensures { (result ≤ length table.now) × (get_or (fields_of (drop result table.now)) 0 [] ≡ get_or (fields_of table.now) k []) }
+// The place behind so many fields from a place on, each of which ends with `|`; the table's end where it has fewer.
+fn behind_fields(table: &[u8], from: usize, k: usize) -> usize
+    requires { from ≤ length table.now }
+    ensures { (result ≤ length table.now) × ((j : ℕ) → get_or (fields_of (drop result table.now)) j [] ≡ get_or (fields_of (drop from table.now)) (k + j) []) }
 {
-    let mut at = 0;
+    let mut at = from;
     for _ in 0..k {
         let end = scan::find(table, at, table.len(), b'|');
         if end == table.len() {
@@ -83,13 +87,20 @@ fn field_start(table: &[u8], k: usize) -> usize
     at
 }
 
-// The k-th field; the empty part where there are fewer.
+// The field that starts at a place.
+fn field_at(table: &[u8], at: usize) -> &[u8]
+    requires { at ≤ length table.now }
+    ensures { result.now ≡ get_or (fields_of (drop at table.now)) 0 [] }
+{
+    let to = scan::find(table, at, table.len(), b'|');
+    &table[at..to]
+}
+
+// The k-th field, counted from 0; the empty part where there are fewer.
 fn field(table: &[u8], k: usize) -> &[u8]
     ensures { result.now ≡ get_or (fields_of table.now) k [] }
 {
-    let from = field_start(table, k);
-    let to = scan::find(table, from, table.len(), b'|');
-    &table[from..to]
+    field_at(table, behind_fields(table, 0, k))
 }
 
 impl<'a> Runs<'a> {
@@ -99,14 +110,16 @@ impl<'a> Runs<'a> {
         field(self.table, k)
     }
 
-    // The kind of a name.
+    // The kind of a name. The table is gone through once, from one kind to the next.
     pub(crate) fn kind_named(&self, name: &[u8]) -> Option<u8>
         ensures { (kind_in result ≡ kind_named_of kinds name.now) × KindWithin result }
     {
+        let mut at = 0;
         for kind in 0..KIND_COUNT {
-            if is_exactly(name, self.field(4 * kind as usize)) {
+            if is_exactly(name, field_at(self.table, at)) {
                 return Some(kind);
             }
+            at = behind_fields(self.table, at, FIELD_COUNT);
         }
         None
     }
